@@ -1,19 +1,9 @@
 -- Port accesses behind which the controller rests.
 use Rattle.std.proofs.Common.{◌≡◌, ℕ, ◌==◌, Bool, true, false, if◌then◌else◌, refl, sym, ◌∙◌, ap, subst, arith}
-use Rattle.drive_model.specs.Drive.{DriveState}
+use Rattle.machine_commands.proofs.Common.{DriveState, Writes, given, interrupt_after, asks, Fdc, Phase, Command, Execute, Result, gap, Holds, shown, Board, controller_of, lines_of, is_controllers, Inputs, Outputs, RunsGap, sets_lines, shown_again, Bus, drive_stays}
 use Rattle.fdc_phases.specs.Answers.{is_fresh}
-use Rattle.fdc_core.specs.Ports.{Writes, after_read as controller_after, given, interrupt_after}
-use Rattle.fdc_core.specs.State.{asks}
-use Rattle.fdc_core.specs.declared.controller.Fdc.{Fdc}
-use Rattle.fdc_phases.specs.declared.phases.Phase.{Phase}
-use Rattle.fdc_phases.specs.declared.phases.Phase.TheVariants.{Command, Execute, Result}
-use Rattle.machine_laws.proofs.OnSteps.Runs.{gap}
-use Rattle.machine_pace.specs.Holds.{Holds, shown}
-use Rattle.pc_bus.specs.Boards.{Board, controller_of, lines_of}
-use Rattle.pc_bus.specs.Ports.{is_controllers, port_read, Inputs, Outputs, RunsGap, sets_lines}
-use Rattle.pc_bus.specs.Transfers.{shown_again}
-use Rattle.pc_bus.specs.declared.bus.Bus.{Bus}
-use Rattle.pc_bus.proofs.Lines.{drive_stays}
+use Rattle.fdc_core.specs.Ports.{after_read as controller_after}
+use Rattle.pc_bus.specs.Ports.{port_read}
 use Rattle.machine_commands.proofs.Idling.{IsResting, KeepsDrive, KeepsSpeed, KeepsAll, Idles}
 use Rattle.machine_commands.proofs.Steps.{drive_none, speed_none, idles_none, idles_then, idling}
 

@@ -2,16 +2,7 @@
 use Rattle.std.proofs.Common.{◌≡◌, inl, inr, ℕ, suc, ◌+◌, ◌*◌, ◌==◌, Bool, true, false, [], ◌∷◌, Result, Ok, Err, refl, subst, arith}
 use Rattle.std.specs.Prelude.{bit_and}
 use Rattle.std.proofs.lemmas.Bool.Decides.{nat_tests}
-use Rattle.flop_base.specs.Standard.{read_gap_at}
-use Rattle.flop_base.specs.declared.key.Chrn.{Chrn}
-use Rattle.flop_base.specs.declared.answers.Rate.{Rate}
-use Rattle.flop_base.specs.declared.answers.Code.{Code}
-use Rattle.pc_bus.specs.Boards.{Board}
-use Rattle.pc_bus.specs.Ports.{Outputs}
-use Rattle.machine_commands.specs.Awaited.{outcome_of, sector_bytes, SetsChannel, Watch, Watches, AwaitsResults}
-use Rattle.machine_commands.specs.Codes.{has_set, refusal_of}
-use Rattle.machine_commands.specs.Sending.{Sends}
-use Rattle.machine_commands.specs.declared.results.Done.{Done}
+use Rattle.machine_commands.proofs.Common.{read_gap_at, Chrn, Rate, Code, Board, Outputs, outcome_of, sector_bytes, SetsChannel, Watch, Watches, AwaitsResults, has_set, refusal_of, Sends, Done}
 
 pub output_as : (port a b : ℕ) (old new : Board) → a ≡ b → Outputs port a old new → Outputs port b old new
 output_as port a b old new same access = subst (λ value. Outputs port value old new) same access

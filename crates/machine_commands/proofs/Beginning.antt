@@ -2,46 +2,22 @@
 use Rattle.std.proofs.Common.{◌≡◌, inl, inr, ℕ, zero, suc, ◌+◌, ◌*◌, ◌/◌, ◌%◌, ◌<◌, ◌≤◌, ◌==◌, not, Bool, true, false, List, [], ◌∷◌, ◌++◌, length, Result as result, refl, sym, ◌∙◌, ap, subst, arith}
 use Rattle.std.specs.Prelude.{bit_and}
 use Rattle.std.specs.List.{All}
-use Rattle.dma_8237.specs.Channel.{Channel, after_write, has_bit, reads_memory}
-use Rattle.dma_8237.specs.SetUp.{set_up}
+use Rattle.machine_commands.proofs.Common.{Channel, set_up, kept, More, seek_bits, TakesAs, Sent, takes_in, is_taking, asks, data_commands_of, dor_of, is_held, Fdc, Code, Rate, R500, R250, Holds, shown, Low, Order, scene_of, Scene, data_rate, Steady, gap, Board, controller_of, drive_in, holds_of, lines_of, memory_of, Outputs, shown_again, in_bay, Disk, Finishes, Prepares, rate_byte, AreSeeksOver, IsIdle, Sends, rig_of, Motors, Done}
+use Rattle.dma_8237.specs.Channel.{after_write, has_bit, reads_memory}
 use Rattle.dma_8237.proofs.SettingUp.{is_set_up}
-use Rattle.fdc_commands.specs.Table.{answer, kept}
+use Rattle.fdc_commands.specs.Table.{answer}
 use Rattle.fdc_commands.specs.declared.bytes.Accepted.{Accepted}
-use Rattle.fdc_commands.specs.declared.bytes.Accepted.TheVariants.{More}
-use Rattle.fdc_seek.specs.Seeking.{seek_bits}
-use Rattle.fdc_core.specs.Commands.{TakesAs}
-use Rattle.fdc_phases.specs.Heard.{Sent}
-use Rattle.fdc_core.specs.Ports.{takes_in, is_taking}
 use Rattle.fdc_phases.specs.Rates.{rate_chosen}
-use Rattle.fdc_core.specs.State.{asks, data_commands_of, dor_of, is_held}
-use Rattle.fdc_core.specs.declared.controller.Fdc.{Fdc}
-use Rattle.flop_base.specs.declared.answers.Code.{Code}
-use Rattle.flop_base.specs.declared.answers.Rate.{Rate}
-use Rattle.flop_base.specs.declared.answers.Rate.TheVariants.{R500, R250}
-use Rattle.machine_pace.specs.Holds.{AreShort, Holds, IsShort, shown}
-use Rattle.machine_pace.specs.declared.holding.Request.TheVariants.{Low}
+use Rattle.machine_pace.specs.Holds.{AreShort, IsShort}
 use Rattle.machine_laws.specs.OnAwaits.Goes.{StandsReady}
-use Rattle.machine_laws.specs.OnOrders.Orders.{Order, CanBegin, IsLast, IsSetFor}
-use Rattle.machine_laws.specs.OnReads.Begins.{IsDriveOf, scene_of}
-use Rattle.machine_laws.specs.OnReads.Scenes.{Scene, IsScene, data_rate}
+use Rattle.machine_laws.specs.OnOrders.Orders.{CanBegin, IsLast, IsSetFor}
+use Rattle.machine_laws.specs.OnReads.Begins.{IsDriveOf}
+use Rattle.machine_laws.specs.OnReads.Scenes.{IsScene}
 use Rattle.machine_laws.specs.OnReads.Underway.{IsSet}
-use Rattle.machine_laws.specs.OnSteps.Steady.{Steady}
 use Rattle.machine_laws.specs.OnWrites.Underway.{IsReadSet}
 use Rattle.machine_laws.proofs.OnAwaits.Courses.{goes_begins}
 use Rattle.machine_laws.proofs.OnReads.Beginnings.{is_set}
-use Rattle.machine_laws.proofs.OnSteps.Runs.{gap}
-use Rattle.pc_bus.specs.Boards.{Board, controller_of, drive_in, holds_of, lines_of, memory_of}
-use Rattle.pc_bus.specs.Ports.{Outputs}
-use Rattle.pc_bus.specs.Transfers.{shown_again}
-use Rattle.bay_model.specs.Bays.{in_bay}
-use Rattle.raw_image.specs.Disk.{Disk}
-use Rattle.machine_commands.specs.Awaited.{AreCounts, Finishes, Prepares}
-use Rattle.machine_commands.specs.Codes.{rate_byte}
-use Rattle.machine_commands.specs.Ready.{AreSeeksOver, IsIdle}
-use Rattle.machine_commands.specs.Sending.{Sends}
-use Rattle.machine_commands.specs.Shown.{rig_of}
-use Rattle.machine_commands.specs.declared.motors.Motors.{Motors}
-use Rattle.machine_commands.specs.declared.results.Done.{Done}
+use Rattle.machine_commands.specs.Awaited.{AreCounts}
 use Rattle.machine_commands.proofs.Idling.{IsResting, StaysIdle, Idles}
 use Rattle.machine_commands.proofs.Bytes.{AreMore, IsListening, byte_more, first_bytes, listens_with, sends_parts, with_bytes}
 use Rattle.machine_commands.proofs.Endings.{HasFinished, IsSending, has_finished}

@@ -1,20 +1,11 @@
 -- Bytes of commands, while the controller rests.
 use Rattle.std.proofs.Common.{◌≡◌, ℕ, not, true, false, List, [], ◌∷◌, ◌++◌, refl, sym, ◌∙◌, ap, subst, append_assoc}
 use Rattle.std.proofs.lemmas.List.{append-nil}
-use Rattle.drive_model.specs.Drive.{DriveState}
-use Rattle.fdc_commands.specs.Table.{answer, kept}
-use Rattle.fdc_commands.specs.declared.bytes.Accepted.TheVariants.{More, Ready}
+use Rattle.machine_commands.proofs.Common.{DriveState, kept, More, Ready, TakesAs, Obeys, Writes, takes_in, is_taking, is_held, dor_of, Fdc, Lines, Board, controller_of, lines_of, lines_of_drive, Outputs, Sends}
+use Rattle.fdc_commands.specs.Table.{answer}
 use Rattle.fdc_commands.specs.declared.command.Command.{Command}
-use Rattle.fdc_core.specs.Commands.{TakesAs, Obeys}
-use Rattle.fdc_core.specs.Ports.{Writes, takes_in, is_taking}
-use Rattle.fdc_core.specs.State.{is_held, dor_of}
-use Rattle.fdc_core.specs.declared.controller.Fdc.{Fdc}
-use Rattle.fdc_core.specs.declared.controller.Lines.{Lines}
 use Rattle.fdc_phases.specs.declared.phases.Phase.TheVariants as phase
-use Rattle.pc_bus.specs.Boards.{Board, controller_of, lines_of, lines_of_drive}
-use Rattle.pc_bus.specs.Ports.{Outputs}
 use Rattle.machine_commands.proofs.Idling.{IsResting, KeepsDrive, KeepsAll, Idles}
-use Rattle.machine_commands.specs.Sending.{Sends}
 use Rattle.machine_commands.proofs.Steps.{idles_then, idles_none, idles_as}
 use Rattle.machine_commands.proofs.Accesses.{Quiets, output_idles}
 

@@ -3,30 +3,16 @@ use Rattle.std.proofs.Common.{◌≡◌, inl, inr, ℕ, zero, suc, ◌+◌, ◌-
 use Rattle.std.specs.Int.RustNames.{bit_or}
 use Rattle.std.specs.Option.{option_map_or}
 use Rattle.std.proofs.lemmas.Bool.{false_from_ne_true, true_from_ne_false, false≢true}
+use Rattle.machine_commands.proofs.Common.{Seeking, seek_bits, has_ended, is_executing, is_held, Fdc, Phase, Command, Execute, Result, is_unread, with_one, Order, Scene, Steady, controller, Board, controller_of, Inputs, Step, stirred, Watch, Watches, AwaitsResults, latch_taken}
 use Rattle.fdc_registers.specs.declared.drive_lines.Dor.{Dor}
 use Rattle.fdc_commands.specs.Table.{is_begun}
-use Rattle.fdc_seek.specs.Seeking.{Seeking, seek_bits, has_ended}
-use Rattle.fdc_core.specs.Listening.{is_executing}
 use Rattle.fdc_core.specs.Ports.{main_status, phase_bits}
-use Rattle.fdc_core.specs.State.{is_held}
 use Rattle.fdc_core.specs.Steps.{steps_left, EndsIn}
-use Rattle.fdc_core.specs.declared.controller.Fdc.{Fdc}
-use Rattle.fdc_phases.specs.declared.phases.Phase.{Phase}
-use Rattle.fdc_phases.specs.declared.phases.Phase.TheVariants.{Command, Execute, Result}
-use Rattle.machine_laws.specs.OnAwaits.Awaits.{IsAwaited, is_unread}
-use Rattle.machine_laws.specs.OnAwaits.Goes.{GoesOn, with_one}
-use Rattle.machine_laws.specs.OnOrders.Orders.{Order}
-use Rattle.machine_laws.specs.OnReads.Scenes.{Scene}
+use Rattle.machine_laws.specs.OnAwaits.Awaits.{IsAwaited}
+use Rattle.machine_laws.specs.OnAwaits.Goes.{GoesOn}
 use Rattle.machine_laws.proofs.OnAwaits.Courses.{goes_status, goes_stray, goes_wait, goes_waits}
-use Rattle.machine_laws.specs.OnSteps.Steady.{Steady}
 use Rattle.machine_laws.proofs.OnSteps.DataEnds.{step_ends}
 use Rattle.machine_laws.proofs.OnSteps.Runs.{inputs, wait, waits}
-use Rattle.machine_laws.proofs.OnSteps.Words.{controller}
-use Rattle.pc_bus.specs.Boards.{Board, controller_of}
-use Rattle.pc_bus.specs.Ports.{Inputs}
-use Rattle.pc_bus.specs.Steps.{Step, stirred}
-use Rattle.machine_commands.specs.Awaited.{Watch, Watches, AwaitsResults}
-use Rattle.machine_commands.specs.Sending.{latch_taken}
 use Rattle.machine_commands.proofs.Idling.{Idles, IsResting}
 use Rattle.machine_commands.proofs.Settling.{runs_one}
 use Rattle.machine_commands.proofs.Steps.{idles_none, idling}

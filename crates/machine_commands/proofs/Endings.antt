@@ -2,32 +2,12 @@
 use Rattle.std.proofs.Common.{◌≡◌, ℕ, ◌≤◌, ◌==◌, true, false, Result as result, refl, sym, ◌∙◌, ap, subst, arith}
 use Rattle.std.proofs.lemmas.Bool.{false≢true}
 use Rattle.std.proofs.lemmas.Bool.Decides.{nat_tests}
-use Rattle.flop_base.specs.declared.key.Chrn.{Chrn}
-use Rattle.flop_base.specs.declared.answers.Code.{Code}
-use Rattle.drive_model.specs.Drive.{InRange}
-use Rattle.fdc_commands.specs.declared.results.Results.{Results}
-use Rattle.fdc_stages.specs.declared.ending.Ending.{Ending}
-use Rattle.fdc_core.specs.Listening.{is_executing}
-use Rattle.fdc_core.specs.Ports.{given, result_byte, interrupt_after, phase_after}
-use Rattle.fdc_core.specs.State.{is_held, dor_of}
-use Rattle.fdc_core.specs.Steps.{polled}
-use Rattle.fdc_phases.specs.declared.answers.Answer.TheVariants.{Short, Long}
-use Rattle.fdc_core.specs.declared.controller.Fdc.{Fdc}
-use Rattle.fdc_phases.specs.declared.phases.Phase.{Phase}
-use Rattle.fdc_phases.specs.declared.phases.Phase.TheVariants.{Command, Execute, Result}
-use Rattle.machine_laws.specs.OnAwaits.Awaits.{is_unread}
-use Rattle.machine_laws.specs.OnAwaits.Goes.{GoesOn, with_one}
-use Rattle.machine_laws.specs.OnOrders.Orders.{Order}
-use Rattle.machine_laws.specs.OnReads.Scenes.{Scene}
-use Rattle.machine_pace.specs.declared.holding.Request.TheVariants.{Low}
-use Rattle.pc_bus.specs.Boards.{Board, controller_of, holds_of}
-use Rattle.pc_bus.specs.Ports.{Inputs}
-use Rattle.machine_commands.specs.Awaited.{TakesResults, Finishes, outcome_of}
+use Rattle.machine_commands.proofs.Common.{Chrn, Code, InRange, Results, Ending, is_executing, given, result_byte, interrupt_after, is_held, dor_of, polled, Long, Fdc, Phase, Command, Execute, Result, is_unread, with_one, Order, Scene, Low, Board, controller_of, holds_of, Inputs, Finishes, outcome_of, dor_with, IsReady, AreSeeksOver, IsIdle, is_up, latch_taken, Motors, Done}
+use Rattle.fdc_core.specs.Ports.{phase_after}
+use Rattle.fdc_phases.specs.declared.answers.Answer.TheVariants.{Short}
+use Rattle.machine_laws.specs.OnAwaits.Goes.{GoesOn}
+use Rattle.machine_commands.specs.Awaited.{TakesResults}
 use Rattle.machine_commands.proofs.Idling.{IsResting, KeepsSpeed, KeepsAll, Idles}
-use Rattle.machine_commands.specs.Ready.{dor_with, IsReady, AreSeeksOver, IsIdle, is_up}
-use Rattle.machine_commands.specs.Sending.{latch_taken}
-use Rattle.machine_commands.specs.declared.motors.Motors.{Motors}
-use Rattle.machine_commands.specs.declared.results.Done.{Done}
 use Rattle.machine_commands.proofs.Accesses.{input_idles}
 use Rattle.machine_commands.proofs.Courses.{resting, awaits_end}
 use Rattle.machine_commands.proofs.Settling.{settles_to}

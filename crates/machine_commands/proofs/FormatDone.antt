@@ -2,35 +2,14 @@
 use Rattle.std.proofs.Common.{◌≡◌, ℕ, ◌+◌, ◌-◌, ◌*◌, ◌≤◌, true, false, [], ◌∷◌, length, take, drop, Option, Result, refl, sym, ◌∙◌, ap, subst, arith}
 use Rattle.std.specs.List.{flat_map}
 use Rattle.std.specs.Option.{option_map_or}
-use Rattle.flop_base.specs.Standard.{sectors_at, standard_code}
-use Rattle.flop_base.specs.declared.answers.Rate.{Rate}
-use Rattle.flop_base.specs.declared.answers.Rate.TheVariants.{R500, R250}
-use Rattle.flop_base.specs.declared.answers.Code.{Code}
-use Rattle.bay_model.specs.Bays.{in_bay}
+use Rattle.machine_commands.proofs.Common.{sectors_at, standard_code, Rate, R500, R250, Code, in_bay, set_up, InRange, Ready, Sent, Long, Numbers, key_bytes, Track, Write, scene_of, only, Board, channel_of, drive_in, memory_of, Format, Laying, format_keys, FormatsTrack, IsIdle, rig_of, SendsFormatBytes, keys_at, told_of, Motors, Done}
 use Rattle.dma_8237.specs.Channel.{after_write}
-use Rattle.dma_8237.specs.SetUp.{set_up}
-use Rattle.drive_model.specs.Drive.{InRange}
-use Rattle.fdc_commands.specs.declared.bytes.Accepted.TheVariants.{Ready}
 use Rattle.fdc_commands.specs.declared.command.Command.TheVariants.{FormatTrack}
 use Rattle.fdc_commands.proofs.WriteSpellings.{spells_format}
-use Rattle.fdc_phases.specs.Heard.{Sent}
-use Rattle.fdc_phases.specs.declared.answers.Answer.TheVariants.{Long}
 use Rattle.fdc_phases.specs.declared.phases.Phase.TheVariants as phase
-use Rattle.fdc_writing.specs.Formats.{Numbers}
-use Rattle.track_format.specs.Keys.{key_bytes}
-use Rattle.machine_laws.specs.OnOrders.Orders.{Track, Write}
-use Rattle.machine_laws.specs.OnReads.Begins.{scene_of}
 use Rattle.machine_laws.specs.OnFormats.Results.{AreKeysOf, EndedIn}
 use Rattle.machine_laws.proofs.OnFormats.Results.{lays_disk}
-use Rattle.machine_laws.proofs.OnOrders.Ends.{ended, only}
-use Rattle.pc_bus.specs.Boards.{Board, channel_of, drive_in, memory_of}
-use Rattle.sector_map.specs.Layings.{Format, Laying, format_keys}
-use Rattle.single_commands.specs.Writing.{FormatsTrack}
-use Rattle.machine_commands.specs.Ready.{IsIdle}
-use Rattle.machine_commands.specs.Shown.{rig_of}
-use Rattle.machine_commands.specs.WriteSent.{SendsFormatBytes, keys_at, told_of}
-use Rattle.machine_commands.specs.declared.motors.Motors.{Motors}
-use Rattle.machine_commands.specs.declared.results.Done.{Done}
+use Rattle.machine_laws.proofs.OnOrders.Ends.{ended}
 use Rattle.machine_commands.proofs.Beginning.{IsRun, head_of_sent, is_run, set_from_memory, small_drive}
 use Rattle.machine_commands.proofs.FormatRigs.{IsFormatOn, format_shown}
 use Rattle.machine_commands.proofs.Outcomes.{outcome_is, told_as}

@@ -6,32 +6,15 @@ use Rattle.std.proofs.lemmas.Bool.Decides.{nat_tests}
 use Rattle.std.proofs.lemmas.List.{get_or_past, get_or-set_other, get_or-set_same, length-set}
 use Rattle.std.proofs.lemmas.List.Concat.{flat_map-cons}
 use Rattle.std.proofs.lemmas.List.FromFn.{length-map-range_with_len}
-use Rattle.bay_model.specs.Memory.{user_bytes}
-use Rattle.flop_base.specs.Standard.{sectors_at, standard_code}
-use Rattle.machine_pace.specs.Holds.{counted}
-use Rattle.pc_bus.specs.Boards.{Board, controller_of, memory_of}
-use Rattle.pc_bus.specs.Handling.{byte_set}
-use Rattle.sector_map.specs.Layings.{Format}
 use Rattle.sector_map.specs.Standard.{key_of, track_keys}
-use Rattle.track_format.specs.Keys.{key_bytes}
-use Rattle.machine_commands.specs.WriteSent.{IsKeyAt, OnlyMemory, PutsByte, PutsKey, PutsKeys, keys_at}
+use Rattle.machine_commands.specs.WriteSent.{IsKeyAt, OnlyMemory, PutsByte, PutsKey, PutsKeys}
 use Rattle.std.specs.Option.{option_map_or}
-use Rattle.bay_model.specs.Bays.{in_bay}
-use Rattle.drive_model.specs.Drive.{InRange}
-use Rattle.flop_base.specs.declared.answers.Code.{Code}
-use Rattle.raw_image.specs.Disk.{Disk}
-use Rattle.sector_map.specs.Layings.{Laying}
 use Rattle.single_commands.specs.Rigs.{Rig}
-use Rattle.single_commands.specs.Writing.{FormatsTrack, HasTrackUnder, IsFormatMiss, LaysMedium}
-use Rattle.machine_commands.specs.Ready.{IsIdle}
-use Rattle.machine_commands.specs.Sending.{Sends}
-use Rattle.machine_commands.specs.Shown.{page_part, rig_of, user_part}
-use Rattle.machine_commands.specs.WriteSent.{SendsFormatBytes, told_of}
-use Rattle.machine_commands.specs.declared.motors.Motors.{Motors}
-use Rattle.machine_commands.specs.declared.results.Done.{Done}
+use Rattle.machine_commands.specs.Shown.{page_part, user_part}
 use Rattle.machine_commands.proofs.Landing.{user_same}
 use Rattle.machine_commands.proofs.PastDriver.{still_idle}
 use Rattle.std.proofs.Math.Seq.{drop-cons}
+use Rattle.machine_commands.proofs.Common.{user_bytes, sectors_at, standard_code, counted, Board, controller_of, memory_of, byte_set, Format, key_bytes, keys_at, in_bay, InRange, Code, Disk, Laying, FormatsTrack, HasTrackUnder, IsFormatMiss, LaysMedium, IsIdle, Sends, rig_of, SendsFormatBytes, told_of, Motors, Done}
 use Rattle.machine_commands.proofs.FormatDone.{HasKeys, IsFormatted, format_done}
 
 -- ---- one byte

@@ -2,33 +2,14 @@
 use Rattle.std.proofs.Common.{◌≡◌, ◌⊎◌, inl, inr, ℕ, ◌<◌, ◌≤◌, true, false, List, Option, Some, None, Result, Ok, Err, refl, sym, ◌∙◌, ap, subst, arith}
 use Rattle.std.specs.Prelude.{IsOk, IfErr, MatchOption}
 use Rattle.std.proofs.lemmas.Bool.{false≢true, cases_lt}
-use Rattle.flop_base.specs.Counts.{RoseBy}
-use Rattle.flop_base.specs.Standard.{standard_code}
-use Rattle.flop_base.specs.declared.answers.Code.{Code}
+use Rattle.machine_commands.proofs.Common.{RoseBy, standard_code, Code, Chrn, in_bay, IsFaultless, IsUndisturbed, Disk, HasTrack, Format, Laying, format_keys, rate_fits, Ending, Numbers, Track, Write, Stalled, Scene, head_sent, IsUnchanged, Board, drive_in, memory_of, FormatsTrack, HasTrackUnder, IsFormatMiss, LaysMedium, counters_of, rig_of, told_of, Motors, Done}
 use Rattle.flop_base.specs.declared.answers.Code.TheVariants as code
-use Rattle.flop_base.specs.declared.key.Chrn.{Chrn}
-use Rattle.bay_model.specs.Bays.{in_bay}
-use Rattle.bay_model.specs.Counters.{IsFaultless, IsUndisturbed}
-use Rattle.raw_image.specs.Disk.{Disk, HasTrack}
-use Rattle.sector_map.specs.Layings.{Format, IsLaying, Laying, format_keys}
+use Rattle.sector_map.specs.Layings.{IsLaying}
 use Rattle.sector_map.proofs.MetTracks.{same_rates}
 use Rattle.track_model.specs.Layouts.{Fits}
-use Rattle.fdc_phases.specs.Rates.{rate_fits}
-use Rattle.fdc_stages.specs.declared.ending.Ending.{Ending}
 use Rattle.fdc_stages.specs.declared.ending.Ending.TheVariants as ending
-use Rattle.fdc_writing.specs.Formats.{Numbers}
 use Rattle.machine_laws.specs.OnFormats.Results.{EndsAs, FitsOn, HasLaying, LaysTo, LaysTurn}
 use Rattle.machine_laws.specs.OnWrites.Drives.{IsThere}
-use Rattle.machine_laws.specs.OnOrders.Orders.{Track, Write}
-use Rattle.machine_laws.specs.OnSteps.Stalls.{Stalled}
-use Rattle.machine_laws.specs.OnReads.Scenes.{Scene, head_sent}
-use Rattle.machine_laws.specs.OnWrites.Results.{IsUnchanged}
-use Rattle.pc_bus.specs.Boards.{Board, drive_in, memory_of}
-use Rattle.single_commands.specs.Writing.{FormatsTrack, HasTrackUnder, IsFormatMiss, LaysMedium}
-use Rattle.machine_commands.specs.Shown.{counters_of, rig_of}
-use Rattle.machine_commands.specs.WriteSent.{told_of}
-use Rattle.machine_commands.specs.declared.motors.Motors.{Motors}
-use Rattle.machine_commands.specs.declared.results.Done.{Done}
 use Rattle.machine_commands.proofs.Beginning.{HasRun}
 use Rattle.machine_commands.proofs.Outcomes.{told_as}
 use Rattle.machine_commands.proofs.Seeing.{calm_drive, cylinder_before, faultless, medium_after, medium_before, stall_counts, unstalled, write_sends}

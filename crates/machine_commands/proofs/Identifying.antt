@@ -1,33 +1,16 @@
 -- READ ID.
 use Rattle.std.proofs.Common.{◌≡◌, ℕ, ◌*◌, ◌+◌, ◌≤◌, true, List, [], Result as result, Ok, Err, IfOk, IfErr, sym, ◌∙◌, ap, subst, arith}
-use Rattle.flop_base.specs.declared.key.Chrn.{Chrn}
-use Rattle.flop_base.specs.declared.answers.Code.{Code}
-use Rattle.flop_base.specs.declared.answers.Rate.{Rate}
-use Rattle.bay_model.specs.Bays.{in_bay}
-use Rattle.bay_model.specs.Counters.{IsFaultless}
-use Rattle.track_model.specs.Fields.{IsAddressAt}
-use Rattle.sector_map.specs.Met.{HasClearAddress}
-use Rattle.drive_model.specs.Drive.{InRange}
-use Rattle.fdc_commands.specs.declared.bytes.Accepted.TheVariants.{Ready}
+use Rattle.machine_commands.proofs.Common.{Chrn, Code, Rate, in_bay, IsFaultless, IsAddressAt, HasClearAddress, InRange, Ready, Ending, NoMark, NoSector, NoField, BadCheck, Overrun, NoCount, Protected, Late, scene_of, Scene, track_met, IsCalm, Board, channel_of, drive_in, memory_of, track_under, IsIdle, rig_of, Motors, Done}
 use Rattle.fdc_commands.specs.declared.command.Command.TheVariants.{ReadId}
 use Rattle.fdc_commands.proofs.ReadSpellings.{spells_id}
-use Rattle.fdc_stages.specs.declared.ending.Ending.{Ending}
-use Rattle.fdc_stages.specs.declared.ending.Ending.TheVariants.{Done as Finished, NoMark, NoSector, NoField, BadCheck, Overrun, NoCount, Protected, Late}
+use Rattle.fdc_stages.specs.declared.ending.Ending.TheVariants.{Done as Finished}
 use Rattle.fdc_phases.specs.Heard.{key_met}
 use Rattle.machine_laws.specs.OnOrders.Orders.{Identify}
-use Rattle.machine_laws.specs.OnReads.Begins.{scene_of}
 use Rattle.machine_laws.specs.OnReads.Ids.{IdEndedIn, IdEndsAs, sent_id}
-use Rattle.machine_laws.specs.OnReads.Scenes.{Scene, track_met}
-use Rattle.machine_laws.specs.OnReads.Underway.{IsCalm}
 use Rattle.machine_laws.proofs.OnOrders.Ends.{id_ended, id_memory}
-use Rattle.pc_bus.specs.Boards.{Board, channel_of, drive_in, memory_of}
 use Rattle.single_commands.specs.Reading.{ReadsId}
-use Rattle.single_commands.specs.Rigs.{track_under}
 use Rattle.machine_commands.specs.Awaited.{SendsReadId, key_told}
-use Rattle.machine_commands.specs.Ready.{IsIdle}
-use Rattle.machine_commands.specs.Shown.{rig_of, user_part, page_part}
-use Rattle.machine_commands.specs.declared.motors.Motors.{Motors}
-use Rattle.machine_commands.specs.declared.results.Done.{Done}
+use Rattle.machine_commands.specs.Shown.{user_part, page_part}
 use Rattle.machine_commands.proofs.Beginning.{IsRun, head_of_sent, is_run, small_drive}
 use Rattle.machine_commands.proofs.Outcomes.{outcome_is, told_as}
 use Rattle.machine_commands.proofs.Preparing.{none_set}

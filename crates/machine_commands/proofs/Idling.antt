@@ -1,13 +1,6 @@
 -- Device steps in which no command and no seek goes on.
 use Rattle.std.specs.Prelude.{◌≡◌, ◌<◌, ◌≤◌, ◌&&◌, true, false, not}
-use Rattle.flop_base.specs.Counts.{Spends}
-use Rattle.drive_model.specs.Drive.{DriveState, track_words}
-use Rattle.fdc_seek.specs.Seeking.{is_seeking}
-use Rattle.fdc_core.specs.Listening.{is_executing}
-use Rattle.fdc_core.specs.State.{is_held}
-use Rattle.fdc_core.specs.declared.controller.Fdc.{Fdc}
-use Rattle.pc_bus.specs.Boards.{Board, controller_of, channel_of, memory_of, holds_of}
-use Rattle.machine_commands.specs.Ready.{is_up}
+use Rattle.machine_commands.proofs.Common.{Spends, DriveState, track_words, is_seeking, is_executing, is_held, Fdc, Board, controller_of, channel_of, memory_of, holds_of, is_up}
 
 -- no command is in execution, no seek runs, no byte is asked for, and no poll is to come
 pub record IsResting (fdc : Fdc) : Type 0 where

@@ -2,14 +2,11 @@
 use Rattle.std.proofs.Common.{◌≡◌, ◌⊎◌, inl, inr, ℕ, ◌+◌, ◌-◌, ◌^◌, ◌<◌, ◌≤◌, List, length, get_or, slice_index, sym, ◌∙◌, ap, subst, arith}
 use Rattle.std.proofs.lemmas.Bool.{cases_lt}
 use Rattle.std.proofs.lemmas.List.{ext_get_or, get_or_past, get_or-take, get_or-drop, length-take, length-drop}
-use Rattle.flop_base.specs.Lists.{with_items}
-use Rattle.bay_model.specs.Memory.{user_bytes, SameOutside}
+use Rattle.machine_commands.proofs.Common.{with_items, user_bytes, HasBytes, InRange, Board, memory_of, rig_of}
+use Rattle.bay_model.specs.Memory.{SameOutside}
 use Rattle.track_model.proofs.Splices.{length-with_items, with_items_before, with_items_at, with_items_behind}
-use Rattle.machine_laws.specs.OnReads.Underway.{HasBytes}
-use Rattle.drive_model.specs.Drive.{InRange}
-use Rattle.pc_bus.specs.Boards.{Board, memory_of}
 use Rattle.single_commands.specs.Rigs.{IsSound}
-use Rattle.machine_commands.specs.Shown.{rig_of, user_part, page_part}
+use Rattle.machine_commands.specs.Shown.{user_part, page_part}
 
 -- ---- both parts
 

@@ -1,3 +1,4 @@
+pub mod Common
 pub mod Idling
 pub mod Accesses
 pub mod Awaiting

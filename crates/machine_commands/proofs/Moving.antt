@@ -2,13 +2,10 @@
 use Rattle.std.proofs.Common.{◌≡◌, ◌≢◌, ◌⊎◌, inl, inr, ℕ, zero, suc, ◌+◌, ◌-◌, ◌<◌, ◌≤◌, ◌==◌, ◌||◌, Bool, true, false, Some, None, min, nat_lt, if◌then◌else◌, is_some, refl, sym, ◌∙◌, ap, subst, arith}
 use Rattle.std.proofs.lemmas.Bool.{or_parts}
 use Rattle.std.proofs.lemmas.Bool.Decides.{nat_tests}
-use Rattle.flop_base.specs.Counts.{RoseBy, RoseLess, Rose, Spends}
-use Rattle.bay_model.proofs.Counted.{spends_twice}
-use Rattle.drive_model.specs.Drive.{DriveState, Becomes, moved}
-use Rattle.fdc_seek.specs.Seeking.{ended, with_motion, has_ended, neighbour, sought, recalibrated}
-use Rattle.fdc_seek.specs.declared.motion.Motion.{Motion}
-use Rattle.fdc_seek.specs.declared.motion.Motion.TheVariants.{Outward, Toward, Ended}
-use Rattle.fdc_core.specs.Steps.{Moves}
+use Rattle.machine_commands.proofs.Common.{RoseBy, Spends, spends_twice, DriveState, Becomes, ended, with_motion, has_ended, sought, recalibrated, Motion, Outward, Toward, Ended, Moves}
+use Rattle.flop_base.specs.Counts.{RoseLess, Rose}
+use Rattle.drive_model.specs.Drive.{moved}
+use Rattle.fdc_seek.specs.Seeking.{neighbour}
 use Rattle.machine_commands.proofs.Idling.{KeepsDrive, KeepsSpeed}
 use Rattle.machine_commands.proofs.Seeking.{EndsNow, GivesPulse, IsRule}
 use Rattle.machine_commands.proofs.Steps.{gate_turns}

@@ -2,14 +2,9 @@
 use Rattle.std.proofs.Common.{◌≡◌, ℕ, zero, suc, ◌≤◌, Bool, true, false, Result, Ok, Err, if◌then◌else◌, refl, ◌∙◌, ap, arith}
 use Rattle.std.specs.Prelude.{bit_and}
 use Rattle.std.specs.Int.RustNames.{bit_or}
-use Rattle.flop_base.specs.declared.answers.Code.{Code}
-use Rattle.flop_base.specs.declared.key.Chrn.{Chrn}
-use Rattle.fdc_commands.specs.declared.results.Results.{Results}
+use Rattle.machine_commands.proofs.Common.{Code, Chrn, Results, Ending, NoMark, NoSector, NoField, BadCheck, Overrun, NoCount, Protected, Late, has_set, refusal_of, Done}
 use Rattle.fdc_phases.specs.Answers.{results_of, st1_of, st2_of}
-use Rattle.fdc_stages.specs.declared.ending.Ending.{Ending}
-use Rattle.fdc_stages.specs.declared.ending.Ending.TheVariants.{Done as Finished, NoMark, NoSector, NoField, BadCheck, Overrun, NoCount, Protected, Late}
-use Rattle.machine_commands.specs.Codes.{has_set, refusal_of}
-use Rattle.machine_commands.specs.declared.results.Done.{Done}
+use Rattle.fdc_stages.specs.declared.ending.Ending.TheVariants.{Done as Finished}
 use Rattle.machine_commands.proofs.Endings.{outcome_in}
 
 abbrev pub told_as : Ending → Chrn → Result Done Code

@@ -6,23 +6,15 @@ use Rattle.std.proofs.lemmas.Bool.{false≢true}
 use Rattle.std.proofs.lemmas.List.{drop-set-lt}
 use Rattle.std.proofs.Math.Seq.{take-set-lt}
 use Rattle.std.specs.Prelude.{List}
-use Rattle.flop_base.specs.Counts.{last_count}
-use Rattle.raw_image.specs.Disk.{Disk}
-use Rattle.bay_model.specs.Counters.{DriveGoesOn, GoesOn, IsPastDriver}
+use Rattle.machine_commands.proofs.Common.{last_count, Disk, DriveGoesOn, GoesOn, user_bytes, DriveState, Becomes, InRange, data_commands_of, dor_of, Holds, counted, Board, controller_of, drive_in, holds_of, memory_of, byte_set, Bus, IsIdle, IsReady, is_up, counts_of, counters_of, is_spun, rig_of, stalls_left, Motors}
+use Rattle.bay_model.specs.Counters.{IsPastDriver}
 use Rattle.bay_model.proofs.Counted.{drive_same}
-use Rattle.bay_model.specs.Memory.{user_bytes}
-use Rattle.drive_model.specs.Drive.{DriveState, Becomes, InRange, at_speed, loaded, unloaded}
-use Rattle.fdc_core.specs.State.{data_commands_of, dor_of}
-use Rattle.machine_pace.specs.Holds.{Holds, counted}
-use Rattle.pc_bus.specs.Boards.{Board, IsEmpty, controller_of, drive_in, holds_of, memory_of}
-use Rattle.pc_bus.specs.Handling.{Touches, byte_set, touched}
+use Rattle.drive_model.specs.Drive.{at_speed, loaded, unloaded}
+use Rattle.pc_bus.specs.Boards.{IsEmpty}
+use Rattle.pc_bus.specs.Handling.{Touches, touched}
 use Rattle.pc_bus.specs.Ports.{FollowsMotor}
-use Rattle.pc_bus.specs.declared.bus.Bus.{Bus}
 use Rattle.machine_commands.specs.Handled.{Exchanged, ExchangesDrive, PutsIn, PutsMemory, TakesDrive, TakesOut, Untouched}
-use Rattle.machine_commands.specs.Ready.{IsIdle, IsReady, is_up}
-use Rattle.machine_laws.specs.OnCounts.Counts.{counts_of}
-use Rattle.machine_commands.specs.Shown.{counters_of, is_spun, page_part, rig_of, stalls_left, user_part}
-use Rattle.machine_commands.specs.declared.motors.Motors.{Motors}
+use Rattle.machine_commands.specs.Shown.{page_part, user_part}
 use Rattle.machine_commands.proofs.Selecting.{is_dor, switched}
 use Rattle.machine_commands.proofs.Bays.{both_in, cylinder_in, medium_in, parts_same, parts_with, shown_in, spun_in}
 use Rattle.machine_commands.proofs.Showing.{counts_go}

@@ -2,23 +2,9 @@
 use Rattle.std.proofs.Common.{◌≡◌, ℕ, ◌-◌, ◌/◌, ◌%◌, ◌<◌, ◌≤◌, nat_le, true, false, Option, Some, None, is_some, IfSome, refl, sym, ◌∙◌, ap, subst, arith}
 use Rattle.std.proofs.lemmas.Bool.{false≢true, and_parts}
 use Rattle.std.proofs.lemmas.Bool.Decides.{nat_tests}
-use Rattle.dma_8237.specs.Channel.{Channel, after_write}
-use Rattle.dma_8237.specs.SetUp.{set_up}
-use Rattle.flop_base.specs.declared.answers.Rate.{Rate}
-use Rattle.bay_model.specs.Bays.{in_bay}
-use Rattle.raw_image.specs.Disk.{Disk, IsDisk}
-use Rattle.drive_model.specs.Drive.{DriveState, InRange, turns, track_words}
-use Rattle.fdc_core.specs.Ports.{ccr_written}
-use Rattle.fdc_core.specs.declared.controller.Fdc.{Fdc}
-use Rattle.pc_bus.specs.Boards.{Board, channel_of, controller_of, drive_in}
-use Rattle.pc_bus.specs.Ports.{Outputs, is_controllers, sets_lines}
-use Rattle.pc_bus.specs.declared.bus.Bus.{Bus}
-use Rattle.pc_bus.proofs.Lines.{drive_stays}
-use Rattle.machine_commands.specs.Awaited.{Prepares, SetsChannel}
-use Rattle.machine_commands.specs.Codes.{rate_byte}
-use Rattle.machine_commands.specs.Ready.{dor_with, IsIdle, IsReady}
-use Rattle.machine_commands.specs.Shown.{is_spun, rig_of}
-use Rattle.machine_commands.specs.declared.motors.Motors.{Motors}
+use Rattle.machine_commands.proofs.Common.{Channel, set_up, Rate, in_bay, Disk, DriveState, InRange, turns, track_words, ccr_written, Fdc, Board, channel_of, controller_of, drive_in, Outputs, is_controllers, sets_lines, Bus, drive_stays, Prepares, SetsChannel, rate_byte, dor_with, IsIdle, IsReady, is_spun, rig_of, Motors}
+use Rattle.dma_8237.specs.Channel.{after_write}
+use Rattle.raw_image.specs.Disk.{IsDisk}
 use Rattle.machine_commands.proofs.Idling.{IsResting, StaysIdle}
 use Rattle.machine_commands.proofs.Accesses.{gap_idles, output_idles, same_drive, same_speed}
 use Rattle.machine_commands.proofs.Questions.{ready_set, ready_rests, ready_with}

@@ -2,20 +2,11 @@
 use Rattle.std.proofs.Common.{◌≡◌, ℕ, zero, suc, ◌%◌, ◌≤◌, ◌==◌, ◌&&◌, not, Bool, true, false, if◌then◌else◌, refl, sym, ◌∙◌, ap, subst, arith}
 use Rattle.std.specs.Prelude.{bit_and}
 use Rattle.std.specs.Option.{option_map_or}
-use Rattle.bay_model.specs.Bays.{in_bay}
-use Rattle.drive_model.specs.Drive.{InRange}
-use Rattle.fdc_seek.specs.Seeking.{has_ended}
-use Rattle.fdc_core.specs.Listening.{is_executing}
+use Rattle.machine_commands.proofs.Common.{in_bay, InRange, has_ended, is_executing, is_held, dor_of, data_commands_of, Fdc, Board, controller_of, drive_in, lines_of, lines_of_drive, OnlyAsks, dor_with, IsReady, IsIdle, rig_of, Motors}
 use Rattle.fdc_core.specs.Ports.{line_bits}
-use Rattle.fdc_core.specs.State.{is_held, dor_of, data_commands_of}
-use Rattle.fdc_core.specs.declared.controller.Fdc.{Fdc}
-use Rattle.pc_bus.specs.Boards.{Board, controller_of, drive_in, lines_of, lines_of_drive, absent_lines}
-use Rattle.single_commands.specs.Rigs.{OnlyAsks}
+use Rattle.pc_bus.specs.Boards.{absent_lines}
 use Rattle.machine_commands.specs.Asked.{ReadsLine}
 use Rattle.machine_commands.proofs.Idling.{IsResting, Idles}
-use Rattle.machine_commands.specs.Ready.{dor_with, IsReady, IsIdle}
-use Rattle.machine_commands.specs.Shown.{rig_of}
-use Rattle.machine_commands.specs.declared.motors.Motors.{Motors}
 use Rattle.machine_commands.proofs.Accesses.{input_idles}
 use Rattle.machine_commands.proofs.Bytes.{IsListening}
 use Rattle.machine_commands.proofs.Selecting.{is_dor, with_dor, selects_idle}

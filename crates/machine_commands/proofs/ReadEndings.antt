@@ -2,50 +2,25 @@
 use Rattle.std.proofs.Common.{◌≡◌, ◌⊎◌, inl, inr, ℕ, zero, suc, ◌+◌, ◌-◌, ◌*◌, ◌/◌, ◌%◌, ◌<◌, ◌≤◌, Bool, true, false, List, [], ◌∷◌, length, get_or, Result as result, Ok, Err, IfOk, IfErr, refl, sym, ◌∙◌, ap, subst, arith}
 use Rattle.std.proofs.lemmas.Bool.{false≢true}
 use Rattle.std.proofs.lemmas.List.FromFn.{length-map-range_with_len}
-use Rattle.flop_base.specs.Standard.{read_gap_at}
-use Rattle.flop_base.specs.declared.key.Chrn.{Chrn}
-use Rattle.flop_base.specs.declared.answers.Code.{Code}
+use Rattle.machine_commands.proofs.Common.{read_gap_at, Chrn, Code, Rate, in_bay, IsFaultless, with_items, user_bytes, set_up, IsAddressAt, IsSizeCode, content_size, HasTrack, track_of, InRange, Ready, Ending, NoMark, NoSector, NoField, BadCheck, Overrun, NoCount, Protected, Late, key_after, Sent, is_overrun, Long, Result, scene_of, Scene, track_met, IsCalm, HasBytes, Stalled, Board, channel_of, drive_in, memory_of, track_under, IsIdle, rig_of, Motors, Done}
 use Rattle.flop_base.specs.declared.answers.Code.TheVariants as code
-use Rattle.flop_base.specs.declared.answers.Rate.{Rate}
-use Rattle.bay_model.specs.Bays.{in_bay}
-use Rattle.bay_model.specs.Counters.{IsFaultless}
-use Rattle.flop_base.specs.Lists.{with_items}
-use Rattle.bay_model.specs.Memory.{user_bytes}
-use Rattle.dma_8237.specs.SetUp.{set_up}
 use Rattle.dma_8237.specs.Channel.{after_write}
 use Rattle.track_model.specs.Bytes.{byte_at}
-use Rattle.track_model.specs.Fields.{IsAddressAt, IsDataMark, IsWhole, IsSizeCode, content_size}
+use Rattle.track_model.specs.Fields.{IsDataMark, IsWhole}
 use Rattle.track_model.specs.Sectors.{IsSector, IsLone}
-use Rattle.raw_image.specs.Disk.{HasTrack, track_of}
-use Rattle.drive_model.specs.Drive.{InRange}
-use Rattle.fdc_commands.specs.declared.bytes.Accepted.TheVariants.{Ready}
 use Rattle.fdc_commands.specs.declared.command.Command.TheVariants.{ReadData}
 use Rattle.fdc_commands.specs.Reads.{SpellsRead}
 use Rattle.fdc_commands.proofs.ReadSpellings.{spells_read}
-use Rattle.fdc_stages.specs.declared.ending.Ending.{Ending}
-use Rattle.fdc_stages.specs.declared.ending.Ending.TheVariants.{Done as Finished, NoMark, NoSector, NoField, BadCheck, Overrun, NoCount, Protected, Late}
-use Rattle.fdc_phases.specs.Answers.{key_after}
-use Rattle.fdc_phases.specs.Heard.{Sent}
-use Rattle.fdc_phases.specs.Phases.{is_overrun}
-use Rattle.fdc_phases.specs.declared.answers.Answer.TheVariants.{Long}
-use Rattle.fdc_phases.specs.declared.phases.Phase.TheVariants.{Result}
+use Rattle.fdc_stages.specs.declared.ending.Ending.TheVariants.{Done as Finished}
 use Rattle.machine_laws.specs.OnOrders.Orders.{Read}
-use Rattle.machine_laws.specs.OnReads.Begins.{scene_of}
 use Rattle.machine_laws.specs.OnReads.Ends.{ends_late, is_late}
 use Rattle.machine_laws.specs.OnReads.Results as heard
-use Rattle.machine_laws.specs.OnReads.Scenes.{Scene, IsRecorded, track_met}
-use Rattle.machine_laws.specs.OnReads.Underway.{IsCalm, HasBytes}
-use Rattle.machine_laws.specs.OnSteps.Stalls.{Stalled}
+use Rattle.machine_laws.specs.OnReads.Scenes.{IsRecorded}
 use Rattle.machine_laws.proofs.OnOrders.Ends.{read_ended, read_outside}
 use Rattle.machine_laws.proofs.OnReads.TrackMet.{rate_is, recorded}
-use Rattle.pc_bus.specs.Boards.{Board, channel_of, drive_in, memory_of}
 use Rattle.single_commands.specs.Reading.{FindsField, IsReadReason, IsReadCode, IsReadMiss, ReadsData, ReadsBack}
-use Rattle.single_commands.specs.Rigs.{track_under}
 use Rattle.machine_commands.specs.Awaited.{SendsRead, mark_told}
-use Rattle.machine_commands.specs.Ready.{IsIdle}
-use Rattle.machine_commands.specs.Shown.{rig_of, user_part, page_part}
-use Rattle.machine_commands.specs.declared.motors.Motors.{Motors}
-use Rattle.machine_commands.specs.declared.results.Done.{Done}
+use Rattle.machine_commands.specs.Shown.{user_part, page_part}
 use Rattle.machine_commands.proofs.Beginning.{IsRun, head_of_sent, is_run, set_to_memory, small_drive}
 use Rattle.machine_commands.proofs.Landing.{SameBut, user_same, page_same, user_outside, user_with, page_with}
 use Rattle.machine_commands.proofs.Outcomes.{outcome_is, told_as}

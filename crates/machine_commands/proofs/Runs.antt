@@ -1,13 +1,9 @@
 -- Bytes that are sent one by one.
 use Rattle.std.proofs.Common.{◌≡◌, ℕ, ◌+◌, ◌<◌, ◌≤◌, List, [], ◌∷◌, ◌++◌, length, take, get_or, zero, suc, if◌then◌else◌, refl, sym, ◌∙◌, ap, subst, arith}
 use Rattle.std.proofs.lemmas.List.{take_more}
-use Rattle.pc_bus.specs.Boards.{Board}
-use Rattle.pc_bus.specs.Ports.{Outputs}
-use Rattle.pc_bus.specs.Steps.{Runs, stirred}
-use Rattle.flop_base.specs.Counts.{last_count}
-use Rattle.machine_pace.specs.Holds.{counted}
+use Rattle.machine_commands.proofs.Common.{Board, Outputs, stirred, last_count, counted, Sends, Settles, latch_taken}
+use Rattle.pc_bus.specs.Steps.{Runs}
 use Rattle.machine_commands.proofs.PastDriver.{counted_if}
-use Rattle.machine_commands.specs.Sending.{Sends, Settles, latch_taken}
 
 -- one byte more
 sends_more : (bytes : List ℕ) (byte : ℕ) (old between new : Board) → Sends bytes old between → Outputs 0x3F5 byte between new → Sends (bytes ++ byte ∷ []) old new

@@ -1,33 +1,14 @@
 -- What a driver sees of a data command, from an idle machine to the next.
 use Rattle.std.proofs.Common.{◌≡◌, ℕ, zero, suc, ◌+◌, ◌-◌, ◌≤◌, ◌==◌, true, List, [], ◌∷◌, Some, is_some, min, nat_lt, if◌then◌else◌, slice_index, Result as result, refl, sym, ◌∙◌, ap, arith}
 use Rattle.std.proofs.lemmas.List.Sums.{sum_by-cons}
-use Rattle.flop_base.specs.Counts.{last_count, RoseBy, Spends}
-use Rattle.flop_base.specs.declared.answers.Code.{Code}
-use Rattle.flop_base.specs.declared.answers.Rate.{Rate}
-use Rattle.bay_model.specs.Bays.{Two, in_bay}
-use Rattle.bay_model.specs.Counters.{GoesOn, IsDriven, IsFaultless, IsUndisturbed, faults_of}
-use Rattle.bay_model.proofs.Counted.{spends_twice}
-use Rattle.drive_model.specs.Drive.{DriveState, InRange}
-use Rattle.fdc_core.specs.State.{data_commands_of}
+use Rattle.machine_commands.proofs.Common.{last_count, RoseBy, Spends, Code, Rate, Two, in_bay, GoesOn, IsDriven, IsFaultless, IsUndisturbed, faults_of, spends_twice, DriveState, InRange, data_commands_of, Order, Scene, head_sent, track_met, IsCalm, Stalled, met_is, counted, Board, controller_of, drive_in, holds_of, memory_of, met_in, track_under, IsIdle, latch_taken, counters_of, is_spun, rig_of, stalls_left, Motors, Done}
 use Rattle.machine_laws.specs.OnAwaits.Awaits.{TurnsOn}
 use Rattle.machine_laws.specs.OnCounts.Counts.{long_holds}
-use Rattle.machine_laws.specs.OnOrders.Orders.{Order}
 use Rattle.machine_laws.specs.OnQuiet.Quiet.{HaveTurned}
-use Rattle.machine_laws.specs.OnReads.Scenes.{Scene, head_sent, track_met}
-use Rattle.machine_laws.specs.OnReads.Underway.{IsCalm}
-use Rattle.machine_laws.specs.OnSteps.Stalls.{Stalled}
-use Rattle.machine_laws.proofs.OnReads.TrackMet.{met_is}
-use Rattle.machine_pace.specs.Holds.{counted}
-use Rattle.pc_bus.specs.Boards.{Board, controller_of, drive_in, holds_of, memory_of}
-use Rattle.sector_map.specs.Met.{met_in}
 use Rattle.single_commands.specs.Reading.{SendsRead}
-use Rattle.single_commands.specs.Rigs.{HeadsStay, track_under}
+use Rattle.single_commands.specs.Rigs.{HeadsStay}
 use Rattle.single_commands.specs.Writing.{SendsWrite}
-use Rattle.machine_commands.specs.Ready.{IsIdle}
-use Rattle.machine_commands.specs.Sending.{latch_taken}
-use Rattle.machine_commands.specs.Shown.{counters_of, is_spun, page_part, rig_of, stalls_left, user_part}
-use Rattle.machine_commands.specs.declared.motors.Motors.{Motors}
-use Rattle.machine_commands.specs.declared.results.Done.{Done}
+use Rattle.machine_commands.specs.Shown.{page_part, user_part}
 use Rattle.machine_commands.proofs.Beginning.{HasRun}
 use Rattle.machine_commands.proofs.Endings.{finished_idle}
 use Rattle.machine_commands.proofs.Idling.{KeepsDrive, KeepsSpeed}

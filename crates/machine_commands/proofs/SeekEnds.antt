@@ -1,26 +1,11 @@
 -- A seek from its first byte to the end of its result.
 use Rattle.std.proofs.Common.{◌≡◌, inl, inr, ℕ, zero, suc, ◌+◌, ◌≤◌, ◌==◌, false, List, [], ◌∷◌, ◌++◌, Some, None, slice_index, slice_set, refl, sym, ◌∙◌, ap, subst, arith}
-use Rattle.drive_model.specs.Drive.{DriveState}
+use Rattle.machine_commands.proofs.Common.{DriveState, Ready, Seeking, ended, sensed, after_sense, is_seeking, has_ended, Motion, Ended, Obeys, polled, Fdc, Lines, next_entry, Board, controller_of, drive_in, lines_of, Outputs, RunsGap, Bus, drive_stays, dor_with, IsIdle, is_up, Sends, Motors}
 use Rattle.fdc_commands.specs.Table.{answer}
-use Rattle.fdc_commands.specs.declared.bytes.Accepted.TheVariants.{Ready}
 use Rattle.fdc_commands.specs.declared.command.Command.{Command}
-use Rattle.fdc_seek.specs.Seeking.{Seeking, ended, sensed, after_sense, is_seeking, has_ended}
-use Rattle.fdc_seek.specs.declared.motion.Motion.{Motion}
-use Rattle.fdc_seek.specs.declared.motion.Motion.TheVariants.{Ended}
-use Rattle.fdc_core.specs.Commands.{Obeys}
-use Rattle.fdc_core.specs.Steps.{polled}
-use Rattle.fdc_core.specs.declared.controller.Fdc.{Fdc}
-use Rattle.fdc_core.specs.declared.controller.Lines.{Lines}
-use Rattle.machine_pace.specs.Entries.{next_entry}
-use Rattle.pc_bus.specs.Boards.{Board, controller_of, drive_in, lines_of}
-use Rattle.pc_bus.specs.Ports.{Outputs, RunsGap}
-use Rattle.pc_bus.specs.declared.bus.Bus.{Bus}
-use Rattle.pc_bus.proofs.Lines.{drive_stays}
 use Rattle.machine_commands.specs.Asked.{EndsSeek}
 use Rattle.machine_commands.proofs.Idling.{IsResting, KeepsDrive, KeepsSpeed, Idles}
-use Rattle.machine_commands.specs.Ready.{dor_with, none_pending, IsIdle, is_up}
-use Rattle.machine_commands.specs.Sending.{Sends}
-use Rattle.machine_commands.specs.declared.motors.Motors.{Motors}
+use Rattle.machine_commands.specs.Ready.{none_pending}
 use Rattle.machine_commands.proofs.Accesses.{accessed, accessed_keeps, same_drive, same_speed}
 use Rattle.machine_commands.proofs.Bytes.{IsListening, AreMore, with_bytes, listens_with, first_bytes, sends_parts, last_written}
 use Rattle.machine_commands.proofs.Questions.{ready_rests, ready_with, not_held}

@@ -6,26 +6,14 @@ use Rattle.std.proofs.lemmas.List.{get_or-set_other}
 use Rattle.std.proofs.lemmas.Grind.{get_or-set_at}
 use Rattle.std.proofs.lemmas.Bool.{false≢true}
 use Rattle.std.proofs.lemmas.Bool.Decides.{eqb_tells, nat_tests}
-use Rattle.flop_base.specs.Counts.{RoseBy}
-use Rattle.bay_model.specs.Counters.{DriveGoesOn}
-use Rattle.drive_model.specs.Drive.{DriveState, InRange}
+use Rattle.machine_commands.proofs.Common.{RoseBy, DriveGoesOn, DriveState, InRange, Ready, Seeking, seek_bits, ended, after_sense, sought, recalibrated, Motion, Outward, Toward, Ended, dor_of, data_commands_of, Fdc, Board, controller_of, drive_in, dor_with, IsReady, IsIdle, AreSeeksOver, is_spun, number_of, rig_of, Motors, counts_of}
 use Rattle.fdc_commands.specs.Table.{answer}
-use Rattle.fdc_commands.specs.declared.bytes.Accepted.TheVariants.{Ready}
 use Rattle.fdc_commands.specs.declared.command.Command.TheVariants.{Recalibrate, Seek}
-use Rattle.fdc_seek.specs.Seeking.{Seeking, seek_bits, ended, after_sense, sought, recalibrated}
-use Rattle.fdc_seek.specs.declared.motion.Motion.{Motion}
-use Rattle.fdc_seek.specs.declared.motion.Motion.TheVariants.{Outward, Toward, Ended}
-use Rattle.fdc_core.specs.State.{dor_of, data_commands_of}
-use Rattle.fdc_core.specs.declared.controller.Fdc.{Fdc}
-use Rattle.pc_bus.specs.Boards.{Board, controller_of, drive_in}
 use Rattle.single_commands.specs.Heads.{MovesHeads, Recalibrates, Seeks}
 use Rattle.machine_commands.specs.Asked.{SendsRecalibrate, SendsSeek}
 use Rattle.machine_commands.proofs.Idling.{KeepsSpeed}
-use Rattle.machine_commands.specs.Ready.{dor_with, IsReady, IsIdle, AreSeeksOver}
-use Rattle.machine_commands.specs.Shown.{is_spun, user_part, page_part, number_of, rig_of}
-use Rattle.machine_commands.specs.declared.motors.Motors.{Motors}
+use Rattle.machine_commands.specs.Shown.{user_part, page_part}
 use Rattle.machine_commands.proofs.Bytes.{AreMore}
-use Rattle.machine_laws.specs.OnCounts.Counts.{counts_of}
 use Rattle.machine_commands.proofs.Moving.{MovesDrive, OutwardWay, OutwardOver, TowardWay, TowardOver, turns_move, outward_rule, toward_rule}
 use Rattle.machine_commands.proofs.Seeking.{Leaves, on_way, at_end}
 use Rattle.machine_commands.proofs.SeekEnds.{SeekCommand, SeekDone, after_sense_of, seek_done}

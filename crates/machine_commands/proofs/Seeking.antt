@@ -1,21 +1,10 @@
 -- Device steps of a seek, whatever it does.
 use Rattle.std.proofs.Common.{◌≡◌, ◌⊎◌, inl, inr, ℕ, zero, suc, ◌+◌, ◌-◌, ◌%◌, ◌≤◌, ◌==◌, ◌&&◌, ◌||◌, not, List, Bool, true, false, Some, None, refl, sym, ◌∙◌, ap, subst, arith}
 use Rattle.std.proofs.lemmas.Bool.{or_right}
-use Rattle.drive_model.specs.Drive.{DriveState}
-use Rattle.fdc_seek.specs.Seeking.{Seeking, with_motion, ended, stepped_seek, is_seeking, has_ended, pulse_due, pulse_of}
-use Rattle.fdc_seek.specs.declared.motion.Motion.{Motion}
-use Rattle.fdc_core.specs.Listening.{is_executing}
-use Rattle.fdc_core.specs.State.{is_held, dor_of}
-use Rattle.fdc_core.specs.Steps.{polled, seek_stepped, RestsIn, MovesIn, Moves}
-use Rattle.fdc_core.specs.declared.controller.Fdc.{Fdc}
-use Rattle.machine_pace.specs.declared.holding.Request.TheVariants.{Low}
-use Rattle.pc_bus.specs.Boards.{Board, controller_of, memory_of, holds_of, drive_in, selected_of}
-use Rattle.machine_laws.specs.OnSteps.Steady.{regapped, Marching}
-use Rattle.machine_laws.proofs.OnSteps.Runs.{march_gap, march_wait}
-use Rattle.machine_pace.specs.Entries.{next_entry}
-use Rattle.pc_bus.specs.Ports.{RunsGap}
-use Rattle.pc_bus.specs.Steps.{PassesWordTime, Step, Runs, stirred}
-use Rattle.pc_bus.specs.declared.chips.Chips.{Chips}
+use Rattle.machine_commands.proofs.Common.{DriveState, Seeking, with_motion, ended, stepped_seek, is_seeking, has_ended, pulse_due, pulse_of, Motion, is_executing, is_held, dor_of, polled, seek_stepped, RestsIn, MovesIn, Moves, Fdc, Low, Board, controller_of, memory_of, holds_of, drive_in, regapped, Marching, march_wait, next_entry, RunsGap, Step, stirred, Chips}
+use Rattle.pc_bus.specs.Boards.{selected_of}
+use Rattle.machine_laws.proofs.OnSteps.Runs.{march_gap}
+use Rattle.pc_bus.specs.Steps.{PassesWordTime, Runs}
 use Rattle.machine_commands.proofs.Idling.{Idles, KeepsAll, KeepsDrive, KeepsSpeed}
 use Rattle.machine_commands.proofs.Bays.{drive_kept, kept_in}
 use Rattle.machine_commands.proofs.Steps.{OnlyTurns, calm_asks, calm_dma, unpolled, rests_in, moves_in, or_false, still_seeks, gate_turns, drive_then, idles_none, regapped_idles, speed_then}

@@ -3,19 +3,14 @@ use Rattle.std.proofs.Common.{◌≡◌, ◌≢◌, ◌↔◌, ℕ, zero, suc, �
 use Rattle.std.specs.Int.{IsBitSet}
 use Rattle.std.specs.Prelude.{bit_and}
 use Rattle.std.proofs.lemmas.Bool.{false≢true}
-use Rattle.drive_model.specs.Drive.{DriveState, Becomes, with_motor, track_words}
-use Rattle.fdc_core.specs.Ports.{dor_written, resets}
-use Rattle.fdc_core.specs.State.{dor_of}
+use Rattle.machine_commands.proofs.Common.{DriveState, Becomes, track_words, dor_written, dor_of, Fdc, Board, controller_of, Outputs, Bus, dor_with, Motors}
+use Rattle.drive_model.specs.Drive.{with_motor}
+use Rattle.fdc_core.specs.Ports.{resets}
 use Rattle.fdc_core.specs.Times.{Closes}
-use Rattle.fdc_core.specs.declared.controller.Fdc.{Fdc}
-use Rattle.pc_bus.specs.Boards.{Board, controller_of}
-use Rattle.pc_bus.specs.Ports.{Outputs}
-use Rattle.pc_bus.specs.declared.bus.Bus.{Bus}
 use Rattle.machine_commands.proofs.Idling.{IsResting, KeepsDrive, KeepsSpeed, Idles}
-use Rattle.machine_commands.specs.Ready.{dor_with, HasMotors}
+use Rattle.machine_commands.specs.Ready.{HasMotors}
 use Rattle.machine_commands.proofs.Accesses.{accessed, accessed_keeps, gap_idles}
 use Rattle.machine_commands.proofs.Steps.{drive_then, idles_then}
-use Rattle.machine_commands.specs.declared.motors.Motors.{Motors}
 
 abbrev pub motors_of : Bool → Bool → Motors
 motors_of first second = record { first = first; second = second }

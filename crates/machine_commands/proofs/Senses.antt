@@ -1,14 +1,9 @@
 -- SENSE INTERRUPT where a result is pending.
 use Rattle.std.proofs.Common.{◌≡◌, ℕ, ◌==◌, false, [], ◌∷◌, ◌++◌, Some, refl, sym, ◌∙◌, ap, subst}
+use Rattle.machine_commands.proofs.Common.{Ready, is_seeking, sensed, after_sense, answered, given, result_byte, Fdc, Command, Board, controller_of}
 use Rattle.fdc_commands.specs.Table.{answer}
-use Rattle.fdc_commands.specs.declared.bytes.Accepted.TheVariants.{Ready}
 use Rattle.fdc_commands.specs.declared.command.Command.TheVariants.{SenseInterrupt}
-use Rattle.fdc_seek.specs.Seeking.{is_seeking, sensed, after_sense}
-use Rattle.fdc_core.specs.Commands.{answered, sensing_by}
-use Rattle.fdc_core.specs.Ports.{given, result_byte}
-use Rattle.fdc_core.specs.declared.controller.Fdc.{Fdc}
-use Rattle.fdc_phases.specs.declared.phases.Phase.TheVariants.{Command}
-use Rattle.pc_bus.specs.Boards.{Board, controller_of}
+use Rattle.fdc_core.specs.Commands.{sensing_by}
 use Rattle.machine_commands.proofs.Idling.{IsResting, Idles}
 use Rattle.machine_commands.specs.Sending.{Senses, TakesNumber}
 use Rattle.machine_commands.proofs.Accesses.{input_idles}

@@ -1,16 +1,8 @@
 -- One device step behind results, and polls.
 use Rattle.std.proofs.Common.{◌≡◌, ◌⊎◌, inl, inr, sym, ◌∙◌, ap, subst}
-use Rattle.fdc_core.specs.State.{interrupts}
-use Rattle.fdc_core.specs.Steps.{polled}
-use Rattle.fdc_core.specs.declared.controller.Fdc.{Fdc}
-use Rattle.pc_bus.specs.Boards.{Board, controller_of}
-use Rattle.machine_laws.specs.OnSteps.Steady.{regapped, Steady}
-use Rattle.machine_laws.proofs.OnSteps.Runs.{gap}
-use Rattle.pc_bus.specs.Ports.{RunsGap}
-use Rattle.pc_bus.specs.Steps.{Step, Runs, stirred}
+use Rattle.machine_commands.proofs.Common.{interrupts, polled, Fdc, Board, controller_of, regapped, Steady, gap, RunsGap, Step, stirred, is_up, Settles}
+use Rattle.pc_bus.specs.Steps.{Runs}
 use Rattle.machine_commands.proofs.Idling.{IsResting, KeepsDrive, KeepsSpeed, KeepsAll}
-use Rattle.machine_commands.specs.Ready.{is_up}
-use Rattle.machine_commands.specs.Sending.{Settles}
 use Rattle.machine_commands.proofs.Steps.{idles_none, step_to, unpolled, keeps_then, regapped_idles, speed_none, speed_then}
 
 pub runs_one : (old new : Board) → Runs 1 old new → Step old new

@@ -2,18 +2,10 @@
 use Rattle.std.proofs.Common.{◌≡◌, ℕ, zero, suc, ◌+◌, ◌≤◌, ◌==◌, ◌&&◌, ◌||◌, Bool, true, false, min, nat_le, IsSome, is_some, refl, sym, ◌∙◌, ap, subst, arith}
 use Rattle.std.proofs.lemmas.Bool.{or_right}
 use Rattle.std.proofs.lemmas.Bool.Decides.{nat_tests}
-use Rattle.bay_model.specs.Bays.{in_bay}
-use Rattle.drive_model.specs.Drive.{DriveState, InRange, turns}
-use Rattle.fdc_core.specs.State.{dor_of, data_commands_of}
-use Rattle.fdc_core.specs.declared.controller.Fdc.{Fdc}
-use Rattle.pc_bus.specs.Boards.{Board, controller_of}
-use Rattle.single_commands.specs.Rigs.{OnlyAsks}
+use Rattle.machine_commands.proofs.Common.{in_bay, DriveState, InRange, turns, dor_of, data_commands_of, Fdc, Board, controller_of, OnlyAsks, dor_with, IsReady, IsIdle, is_up, is_spun, rig_of, Motors}
 use Rattle.machine_commands.specs.Asked.{StartsMotor}
 use Rattle.machine_commands.proofs.Idling.{IsResting, KeepsSpeed, KeepsAll, Idles}
 use Rattle.machine_commands.specs.Motored.{with_motor_of}
-use Rattle.machine_commands.specs.Ready.{dor_with, IsReady, IsIdle, is_up}
-use Rattle.machine_commands.specs.Shown.{is_spun, rig_of}
-use Rattle.machine_commands.specs.declared.motors.Motors.{Motors}
 use Rattle.machine_commands.proofs.Accesses.{accessed_keeps, gap_idles}
 use Rattle.machine_commands.proofs.Questions.{ready_rests, ready_with}
 use Rattle.machine_commands.proofs.Selecting.{IsSwitched, IsDorWritten, is_dor, with_dor, dor_access, dor_is_written}

@@ -3,24 +3,13 @@ use Rattle.std.proofs.Common.{◌≡◌, ℕ, zero, suc, ◌^◌, ◌≤◌, ◌
 use Rattle.std.specs.Prelude.{bit_and}
 use Rattle.std.specs.Int.RustNames.{bit_or}
 use Rattle.std.specs.Option.{option_map_or}
-use Rattle.bay_model.specs.Bays.{in_bay}
-use Rattle.raw_image.specs.Disk.{Disk}
-use Rattle.drive_model.specs.Drive.{InRange, is_protected}
+use Rattle.machine_commands.proofs.Common.{in_bay, Disk, InRange, Ready, Seeking, seek_bits, answered, given, result_byte, dor_of, Fdc, Board, controller_of, drive_in, lines_of, lines_of_drive, OnlyAsks, dor_with, IsReady, IsIdle, AreSeeksOver, rig_of, Motors}
+use Rattle.drive_model.specs.Drive.{is_protected}
 use Rattle.fdc_commands.specs.Table.{answer}
-use Rattle.fdc_commands.specs.declared.bytes.Accepted.TheVariants.{Ready}
 use Rattle.fdc_commands.specs.declared.command.Command.TheVariants.{SenseDrive}
-use Rattle.fdc_seek.specs.Seeking.{Seeking, seek_bits}
-use Rattle.fdc_core.specs.Commands.{answered, bits_if, status_of_lines}
-use Rattle.fdc_core.specs.Ports.{given, result_byte}
-use Rattle.fdc_core.specs.State.{dor_of}
-use Rattle.fdc_core.specs.declared.controller.Fdc.{Fdc}
-use Rattle.pc_bus.specs.Boards.{Board, controller_of, drive_in, lines_of, lines_of_drive}
-use Rattle.single_commands.specs.Rigs.{OnlyAsks}
+use Rattle.fdc_core.specs.Commands.{bits_if, status_of_lines}
 use Rattle.machine_commands.specs.Asked.{SensesDrive}
 use Rattle.machine_commands.proofs.Idling.{IsResting, Idles}
-use Rattle.machine_commands.specs.Ready.{dor_with, IsReady, IsIdle, AreSeeksOver}
-use Rattle.machine_commands.specs.Shown.{rig_of}
-use Rattle.machine_commands.specs.declared.motors.Motors.{Motors}
 use Rattle.machine_commands.proofs.Accesses.{input_idles}
 use Rattle.machine_commands.proofs.Bytes.{AreMore, with_bytes, whole_command, lines_kept}
 use Rattle.machine_commands.proofs.Questions.{ready_rests, ready_with, ready_listens, idle_again, idle_asks, selected_lines}

@@ -3,29 +3,16 @@ use Rattle.std.proofs.Common.{◌≡◌, ℕ, ◌+◌, ◌<◌, ◌≤◌, ◌==
 use Rattle.std.proofs.lemmas.Bool.{and_right}
 use Rattle.std.specs.Option.{option_map_or}
 use Rattle.std.proofs.lemmas.Bool.Decides.{nat_tests}
-use Rattle.bay_model.proofs.Counted.{spends_itself, spends_twice}
-use Rattle.drive_model.specs.Drive.{DriveState, Becomes, turns, track_words}
-use Rattle.fdc_seek.specs.Seeking.{Seeking, stepped_seek, is_seeking, has_ended, pulse_due, pulse_of}
+use Rattle.machine_commands.proofs.Common.{spends_twice, DriveState, Becomes, turns, track_words, Seeking, stepped_seek, is_seeking, has_ended, pulse_due, pulse_of, Motion, Outward, Toward, Ended, is_executing, asks, interrupts, is_held, polled, seek_stepped, RestsIn, MovesIn, Moves, Fdc, Phase, Command, Execute, Result, Low, Board, controller_of, channel_of, holds_of, regapped, Marching, Steady, march_wait, controller, Step, stirred, Chips, is_up}
+use Rattle.bay_model.proofs.Counted.{spends_itself}
 use Rattle.fdc_seek.specs.declared.motion.Seek.{Seek}
-use Rattle.fdc_seek.specs.declared.motion.Motion.{Motion}
-use Rattle.fdc_seek.specs.declared.motion.Motion.TheVariants.{Outward, Toward, Ended}
-use Rattle.fdc_core.specs.Listening.{is_executing}
-use Rattle.fdc_core.specs.State.{asks, interrupts, is_gated, is_held}
-use Rattle.fdc_core.specs.Steps.{polled, seek_stepped, RestsIn, MovesIn, Moves, let_pass}
-use Rattle.fdc_core.specs.declared.controller.Fdc.{Fdc}
-use Rattle.fdc_phases.specs.declared.phases.Phase.{Phase}
-use Rattle.fdc_phases.specs.declared.phases.Phase.TheVariants.{Command, Execute, Result}
+use Rattle.fdc_core.specs.State.{is_gated}
+use Rattle.fdc_core.specs.Steps.{let_pass}
 use Rattle.machine_laws.proofs.OnQuiet.Turning.{turned_let}
-use Rattle.machine_pace.specs.declared.holding.Request.TheVariants.{Low}
-use Rattle.pc_bus.specs.Boards.{Board, controller_of, channel_of, holds_of}
-use Rattle.machine_laws.specs.OnSteps.Steady.{regapped, Marching, Steady}
-use Rattle.machine_laws.proofs.OnSteps.Runs.{march_wait}
-use Rattle.machine_laws.proofs.OnSteps.Words.{controller, drives}
-use Rattle.pc_bus.specs.Steps.{Step, Runs, stirred}
+use Rattle.machine_laws.proofs.OnSteps.Words.{drives}
+use Rattle.pc_bus.specs.Steps.{Runs}
 use Rattle.pc_bus.specs.Transfers.{dma_stepped}
-use Rattle.pc_bus.specs.declared.chips.Chips.{Chips}
 use Rattle.machine_commands.proofs.Idling.{IsResting, KeepsDrive, KeepsSpeed, KeepsAll, StaysIdle, Idles}
-use Rattle.machine_commands.specs.Ready.{is_up}
 
 -- ---- requests
 

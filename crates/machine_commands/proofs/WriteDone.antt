@@ -1,38 +1,15 @@
 -- A whole WRITE DATA or WRITE DELETED DATA, from an idle machine to the next.
 use Rattle.std.proofs.Common.{◌≡◌, ℕ, ◌+◌, ◌-◌, ◌*◌, ◌%◌, ◌<◌, ◌≤◌, Bool, true, false, [], ◌∷◌, Option, Result, refl, sym, ◌∙◌, ap, subst, arith}
 use Rattle.std.specs.Option.{option_map_or}
-use Rattle.flop_base.specs.Standard.{read_gap_at}
-use Rattle.flop_base.specs.declared.key.Chrn.{Chrn}
-use Rattle.flop_base.specs.declared.answers.Rate.{Rate}
-use Rattle.flop_base.specs.declared.answers.Code.{Code}
-use Rattle.bay_model.specs.Bays.{in_bay}
-use Rattle.bay_model.specs.Memory.{user_bytes, bytes_from}
+use Rattle.machine_commands.proofs.Common.{read_gap_at, Chrn, Rate, Code, in_bay, user_bytes, bytes_from, set_up, InRange, Ready, key_after, Sent, Long, Window, Write, scene_of, only, Board, channel_of, drive_in, memory_of, Change, WritesData, IsSizeCode, content_size, sector_bytes, IsIdle, Sends, rig_of, told_of, Motors, Done}
 use Rattle.dma_8237.specs.Channel.{after_write}
-use Rattle.dma_8237.specs.SetUp.{set_up}
-use Rattle.drive_model.specs.Drive.{InRange}
-use Rattle.fdc_commands.specs.declared.bytes.Accepted.TheVariants.{Ready}
 use Rattle.fdc_commands.specs.Writes.{write_code, write_command}
 use Rattle.fdc_commands.proofs.WriteSpellings.{spells_write}
-use Rattle.fdc_phases.specs.Answers.{key_after}
-use Rattle.fdc_phases.specs.Heard.{Sent}
-use Rattle.fdc_phases.specs.declared.answers.Answer.TheVariants.{Long}
 use Rattle.fdc_phases.specs.declared.phases.Phase.TheVariants as phase
-use Rattle.machine_laws.specs.OnOrders.Orders.{Window, Write}
-use Rattle.machine_laws.specs.OnReads.Begins.{scene_of}
 use Rattle.machine_laws.specs.OnWrites.Begins.{write_of}
 use Rattle.machine_laws.specs.OnWrites.Results.{EndedIn}
-use Rattle.machine_laws.proofs.OnOrders.Ends.{ended, only}
-use Rattle.pc_bus.specs.Boards.{Board, channel_of, drive_in, memory_of}
-use Rattle.sector_map.specs.Changes.{Change}
-use Rattle.single_commands.specs.Writing.{WritesData}
-use Rattle.track_model.specs.Fields.{IsSizeCode, content_size}
-use Rattle.machine_commands.specs.Awaited.{sector_bytes}
-use Rattle.machine_commands.specs.Ready.{IsIdle}
-use Rattle.machine_commands.specs.Sending.{Sends}
-use Rattle.machine_commands.specs.Shown.{rig_of}
-use Rattle.machine_commands.specs.WriteSent.{SendsWriteBytes, told_of}
-use Rattle.machine_commands.specs.declared.motors.Motors.{Motors}
-use Rattle.machine_commands.specs.declared.results.Done.{Done}
+use Rattle.machine_laws.proofs.OnOrders.Ends.{ended}
+use Rattle.machine_commands.specs.WriteSent.{SendsWriteBytes}
 use Rattle.machine_commands.proofs.Beginning.{IsRun, head_of_sent, is_run, set_from_memory, small_drive}
 use Rattle.machine_commands.proofs.Outcomes.{outcome_is, told_as}
 use Rattle.machine_commands.proofs.Preparing.{channel_sets}

@@ -3,43 +3,22 @@ use Rattle.std.proofs.Common.{◌≡◌, ◌⊎◌, inl, inr, ℕ, zero, suc, �
 use Rattle.std.specs.Prelude.{IsOk, IfErr, MatchOption}
 use Rattle.std.proofs.lemmas.Bool.{false≢true}
 use Rattle.std.proofs.lemmas.List.{take-take, drop-take}
-use Rattle.flop_base.specs.Counts.{RoseBy}
-use Rattle.flop_base.specs.declared.answers.Rate.{Rate}
-use Rattle.flop_base.specs.declared.answers.Rate.TheVariants.{R500, R250}
-use Rattle.flop_base.specs.declared.answers.Code.{Code}
+use Rattle.machine_commands.proofs.Common.{RoseBy, Rate, R500, R250, Code, Two, in_bay, IsFaultless, IsUndisturbed, user_bytes, bytes_from, HasTrack, track_of, Change, HasClearAddress, met_in, IsAddressAt, content_size, is_overrun, rate_fits, Long, Ending, Window, Write, Stalled, met_is, Scene, data_rate, head_sent, track_met, IsUnchanged, Board, drive_in, memory_of, track_under, WritesData, counters_of, rig_of, told_of, Motors, Done, Chrn}
 use Rattle.flop_base.specs.declared.answers.Code.TheVariants as code
-use Rattle.bay_model.specs.Bays.{Two, in_bay}
-use Rattle.bay_model.specs.Counters.{IsFaultless, IsUndisturbed}
-use Rattle.bay_model.specs.Memory.{user_bytes, bytes_from}
-use Rattle.raw_image.specs.Disk.{HasTrack, track_of}
-use Rattle.sector_map.specs.Changes.{Change, Written, window_of}
-use Rattle.sector_map.specs.Met.{HasNoClearMark, HasClearAddress, met_in, same_rate}
+use Rattle.sector_map.specs.Changes.{Written, window_of}
+use Rattle.sector_map.specs.Met.{HasNoClearMark, same_rate}
 use Rattle.sector_map.specs.MetTracks.{MeetsTrack}
 use Rattle.sector_map.proofs.MetTracks.{length-met_track, met_track, nothing_from, rates_same}
-use Rattle.track_model.specs.Fields.{IsAddressAt, content_size}
 use Rattle.track_model.specs.Looks.{HasAddressMark}
-use Rattle.fdc_phases.specs.Phases.{is_overrun}
-use Rattle.fdc_phases.specs.Rates.{rate_fits}
-use Rattle.fdc_phases.specs.declared.answers.Answer.TheVariants.{Long}
 use Rattle.fdc_phases.specs.declared.phases.Phase.TheVariants as phase
 use Rattle.fdc_stages.specs.Searches.{HasNoClear}
-use Rattle.fdc_stages.specs.declared.ending.Ending.{Ending}
 use Rattle.fdc_stages.specs.declared.ending.Ending.TheVariants as ending
-use Rattle.machine_laws.specs.OnOrders.Orders.{Laid, Window, Write}
-use Rattle.machine_laws.specs.OnSteps.Stalls.{Stalled}
-use Rattle.machine_laws.proofs.OnReads.TrackMet.{met_is}
-use Rattle.machine_laws.specs.OnReads.Scenes.{Scene, data_rate, head_sent, track_met}
-use Rattle.machine_laws.specs.OnWrites.Results.{EndsAs, HasChanged, IsInsideTrack, IsUnchanged, IsWholeWindow, written_in}
+use Rattle.machine_laws.specs.OnOrders.Orders.{Laid}
+use Rattle.machine_laws.specs.OnWrites.Results.{EndsAs, HasChanged, IsInsideTrack, IsWholeWindow, written_in}
 use Rattle.machine_laws.specs.OnWrites.Results as write
 use Rattle.machine_laws.proofs.OnWrites.Results.{changes_disk}
-use Rattle.pc_bus.specs.Boards.{Board, drive_in, memory_of}
-use Rattle.single_commands.specs.Rigs.{track_under}
-use Rattle.single_commands.specs.Writing.{ChangesMedium, HasWindowOut, IsWriteMiss, WritesData}
-use Rattle.machine_commands.specs.Shown.{counters_of, rig_of, user_part}
-use Rattle.machine_commands.specs.WriteSent.{told_of}
-use Rattle.machine_commands.specs.declared.motors.Motors.{Motors}
-use Rattle.machine_commands.specs.declared.results.Done.{Done}
-use Rattle.flop_base.specs.declared.key.Chrn.{Chrn}
+use Rattle.single_commands.specs.Writing.{ChangesMedium, HasWindowOut, IsWriteMiss}
+use Rattle.machine_commands.specs.Shown.{user_part}
 use Rattle.machine_commands.proofs.Showing.{two_same}
 use Rattle.machine_commands.proofs.Beginning.{HasRun}
 use Rattle.machine_commands.proofs.Outcomes.{told_as}
