@@ -1,0 +1,14 @@
+-- How the program ends where nothing can go wrong with it: well, or as the outside had it.
+use Rattle.flop_base.specs.Counts.{Rose}
+use Rattle.flop_base.specs.declared.answers.Status.{Status}
+use Rattle.flop_base.specs.declared.answers.Status.TheVariants as status
+use Rattle.floppy_tools.specs.Performed.{Stand}
+
+-- the program ended with status 0, and this holds; or memory couldn't be had; or the shelf or the sink failed, and its faults were
+-- counted
+abbrev pub EndsWell : Type 0 → Stand → Stand → Status → Type 0
+EndsWell Holds old new status.AllOk = Holds
+EndsWell Holds old new status.NoMemory = Unit {0}
+EndsWell Holds old new status.FileFault = Rose old.desk.shelf_faults new.desk.shelf_faults
+EndsWell Holds old new status.SinkFault = Rose old.desk.sink_faults new.desk.sink_faults
+EndsWell Holds old new _ = ⊥

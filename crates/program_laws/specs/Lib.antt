@@ -1,0 +1,4 @@
+pub mod Disturbed
+pub mod Stored
+pub mod Told
+pub mod Ends
