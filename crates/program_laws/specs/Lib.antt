@@ -2,3 +2,5 @@ pub mod Disturbed
 pub mod Stored
 pub mod Told
 pub mod Ends
+pub mod Answered
+pub mod Made
