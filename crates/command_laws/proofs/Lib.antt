@@ -24,7 +24,7 @@ pub mod VerifyRun
 mod WholeWindow
 mod Written
 mod WrittenHere
-mod Bays
+pub mod Bays
 pub mod CommandEnds
 mod Going
 pub mod ScriptAccesses

@@ -35,7 +35,7 @@ not_stop (stop.Absent name) well = absurd (cc well)
 not_stop stop.FileFault well = absurd (cc well)
 not_stop stop.NoMemory well = absurd (cc well)
 
-made_well : (Makes : Option Files → Result ℕ Halt → Option Files → Type 0) (verb : List ℕ) (before after : Desk) (outcome : Result ℕ Halt)
+pub made_well : (Makes : Option Files → Result ℕ Halt → Option Files → Type 0) (verb : List ℕ) (before after : Desk) (outcome : Result ℕ Halt)
     → Makes before.files outcome after.files → Tells verb outcome before.report after.report status.AllOk → MakesFile Makes verb before after
 made_well Makes verb before after (Ok count) makes tells = record { count = count; makes = makes; report = (put_well _ _ _ _ tells).0 }
 made_well Makes verb before after (Err (halt.Unfit c h)) makes tells = let bad = (put_well _ _ _ _ tells).1 in absurd (cc bad)

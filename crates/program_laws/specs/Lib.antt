@@ -4,3 +4,4 @@ pub mod Told
 pub mod Ends
 pub mod Answered
 pub mod Made
+pub mod Steps

@@ -20,3 +20,7 @@ pub record TellsSurveyOf (name : List ℕ) (before after : Desk) : Type 0 where
   pub survey : SurveysFile before.files name (Ok lines)
   pub files : after.files ≡ before.files
   pub report : after.report ≡ grown before.report (survey_text lines)
+
+-- some track was unfit, and no file changed
+abbrev pub HasUnfit : (ℕ → ℕ → Type 0) → Option Files → Option Files → Type 0
+HasUnfit IsUnfit told after = ((c : ℕ) × (h : ℕ) × IsUnfit c h) × (after ≡ told)
