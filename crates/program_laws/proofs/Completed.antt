@@ -44,11 +44,11 @@ use Rattle.command_laws.proofs.VerifyRun.{Tally}
 use Rattle.command_laws.proofs.FlatEnds.{taken_flat}
 use Rattle.program_laws.proofs.Telling.{EndsBy, Came, NeverInserts, end_by, IsFaithful, prints_by, script_tells, opens_tells, needs_tells, PartTells, PartEnds, carries_tells, acknowledges_tells, each_tells, tracks_tell}
 
-blank_never : (bay : ℕ) (name : List ℕ) (count : ℕ) (rate : Rate) → NeverInserts (blank_request bay name count rate)
+pub blank_never : (bay : ℕ) (name : List ℕ) (count : ℕ) (rate : Rate) → NeverInserts (blank_request bay name count rate)
 blank_never bay name count R500 = λ other named e. absurd (cc e)
 blank_never bay name count R250 = λ other named e. absurd (cc e)
 
-format_never : (bay c h : ℕ) → PartEnds (formats bay c h tt)
+pub format_never : (bay c h : ℕ) → PartEnds (formats bay c h tt)
 format_never bay c h = carries_tells (request.Format bay c h) (λ bay name e. absurd (cc e))
 
 pub format_by : (rate : Rate) (name : List ℕ) (count : ℕ) (old new : World) (course : List Taken) (ended : Status)

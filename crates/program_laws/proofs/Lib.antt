@@ -1,14 +1,17 @@
 pub mod OnBoards
 pub mod OfForms
 pub mod Archives
+mod Calls
 mod Completed
 mod Copies
+mod Courses
 mod Endings
 mod Fits
 mod FlatFiles
 mod Formats
-mod Plays
+pub mod Plays
 mod Replies
+mod RescueStatus
 mod Rescues
 mod Stepping
 pub mod Telling

@@ -37,14 +37,14 @@ some_refused : (course : List Taken) → has_refusal course ≡ list_any is_refu
 some_refused [] = refl
 some_refused (taken ∷ later) = ap (λ (rest : Bool). is_refusal taken.answer || rest) (some_refused later)
 
-put_end : (line : List ℕ) (wanted : Status) (old new : Option (List ℕ)) (ended : Status) → IsEndStatus ended → Prints line wanted old new ended → ended ≡ wanted
+pub put_end : (line : List ℕ) (wanted : Status) (old new : Option (List ℕ)) (ended : Status) → IsEndStatus ended → Prints line wanted old new ended → ended ≡ wanted
 put_end line wanted old new ended whole (Whole is well) = well
 put_end line wanted old new ended whole (Part grows fault) = absurd (not_put ended whole fault)
 
-no_stop_end : (cause : Stop) (ended : Status) → IsEndStatus ended → ended ≡ stop_status cause → ⊥
+pub no_stop_end : (cause : Stop) (ended : Status) → IsEndStatus ended → ended ≡ stop_status cause → ⊥
 no_stop_end cause ended whole is = not_stop cause (subst IsEndStatus is whole)
 
-no_end : (wanted ended : Status) → IsEndStatus ended → ended ≡ wanted → (IsEndStatus wanted → ⊥) → ⊥
+pub no_end : (wanted ended : Status) → IsEndStatus ended → ended ≡ wanted → (IsEndStatus wanted → ⊥) → ⊥
 no_end wanted ended whole is bad = bad (subst IsEndStatus is whole)
 
 text_there : (files : Files) (job text : List ℕ) → IsText (Some files) job text → file_at files job ≡ Some text

@@ -1,6 +1,6 @@
 -- What the status of a form tells of its replies.
-use Rattle.std.proofs.Common.{◌≡◌, ℕ, Bool, List, Option, Some, refl, sym, subst}
-use Rattle.flop_base.specs.Shelf.{Files}
+use Rattle.std.proofs.Common.{◌≡◌, ℕ, Bool, List, Option, Some, None, refl, sym, subst}
+use Rattle.flop_base.specs.Shelf.{Files, file_at}
 use Rattle.flop_base.specs.declared.answers.Rate.{Rate}
 use Rattle.flop_base.specs.declared.answers.Rate.TheVariants.{R250, R500}
 use Rattle.flop_base.specs.declared.answers.Status.{Status}
@@ -21,6 +21,7 @@ use Rattle.floppy_tools.specs.Performed.{Stand, RanOver}
 use Rattle.program_laws.specs.Ends.{EndsByReplies}
 use Rattle.program_laws.proofs.Telling.{EndsBy}
 use Rattle.program_laws.proofs.Completed.{format_by, copy_by, verify_by, import_by, export_by, exercise_by}
+use Rattle.program_laws.proofs.RescueStatus.{rescue_by}
 
 counted_by : (refused : Bool) (old new : Stand) (ended : Status) → Blames (ended ≡ status.FileFault) old.desk.shelf_faults new.desk.shelf_faults
     → BlamesAlone (ended ≡ status.SinkFault) old.desk.sink_faults new.desk.sink_faults → EndsBy refused ended → EndsByReplies refused old new ended
@@ -97,3 +98,9 @@ module _ (spares : List DriveCounts) (old new : Stand) (ended : Status) where
   exercise_replies seed count ran =
       let asked = form.Exercise seed count in
       by_form asked ran (exercise_by seed count (first asked ran) (last asked ran) ran.runs.runs.course ended)
+
+  pub rescue_replies : (from to log : List ℕ) (files : Files) (disk : Disk) → old.desk.desk.files ≡ Some files → IsImageOf (Some files) from disk
+      → file_at files log ≡ None → (ran : RanOver (Some (form.Rescue from to log)) spares old new ended) → Tells (form.Rescue from to log) ran
+  rescue_replies from to log files disk told image absent ran =
+      let asked = form.Rescue from to log in
+      by_form asked ran (rescue_by from to log files disk (first asked ran) (last asked ran) ran.runs.runs.course ended told image absent)

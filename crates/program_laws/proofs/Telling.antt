@@ -53,7 +53,7 @@ IsFaithful refused (Asks asked rest) =
     NeverInserts asked × ((answer : Reply) (after : State) → Came asked answer after → IsFaithful (refused || is_refusal answer) (rest answer after))
 IsFaithful refused (Stores name bytes line wanted) = wanted ≡ whole_status refused
 IsFaithful refused (MayStarve rest) = IsFaithful refused rest
-IsFaithful refused (Fails cause) = ⊥
+IsFaithful refused (Fails cause) = EndsBy refused cause
 
 whole_by : (refused : Bool) → EndsBy refused (whole_status refused)
 whole_by true = refl
@@ -105,7 +105,7 @@ stop_by refused told asked (stop.Absent name) cause never = absurd (never cause.
 stop_by refused told asked stop.FileFault cause never = tt
 stop_by refused told asked stop.NoMemory cause never = tt
 
-or_none : (a : Bool) → a ≡ (a || false)
+pub or_none : (a : Bool) → a ≡ (a || false)
 or_none true = refl
 or_none false = refl
 
@@ -134,7 +134,8 @@ script_tells refused (Stores name bytes line wanted) old new [] ended is runs =
 script_tells refused (Stores name bytes line wanted) old new (taken ∷ later) ended is runs = absurd runs
 script_tells refused (MayStarve rest) old new course ended is (inl runs) = script_tells refused rest old new course ended is runs
 script_tells refused (MayStarve rest) old new course ended is (inr none) = subst (λ (s : Status). EndsBy (refused || has_refusal course) s) (sym none.2) tt
-script_tells refused (Fails cause) old new course ended is runs = absurd is
+script_tells refused (Fails cause) old new [] ended is runs = at_end refused ended (subst (λ (s : Status). EndsBy refused s) (sym runs.1) is)
+script_tells refused (Fails cause) old new (taken ∷ later) ended is runs = absurd runs
 
 -- ---- Parts.
 
@@ -148,6 +149,22 @@ pub needs_tells : (asked : Request) (rest : Reply → State → Script) → Neve
     → ((answer : Reply) (after : State) → IsFaithful false (rest answer after)) → IsFaithful false (needs asked rest)
 unfolding needs
 needs_tells asked rest never is = (never, λ answer after came. unrefused asked answer (rest answer after) (is answer after))
+
+pub some_whole : (refused : Bool) → status.SomeRefused ≡ whole_status (refused || true)
+some_whole true = refl
+some_whole false = refl
+
+unrefused_at : (refused : Bool) (asked : Request) (answer : Reply) (later : Script) → IsFaithful refused later
+    → IsFaithful (refused || is_refusal answer) (unless_refused asked answer later)
+unrefused_at refused asked (reply.Refused cause) later is = some_whole refused
+unrefused_at refused asked reply.Done later is = subst (λ (b : Bool). IsFaithful b later) (or_none refused) is
+unrefused_at refused asked reply.DoneDeleted later is = subst (λ (b : Bool). IsFaithful b later) (or_none refused) is
+unrefused_at refused asked (reply.Bytes address content) later is = subst (λ (b : Bool). IsFaithful b later) (or_none refused) is
+
+pub carries_tells_at : (refused : Bool) (asked : Request) → NeverInserts asked → (rest : Unit {0} → Script) → IsFaithful refused (rest tt)
+    → IsFaithful refused (carries asked rest)
+unfolding carries needs
+carries_tells_at refused asked never rest is = (never, λ answer after came. unrefused_at refused asked answer (rest tt) is)
 
 -- a part behind which a flag of what was found says whether some reply was a refusal
 abbrev pub PartTells : {Found : Type 0} → (Found → Bool) → Bool → Part Found → Type 0

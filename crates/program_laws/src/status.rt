@@ -1,6 +1,6 @@
 // What the status of a form tells, where its files are there and in their grammar.
-ghost use Rattle.std.specs.Prelude.{◌≡◌, ℕ, List, Some};
-ghost use Rattle.flop_base.specs.Shelf.{Files};
+ghost use Rattle.std.specs.Prelude.{◌≡◌, ℕ, List, Some, None};
+ghost use Rattle.flop_base.specs.Shelf.{Files, file_at};
 ghost use Rattle.flop_base.specs.declared.answers.Rate.{Rate};
 ghost use Rattle.flop_base.specs.declared.answers.Status.{Status};
 ghost use Rattle.raw_image.specs.Disk.{Disk};
@@ -63,5 +63,13 @@ pub fn export_status(_name: &str, _flat: &str)
 pub fn exercise_status()
     ensures { (seed count : ℕ) (spares : List DriveCounts) (old new : Stand) (ended : Status)
         (ran : RanOver (Some (form.Exercise seed count)) spares old new ended)
+        → EndsByReplies (has_refusal ran.runs.runs.course) old new ended }
+{}
+
+/// A law: so does `rescue FROM TO LOG`, where FROM is the image of a disk, and no file LOG is there.
+pub fn new_rescue_status(_from: &str, _to: &str, _log: &str)
+    ensures { (spares : List DriveCounts) (old new : Stand) (ended : Status) (files : Files) (disk : Disk)
+        → old.desk.desk.files ≡ Some files → IsImageOf (Some files) _from.now disk → file_at files _log.now ≡ None
+        → (ran : RanOver (Some (form.Rescue _from.now _to.now _log.now)) spares old new ended)
         → EndsByReplies (has_refusal ran.runs.runs.course) old new ended }
 {}

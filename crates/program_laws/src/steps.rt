@@ -1,8 +1,14 @@
 // What each step of a run may do.
-ghost use Rattle.std.specs.Prelude.{List, Option};
+ghost use Rattle.std.specs.Prelude.{List, Option, Some};
 ghost use Rattle.flop_base.specs.Shelf.{Files};
+ghost use Rattle.flop_base.specs.declared.answers.Status.{Status};
+ghost use Rattle.bay_model.specs.Counters.{DriveCounts};
+ghost use Rattle.pc_bus.specs.Boards.{Board};
 ghost use Rattle.sector_model.specs.States.{State};
 ghost use Rattle.sector_model.specs.Runs.{Taken, Run};
+ghost use Rattle.archive_commands.specs.Files.{Desk};
+ghost use Rattle.floppy_words.specs.declared.form.Form.{Form};
+ghost use Rattle.floppy_tools.specs.Machines.{RunsOver};
 ghost use Rattle.program_laws.specs.Steps.{EachStep, KeepsGuarded, ReadsField, WritesField};
 
 /// A law: in each step of a run the medium of a bay that isn't acknowledged, or that has a protected medium, stays as it is, unless
@@ -26,4 +32,12 @@ pub fn steps_read_fields()
 pub fn steps_write_fields()
     ensures { (old new : State) (told after : Option Files) (course : List Taken)
         → Run old told course new after → EachStep WritesField old course }
+{}
+
+/// A law: the course of each form over a machine is a run, from the session that was set up and the files as they were, so that the
+/// laws above hold of its steps.
+pub fn course_is_a_run()
+    ensures { (asked : Form) (spares : List DriveCounts) (old new : Board) (before after : Desk) (ended : Status)
+        (over : RunsOver (Some asked) old spares before new after ended)
+        → (mid : State) × (files : Option Files) × Run over.start before.files over.runs.course mid files }
 {}
