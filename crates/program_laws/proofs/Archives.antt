@@ -41,7 +41,7 @@ made_well Makes verb before after (Ok count) makes tells = record { count = coun
 made_well Makes verb before after (Err (halt.Unfit c h)) makes tells = let bad = (put_well _ _ _ _ tells).1 in absurd (cc bad)
 made_well Makes verb before after (Err (halt.Stopped cause)) makes tells = absurd (not_stop cause (put_well _ _ _ _ tells).1)
 
-survey_told : (name : List ℕ) (before after : Desk) (outcome : Result (List SurveyLine) Stop) → SurveysFile before.files name outcome
+pub survey_told : (name : List ℕ) (before after : Desk) (outcome : Result (List SurveyLine) Stop) → SurveysFile before.files name outcome
     → after.files ≡ before.files → TellsSurvey outcome before.report after.report status.AllOk → TellsSurveyOf name before after
 survey_told name before after (Ok lines) surveys files tells =
     record { lines = lines; survey = surveys; files = files; report = (put_well _ _ _ _ tells).0 }

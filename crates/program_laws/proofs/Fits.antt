@@ -16,6 +16,9 @@ use Rattle.sector_model.specs.Faults.{Blames}
 use Rattle.sector_model.specs.Steps.{most_image_bytes}
 use Rattle.sector_model.specs.Plays.{Prints, Whole, Part, IsPutFault, World}
 use Rattle.floppy_report.specs.Faults.{BlamesAlone}
+use Rattle.sector_model.specs.Texts.{stop_status}
+use Rattle.remaster.specs.declared.lines.SurveyLine.{SurveyLine}
+use Rattle.archive_commands.specs.Surveys.{SurveysFile, TellsSurvey}
 use Rattle.archive_commands.specs.declared.halt.Halt.{Halt}
 use Rattle.archive_commands.specs.declared.halt.Halt.TheVariants as halt
 use Rattle.archive_commands.specs.Files.{Desk, ReadsAs, StopsAt}
@@ -26,9 +29,9 @@ use Rattle.floppy_forms.specs.Rounds.{world}
 use Rattle.floppy_forms.specs.Programs.{DoesForm}
 use Rattle.floppy_tools.specs.Performed.{Stand, RanOver}
 use Rattle.command_laws.proofs.Bays.{of_one}
-use Rattle.program_laws.specs.Ends.{EndsByFit}
-use Rattle.program_laws.specs.Made.{MakesFile, HasUnfit}
-use Rattle.program_laws.proofs.Archives.{made_well}
+use Rattle.program_laws.specs.Ends.{EndsByFit, EndsWell}
+use Rattle.program_laws.specs.Made.{MakesFile, TellsSurveyOf, HasUnfit}
+use Rattle.program_laws.proofs.Archives.{made_well, survey_told}
 use Rattle.program_laws.proofs.OfForms.{form_done}
 
 -- a file is read in one way
@@ -134,3 +137,57 @@ module _ (spares : List DriveCounts) (old new : Stand) (ended : Status) (files :
             (subst (λ (f : Option Files). MakesRemaster from to f does.0 new.desk.desk.files) told does.1) told does.2)
         | inr starved ↦ starved_fit _ _ old new ended starved
       ]
+
+-- ---- A survey.
+
+well_by : (Holds : Type 0) (old new : Stand) (ended : Status) → EndsByFit Holds ⊥ old new ended → EndsWell Holds old new ended
+well_by Holds old new status.AllOk ends = ends
+well_by Holds old new status.NoMemory ends = tt
+well_by Holds old new status.FileFault ends = ends
+well_by Holds old new status.SinkFault ends = ends
+well_by Holds old new status.SomeRefused ends = absurd ends
+well_by Holds old new status.BadImage ends = absurd ends
+well_by Holds old new status.Absent ends = absurd ends
+well_by Holds old new status.BadJob ends = absurd ends
+well_by Holds old new status.BadWords ends = absurd ends
+
+module _ (name : List ℕ) (files : Files) (disk : Disk) (old new : Stand) (ended : Status)
+    (shelf : Blames (ended ≡ status.FileFault) old.desk.shelf_faults new.desk.shelf_faults)
+    (sink : BlamesAlone (ended ≡ status.SinkFault) old.desk.sink_faults new.desk.sink_faults)
+    (told : old.desk.desk.files ≡ Some files) (image : ReadsAs image_of (Some files) name (Ok disk)) where
+  abbrev Told : Type 0
+  Told = TellsSurveyOf name old.desk.desk new.desk.desk
+
+  halted : (cause : Stop) → StopsAt image_of (Some files) name cause → ended ≡ stop_status cause → EndsByFit Told ⊥ old new ended
+  halted stop.FileFault stops is = subst (λ (s : Status). EndsByFit Told ⊥ old new s) (sym is) (shelf.rose is)
+  halted stop.NoMemory stops is = subst (λ (s : Status). EndsByFit Told ⊥ old new s) (sym is) tt
+  halted (stop.BadImage named error) stops is = let same = one_read image_of files name disk (Err error) image stops.1 in absurd (cc same)
+  halted (stop.TooLong named most) stops is =
+      let both = of_one (file_at files name) image stops.2 in
+      absurd (omega (arith, both.2.0, both.3, stops.1))
+  halted (stop.Absent named) stops is = let one = of_one (file_at files name) image image in absurd (gone (file_at files name) one.0 stops.1 one.1)
+    where
+      gone : (o : Option (List ℕ)) (bytes : List ℕ) → o ≡ None → o ≡ Some bytes → ⊥
+      gone o bytes e f = cc (e, f)
+
+  survey_fit : (outcome : Result (List SurveyLine) Stop) → SurveysFile old.desk.desk.files name outcome → new.desk.desk.files ≡ old.desk.desk.files
+      → TellsSurvey outcome old.desk.desk.report new.desk.desk.report ended → EndsByFit Told ⊥ old new ended
+  survey_fit (Ok lines) surveys same tells =
+      printed_fit Told ⊥ old new _ status.AllOk _ _ ended sink tells (λ well.
+      subst (λ (s : Status). EndsByFit Told ⊥ old new s) (sym well)
+      (survey_told name old.desk.desk new.desk.desk (Ok lines) surveys same
+      (subst (λ (s : Status). TellsSurvey (Ok lines) old.desk.desk.report new.desk.desk.report s) well tells)))
+  survey_fit (Err cause) stops same tells =
+      printed_fit Told ⊥ old new _ (stop_status cause) _ _ ended sink tells
+      (halted cause (subst (λ (f : Option Files). StopsAt image_of f name cause) told stops))
+
+pub survey_ends : (name : List ℕ) (spares : List DriveCounts) (old new : Stand) (ended : Status) (files : Files) (disk : Disk)
+    → old.desk.desk.files ≡ Some files → ReadsAs image_of (Some files) name (Ok disk) → RanOver (Some (form.Survey name)) spares old new ended
+    → EndsWell (TellsSurveyOf name old.desk.desk new.desk.desk) old new ended
+survey_ends name spares old new ended files disk told image ran =
+    well_by (TellsSurveyOf name old.desk.desk new.desk.desk) old new ended
+    (elim (form_done (form.Survey name) old.board spares old.desk.desk new.board new.desk.desk ended ran.runs) [
+      | inl runs ↦ (let does = runs.does.does in
+          survey_fit name files disk old new ended ran.shelf_faults ran.sink_faults told image does.0 does.1 does.2 does.3)
+      | inr starved ↦ starved_fit _ _ old new ended starved
+    ])

@@ -11,8 +11,8 @@ ghost use Rattle.archive_commands.specs.Files.{ReadsAs};
 ghost use Rattle.archive_commands.specs.Making.{MakesFromImd, MakesToImd, MakesRemaster, HasNoDisk, HasNoImd, HasNoRemaster};
 ghost use Rattle.floppy_words.specs.declared.form.Form.TheVariants as form;
 ghost use Rattle.floppy_tools.specs.Performed.{Stand, RanOver};
-ghost use Rattle.program_laws.specs.Ends.{EndsByFit};
-ghost use Rattle.program_laws.specs.Made.{MakesFile, HasUnfit};
+ghost use Rattle.program_laws.specs.Ends.{EndsByFit, EndsWell};
+ghost use Rattle.program_laws.specs.Made.{MakesFile, TellsSurveyOf, HasUnfit};
 
 /// A law: where IMD is an ImageDisk file, `fromimd IMD NAME` ends with status 0 and makes the disk, or with status 1 where a track is
 /// unfit, and changes no file, unless memory couldn't be had, or the shelf or the sink failed, and counted it.
@@ -40,4 +40,13 @@ pub fn remaster_status(_from: &str, _to: &str)
         → RanOver (Some (form.Remaster _from.now _to.now)) spares old new ended
         → EndsByFit (MakesFile (MakesRemaster _from.now _to.now) (codes "remaster") old.desk.desk new.desk.desk)
         (HasUnfit (HasNoRemaster disk) (Some files) new.desk.desk.files) old new ended }
+{}
+
+/// A law: where NAME is the image of a disk, `survey NAME` ends with status 0 and tells its address fields, unless memory couldn't be
+/// had, or the shelf or the sink failed, and counted it.
+pub fn survey_status(_name: &str)
+    ensures { (spares : List DriveCounts) (old new : Stand) (ended : Status) (files : Files) (disk : Disk)
+        → old.desk.desk.files ≡ Some files → ReadsAs image_of (Some files) _name.now (Ok disk)
+        → RanOver (Some (form.Survey _name.now)) spares old new ended
+        → EndsWell (TellsSurveyOf _name.now old.desk.desk new.desk.desk) old new ended }
 {}
