@@ -16,7 +16,7 @@ use Rattle.archive_commands.specs.declared.halt.Halt.{Halt}
 use Rattle.archive_commands.specs.declared.halt.Halt.TheVariants as halt
 use Rattle.archive_commands.specs.Files.{Desk}
 use Rattle.archive_commands.specs.Making.{Tells, MakesFromImd, MakesToImd, MakesRemaster}
-use Rattle.archive_commands.specs.Surveys.{Surveys, SurveysFile, TellsSurvey}
+use Rattle.archive_commands.specs.Surveys.{SurveysFile, TellsSurvey}
 use Rattle.floppy_words.specs.declared.form.Form.TheVariants as form
 use Rattle.floppy_tools.specs.Machines.{RunsOver}
 use Rattle.program_laws.specs.Made.{MakesFile, TellsSurveyOf}

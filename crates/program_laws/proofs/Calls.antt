@@ -1,13 +1,11 @@
 -- What a text of calls of INT 13h tells.
-use Rattle.std.proofs.Common.{◌≡◌, ◌∙◌, ℕ, List, Option, Result, Ok, Err, Some, refl, ap, sym, subst, inl, inr}
-use Rattle.flop_base.specs.Sink.{grown}
+use Rattle.std.proofs.Common.{◌≡◌, ◌∙◌, ℕ, List, Result, Ok, Err, Some, refl, subst, inl, inr}
 use Rattle.flop_base.specs.declared.answers.Status.{Status}
 use Rattle.flop_base.specs.declared.answers.Status.TheVariants as status
 use Rattle.bay_model.specs.Counters.{DriveCounts}
 use Rattle.pc_bus.specs.Boards.{Board}
 use Rattle.floppy_jobs.specs.Texts.{calls_of}
 use Rattle.floppy_jobs.specs.declared.calls.CallLine.{CallLine}
-use Rattle.sector_model.specs.Texts.{stop_status}
 use Rattle.sector_model.specs.Runs.{Taken}
 use Rattle.sector_model.specs.Plays.{World, IsText}
 use Rattle.bios_commands.specs.Rounds.{Breaks, AtStop, AtPut}

@@ -1,5 +1,5 @@
 -- The forms on whole disks, by whether some reply was a refusal.
-use Rattle.std.proofs.Common.{◌≡◌, ℕ, ◌+◌, ◌-◌, Bool, true, false, List, [], Option, Some, Result, Ok, Err, get_or, refl, ap, sym, subst, inl, inr, arith}
+use Rattle.std.proofs.Common.{◌≡◌, ℕ, ◌+◌, ◌-◌, Bool, true, false, List, [], Option, Some, Result, Ok, Err, get_or, refl, ap, sym, subst, arith}
 use Rattle.std.specs.Prelude.{◌||◌, nat_lt, sum, codes, if◌then◌else◌, ◌==◌, ◌*◌}
 use Rattle.std.proofs.lemmas.Bool.{lt-ltb}
 use Rattle.flop_base.specs.Shelf.{Files}
@@ -7,26 +7,23 @@ use Rattle.flop_base.specs.Standard.{sectors_at}
 use Rattle.flop_base.specs.declared.answers.Rate.{Rate}
 use Rattle.flop_base.specs.declared.answers.Rate.TheVariants.{R250, R500}
 use Rattle.flop_base.specs.declared.answers.Status.{Status}
-use Rattle.flop_base.specs.declared.answers.Status.TheVariants as status
 use Rattle.flop_base.specs.declared.key.Chrn.{Chrn}
 use Rattle.raw_image.specs.Disk.{Disk}
 use Rattle.flat_image.specs.Flat.{sector_place}
 use Rattle.sector_map.specs.Standard.{key_of}
-use Rattle.floppy_requests.specs.declared.request.Request.{Request}
 use Rattle.floppy_requests.specs.declared.request.Request.TheVariants as request
 use Rattle.sector_model.specs.declared.reply.Reply.{Reply}
 use Rattle.sector_model.specs.declared.reply.Reply.TheVariants as reply
 use Rattle.sector_model.specs.declared.reply.Stop.{Stop}
-use Rattle.sector_model.specs.declared.reply.Stop.TheVariants as stop
 use Rattle.bay_model.specs.Memory.{bytes_from}
 use Rattle.sector_model.specs.States.{State}
 use Rattle.sector_model.specs.Steps.{IsImageOf}
 use Rattle.sector_model.specs.Texts.{is_refusal, stop_status}
-use Rattle.sector_model.specs.Runs.{Taken, has_refusal, IsEndStop}
-use Rattle.sector_model.specs.Plays.{World, whole_status}
+use Rattle.sector_model.specs.Runs.{Taken, has_refusal}
+use Rattle.sector_model.specs.Plays.{World}
 use Rattle.floppy_session.specs.Blanks.{blank_request}
-use Rattle.scripts.specs.Scripts.{Script, Asks, RunsScript}
-use Rattle.scripts.specs.Parts.{Part, asks, says, may_starve, formats, each}
+use Rattle.scripts.specs.Scripts.{Asks, RunsScript}
+use Rattle.scripts.specs.Parts.{Part, asks, says, may_starve, formats}
 use Rattle.scripts.specs.Records.{record_address}
 use Rattle.scripts.proofs.Reading.{last_run}
 use Rattle.disk_commands.specs.Format.{format_script, formats_disk}
@@ -222,9 +219,10 @@ writes_by deleted key byte work rest is = (
   λ bay name e. absurd (cc e),
   λ answer between came.
       subst (λ (b : Bool). IsFaithful b (Asks (exercise.write_request deleted key) (λ answer after. rest (counted answer 0 work))))
-      (or_not (some_work work) (is_refusal answer) (filled byte answer between came))
-      (work_never deleted key,
-      λ last after came. subst (λ (b : Bool). IsFaithful b (rest (counted last 0 work))) (sym (counted_by last 0 work)) (is _)),
+      (or_not (some_work work) (is_refusal answer) (filled byte answer between came)) (
+        work_never deleted key,
+        λ last after came. subst (λ (b : Bool). IsFaithful b (rest (counted last 0 work))) (sym (counted_by last 0 work)) (is _),
+      ),
 )
 
 chosen_by : (b : Bool) (before : Bool) (p q : Part Work) → PartTells some_work before p → PartTells some_work before q

@@ -6,9 +6,7 @@ use Rattle.bay_model.specs.Counters.{DriveCounts}
 use Rattle.pc_bus.specs.Boards.{Board}
 use Rattle.floppy_requests.specs.declared.request.Request.{Request}
 use Rattle.floppy_jobs.specs.declared.calls.CallLine.{CallLine}
-use Rattle.floppy_jobs.specs.Texts.{calls_of}
 use Rattle.sector_model.specs.States.{State}
-use Rattle.sector_model.specs.Steps.{Step}
 use Rattle.sector_model.specs.Runs.{Taken, Run}
 use Rattle.sector_model.specs.Plays.{World, Plays, There, Missing, TooLong, Faulty, Starved, PlaysParsed, PlaysRequests, Played, Stopped, BrokenOff, EndStopped}
 use Rattle.scripts.specs.Scripts.{Script, RunsScript}

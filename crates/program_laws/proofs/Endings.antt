@@ -1,6 +1,5 @@
 -- How the forms on whole disks end where nothing can go wrong.
-use Rattle.std.proofs.Common.{◌≡◌, ◌≤◌, ℕ, List, [], Option, Some, subst, sym, inl, inr, refl}
-use Rattle.flop_base.specs.Counts.{Rose}
+use Rattle.std.proofs.Common.{◌≡◌, ◌≤◌, ℕ, List, [], Some, subst, sym, inl, inr, refl}
 use Rattle.flop_base.specs.Shelf.{Files}
 use Rattle.flop_base.specs.declared.answers.Rate.{Rate}
 use Rattle.flop_base.specs.declared.answers.Rate.TheVariants.{R250, R500}
@@ -12,10 +11,8 @@ use Rattle.sector_model.specs.Faults.{Blames}
 use Rattle.sector_model.specs.Steps.{IsImageOf}
 use Rattle.sector_model.specs.Plays.{World}
 use Rattle.floppy_report.specs.Faults.{BlamesAlone}
-use Rattle.pc_bus.specs.Boards.{Board}
 use Rattle.flat_commands.specs.FlatFiles.{IsFlatFile}
 use Rattle.scripts.specs.Leading.{Runs}
-use Rattle.archive_commands.specs.Files.{Desk}
 use Rattle.floppy_words.specs.declared.form.Form.{Form}
 use Rattle.floppy_words.specs.declared.form.Form.TheVariants as form
 use Rattle.floppy_forms.specs.Rounds.{world}

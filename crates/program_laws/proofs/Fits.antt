@@ -1,6 +1,6 @@
 -- How the forms on files alone end, where the file that they read is there and in its grammar.
-use Rattle.std.proofs.Common.{◌≡◌, ◌≤◌, ◌<◌, ◌∙◌, arith, ℕ, List, length, Option, Result, Ok, Err, Some, None, refl, sym, subst, inl, inr}
-use Rattle.std.specs.Prelude.{codes, IfSome, IsSomeAnd}
+use Rattle.std.proofs.Common.{◌≡◌, ◌∙◌, arith, ℕ, List, Option, Result, Ok, Err, Some, None, refl, sym, subst, inl, inr}
+use Rattle.std.specs.Prelude.{codes}
 use Rattle.flop_base.specs.Shelf.{Files, file_at}
 use Rattle.flop_base.specs.declared.answers.Status.{Status}
 use Rattle.flop_base.specs.declared.answers.Status.TheVariants as status
@@ -13,20 +13,16 @@ use Rattle.imagedisk.specs.Reading.{image_of as imd_of}
 use Rattle.sector_model.specs.declared.reply.Stop.{Stop}
 use Rattle.sector_model.specs.declared.reply.Stop.TheVariants as stop
 use Rattle.sector_model.specs.Faults.{Blames}
-use Rattle.sector_model.specs.Steps.{most_image_bytes}
-use Rattle.sector_model.specs.Plays.{Prints, Whole, Part, IsPutFault, World}
+use Rattle.sector_model.specs.Plays.{Prints, Whole, Part, IsPutFault}
 use Rattle.floppy_report.specs.Faults.{BlamesAlone}
 use Rattle.sector_model.specs.Texts.{stop_status}
 use Rattle.remaster.specs.declared.lines.SurveyLine.{SurveyLine}
 use Rattle.archive_commands.specs.Surveys.{SurveysFile, TellsSurvey}
 use Rattle.archive_commands.specs.declared.halt.Halt.{Halt}
 use Rattle.archive_commands.specs.declared.halt.Halt.TheVariants as halt
-use Rattle.archive_commands.specs.Files.{Desk, ReadsAs, StopsAt}
-use Rattle.archive_commands.specs.Making.{Tells, Makes, outcome_text, outcome_status, FromImd, ToImd, Remaster, MakesFromImd, MakesToImd, MakesRemaster, HasNoDisk, HasNoImd, HasNoRemaster, IsDiskFile, IsImdFile, IsRemasterFile}
-use Rattle.floppy_words.specs.declared.form.Form.{Form}
+use Rattle.archive_commands.specs.Files.{ReadsAs, StopsAt}
+use Rattle.archive_commands.specs.Making.{Tells, Makes, outcome_status, MakesFromImd, MakesToImd, MakesRemaster, HasNoDisk, HasNoImd, HasNoRemaster, IsDiskFile, IsImdFile, IsRemasterFile}
 use Rattle.floppy_words.specs.declared.form.Form.TheVariants as form
-use Rattle.floppy_forms.specs.Rounds.{world}
-use Rattle.floppy_forms.specs.Programs.{DoesForm}
 use Rattle.floppy_tools.specs.Performed.{Stand, RanOver}
 use Rattle.command_laws.proofs.Bays.{of_one}
 use Rattle.program_laws.specs.Ends.{EndsByFit, EndsWell}

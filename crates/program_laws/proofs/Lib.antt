@@ -15,5 +15,6 @@ mod RescueStatus
 mod Rescues
 mod Stepping
 pub mod Telling
+mod Unstopped
 mod Verifies
 mod FormWords

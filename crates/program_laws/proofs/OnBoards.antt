@@ -1,9 +1,9 @@
 -- From the boards before and after a run to the counters of its station.
 use Rattle.std.proofs.Common.{arith, ◌≡◌, ◌≤◌, ◌+◌, ℕ, List, [], ◌∷◌, All, Option, Some, get_or, suc, cond, Bool, true, false, refl, ap, sym, subst, ◌∙◌}
-use Rattle.std.specs.Prelude.{nat_lt, IfSome, ◌<◌}
+use Rattle.std.specs.Prelude.{nat_lt}
 use Rattle.std.proofs.lemmas.List.Recursion.{is_count_by}
 use Rattle.std.proofs.lemmas.Bool.{le-ltb}
-use Rattle.flop_base.specs.Counts.{last_count, CanTell, Spends}
+use Rattle.flop_base.specs.Counts.{CanTell, Spends}
 use Rattle.bay_model.specs.Counters.{DriveCounts, DriveGoesOn, Counters, IsFaultless, IsUndisturbed}
 use Rattle.pc_bus.specs.Boards.{Board, holds_of}
 use Rattle.sector_model.specs.Stations.{StationState, IsFresh}

@@ -1,6 +1,6 @@
 -- What a job tells.
 use Rattle.std.proofs.Common.{◌≡◌, ◌∙◌, ℕ, Bool, List, [], ◌∷◌, ◌++◌, length, map, Option, Result, Ok, Err, Some, None, refl, ap, sym, subst, inl, inr}
-use Rattle.std.specs.Prelude.{◌||◌, IfSome, IsSomeAnd, ◌≤◌}
+use Rattle.std.specs.Prelude.{◌||◌, IsSomeAnd, ◌≤◌}
 use Rattle.std.specs.List.{list_any}
 use Rattle.std.proofs.lemmas.List.{length-map}
 use Rattle.flop_base.specs.Shelf.{Files, file_at}
@@ -13,10 +13,9 @@ use Rattle.floppy_requests.specs.Texts.{job_of}
 use Rattle.floppy_requests.specs.declared.request.Request.{Request}
 use Rattle.sector_model.specs.declared.reply.Reply.{Reply}
 use Rattle.sector_model.specs.declared.reply.Stop.{Stop}
-use Rattle.sector_model.specs.Texts.{reply_text, is_refusal, stop_status, stop_text}
-use Rattle.sector_model.specs.Runs.{Taken, requests_of, course_text, has_refusal, IsEndStop}
-use Rattle.sector_model.specs.Plays.{World, Plays, There, Missing, TooLong, Faulty, Starved, PlaysParsed, PlaysRequests, Played, Stopped, BrokenOff, EndStopped, IsPutFault, Prints, Whole, Part, IsText, most_job_bytes, TellsAlone, whole_status}
-use Rattle.sector_model.specs.Ties.{IsJob}
+use Rattle.sector_model.specs.Texts.{reply_text, is_refusal, stop_status}
+use Rattle.sector_model.specs.Runs.{Taken, requests_of, course_text, has_refusal}
+use Rattle.sector_model.specs.Plays.{World, Plays, There, Missing, TooLong, Faulty, Starved, PlaysParsed, PlaysRequests, Played, Stopped, BrokenOff, EndStopped, Prints, Whole, Part, IsText, most_job_bytes, whole_status}
 use Rattle.archive_commands.specs.Files.{Desk}
 use Rattle.floppy_words.specs.declared.form.Form.TheVariants as form
 use Rattle.floppy_forms.specs.Rounds.{world}

@@ -1,5 +1,5 @@
 -- What a rescue stores, and in which order.
-use Rattle.std.proofs.Common.{◌≡◌, ℕ, List, [], Option, Some, ap}
+use Rattle.std.proofs.Common.{ℕ, List, [], Some, ap}
 use Rattle.flop_base.specs.declared.answers.Status.{Status}
 use Rattle.bay_model.specs.Counters.{DriveCounts}
 use Rattle.pc_bus.specs.Boards.{Board}
@@ -13,6 +13,22 @@ use Rattle.floppy_tools.specs.Machines.{RunsOver}
 use Rattle.rescue.specs.declared.line.LogLine.{LogLine}
 use Rattle.command_laws.specs.Rescued.{log_of, StoresInOrder, Nothing}
 use Rattle.command_laws.proofs.Order.{stores_in_order}
+use Rattle.command_laws.proofs.Whole.{rescue_logs}
+use Rattle.std.proofs.Common.{◌≡◌, subst, inl, inr}
+use Rattle.std.specs.Prelude.{IfSome}
+use Rattle.flop_base.specs.Shelf.{Files, file_at}
+use Rattle.raw_image.specs.Disk.{Disk}
+use Rattle.sector_model.specs.Steps.{IsImageOf}
+use Rattle.rescue.specs.Log.{log_text}
+use Rattle.command_laws.specs.Rescued.{LogsNotFound}
+use Rattle.command_laws.specs.Verified.{IsUnmistaken}
+use Rattle.command_laws.specs.VerifyRuns.{IsEndStatus}
+use Rattle.program_laws.specs.Disturbed.{HadNoFault, HadNoStall}
+use Rattle.program_laws.specs.Stored.{StoresLogOf}
+use Rattle.program_laws.specs.Told.{IsNotToldStopped}
+use Rattle.program_laws.proofs.OfForms.{form_done}
+use Rattle.program_laws.proofs.OnBoards.{undisturbed_first}
+use Rattle.program_laws.proofs.Unstopped.{rescue_unstopped}
 
 in_order : (from to log : List ℕ) (old new : World) (course : List Taken) (ended : Status) → DoesOrStarves (form.Rescue from to log) old course new ended
     → (lines : List LogLine) × StoresInOrder to log lines old.files new.files
@@ -24,3 +40,27 @@ pub rescue_orders : (from to log : List ℕ) (spares : List DriveCounts) (old ne
     → (lines : List LogLine) × StoresInOrder to log lines before.files after.files
 rescue_orders from to log spares old new before after ended over =
     in_order from to log (world over.start before.files before.report) (world over.last after.files after.report) over.runs.course ended over.runs.does
+
+log_stored : (disk : Disk) (log : List ℕ) (files : Files) (course : List Taken) (new : World) → LogsNotFound disk log files course new
+    → StoresLogOf disk log files new.files
+log_stored disk log files course new logs = record {
+  found = logs.found;
+  there = logs.there;
+  stores = λ failed failing.
+      subst (λ (lines : List LogLine). IfSome new.files (λ files. file_at files log ≡ Some (log_text lines))) (logs.exactly failed failing) logs.log_there;
+}
+
+pub rescue_logs_rest : (from to log : List ℕ) (spares : List DriveCounts) (old new : Board) (before after : Desk) (ended : Status) (files : Files) (disk : Disk)
+    → RunsOver (Some (form.Rescue from to log)) old spares before new after ended → IsEndStatus ended → IsNotToldStopped before.report after.report
+    → before.files ≡ Some files → IsImageOf (Some files) from disk → HadNoFault 0 old new → HadNoStall old new → IsUnmistaken disk
+    → StoresLogOf disk log files after.files
+rescue_logs_rest from to log spares old new before after ended files disk over whole fine told image calm quick unmistaken =
+    let first = world over.start before.files before.report in
+    let last = world over.last after.files after.report in
+    let quiet = undisturbed_first old new spares over.start.station over.last.station over.set_up.starts over.shows calm quick in
+    elim (form_done (form.Rescue from to log) old spares before new after ended over) [
+      | inl runs ↦ log_stored disk log files runs.course last
+          (rescue_logs from to log disk files first runs.course last ended runs.does whole
+          (rescue_unstopped from to log first last runs.course ended whole fine runs.does) told image quiet unmistaken)
+      | inr starved ↦ absurd (subst IsEndStatus starved whole)
+    ]

@@ -13,13 +13,12 @@ use Rattle.bay_model.specs.Bays.{Two, in_bay, with_bay}
 use Rattle.bay_model.specs.Counters.{Counters, IsDriven}
 use Rattle.sector_map.specs.Changes.{Change, Written}
 use Rattle.sector_model.specs.declared.reply.Reply.{Reply}
-use Rattle.sector_model.specs.declared.reply.Reply.TheVariants as reply
 use Rattle.sector_model.specs.Stations.{StationState, Bay, bay_of, set_bay, fresh_bay, Becomes, Stays}
 use Rattle.sector_model.specs.States.{State}
 use Rattle.sector_model.specs.Orders.{is_acknowledged, is_protected, write_refusal, format_refusal, rate_refusal, is_bay, is_sector_request, is_format_request, crosses_page, read_refusal, IsRefusedAtOnce}
 use Rattle.sector_model.specs.Calls.{Acks, AcksDrive}
 use Rattle.sector_model.specs.Reads.{Reads, ReadsDrive, IsRead}
-use Rattle.sector_model.specs.Writes.{WritesTo, WritesDrive, Reaches, IsWritten, written_from}
+use Rattle.sector_model.specs.Writes.{WritesTo, Reaches, IsWritten, written_from}
 use Rattle.sector_model.specs.Formats.{FormatsTo}
 use Rattle.sector_model.specs.Steps.{Step, refusal_of, read_reply, reply_of}
 use Rattle.sector_model.specs.Texts.{is_refusal}
@@ -34,7 +33,7 @@ other_bay bays at bay x apart = go (at == 0) (bay == 0) apart
   where
     go : (s t : Bool) → (if s then t else not t) ≡ false
         → (if t then (if s then record bays { first = x } else record bays { second = x }).first
-          else (if s then record bays { first = x } else record bays { second = x }).second) ≡ (if t then bays.first else bays.second)
+        else (if s then record bays { first = x } else record bays { second = x }).second) ≡ (if t then bays.first else bays.second)
     go true true e = absurd (true≢false e)
     go true false e = refl
     go false true e = refl
@@ -54,7 +53,7 @@ kept_medium bays at bay x is = go (at == 0) (bay == 0) is
   where
     go : (s t : Bool) → x.medium ≡ (if s then bays.first else bays.second).medium
         → (if t then (if s then record bays { first = x } else record bays { second = x }).first
-          else (if s then record bays { first = x } else record bays { second = x }).second).medium ≡ (if t then bays.first else bays.second).medium
+        else (if s then record bays { first = x } else record bays { second = x }).second).medium ≡ (if t then bays.first else bays.second).medium
     go true true e = e
     go true false e = refl
     go false true e = refl
@@ -212,10 +211,11 @@ read_step bay address key old new answer (Ok deleted) is reads =
     either (read_refusal old.station bay key address) reads
     (λ does. (λ fine. (deleted, does.found), does.driven))
     (λ code refused. let e = refused.refused in absurd (cc e))
-read_step bay address key old new answer (Err code) is reads =
-    (λ fine. absurd (true≢false (sym (ap is_refusal is) ∙ fine)),
-    either (read_refusal old.station bay key address) reads (λ does. does.driven)
-    (λ code refused. driven_less old.station.tries old.station.counters new.station.counters refused.idle))
+read_step bay address key old new answer (Err code) is reads = (
+  λ fine. absurd (true≢false (sym (ap is_refusal is) ∙ fine)),
+  either (read_refusal old.station bay key address) reads (λ does. does.driven)
+      (λ code refused. driven_less old.station.tries old.station.counters new.station.counters refused.idle),
+)
 
 reach_none : (written : Written) (medium after : Option Disk) → after ≡ medium → Reaches written medium [] after
 reach_none written medium after same = subst (λ (m : Option Disk). Reaches written medium [] m) (sym same) (go medium)
@@ -243,10 +243,13 @@ write_step : (bay address : ℕ) (key : Chrn) (deleted : Bool) (old new : State)
 write_step bay address key deleted old new answer called is writes =
     either (write_refusal old.station bay key address) writes
     (λ does. (does.changes, does.few, does.reach, λ fine. does.done (fine_call answer called is fine)))
-    (λ code refused. ([], omega arith,
-    reach_none (written_from old.station key address deleted) (bay_of old.station bay).medium (bay_of new.station bay).medium
-    (becomes_medium (record old.station { counters = new.station.counters }) new.station bay refused.stays),
-    λ fine. absurd (ok_not called code refused.refused (fine_call answer called is fine))))
+    (λ code refused. (
+      [],
+      omega arith,
+      reach_none (written_from old.station key address deleted) (bay_of old.station bay).medium (bay_of new.station bay).medium
+          (becomes_medium (record old.station { counters = new.station.counters }) new.station bay refused.stays),
+      λ fine. absurd (ok_not called code refused.refused (fine_call answer called is fine)),
+    ))
 
 pub each_reads : (old new : State) (told after : Option Files) (course : List Taken) → Run old told course new after → EachStep ReadsField old course
 each_reads old new told after [] run = tt

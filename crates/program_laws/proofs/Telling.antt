@@ -1,5 +1,5 @@
 -- Scripts whose status says whether some reply was a refusal.
-use Rattle.std.proofs.Common.{◌≡◌, ◌∙◌, ℕ, zero, suc, ◌+◌, ◌-◌, Bool, true, false, List, [], ◌∷◌, Option, Some, None, get_or, refl, sym, ap, subst, inl, inr}
+use Rattle.std.proofs.Common.{◌≡◌, ℕ, zero, suc, ◌+◌, Bool, true, false, List, [], ◌∷◌, Option, Some, None, refl, sym, subst, inl, inr}
 use Rattle.std.specs.Prelude.{◌||◌}
 use Rattle.flop_base.specs.Shelf.{Files}
 use Rattle.flop_base.specs.Sink.{grown}
@@ -7,7 +7,6 @@ use Rattle.flop_base.specs.declared.answers.Rate.{Rate}
 use Rattle.flop_base.specs.declared.answers.Rate.TheVariants.{R500, R250}
 use Rattle.flop_base.specs.declared.answers.Status.{Status}
 use Rattle.flop_base.specs.declared.answers.Status.TheVariants as status
-use Rattle.flop_base.specs.declared.key.Chrn.{Chrn}
 use Rattle.raw_image.specs.Disk.{Disk}
 use Rattle.floppy_requests.specs.declared.request.Request.{Request}
 use Rattle.floppy_requests.specs.declared.request.Request.TheVariants as request
@@ -24,7 +23,7 @@ use Rattle.sector_model.specs.Plays.{World, Prints, Whole, Part as InPart, IsPut
 use Rattle.floppy_session.specs.declared.shape.Shape.{Shape}
 use Rattle.floppy_session.specs.Shapes.{shape_in}
 use Rattle.scripts.specs.Scripts.{Script, Ends, Says, Asks, Stores, MayStarve, Fails, RunsScript, StoresLast, IsStored, NotStored, IsStoreFault, unless_refused}
-use Rattle.scripts.specs.Parts.{Part, asks, says, needs, carries, may_starve, with_shape, opens, sets_rate, acknowledges, through, each, by_track}
+use Rattle.scripts.specs.Parts.{Part, needs, carries, with_shape, opens, sets_rate, acknowledges, through, each, by_track}
 use Rattle.scripts.specs.Leading.{with_report}
 use Rattle.command_laws.proofs.Bays.{insert_stops}
 

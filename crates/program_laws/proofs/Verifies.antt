@@ -1,5 +1,5 @@
 -- What a verify tells.
-use Rattle.std.proofs.Common.{◌≡◌, ◌∙◌, ℕ, Bool, true, false, true≢false, List, [], ◌∷◌, ◌++◌, length, Option, Some, refl, ap, sym, subst, inl, inr, arith, zero, suc}
+use Rattle.std.proofs.Common.{◌≡◌, ◌∙◌, ℕ, Bool, true, false, List, [], ◌∷◌, length, Some, refl, ap, sym, subst, inl, inr, arith}
 use Rattle.std.specs.Prelude.{nat_le}
 use Rattle.std.proofs.lemmas.Bool.{leb-false}
 use Rattle.std.proofs.lemmas.Grind.{flat_map-append}
@@ -43,7 +43,7 @@ verifies_well name spares old new before after ended files disk failed over whol
     elim (form_done (form.Verify name) old spares before new after ended over) [
       | inl runs ↦
           let tells = verify_tells name (world over.start before.files before.report) (world over.last after.files after.report) runs.course ended files disk failed
-              runs.does whole told image empty quiet unmistaken failing in
+          runs.does whole told image empty quiet unmistaken failing in
           record { report = tells.report; status = tells.status }
       | inr starved ↦ absurd (subst IsEndStatus starved whole)
     ]

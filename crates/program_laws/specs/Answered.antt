@@ -1,5 +1,5 @@
 -- What the forms that run a text of requests tell.
-use Rattle.std.specs.Prelude.{◌≡◌, ℕ, Bool, List, [], ◌∷◌, ◌++◌, length, Option, Ok}
+use Rattle.std.specs.Prelude.{◌≡◌, ℕ, List, [], ◌∷◌, ◌++◌, length, Option, Ok}
 use Rattle.std.specs.List.{list_any}
 use Rattle.flop_base.specs.Shelf.{Files}
 use Rattle.flop_base.specs.Sink.{grown}

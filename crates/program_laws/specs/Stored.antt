@@ -1,6 +1,6 @@
 -- What the forms of the program store, by the files before and after.
-use Rattle.std.specs.Prelude.{◌≡◌, ◌⊎◌, ℕ, Bool, false, List, length, Option}
-use Rattle.flop_base.specs.Shelf.{Files, stored}
+use Rattle.std.specs.Prelude.{◌≡◌, ◌⊎◌, ℕ, Bool, false, List, length, Option, Some, IfSome}
+use Rattle.flop_base.specs.Shelf.{Files, file_at, stored}
 use Rattle.flop_base.specs.Standard.{words_at, sectors_at}
 use Rattle.flop_base.specs.declared.key.Chrn.{Chrn}
 use Rattle.raw_image.specs.Disk.{Disk, IsDisk, HasTrack, track_of}
@@ -10,6 +10,14 @@ use Rattle.sector_map.specs.Disks.{IsRegularDisk}
 use Rattle.sector_map.specs.Standard.{key_of}
 use Rattle.flat_image.specs.Flat.{IsSector, flat_length}
 use Rattle.pc_bus.specs.Boards.{Board}
+use Rattle.track_model.specs.declared.Look.{Look}
+use Rattle.sector_map.specs.Failing.{AreFailing}
+use Rattle.floppy_session.specs.Shapes.{shape_of}
+use Rattle.rescue.specs.Log.{log_text}
+use Rattle.rescue.specs.declared.line.LogLine.{LogLine}
+use Rattle.rescue_commands.specs.Logs.{IsLogFound}
+use Rattle.rescue_commands.specs.Rescue.{asked_keys}
+use Rattle.command_laws.specs.Rescued.{failing_lines}
 use Rattle.command_laws.specs.Verified.{IsStandardKey}
 use Rattle.command_laws.specs.Copied.{AllLone}
 use Rattle.command_laws.specs.EndsComplete.{HaveSameSector}
@@ -47,3 +55,10 @@ pub record StoresFlatAsRead (sure : Type 0) (disk : Disk) (flat : List ℕ) (tol
   pub sectors : sure → (c h r : ℕ) → IsSector (sectors_at disk.rate) c h r
       → HasContent disk c h r (sector_bytes bytes (sectors_at disk.rate) c h r)
   pub files : after ≡ stored told flat bytes
+
+-- the file of a log's name is the log of the asked records that aren't found on a disk, in their order, each with the code of its look
+pub record StoresLogOf (disk : Disk) (log : List ℕ) (files : Files) (after : Option Files) : Type 0 where
+  pub found : Option (List LogLine)
+  pub there : IsLogFound (Some files) log (sectors_at disk.rate) found
+  pub stores : (failed : List (Chrn × Look)) → AreFailing disk (asked_keys (shape_of disk) found) failed
+      → IfSome after (λ files. file_at files log ≡ Some (log_text (failing_lines failed)))

@@ -1,5 +1,13 @@
 // The form that rescues what it can of a disk.
-ghost use Rattle.std.specs.Prelude.{List, Some};
+ghost use Rattle.std.specs.Prelude.{◌≡◌, List, Some};
+ghost use Rattle.flop_base.specs.Shelf.{Files};
+ghost use Rattle.raw_image.specs.Disk.{Disk};
+ghost use Rattle.sector_model.specs.Steps.{IsImageOf};
+ghost use Rattle.command_laws.specs.Verified.{IsUnmistaken};
+ghost use Rattle.command_laws.specs.VerifyRuns.{IsEndStatus};
+ghost use Rattle.program_laws.specs.Disturbed.{HadNoFault, HadNoStall};
+ghost use Rattle.program_laws.specs.Stored.{StoresLogOf};
+ghost use Rattle.program_laws.specs.Told.{IsNotToldStopped};
 ghost use Rattle.flop_base.specs.declared.answers.Status.{Status};
 ghost use Rattle.bay_model.specs.Counters.{DriveCounts};
 ghost use Rattle.pc_bus.specs.Boards.{Board};
@@ -14,4 +22,17 @@ pub fn rescue_stores_in_order(_from: &str, _to: &str, _log: &str)
     ensures { (spares : List DriveCounts) (old new : Board) (before after : Desk) (ended : Status)
         → RunsOver (Some (form.Rescue _from.now _to.now _log.now)) old spares before new after ended
         → (lines : List LogLine) × StoresInOrder _to.now _log.now lines before.files after.files }
+{}
+
+/// A law: where it ends with status 0 or 1, its report doesn't tell that a refusal stopped it, FROM is the image of a disk whose
+/// address fields can't be mistaken, the drive of bay 0 had no fault and no DMA request waited too long, the file LOG is the log of
+/// the records that were asked for and aren't found on that disk, in their order, each with the code of its look. Asked for are the
+/// records of the log that was there, and else all.
+pub fn rescue_logs_the_rest(_from: &str, _to: &str, _log: &str)
+    ensures { (spares : List DriveCounts) (old new : Board) (before after : Desk) (ended : Status) (files : Files) (disk : Disk)
+        → RunsOver (Some (form.Rescue _from.now _to.now _log.now)) old spares before new after ended → IsEndStatus ended
+        → IsNotToldStopped before.report after.report
+        → before.files ≡ Some files → IsImageOf (Some files) _from.now disk
+        → HadNoFault 0 old new → HadNoStall old new → IsUnmistaken disk
+        → StoresLogOf disk _log.now files after.files }
 {}
