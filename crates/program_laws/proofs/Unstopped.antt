@@ -1,6 +1,5 @@
 -- A rescue of which no refusal is told that stopped it: its last request wasn't refused.
-use Rattle.std.proofs.Common.{◌≡◌, ◌∙◌, ℕ, ◌+◌, zero, suc, Bool, true, false, List, [], ◌∷◌, ◌++◌, length, Option, Some, None, Result, Ok, Err, refl, ap, sym, subst, inl, inr}
-use Rattle.flop_base.specs.Shelf.{Files}
+use Rattle.std.proofs.Common.{◌≡◌, ◌∙◌, ℕ, ◌+◌, zero, suc, Bool, true, false, List, [], ◌∷◌, ◌++◌, length, Option, Some, None, refl, ap, subst, inl, inr}
 use Rattle.flop_base.specs.Sink.{grown}
 use Rattle.flop_base.specs.declared.answers.Code.{Code}
 use Rattle.flop_base.specs.declared.answers.Code.TheVariants as code
@@ -31,7 +30,6 @@ use Rattle.scripts.proofs.Reading.{last_run, last_stored, last_failed}
 use Rattle.rescue.specs.Log.{log_text}
 use Rattle.rescue.specs.Course.{read_of, write_of, outcome_status}
 use Rattle.rescue.specs.declared.line.LogLine.{LogLine}
-use Rattle.rescue_commands.specs.Logs.{IsFound, IsLogFound}
 use Rattle.rescue_commands.specs.Rescue.{does_next, follows, rescues, acknowledges_both, prepares_new, prepares_old, prepares, asked_keys, outcome_of, last_text, rescues_all, stores_log, rescue_found, rescue_rest, Rescues}
 use Rattle.rescue_commands.proofs.Rests.{by_rest}
 use Rattle.command_laws.specs.VerifyRuns.{IsEndStatus}
@@ -107,7 +105,7 @@ unfolding needs
 needs_going asked rest goes old new [] ended whole fine runs = absurd (ask_stops runs.0 _ old.report new.report ended whole runs.2)
 needs_going asked rest goes old new (taken ∷ later) ended whole fine runs =
     let behind = unless_goes asked taken.answer (rest taken.answer taken.after) (goes taken.answer taken.after)
-        (with_report taken.after runs.1 old.report) new later ended whole fine runs.3 in
+    (with_report taken.after runs.1 old.report) new later ended whole fine runs.3 in
     (λ none. absurd (cc none), in_front taken later (λ none. behind.0) behind.1)
 
 carries_going : (asked : Request) (rest : Unit {0} → Script) → Strict (rest tt) → Going (carries asked rest)
