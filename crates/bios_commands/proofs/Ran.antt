@@ -56,12 +56,12 @@ work_run (Move kind bay c h r count address) old new told course code moved p =
     (told, (refl, refl, p.same), goes_run (is_acknowledged old.station bay) kind bay address _ p.looked new told p.later code moved p.goes)
 
 -- a line is one too
-line_run : (line : CallLine) (kept : ℕ) (old : State) (told : Option Files) (round : Round) (after : Option Files) → DoesLine line kept old told round after → Run old told round.course round.after after
+pub line_run : (line : CallLine) (kept : ℕ) (old : State) (told : Option Files) (round : Round) (after : Option Files) → DoesLine line kept old told round after → Run old told round.course round.after after
 line_run (call.Job asked) kept old told round after p = at_course old round.after told after round.course _ p.course_is (after, p.step, (refl, refl))
 line_run (call.Call ax bx cx dx es) kept old told round after p =
     subst (λ (f : Option Files). Run old told round.course round.after f) (sym p.files) (work_run _ old round.after told round.course p.serves.code p.serves.moved p.serves.work)
 
-rounds_run : (kept : ℕ) (old : State) (told : Option Files) (rounds : List Round) (kept_after : ℕ) (new : State) (after : Option Files) → AreRounds kept old told rounds kept_after new after → Run old told (course_of rounds) new after
+pub rounds_run : (kept : ℕ) (old : State) (told : Option Files) (rounds : List Round) (kept_after : ℕ) (new : State) (after : Option Files) → AreRounds kept old told rounds kept_after new after → Run old told (course_of rounds) new after
 rounds_run kept old told [] kept_after new after p = (p.1, p.2)
 rounds_run kept old told (round ∷ later) kept_after new after p =
     run_join old round.after new told p.0 after round.course (course_of later) (line_run round.line kept old told round p.0 p.1) (rounds_run round.kept round.after p.0 later kept_after new after p.2)

@@ -227,7 +227,7 @@ of_one None p q = absurd p
 of_one (Some bytes) p q = (bytes, refl, p, q)
 
 -- no stop but one of the outside comes, as the file is there and is the image of a disk
-insert_stops : (from : List ℕ) (files : Files) (disk : Disk) (old new : State) (after : Option Files) (cause : Stop)
+pub insert_stops : (from : List ℕ) (files : Files) (disk : Disk) (old new : State) (after : Option Files) (cause : Stop)
     → IsImageOf (Some files) from disk → StopsAt (request.Insert 0 from) old (Some files) cause new after → IsEndStop cause
 insert_stops from files disk old new after stop.FileFault image stops = tt
 insert_stops from files disk old new after stop.NoMemory image stops = tt

@@ -121,7 +121,7 @@ import_goes bytes name rate old empty =
 -- ---- The flat file.
 
 -- a flat file is taken, unless the outside fails
-taken_flat : (files : Files) (flat bytes : List ℕ) (rate : Rate) (cause : Stop) → IsFlatFile (Some files) flat bytes rate
+pub taken_flat : (files : Files) (flat bytes : List ℕ) (rate : Rate) (cause : Stop) → IsFlatFile (Some files) flat bytes rate
     → IsNotTaken (Some files) flat cause → IsEndStop cause
 taken_flat files flat bytes rate stop.FileFault is not = tt
 taken_flat files flat bytes rate stop.NoMemory is not = tt

@@ -2,8 +2,8 @@ mod BlankDisk
 mod Copied
 mod CopiedDisk
 mod CopiedTrack
-mod CopyRun
-mod FormatRun
+pub mod CopyRun
+pub mod FormatRun
 mod Formatted
 mod Formatting
 mod Looks
@@ -12,30 +12,30 @@ mod DiskOpening
 mod Prepared
 mod PutIn
 mod Ranges
-mod Reading
+pub mod Reading
 mod DiskRecords
 mod Sectors
 mod Steps
 mod TrackParts
 mod Tracks
 mod UserMemory
-mod Verified
-mod VerifyRun
+pub mod Verified
+pub mod VerifyRun
 mod WholeWindow
 mod Written
 mod WrittenHere
-mod Bays
-mod CommandEnds
+pub mod Bays
+pub mod CommandEnds
 mod Going
-mod ScriptAccesses
-mod SectorRequests
-mod ExportRun
-mod FlatEnds
-mod ImportRun
+pub mod ScriptAccesses
+pub mod SectorRequests
+pub mod ExportRun
+pub mod FlatEnds
+pub mod ImportRun
 mod Taking
 mod Gone
-mod RescueRecords
+pub mod RescueRecords
 mod Telling
 mod RescueOpening
-mod Whole
-mod Order
+pub mod Whole
+pub mod Order

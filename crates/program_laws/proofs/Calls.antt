@@ -1,0 +1,63 @@
+-- What a text of calls of INT 13h tells.
+use Rattle.std.proofs.Common.{◌≡◌, ◌∙◌, ℕ, List, Result, Ok, Err, Some, refl, subst, inl, inr}
+use Rattle.flop_base.specs.declared.answers.Status.{Status}
+use Rattle.flop_base.specs.declared.answers.Status.TheVariants as status
+use Rattle.bay_model.specs.Counters.{DriveCounts}
+use Rattle.pc_bus.specs.Boards.{Board}
+use Rattle.floppy_jobs.specs.Texts.{calls_of}
+use Rattle.floppy_jobs.specs.declared.calls.CallLine.{CallLine}
+use Rattle.sector_model.specs.Runs.{Taken}
+use Rattle.sector_model.specs.Plays.{World, IsText}
+use Rattle.bios_commands.specs.Rounds.{Breaks, AtStop, AtPut}
+use Rattle.bios_commands.specs.Courses.{ServesCalls, There, Missing, TooLong, Faulty, Starved, ServesParsed, ServesLines, Through, Broken, EndStopped}
+use Rattle.archive_commands.specs.Files.{Desk}
+use Rattle.floppy_words.specs.declared.form.Form.TheVariants as form
+use Rattle.floppy_forms.specs.Rounds.{world}
+use Rattle.floppy_tools.specs.Machines.{RunsOver}
+use Rattle.command_laws.specs.VerifyRuns.{IsEndStatus}
+use Rattle.command_laws.proofs.VerifyRun.{not_put}
+use Rattle.program_laws.specs.Answered.{AnswersCalls}
+use Rattle.program_laws.proofs.OfForms.{form_done}
+use Rattle.program_laws.proofs.Plays.{put_end, no_stop_end, no_end}
+
+module _ (name : List ℕ) (old : World) (course : List Taken) (new : World) (ended : Status) (whole : IsEndStatus ended) where
+  abbrev Answered : Type 0
+  Answered = AnswersCalls name (record { files = old.files; report = old.report }) (record { files = new.files; report = new.report }) ended
+
+  lines_answered : (text : List ℕ) (lines : List CallLine) → IsText old.files name text → calls_of text ≡ Ok lines → ServesLines lines old course new ended → Answered
+  lines_answered text lines told spells (Through is) = record {
+    text = text;
+    told = told;
+    lines = lines;
+    spelled = spells;
+    rounds = is.rounds;
+    each = is.served.all;
+    done = (old.state, is.mid.state, is.mid.files, is.kept, is.served.served);
+    report = is.report ∙ is.served.report;
+    status = is.status;
+  }
+  lines_answered text lines told spells (Broken is) = absurd (broken is.breaks)
+    where
+      broken : Breaks is.kept is.line is.mid is.last new ended → ⊥
+      broken (AtStop asked cause line nothing stops prints) = no_stop_end cause ended whole (put_end _ _ _ _ ended whole prints)
+      broken (AtPut round does last after grows fault) = not_put ended whole fault
+  lines_answered text lines told spells (EndStopped is) = absurd (no_stop_end is.cause ended whole is.status)
+
+  parsed_answered : (text : List ℕ) (parsed : Result (List CallLine) ℕ) → IsText old.files name text → calls_of text ≡ parsed
+      → ServesParsed parsed old course new ended → Answered
+  parsed_answered text (Ok lines) told spells serves = lines_answered text lines told spells serves
+  parsed_answered text (Err line) told spells tells = absurd (no_end status.BadJob ended whole (put_end _ _ _ _ ended whole tells.tells.prints) (λ e. e))
+
+  calls_answered : ServesCalls name old course new ended → Answered
+  calls_answered (There is) = parsed_answered is.text (calls_of is.text) is.told refl is.serves
+  calls_answered (Missing absent tells) = absurd (no_end status.Absent ended whole (put_end _ _ _ _ ended whole tells.tells.prints) (λ e. e))
+  calls_answered (TooLong longer tells) = absurd (no_end status.BadJob ended whole (put_end _ _ _ _ ended whole tells.tells.prints) (λ e. e))
+  calls_answered (Faulty nothing idle) = absurd (no_end status.FileFault ended whole idle.status (λ e. e))
+  calls_answered (Starved nothing idle) = absurd (no_end status.NoMemory ended whole idle.status (λ e. e))
+
+pub int13_answers : (name : List ℕ) (spares : List DriveCounts) (old new : Board) (before after : Desk) (ended : Status)
+    → RunsOver (Some (form.Int13 name)) old spares before new after ended → IsEndStatus ended → AnswersCalls name before after ended
+int13_answers name spares old new before after ended over whole = elim (form_done (form.Int13 name) old spares before new after ended over) [
+  | inl runs ↦ calls_answered name (world over.start before.files before.report) runs.course (world over.last after.files after.report) ended whole runs.does
+  | inr starved ↦ absurd (subst IsEndStatus starved whole)
+]

@@ -1,0 +1,26 @@
+-- Words that are a form.
+use Rattle.std.proofs.Common.{◌≡◌, ◌∙◌, ℕ, List, Option, Some, None, refl, sym, subst}
+use Rattle.flop_base.specs.declared.answers.Status.{Status}
+use Rattle.bay_model.specs.Counters.{DriveCounts}
+use Rattle.floppy_words.specs.declared.form.Form.{Form}
+use Rattle.floppy_words.specs.Forms.{form_of, ports_file_of}
+use Rattle.floppy_words.proofs.PortsLemmas.{no_form}
+use Rattle.floppy_tools.specs.Machines.{RunsOver}
+use Rattle.floppy_tools.specs.Performed.{Stand, RanOver, Performed}
+
+-- a form is no text of port accesses
+no_ports : (words : List (List ℕ)) (asked : Form) (file : Option (List ℕ)) → form_of words ≡ Some asked → ports_file_of words ≡ file → file ≡ None
+no_ports words asked (Some file) is spelled = let none = no_form words file spelled in absurd cc
+no_ports words asked None is spelled = refl
+
+pub form_ran : (words : List (List ℕ)) (asked : Form) (spares : List DriveCounts) (old new : Stand) (ended : Status) → form_of words ≡ Some asked
+    → Performed words spares old new ended → RanOver (Some asked) spares old new ended
+form_ran words asked spares old new ended is performed =
+    let none = no_ports words asked (ports_file_of words) is refl in
+    record {
+      runs = subst (λ (f : Option Form). RunsOver f old.board spares old.desk.desk new.board new.desk.desk ended) is (performed.does.runs none);
+      accesses = λ job requests plays. performed.accesses job requests (is ∙ plays);
+      bad_words = λ bad. sym is ∙ (performed.does.bad_words bad).0;
+      shelf_faults = performed.shelf_faults;
+      sink_faults = performed.sink_faults;
+    }

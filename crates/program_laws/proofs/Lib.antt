@@ -1,0 +1,20 @@
+pub mod OnBoards
+pub mod OfForms
+pub mod Archives
+mod Calls
+mod Completed
+mod Copies
+mod Courses
+mod Endings
+mod Fits
+mod FlatFiles
+mod Formats
+pub mod Plays
+mod Replies
+mod RescueStatus
+mod Rescues
+mod Stepping
+pub mod Telling
+mod Unstopped
+mod Verifies
+mod FormWords

@@ -1,0 +1,96 @@
+-- What a job tells.
+use Rattle.std.proofs.Common.{◌≡◌, ◌∙◌, ℕ, Bool, List, [], ◌∷◌, ◌++◌, length, map, Option, Result, Ok, Err, Some, None, refl, ap, sym, subst, inl, inr}
+use Rattle.std.specs.Prelude.{◌||◌, IsSomeAnd, ◌≤◌}
+use Rattle.std.specs.List.{list_any}
+use Rattle.std.proofs.lemmas.List.{length-map}
+use Rattle.flop_base.specs.Shelf.{Files, file_at}
+use Rattle.flop_base.specs.Sink.{grown}
+use Rattle.flop_base.specs.declared.answers.Status.{Status}
+use Rattle.flop_base.specs.declared.answers.Status.TheVariants as status
+use Rattle.bay_model.specs.Counters.{DriveCounts}
+use Rattle.pc_bus.specs.Boards.{Board}
+use Rattle.floppy_requests.specs.Texts.{job_of}
+use Rattle.floppy_requests.specs.declared.request.Request.{Request}
+use Rattle.sector_model.specs.declared.reply.Reply.{Reply}
+use Rattle.sector_model.specs.declared.reply.Stop.{Stop}
+use Rattle.sector_model.specs.Texts.{reply_text, is_refusal, stop_status}
+use Rattle.sector_model.specs.Runs.{Taken, requests_of, course_text, has_refusal}
+use Rattle.sector_model.specs.Plays.{World, Plays, There, Missing, TooLong, Faulty, Starved, PlaysParsed, PlaysRequests, Played, Stopped, BrokenOff, EndStopped, Prints, Whole, Part, IsText, most_job_bytes, whole_status}
+use Rattle.archive_commands.specs.Files.{Desk}
+use Rattle.floppy_words.specs.declared.form.Form.TheVariants as form
+use Rattle.floppy_forms.specs.Rounds.{world}
+use Rattle.floppy_tools.specs.Machines.{RunsOver}
+use Rattle.command_laws.specs.VerifyRuns.{IsEndStatus}
+use Rattle.command_laws.proofs.VerifyRun.{not_put, not_stop}
+use Rattle.program_laws.specs.Answered.{AnswersJob, replies_text}
+use Rattle.program_laws.proofs.OfForms.{form_done}
+
+abbrev answers_of : List Taken → List Reply
+answers_of course = map (λ taken. taken.answer) course
+
+told_replies : (course : List Taken) → course_text course ≡ replies_text (requests_of course) (answers_of course)
+told_replies [] = refl
+told_replies (taken ∷ later) = ap (λ (rest : List ℕ). reply_text taken.asked taken.answer ++ rest) (told_replies later)
+
+some_refused : (course : List Taken) → has_refusal course ≡ list_any is_refusal (answers_of course)
+some_refused [] = refl
+some_refused (taken ∷ later) = ap (λ (rest : Bool). is_refusal taken.answer || rest) (some_refused later)
+
+pub put_end : (line : List ℕ) (wanted : Status) (old new : Option (List ℕ)) (ended : Status) → IsEndStatus ended → Prints line wanted old new ended → ended ≡ wanted
+put_end line wanted old new ended whole (Whole is well) = well
+put_end line wanted old new ended whole (Part grows fault) = absurd (not_put ended whole fault)
+
+pub no_stop_end : (cause : Stop) (ended : Status) → IsEndStatus ended → ended ≡ stop_status cause → ⊥
+no_stop_end cause ended whole is = not_stop cause (subst IsEndStatus is whole)
+
+pub no_end : (wanted ended : Status) → IsEndStatus ended → ended ≡ wanted → (IsEndStatus wanted → ⊥) → ⊥
+no_end wanted ended whole is bad = bad (subst IsEndStatus is whole)
+
+text_there : (files : Files) (job text : List ℕ) → IsText (Some files) job text → file_at files job ≡ Some text
+text_there files job text told = go (file_at files job) told
+  where
+    go : (found : Option (List ℕ)) → IsSomeAnd found (λ bytes. (bytes ≡ text) × (length bytes ≤ most_job_bytes)) → found ≡ Some text
+    go (Some bytes) is = ap (λ (b : List ℕ). Some b) is.0
+    go None is = absurd is
+
+module _ (job : List ℕ) (files : Files) (old : World) (course : List Taken) (new : World) (ended : Status) (whole : IsEndStatus ended)
+    (told : old.files ≡ Some files) where
+  requests_answered : (text : List ℕ) (requests : List Request) → file_at files job ≡ Some text → job_of text ≡ Ok requests
+      → PlaysRequests requests old course new ended
+      → AnswersJob job (record { files = old.files; report = old.report }) (record { files = new.files; report = new.report }) ended
+  requests_answered text requests there spells (Played is) = record {
+    requests = requests;
+    spelled = record { files = files; text = text; tells = told; there = there; spells = spells };
+    answers = answers_of course;
+    each = length-map course (λ (taken : Taken). taken.answer) ∙ sym (length-map course (λ (taken : Taken). taken.asked))
+        ∙ sym (ap (λ (row : List Request). length row) is.all);
+    report = is.report ∙ ap (λ (t : List ℕ). grown old.report t) (told_replies course
+        ∙ sym (ap (λ (row : List Request). replies_text row (answers_of course)) is.all));
+    status = is.status ∙ ap whole_status (some_refused course);
+  }
+  requests_answered text requests there spells (Stopped is) =
+      absurd (no_stop_end is.cause ended whole (put_end _ _ _ _ ended whole is.prints))
+  requests_answered text requests there spells (BrokenOff is) = absurd (not_put ended whole is.fault)
+  requests_answered text requests there spells (EndStopped is) = absurd (no_stop_end is.cause ended whole is.status)
+
+  parsed_answered : (text : List ℕ) (parsed : Result (List Request) ℕ) → file_at files job ≡ Some text → job_of text ≡ parsed
+      → PlaysParsed parsed old course new ended
+      → AnswersJob job (record { files = old.files; report = old.report }) (record { files = new.files; report = new.report }) ended
+  parsed_answered text (Ok requests) there spells plays = requests_answered text requests there spells plays
+  parsed_answered text (Err line) there spells tells = absurd (no_end status.BadJob ended whole (put_end _ _ _ _ ended whole tells.tells.prints) (λ e. e))
+
+  job_answered : Plays job old course new ended
+      → AnswersJob job (record { files = old.files; report = old.report }) (record { files = new.files; report = new.report }) ended
+  job_answered (There is) =
+      parsed_answered is.text (job_of is.text) (text_there files job is.text (subst (λ (f : Option Files). IsText f job is.text) told is.told)) refl is.plays
+  job_answered (Missing absent tells) = absurd (no_end status.Absent ended whole (put_end _ _ _ _ ended whole tells.tells.prints) (λ e. e))
+  job_answered (TooLong longer tells) = absurd (no_end status.BadJob ended whole (put_end _ _ _ _ ended whole tells.tells.prints) (λ e. e))
+  job_answered (Faulty nothing idle) = absurd (no_end status.FileFault ended whole idle.status (λ e. e))
+  job_answered (Starved nothing idle) = absurd (no_end status.NoMemory ended whole idle.status (λ e. e))
+
+pub play_answers : (job : List ℕ) (spares : List DriveCounts) (old new : Board) (before after : Desk) (ended : Status) (files : Files)
+    → RunsOver (Some (form.Play job)) old spares before new after ended → IsEndStatus ended → before.files ≡ Some files → AnswersJob job before after ended
+play_answers job spares old new before after ended files over whole told = elim (form_done (form.Play job) old spares before new after ended over) [
+  | inl runs ↦ job_answered job files (world over.start before.files before.report) runs.course (world over.last after.files after.report) ended whole told runs.does
+  | inr starved ↦ absurd (subst IsEndStatus starved whole)
+]

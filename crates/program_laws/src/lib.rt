@@ -1,0 +1,34 @@
+//! Laws over the program on a machine: what each form stores and tells, by the files, the report and the boards before and after it.
+#![tactic(auto)]
+
+mod archive;
+mod copy;
+mod ends;
+mod fitting;
+mod flat;
+mod format;
+mod play;
+mod rescued;
+mod status;
+mod steps;
+mod verify;
+mod words;
+
+pub use archive::{disk_laid_anew, disk_of_an_imd, imd_of_a_disk, survey_of_a_disk};
+pub use copy::copy_of_a_disk;
+pub use ends::{
+    copy_ends_well, export_ends_well, format_ends_well, formatdd_ends_well, import_ends_well,
+    verify_ends_well,
+};
+pub use fitting::{fromimd_status, remaster_status, survey_status, toimd_status};
+pub use flat::{disk_of_a_flat_file, flat_file_of_a_disk};
+pub use format::{format_of_a_disk, formatdd_of_a_disk};
+pub use play::{calls_are_answered, job_is_answered};
+pub use rescued::{new_rescue_settles_each_record, rescue_logs_the_rest, rescue_stores_in_order};
+pub use status::{
+    copy_status, exercise_status, export_status, format_status, formatdd_status, import_status,
+    new_rescue_status, verify_status,
+};
+pub use steps::{course_is_a_run, steps_keep_guarded_media, steps_read_fields, steps_write_fields};
+pub use verify::{verify_finds_all, verify_of_a_disk};
+pub use words::form_of_words_ran;

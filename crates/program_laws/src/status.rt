@@ -1,0 +1,75 @@
+// What the status of a form tells, where its files are there and in their grammar.
+ghost use Rattle.std.specs.Prelude.{◌≡◌, ℕ, List, Some, None};
+ghost use Rattle.flop_base.specs.Shelf.{Files, file_at};
+ghost use Rattle.flop_base.specs.declared.answers.Rate.{Rate};
+ghost use Rattle.flop_base.specs.declared.answers.Status.{Status};
+ghost use Rattle.raw_image.specs.Disk.{Disk};
+ghost use Rattle.bay_model.specs.Counters.{DriveCounts};
+ghost use Rattle.sector_model.specs.Runs.{has_refusal};
+ghost use Rattle.sector_model.specs.Steps.{IsImageOf};
+ghost use Rattle.flat_commands.specs.FlatFiles.{IsFlatFile};
+ghost use Rattle.floppy_words.specs.declared.form.Form.TheVariants as form;
+ghost use Rattle.floppy_tools.specs.Performed.{Stand, RanOver};
+ghost use Rattle.program_laws.specs.Ends.{EndsByReplies};
+
+/// A law: `format NAME CYLS` ends with status 1 where some request of its run was refused, and else with 0, unless memory couldn't be
+/// had, or the shelf or the sink failed, and counted it.
+pub fn format_status(_name: &str, _cylinders: u8)
+    ensures { (spares : List DriveCounts) (old new : Stand) (ended : Status)
+        (ran : RanOver (Some (form.Format _name.now _cylinders)) spares old new ended)
+        → EndsByReplies (has_refusal ran.runs.runs.course) old new ended }
+{}
+
+/// A law: so does `formatdd NAME CYLS`.
+pub fn formatdd_status(_name: &str, _cylinders: u8)
+    ensures { (spares : List DriveCounts) (old new : Stand) (ended : Status)
+        (ran : RanOver (Some (form.FormatDd _name.now _cylinders)) spares old new ended)
+        → EndsByReplies (has_refusal ran.runs.runs.course) old new ended }
+{}
+
+/// A law: so does `copy FROM TO`, where FROM is the image of a disk.
+pub fn copy_status(_from: &str, _to: &str)
+    ensures { (spares : List DriveCounts) (old new : Stand) (ended : Status) (files : Files) (disk : Disk)
+        → old.desk.desk.files ≡ Some files → IsImageOf (Some files) _from.now disk
+        → (ran : RanOver (Some (form.Copy _from.now _to.now)) spares old new ended)
+        → EndsByReplies (has_refusal ran.runs.runs.course) old new ended }
+{}
+
+/// A law: so does `verify NAME`, where NAME is the image of a disk.
+pub fn verify_status(_name: &str)
+    ensures { (spares : List DriveCounts) (old new : Stand) (ended : Status) (files : Files) (disk : Disk)
+        → old.desk.desk.files ≡ Some files → IsImageOf (Some files) _name.now disk
+        → (ran : RanOver (Some (form.Verify _name.now)) spares old new ended)
+        → EndsByReplies (has_refusal ran.runs.runs.course) old new ended }
+{}
+
+/// A law: so does `import FLAT NAME`, where FLAT is a flat file.
+pub fn import_status(_flat: &str, _name: &str)
+    ensures { (spares : List DriveCounts) (old new : Stand) (ended : Status) (files : Files) (bytes : List ℕ) (at : Rate)
+        → old.desk.desk.files ≡ Some files → IsFlatFile (Some files) _flat.now bytes at
+        → (ran : RanOver (Some (form.Import _flat.now _name.now)) spares old new ended)
+        → EndsByReplies (has_refusal ran.runs.runs.course) old new ended }
+{}
+
+/// A law: so does `export NAME FLAT`, where NAME is the image of a disk.
+pub fn export_status(_name: &str, _flat: &str)
+    ensures { (spares : List DriveCounts) (old new : Stand) (ended : Status) (files : Files) (disk : Disk)
+        → old.desk.desk.files ≡ Some files → IsImageOf (Some files) _name.now disk
+        → (ran : RanOver (Some (form.Export _name.now _flat.now)) spares old new ended)
+        → EndsByReplies (has_refusal ran.runs.runs.course) old new ended }
+{}
+
+/// A law: so does `exercise SEED COUNT`.
+pub fn exercise_status()
+    ensures { (seed count : ℕ) (spares : List DriveCounts) (old new : Stand) (ended : Status)
+        (ran : RanOver (Some (form.Exercise seed count)) spares old new ended)
+        → EndsByReplies (has_refusal ran.runs.runs.course) old new ended }
+{}
+
+/// A law: so does `rescue FROM TO LOG`, where FROM is the image of a disk, and no file LOG is there.
+pub fn new_rescue_status(_from: &str, _to: &str, _log: &str)
+    ensures { (spares : List DriveCounts) (old new : Stand) (ended : Status) (files : Files) (disk : Disk)
+        → old.desk.desk.files ≡ Some files → IsImageOf (Some files) _from.now disk → file_at files _log.now ≡ None
+        → (ran : RanOver (Some (form.Rescue _from.now _to.now _log.now)) spares old new ended)
+        → EndsByReplies (has_refusal ran.runs.runs.course) old new ended }
+{}

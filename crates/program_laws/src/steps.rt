@@ -1,0 +1,43 @@
+// What each step of a run may do.
+ghost use Rattle.std.specs.Prelude.{List, Option, Some};
+ghost use Rattle.flop_base.specs.Shelf.{Files};
+ghost use Rattle.flop_base.specs.declared.answers.Status.{Status};
+ghost use Rattle.bay_model.specs.Counters.{DriveCounts};
+ghost use Rattle.pc_bus.specs.Boards.{Board};
+ghost use Rattle.sector_model.specs.States.{State};
+ghost use Rattle.sector_model.specs.Runs.{Taken, Run};
+ghost use Rattle.archive_commands.specs.Files.{Desk};
+ghost use Rattle.floppy_words.specs.declared.form.Form.{Form};
+ghost use Rattle.floppy_tools.specs.Machines.{RunsOver};
+ghost use Rattle.program_laws.specs.Steps.{EachStep, KeepsGuarded, ReadsField, WritesField};
+
+/// A law: in each step of a run the medium of a bay that isn't acknowledged, or that has a protected medium, stays as it is, unless
+/// the step exchanges it.
+pub fn steps_keep_guarded_media()
+    ensures { (old new : State) (told after : Option Files) (course : List Taken)
+        → Run old told course new after → EachStep KeepsGuarded old course }
+{}
+
+/// A law: in each step of a run, a read that was done gave an intact field of its key on the disk in its bay; that is a field of its
+/// sector, and on the track of its cylinder, as `IsRead` says. Each read, done or refused, sent at most as many data commands as
+/// attempts are set, and took an interrupt for each.
+pub fn steps_read_fields()
+    ensures { (old new : State) (told after : Option Files) (course : List Taken)
+        → Run old told course new after → EachStep ReadsField old course }
+{}
+
+/// A law: in each step of a run, a write, done or refused, changed the medium in its bay by no more changes than attempts are set, each
+/// of which wrote the window behind an address field of its key, or the beginning of it; where it was done, an intact field of the
+/// key has the mark and the content.
+pub fn steps_write_fields()
+    ensures { (old new : State) (told after : Option Files) (course : List Taken)
+        → Run old told course new after → EachStep WritesField old course }
+{}
+
+/// A law: the course of each form over a machine is a run, from the session that was set up and the files as they were, so that the
+/// laws above hold of its steps.
+pub fn course_is_a_run()
+    ensures { (asked : Form) (spares : List DriveCounts) (old new : Board) (before after : Desk) (ended : Status)
+        (over : RunsOver (Some asked) old spares before new after ended)
+        → (mid : State) × (files : Option Files) × Run over.start before.files over.runs.course mid files }
+{}
