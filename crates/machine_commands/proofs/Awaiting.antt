@@ -1,8 +1,6 @@
 -- What a data command does at the ports.
-use Rattle.std.proofs.Common.{◌≡◌, inl, inr, ℕ, suc, ◌+◌, ◌*◌, ◌==◌, Bool, true, false, [], ◌∷◌, Result, Ok, Err, refl, subst, arith}
-use Rattle.std.specs.Prelude.{bit_and}
-use Rattle.std.proofs.lemmas.Bool.Decides.{nat_tests}
-use Rattle.machine_commands.proofs.Common.{read_gap_at, Chrn, Rate, Code, Board, Outputs, outcome_of, sector_bytes, SetsChannel, Watch, Watches, AwaitsResults, has_set, refusal_of, Sends, Done}
+use Rattle.std.proofs.Common.{◌≡◌, inl, inr, ℕ, suc, ◌+◌, ◌*◌, Bool, true, false, [], ◌∷◌, subst, arith}
+use Rattle.machine_commands.proofs.Common.{read_gap_at, Chrn, Rate, Board, Outputs, sector_bytes, SetsChannel, Watch, Watches, AwaitsResults, Sends}
 
 pub output_as : (port a b : ℕ) (old new : Board) → a ≡ b → Outputs port a old new → Outputs port b old new
 output_as port a b old new same access = subst (λ value. Outputs port value old new) same access
@@ -14,12 +12,6 @@ pub sends_as : (command bay : ℕ) (key : Chrn) (rate : Rate) (gap : ℕ) (old n
     → Sends (command ∷ (key.h * 4 + bay) ∷ key.c ∷ key.h ∷ key.r ∷ key.n ∷ key.r ∷ gap ∷ 0xFF ∷ []) old new → Sends (sector_bytes command bay key rate) old new
 sends_as command bay key rate gap old new same sends =
     subst (λ value. Sends (command ∷ (key.h * 4 + bay) ∷ key.c ∷ key.h ∷ key.r ∷ key.n ∷ key.r ∷ value ∷ 0xFF ∷ []) old new) same sends
-
-pub fails : (st0 st1 st2 : ℕ) (key : Chrn) (code : Code) → (bit_and st0 0xC0 ≡ 0 → ⊥) → code ≡ refusal_of st1 → (let r : Result Done Code = Err code in r) ≡ outcome_of st0 st1 st2 key
-fails st0 st1 st2 key code set is = let failed : (bit_and st0 0xC0 == 0) ≡ false = grind (arith, nat_tests) in rw (failed, is) refl
-
-pub succeeds : (st0 st1 st2 : ℕ) (key : Chrn) → bit_and st0 0xC0 ≡ 0 → (let r : Result Done Code = Ok (record { deleted = has_set st2 0x40; key = key }) in r) ≡ outcome_of st0 st1 st2 key
-succeeds st0 st1 st2 key clear = rw clear refl
 
 -- ---- watches
 

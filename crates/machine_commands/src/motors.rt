@@ -1,14 +1,7 @@
 // The motors, and the output register that turns them on.
 ghost use Rattle.std.specs.Prelude.{◌≡◌, ◌≤◌};
 
-/// DOR out of reset, with INT and DRQ let out, no motor on and drive 0 selected.
-const OUT_OF_RESET: u8 = 0x0C;
-
-/// DOR's bit of the first drive's motor.
-const MOTOR_0: u8 = 0x10;
-
-/// DOR's bit of the second drive's motor.
-const MOTOR_1: u8 = 0x20;
+use fdc_registers::{Dor, Flags};
 
 /// Which motors are on.
 #[derive(Clone, Copy, Debug, PartialEq, Eq)]
@@ -43,8 +36,9 @@ impl Motors {
         requires { bay ≤ 1 }
         ensures { result ≡ dor_with self bay }
     {
-        let first = if self.first { MOTOR_0 } else { 0 };
-        let second = if self.second { MOTOR_1 } else { 0 };
-        OUT_OF_RESET + first + second + bay
+        let first = if self.first { Dor::MOTOR_0.bits() } else { 0 };
+        let second = if self.second { Dor::MOTOR_1.bits() } else { 0 };
+        let out_of_reset = Dor::NOT_RESET.union(Dor::GATE).bits();
+        out_of_reset + first + second + bay
     }
 }

@@ -1,12 +1,14 @@
 // The end of a data command.
 ghost use Rattle.std.specs.Prelude.{◌≡◌};
-ghost use Rattle.machine_commands.specs.Awaited.{AreCounts, AwaitsResults, Finishes, Watch, TakesKey, TakesResults, key_told, mark_told};
+ghost use Rattle.machine_commands.specs.Codes.{has_set};
+ghost use Rattle.machine_commands.specs.Awaited.{outcome_of, AreCounts, AwaitsResults, Finishes, Watch, TakesKey, TakesResults, key_told, mark_told};
 ghost use Rattle.machine_commands.specs.Shown.{board_of};
 
 use crate::codes::refusal;
 use crate::machine::CommandedMachine;
 use crate::ports::{MSR, RESULTS_READY};
 use drive_model::Drive;
+use fdc_registers::{Flags, St0, St2};
 use flop_base::{Chrn, Code};
 
 /// A data command ends within so many device steps.
@@ -14,12 +16,6 @@ const LONGEST_COMMAND: u32 = 65_536;
 
 /// Its end is awaited so often: each time takes a device step at least.
 const MOST_WATCHES: u32 = LONGEST_COMMAND + 1;
-
-/// Status register 0: the interrupt code, 00 where all was done.
-const INTERRUPT_CODE: u8 = 0xC0;
-
-/// Status register 2: the data field is marked deleted.
-const CONTROL_MARK: u8 = 0x40;
 
 /// What a data command that was done tells.
 #[derive(Clone, Copy, Debug, PartialEq, Eq)]
@@ -93,13 +89,7 @@ impl<D: Drive> CommandedMachine<D> {
         let st1 = self.result_byte();
         let st2 = self.result_byte();
         let key = self.take_key();
-        if st0 & INTERRUPT_CODE != 0 {
-            return Err(refusal(st1));
-        }
-        Ok(Done {
-            deleted: st2 & CONTROL_MARK != 0,
-            key,
-        })
+        outcome(st0, st1, st2, key)
     }
 
     /// Reads the key among the result bytes.
@@ -123,4 +113,24 @@ impl<D: Drive> CommandedMachine<D> {
         let _taken = self.machine.taken();
         let _direct = self.machine.direct();
     }
+}
+
+/// What the results come to: the interrupt code in status register 0 is 00 where all was done.
+fn outcome(st0: u8, st1: u8, st2: u8, key: Chrn) -> Result<Done, Code>
+    ensures { result ≡ outcome_of st0 st1 st2 key }
+{
+    if has_failed(St0(st0)) {
+        return Err(refusal(st1));
+    }
+    Ok(Done {
+        deleted: St2(st2).intersects(St2::CONTROL_MARK),
+        key,
+    })
+}
+
+/// Whether the interrupt code isn't 00.
+fn has_failed(st0: St0) -> bool
+    ensures { result ≡ has_set st0.0 0xC0 }
+{
+    st0.intersects(St0::INVALID.union(St0::ABNORMAL))
 }

@@ -1,21 +1,4 @@
-use Rattle.machine_commands.proofs.Awaiting.{fails, succeeds}
 use Rattle.machine_commands.proofs.machine.CommandedMachine.take_results.Goals as goal
-
-pub returns-then-st0-ne0-clause-takes : goal.returns-then-st0-ne0-clause-takes
-returns-then-st0-ne0-clause-takes g c = record {
-  st0 = _;
-  after_st0 = _;
-  first = c.result_byte-st0.ensures.takes;
-  st1 = _;
-  after_st1 = _;
-  second = c.result_byte-st1.ensures.takes;
-  st2 = _;
-  after_st2 = _;
-  third = c.result_byte-st2.ensures.takes;
-  key = c.take_key-key.result;
-  keys = c.take_key-key.ensures.takes;
-  is = fails c.result_byte-st0.result c.result_byte-st1.result c.result_byte-st2.result c.take_key-key.result c.refusal.result c.if-st0-ne0.true c.refusal.ensures;
-}
 
 pub returns-clause-takes : goal.returns-clause-takes
 returns-clause-takes g c = record {
@@ -30,5 +13,5 @@ returns-clause-takes g c = record {
   third = c.result_byte-st2.ensures.takes;
   key = c.take_key-key.result;
   keys = c.take_key-key.ensures.takes;
-  is = succeeds c.result_byte-st0.result c.result_byte-st1.result c.result_byte-st2.result c.take_key-key.result c.if-st0-ne0.false;
+  is = c.outcome.ensures;
 }
