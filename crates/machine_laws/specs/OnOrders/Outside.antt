@@ -1,9 +1,8 @@
 -- What a READ DATA does to memory, whatever the drive is: absent, empty, spinning up, or another one.
-use Rattle.std.specs.Prelude.{◌≡◌, ◌≤◌, ◌+◌, ℕ, true, false, List, length}
+use Rattle.std.specs.Prelude.{◌≡◌, ◌≤◌, ◌+◌, ℕ, true, length}
 use Rattle.fdc_stages.specs.History.{Past}
 use Rattle.fdc_core.specs.Heard.{MayRead}
 use Rattle.fdc_core.specs.Listening.{is_executing}
-use Rattle.fdc_phases.specs.declared.phases.Phase.TheVariants.{Command}
 use Rattle.pc_bus.specs.Boards.{Board, controller_of, memory_of, channel_of}
 use Rattle.pc_bus.specs.declared.chips.Chips.{Chips}
 use Rattle.machine_laws.specs.OnReads.Begins.{IsLastByte}
@@ -28,12 +27,3 @@ pub record CanFetch (scene : Scene) (byte : ℕ) (board : Board) : Type 0 where
   pub size : left + 1 ≡ scene.size
   pub channel : IsSet (channel_of board) scene.address left
   pub last : IsLastByte byte scene.sent (controller_of board)
-
--- the controller takes commands and asks for no byte, and this is what memory holds
-pub record Awaits (memory : List ℕ) (chips : Chips) : Type 0 where
-  pub phase : chips.controller.phase ≡ Command
-  pub low : chips.controller.asking ≡ false
-  pub holds : chips.memory ≡ memory
-
-abbrev pub AwaitsCommand : List ℕ → Board → Type 0
-AwaitsCommand memory board = Awaits memory board.bus.chips

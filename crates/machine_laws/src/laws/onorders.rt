@@ -1,14 +1,15 @@
 // What follows of the machine's steps. The bodies are empty.
-ghost use Rattle.std.specs.Prelude.{◌≡◌, ◌⊎◌, ◌≤◌, ◌+◌, ℕ, List, length};
+ghost use Rattle.std.specs.Prelude.{◌≡◌, ◌⊎◌, ◌≤◌, ◌+◌, ℕ, false, length};
+ghost use Rattle.fdc_core.specs.Listening.{is_executing};
 ghost use Rattle.fdc_phases.specs.declared.phases.Phase.TheVariants.{Command};
 ghost use Rattle.machine_laws.specs.OnOrders.Orders.{CanBegin, Leaves, Order, Underway};
-ghost use Rattle.machine_laws.specs.OnOrders.Outside.{AwaitsCommand, CanFetch, IsFetching};
+ghost use Rattle.machine_laws.specs.OnOrders.Outside.{CanFetch, IsFetching};
 ghost use Rattle.machine_laws.specs.OnQuiet.Quiet.{StandsStill};
 ghost use Rattle.machine_laws.specs.OnReads.Results.{StaysOutside};
 ghost use Rattle.machine_laws.specs.OnReads.Scenes.{Scene};
 ghost use Rattle.machine_laws.specs.OnSteps.Steady.{Steady};
 ghost use Rattle.machine_laws.specs.OnWrites.Guards.{LeavesOthers};
-ghost use Rattle.machine_laws.specs.OnWrites.Heads.{StaysStill};
+ghost use Rattle.machine_laws.specs.OnWrites.Heads.{IsIdle, RestsIdle, StaysStill};
 ghost use Rattle.pc_bus.specs.Boards.{Board, controller_of, memory_of};
 ghost use Rattle.pc_bus.specs.Ports.{Inputs, Outputs};
 ghost use Rattle.pc_bus.specs.Steps.{Runs};
@@ -35,9 +36,9 @@ pub fn a_data_command_goes_on()
 
 /// Whatever the drive is, absent, empty, spinning up, or another one selected: from the write that begins a READ DATA on no device
 /// step changes a byte outside the range that the channel was set to; nor does a call that leaves the chips, a read of a port, or a
-/// write that leaves DOR, the rate and the channel but for its flip-flop. The read of the last result byte changes no byte at all,
-/// nor do device steps from then on.
-#[tactic(auto, using(crate::proofs::OnOrders::Outside::fetching, crate::proofs::OnOrders::Outside::outside, crate::proofs::OnOrders::Outside::still_fetching, crate::proofs::OnOrders::Outside::awaiting))]
+/// write that leaves DOR, the rate and the channel but for its flip-flop. Once it gives its results the machine is idle, and so it
+/// is behind the last result byte: while it is, no byte moves at all.
+#[tactic(auto, using(crate::proofs::OnOrders::Outside::fetching, crate::proofs::OnOrders::Outside::outside, crate::proofs::OnOrders::Outside::still_fetching, crate::proofs::OnOrders::Outside::idles))]
 pub fn a_read_moves_bytes_of_its_range_alone()
     ensures outside { (scene : Scene) (byte n : ℕ) (old between new : Board) → CanFetch scene byte old → Outputs 0x3F5 byte old between → Runs n between new
         → StaysOutside scene (memory_of new) }
@@ -45,13 +46,13 @@ pub fn a_read_moves_bytes_of_its_range_alone()
     ensures steady { (scene : Scene) → scene.address + scene.size ≤ length scene.memory → Steady (IsFetching scene) }
     ensures ranges { (scene : Scene) (board : Board) → IsFetching scene board → StaysOutside scene (memory_of board) }
     ensures stands { (scene : Scene) (old new : Board) → StandsStill old new → IsFetching scene old → IsFetching scene new }
-    ensures reads { (scene : Scene) (port value : ℕ) (old new : Board) → scene.address + scene.size ≤ length scene.memory → Inputs port old value new → IsFetching scene old
-        → IsFetching scene new ⊎ ((controller_of new).phase ≡ Command) }
-    ensures keeps { (scene : Scene) (port value : ℕ) (old new : Board) → scene.address + scene.size ≤ length scene.memory → Inputs port old value new → IsFetching scene old
-        → StaysOutside scene (memory_of new) }
-    ensures over { (scene : Scene) (port value : ℕ) (old new : Board) → scene.address + scene.size ≤ length scene.memory → Inputs port old value new → IsFetching scene old
-        → (controller_of new).phase ≡ Command → AwaitsCommand (memory_of old) new }
-    ensures rests { (memory : List ℕ) → Steady (AwaitsCommand memory) }
-    ensures writes { (scene : Scene) (port value : ℕ) (old new : Board) → scene.address + scene.size ≤ length scene.memory → Outputs port value old new → Leaves port value old
-        → IsFetching scene old → IsFetching scene new }
+    ensures reads { (scene : Scene) (port value : ℕ) (old new : Board) → scene.address + scene.size ≤ length scene.memory
+        → Inputs port old value new → IsFetching scene old → IsFetching scene new ⊎ ((controller_of new).phase ≡ Command) }
+    ensures keeps { (scene : Scene) (port value : ℕ) (old new : Board) → scene.address + scene.size ≤ length scene.memory
+        → Inputs port old value new → IsFetching scene old → StaysOutside scene (memory_of new) }
+    ensures over { (scene : Scene) (port value : ℕ) (old new : Board) → scene.address + scene.size ≤ length scene.memory
+        → Inputs port old value new → IsFetching scene old → (controller_of new).phase ≡ Command → RestsIdle old new }
+    ensures idles { (scene : Scene) (board : Board) → IsFetching scene board → is_executing (controller_of board).phase ≡ false → IsIdle board }
+    ensures writes { (scene : Scene) (port value : ℕ) (old new : Board) → scene.address + scene.size ≤ length scene.memory
+        → Outputs port value old new → Leaves port value old → IsFetching scene old → IsFetching scene new }
 {}
