@@ -30,7 +30,7 @@ next_byte Read scene past ending results taken asking fifo may = may
 next_byte (Write (Window deleted)) scene past ending results taken asking fifo may = may
 next_byte (Write (Track numbers)) scene past ending results taken asking fifo may = may
 
-may_given : (order : Order) (scene : Scene) (past : Past) (p : Phase) (asking : Bool) (fifo : Fifo) → MayIn order scene past p asking fifo
+pub may_given : (order : Order) (scene : Scene) (past : Past) (p : Phase) (asking : Bool) (fifo : Fifo) → MayIn order scene past p asking fifo
     → MayIn order scene past (phase_after p) asking fifo ⊎ (phase_after p ≡ phase.Command)
 may_given order scene past phase.Command asking fifo may = inr refl
 may_given order scene past (phase.Execute execution) asking fifo may = inl may
@@ -42,7 +42,7 @@ may_given order scene past (phase.Result (Long ending results taken)) asking fif
     by_last true = inr refl
     by_last false = inl (next_byte order scene past ending results taken asking fifo may)
 
-shows_given : (order : Order) (scene : Scene) (fdc : Fdc) → Shows order scene fdc → Shows order scene (given fdc)
+pub shows_given : (order : Order) (scene : Scene) (fdc : Fdc) → Shows order scene fdc → Shows order scene (given fdc)
 shows_given Identify scene fdc (low, calm) = (low, calm_read fdc.phase calm)
 shows_given Read scene fdc quiet = λ up. still_busy fdc.phase (quiet up)
 shows_given (Write laid) scene fdc covered = λ is. covered (read_refuses fdc.phase is)
@@ -77,7 +77,7 @@ moves_flipped (Write laid) scene past memory channel high told was = record {
   over = λ counted. let (masked, all) = was.over counted in (same_grants channel high told ∙ masked, all);
 }
 
-moves_read : (order : Order) (scene : Scene) (past : Past) (memory : List ℕ) (channel : Channel) (port : ℕ) → Moves order scene past memory channel → Moves order scene past memory (after_read port channel)
+pub moves_read : (order : Order) (scene : Scene) (past : Past) (memory : List ℕ) (channel : Channel) (port : ℕ) → Moves order scene past memory channel → Moves order scene past memory (after_read port channel)
 unfolding after_read
 moves_read order scene past memory channel port was = by_port (port == 4 || port == 5) (port == 8)
   where

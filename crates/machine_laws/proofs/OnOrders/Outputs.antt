@@ -20,12 +20,12 @@ taking_in phase.Command busy held = absurd (busy refl)
 taking_in (phase.Result answer) busy held = refl
 taking_in (phase.Execute execution) busy held = refl
 
-not_command : (order : Order) (scene : Scene) (past : Past) (fdc : Fdc) → May order scene past fdc → fdc.phase ≡ phase.Command → ⊥
+pub not_command : (order : Order) (scene : Scene) (past : Past) (fdc : Fdc) → May order scene past fdc → fdc.phase ≡ phase.Command → ⊥
 not_command Identify scene past fdc may is = subst (λ p. MayIn Identify scene past p fdc.asking fdc.fifo) is may
 not_command Read scene past fdc may is = subst (λ p. MayIn Read scene past p fdc.asking fdc.fifo) is may
 not_command (Write laid) scene past fdc may is = no_command laid scene past fdc.asking fdc.fifo (subst (λ p. MayIn (Write laid) scene past p fdc.asking fdc.fifo) is may)
 
-same_fdc : (order : Order) (scene : Scene) (past : Past) (port value : ℕ) (board : Board) (new : Fdc) → Leaves port value board → May order scene past (controller_of board) → Writes port value (lines_of board) (controller_of board) new → new ≡ controller_of board
+pub same_fdc : (order : Order) (scene : Scene) (past : Past) (port value : ℕ) (board : Board) (new : Fdc) → Leaves port value board → May order scene past (controller_of board) → Writes port value (lines_of board) (controller_of board) new → new ≡ controller_of board
 same_fdc order scene past port value board new leaves may writes = elim (either_is (port == 0x3F5)) [
   | inl is ↦ (writes.bytes (number_is port 0x3F5 is)).1 (taking_in (controller_of board).phase (not_command order scene past (controller_of board) may) (is_held (controller_of board)))
   | inr is ↦ writes.others leaves.output leaves.select is leaves.control

@@ -1,5 +1,6 @@
 // What follows of the machine's steps. The bodies are empty.
-ghost use Rattle.std.specs.Prelude.{◌≡◌, ◌⊎◌, ◌≤◌, ◌+◌, ℕ, length};
+ghost use Rattle.std.specs.Prelude.{◌≡◌, ◌⊎◌, ◌≤◌, ◌+◌, ℕ, false, length};
+ghost use Rattle.fdc_core.specs.Listening.{is_executing};
 ghost use Rattle.fdc_phases.specs.declared.phases.Phase.TheVariants.{Command};
 ghost use Rattle.machine_laws.specs.OnOrders.Orders.{CanBegin, Leaves, Order, Underway};
 ghost use Rattle.machine_laws.specs.OnOrders.Outside.{CanFetch, IsFetching};
@@ -8,7 +9,7 @@ ghost use Rattle.machine_laws.specs.OnReads.Results.{StaysOutside};
 ghost use Rattle.machine_laws.specs.OnReads.Scenes.{Scene};
 ghost use Rattle.machine_laws.specs.OnSteps.Steady.{Steady};
 ghost use Rattle.machine_laws.specs.OnWrites.Guards.{LeavesOthers};
-ghost use Rattle.machine_laws.specs.OnWrites.Heads.{StaysStill};
+ghost use Rattle.machine_laws.specs.OnWrites.Heads.{IsIdle, RestsIdle, StaysStill};
 ghost use Rattle.pc_bus.specs.Boards.{Board, controller_of, memory_of};
 ghost use Rattle.pc_bus.specs.Ports.{Inputs, Outputs};
 ghost use Rattle.pc_bus.specs.Steps.{Runs};
@@ -34,12 +35,24 @@ pub fn a_data_command_goes_on()
 {}
 
 /// Whatever the drive is, absent, empty, spinning up, or another one selected: from the write that begins a READ DATA on no device
-/// step changes a byte outside the range that the channel was set to.
-#[tactic(auto, using(crate::proofs::OnOrders::Outside::fetching, crate::proofs::OnOrders::Outside::outside))]
+/// step changes a byte outside the range that the channel was set to; nor does a call that leaves the chips, a read of a port, or a
+/// write that leaves DOR, the rate and the channel but for its flip-flop. Once it gives its results the machine is idle, and so it
+/// is behind the last result byte: while it is, no byte moves at all.
+#[tactic(auto, using(crate::proofs::OnOrders::Outside::fetching, crate::proofs::OnOrders::Outside::outside, crate::proofs::OnOrders::Outside::still_fetching, crate::proofs::OnOrders::Outside::idles))]
 pub fn a_read_moves_bytes_of_its_range_alone()
     ensures outside { (scene : Scene) (byte n : ℕ) (old between new : Board) → CanFetch scene byte old → Outputs 0x3F5 byte old between → Runs n between new
         → StaysOutside scene (memory_of new) }
     ensures begins { (scene : Scene) (byte : ℕ) (old new : Board) → Outputs 0x3F5 byte old new → CanFetch scene byte old → IsFetching scene new }
     ensures steady { (scene : Scene) → scene.address + scene.size ≤ length scene.memory → Steady (IsFetching scene) }
     ensures ranges { (scene : Scene) (board : Board) → IsFetching scene board → StaysOutside scene (memory_of board) }
+    ensures stands { (scene : Scene) (old new : Board) → StandsStill old new → IsFetching scene old → IsFetching scene new }
+    ensures reads { (scene : Scene) (port value : ℕ) (old new : Board) → scene.address + scene.size ≤ length scene.memory
+        → Inputs port old value new → IsFetching scene old → IsFetching scene new ⊎ ((controller_of new).phase ≡ Command) }
+    ensures keeps { (scene : Scene) (port value : ℕ) (old new : Board) → scene.address + scene.size ≤ length scene.memory
+        → Inputs port old value new → IsFetching scene old → StaysOutside scene (memory_of new) }
+    ensures over { (scene : Scene) (port value : ℕ) (old new : Board) → scene.address + scene.size ≤ length scene.memory
+        → Inputs port old value new → IsFetching scene old → (controller_of new).phase ≡ Command → RestsIdle old new }
+    ensures idles { (scene : Scene) (board : Board) → IsFetching scene board → is_executing (controller_of board).phase ≡ false → IsIdle board }
+    ensures writes { (scene : Scene) (port value : ℕ) (old new : Board) → scene.address + scene.size ≤ length scene.memory
+        → Outputs port value old new → Leaves port value old → IsFetching scene old → IsFetching scene new }
 {}
