@@ -99,8 +99,7 @@ hears_window lead late head_drive steps writing polls between drive handed none 
 hears_window lead late head_drive steps writing polls between drive handed none was Stopped does = tt
 
 over_window : (head_drive steps : ℕ) (writing : Writing) (polls between : Fdc) (drive : DriveState) (time : WordTime)
-    → WriteDoes time head_drive steps writing polls drive between → time ≡ Stopped
-    → is_executing between.phase ≡ false
+    → WriteDoes time head_drive steps writing polls drive between → time ≡ Stopped → is_executing between.phase ≡ false
 over_window head_drive steps writing polls between drive time does is = ap (λ fdc. is_executing fdc.phase) (subst (λ t. WriteDoes t head_drive steps writing polls drive between) is does).after_is
 
 -- ---- of a FORMAT
@@ -113,8 +112,7 @@ no_turn lead late first none is =
     omega arith
 
 no_next : (lead : ℕ) (late : Past) (seen : List ℕ) (place : ℕ) (words : List ℕ) (barred : Bool) (part : FormatPart) → IsUnheard late
-    → IsAtPart (turns_led lead late.turns) seen place words barred part
-    → is_next part ≡ true → ⊥
+    → IsAtPart (turns_led lead late.turns) seen place words barred part → is_next part ≡ true → ⊥
 no_next lead late seen place words barred Await none was due = false≢true due
 no_next lead late seen place words barred Due none was due = no_turn lead late was.0.first none was.0.turns_are
 no_next lead late seen place words barred Lay none was due = no_turn lead late was.0.first none was.0.turns_are
@@ -137,8 +135,7 @@ hears_track lead late head_drive steps formatting polls between drive none was (
 hears_track lead late head_drive steps formatting polls between drive none was Stopped does = tt
 
 over_track : (head_drive steps : ℕ) (formatting : Formatting) (polls between : Fdc) (drive : DriveState) (time : WordTime)
-    → FormatDoes time head_drive steps formatting polls drive between → time ≡ Stopped
-    → is_executing between.phase ≡ false
+    → FormatDoes time head_drive steps formatting polls drive between → time ≡ Stopped → is_executing between.phase ≡ false
 over_track head_drive steps formatting polls between drive time does is = ap (λ fdc. is_executing fdc.phase) (subst (λ t. FormatDoes t head_drive steps formatting polls drive between) is does).after_is
 
 -- ---- in execution
@@ -205,8 +202,7 @@ works_led laid scene lead late drive after polls between asking fifo whole rate 
     }
 
 rests_led : (laid : Laid) (scene : Scene) (past : Past) (drive after : DriveState) → IsScene scene → IsLed (Write laid) scene past false drive
-    → after.medium ≡ drive.medium → drive.faults ≤ after.faults
-    → IsLed (Write laid) scene past false after
+    → after.medium ≡ drive.medium → drive.faults ≤ after.faults → IsLed (Write laid) scene past false after
 rests_led laid scene past drive after whole was same falls = record {
   lead = was.lead;
   late = was.late;

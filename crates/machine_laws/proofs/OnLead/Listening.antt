@@ -76,8 +76,7 @@ spun order scene lead late executes drive after whole none spins becomes guarded
 -- ---- a command that listens
 
 hears_at : (order : Order) (scene : Scene) (late : Past) (drive after : DriveState) (word : ℕ) (executes : Bool) → Listens order → IsScene scene
-    → AtDrive order scene late true drive
-    → SeesUnder scene.rate (head_sent scene.sent) drive word after → Becomes (let_pass drive) drive after
+    → AtDrive order scene late true drive → SeesUnder scene.rate (head_sent scene.sent) drive word after → Becomes (let_pass drive) drive after
     → AtDrive order scene (heard (at_index drive) word (stepped late)) executes after
 hears_at (Write laid) scene late drive after word executes listens whole at sees becomes = absurd listens
 hears_at Identify scene late drive after word executes listens whole at sees becomes = hearing_on scene late drive after word executes whole.disk at sees becomes
@@ -95,8 +94,7 @@ unguarded Identify scene lead listens = tt
 unguarded Read scene lead listens = tt
 
 hears_led : (order : Order) (scene : Scene) (past : Past) (drive after : DriveState) (word : ℕ) (executes : Bool) → Listens order → IsScene scene
-    → IsLed order scene past true drive
-    → SeesUnder scene.rate (head_sent scene.sent) drive word after → Becomes (let_pass drive) drive after
+    → IsLed order scene past true drive → SeesUnder scene.rate (head_sent scene.sent) drive word after → Becomes (let_pass drive) drive after
     → IsLed order scene (heard (at_index drive) word (stepped past)) executes after
 hears_led order scene past drive after word executes listens whole was sees becomes = elim was.drive_is [
   | inl (none, spins) ↦

@@ -56,8 +56,7 @@ module _ (scene : Scene) (lead : ℕ) (drive : DriveState) (spins : IsSpinning s
 -- ---- where no word of the track was heard
 
 hearing_none : (scene : Scene) (late : Past) (executes : Bool) (drive : DriveState) → IsScene scene → IsTurningIn scene drive
-    → (executes ≡ true → 6250 ≤ drive.spin)
-    → IsHearing scene (unheard late) executes drive
+    → (executes ≡ true → 6250 ≤ drive.spin) → IsHearing scene (unheard late) executes drive
 hearing_none scene late executes drive whole is fast = record {
   heard = record { over = tt; now = record { inside = let long = length-met scene whole.disk in let room = is.inside in omega arith; each = λ i below. absurd (omega arith) } };
   never_falls = is.never_falls;
@@ -73,8 +72,7 @@ hearing_none scene late executes drive whole is fast = record {
 }
 
 laying_none : (scene : Scene) (late : Past) (executes : Bool) (drive : DriveState) → IsScene scene → IsTurningIn scene drive
-    → (executes ≡ true → 6250 ≤ drive.spin)
-    → IsAtDrive scene (unheard late) executes drive
+    → (executes ≡ true → 6250 ≤ drive.spin) → IsAtDrive scene (unheard late) executes drive
 laying_none scene late executes drive whole is fast =
     let hearing = hearing_none scene late executes drive whole is fast in
     let room = is.inside in
@@ -98,8 +96,7 @@ laying_none scene late executes drive whole is fast =
     }
 
 at_none : (order : Order) (scene : Scene) (late : Past) (executes : Bool) (drive : DriveState) → IsScene scene → IsTurningIn scene drive
-    → (executes ≡ true → 6250 ≤ drive.spin)
-    → AtDrive order scene (unheard late) executes drive
+    → (executes ≡ true → 6250 ≤ drive.spin) → AtDrive order scene (unheard late) executes drive
 at_none (Write (Window deleted)) scene late executes drive whole is fast =
     record { at = laying_none scene late executes drive whole is fast; there = λ some. absurd (omega arith); unbarred = refl }
 at_none (Write (Track numbers)) scene late executes drive whole is fast = laying_none scene late executes drive whole is fast
@@ -107,8 +104,7 @@ at_none Identify scene late executes drive whole is fast = hearing_none scene la
 at_none Read scene late executes drive whole is fast = hearing_none scene late executes drive whole is fast
 
 pub nothing_heard : (order : Order) (scene : Scene) (late : Past) (executes : Bool) (drive : DriveState) → IsScene scene → IsUnheard late
-    → IsTurningIn scene drive
-    → (executes ≡ true → 6250 ≤ drive.spin) → AtDrive order scene late executes drive
+    → IsTurningIn scene drive → (executes ≡ true → 6250 ≤ drive.spin) → AtDrive order scene late executes drive
 nothing_heard order scene late executes drive whole none is fast =
     subst (λ past. AtDrive order scene past executes drive) (sym none) (at_none order scene late executes drive whole is fast)
 

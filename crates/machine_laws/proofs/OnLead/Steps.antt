@@ -9,8 +9,7 @@ use Rattle.machine_laws.proofs.OnReads.IdWords as ids
 use Rattle.machine_laws.proofs.OnReads.Steps as reads
 
 word_time : (order : Order) (scene : Scene) (past : Past) (chips : Chips) (drive : DriveState) (between : Fdc) (after : DriveState) → IsScene scene
-    → IsDoneBy order scene past chips
-    → IsLed order scene past (is_executing chips.controller.phase) drive → Works chips.controller drive between after
+    → IsDoneBy order scene past chips → IsLed order scene past (is_executing chips.controller.phase) drive → Works chips.controller drive between after
     → IsDoing order scene (λ past executes. IsLed order scene past executes after) (record chips { controller = between })
 word_time Identify scene past chips drive between after whole known at works =
     ids.listened scene (IsLed Identify scene) (listening_led Identify scene tt whole) (brief_led scene whole) past chips drive between after known at works

@@ -16,8 +16,7 @@ use Rattle.machine_laws.proofs.OnWrites.Results.{IsOfWindow}
 -- ---- without the words 0000
 
 whole_late : (lead : ℕ) (late : Past) (key : Chrn) (deleted : Bool) (handed : List ℕ) (p : ℕ)
-    → IsWhole (turn_led lead late.turns late.seen) late.words key deleted handed p
-    → (q : ℕ) × IsWhole late.seen late.words key deleted handed q
+    → IsWhole (turn_led lead late.turns late.seen) late.words key deleted handed p → (q : ℕ) × IsWhole late.seen late.words key deleted handed q
 whole_late lead late key deleted handed p is =
     let here = address_in lead late.turns late.seen p key is.address in
     let at = is.place in

@@ -5,7 +5,7 @@ use Rattle.dma_8237.specs.Channel.{grants, after_read}
 use Rattle.fdc_stages.specs.History.{begun as new_past}
 use Rattle.fdc_phases.specs.declared.phases.Phase.TheVariants as phase
 use Rattle.machine_laws.proofs.OnReads.Accesses.{busy_before, still_busy, calm_read}
-use Rattle.machine_laws.proofs.OnReads.Commands.{step_command}
+use Rattle.machine_laws.proofs.OnSteps.Controllers.{step_command}
 use Rattle.machine_laws.proofs.OnReads.Steps.{same_drive}
 use Rattle.machine_laws.proofs.OnWrites.Covered.{read_refuses}
 use Rattle.machine_laws.proofs.OnSteps.Runs.{gap, outputs}

@@ -8,7 +8,7 @@ use Rattle.fdc_stages.specs.History.{begun as new_past}
 use Rattle.fdc_core.specs.Listening.{after_step as past_after, Follows}
 use Rattle.pc_bus.specs.Steps.{Runs}
 use Rattle.machine_laws.proofs.OnReads.Accesses.{none_moved, still_busy}
-use Rattle.machine_laws.proofs.OnReads.Commands.{step_command}
+use Rattle.machine_laws.proofs.OnSteps.Controllers.{step_command}
 use Rattle.machine_laws.proofs.OnReads.Results.{stays_outside}
 use Rattle.machine_laws.proofs.OnReads.Steps.{same_given, still_quiet}
 use Rattle.machine_laws.proofs.OnSteps.Runs.{gap, outputs, runs}

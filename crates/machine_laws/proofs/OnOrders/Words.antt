@@ -57,12 +57,10 @@ rests_may (Track numbers) scene past phase asking fifo new rests may = rests.for
 
 in_phase : (laid : Laid) (scene : Scene) (P : Past → Bool → DriveState → Type 0) → Laying laid scene P → (past : Past) (chips : Chips) (drive after : DriveState) (between : Fdc) → IsDoneBy (Write laid) scene past chips
     → Works chips.controller drive between after → (phase : Phase) → (polled chips.controller).phase ≡ phase
-    → MayLayIn laid scene past phase chips.controller.asking chips.controller.fifo
-    → P past (is_executing phase) drive
+    → MayLayIn laid scene past phase chips.controller.asking chips.controller.fifo → P past (is_executing phase) drive
     → (refuses phase ≡ true → scene.disk.protected ≡ true)
     → WritesIn phase chips.controller.asking chips.controller.fifo (polled chips.controller) drive after between
-    → RestsIn phase (drive.cylinder == 0) (polled chips.controller) between
-    → MovesIn phase (polled chips.controller) drive after
+    → RestsIn phase (drive.cylinder == 0) (polled chips.controller) between → MovesIn phase (polled chips.controller) drive after
     → IsDoing (Write laid) scene (λ now executes. P now executes after) (record chips { controller = between })
 in_phase laid scene P lays past chips drive after between known works Command is may was covered does rests moves = absurd (no_command laid scene past _ _ may)
 in_phase laid scene P lays past chips drive after between known works (Execute execution) is may was covered does rests moves =

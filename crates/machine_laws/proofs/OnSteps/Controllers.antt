@@ -1,10 +1,12 @@
 -- What a poll and transfers leave of the controller.
-use Rattle.std.proofs.Common.{◌≡◌, ℕ, ◌==◌, bit_and, Bool, true, false, List, if◌then◌else◌, refl, ◌∙◌, ap}
-use Rattle.machine_laws.proofs.Common.{Fifo, gate, Dor, taken_in, taken_out, to_memory_of, told_count, phase_told, task_told, is_executing, is_overrun, is_read, is_reading, is_gated, polled, Fdc, Phase, Command, Execute, Result, Task, ReadId, Format, moved_to_memory, moved_from_memory, byte_read, told_if, Chips, Transferred}
-use Rattle.machine_laws.proofs.Facts.{polled_keeps, told_busy}
+use Rattle.std.proofs.Common.{◌≡◌, ℕ, ◌==◌, bit_and, Bool, true, false, List, if◌then◌else◌, refl, ◌∙◌, ap, ◌&&◌, sym, subst}
+use Rattle.machine_laws.proofs.Common.{Fifo, gate, Dor, taken_in, taken_out, to_memory_of, told_count, phase_told, task_told, is_executing, is_overrun, is_read, is_reading, is_gated, polled, Fdc, Phase, Command, Execute, Result, Task, ReadId, Format, moved_to_memory, moved_from_memory, byte_read, told_if, Chips, Transferred, dor_of, asks, is_due, looked, Low, RestsIn, Board, controller_of, Step}
+use Rattle.machine_laws.proofs.Facts.{polled_keeps, told_busy, polled_phase}
 use Rattle.fdc_phases.specs.declared.phases.Task.TheVariants.{Read, Write}
-use Rattle.pc_bus.specs.Transfers.{moved, dma_stepped}
-use Rattle.machine_laws.proofs.OnSteps.Transfers.{served}
+use Rattle.pc_bus.specs.Transfers.{moved, dma_stepped, granted}
+use Rattle.machine_laws.proofs.OnSteps.Transfers.{served, after_step}
+use Rattle.std.proofs.lemmas.Bool.{and_right, false≢true}
+use Rattle.machine_laws.proofs.OnSteps.Words.{controller}
 
 -- ---- a poll
 
@@ -94,3 +96,39 @@ byte_on false fifo bytes = refl
 pub byte_threshold : (full : Bool) (fifo : Fifo) (bytes : List ℕ) → (if full then fifo else record fifo { bytes = bytes }).threshold ≡ fifo.threshold
 byte_threshold true fifo bytes = refl
 byte_threshold false fifo bytes = refl
+
+-- ---- what transfers leave
+
+pub dma_controller : {V : Type 0} (F : Fdc → V) → ((fdc : Fdc) → F (told_count fdc) ≡ F fdc) → ((fdc : Fdc) → F (taken_out fdc) ≡ F fdc) → ((byte : ℕ) (fdc : Fdc) → F (taken_in byte fdc) ≡ F fdc)
+    → (value : V) (chips : Chips) → F chips.controller ≡ value → F (dma_stepped chips).controller ≡ value
+dma_controller F told out into value chips was = controller_dma F told out into chips ∙ was
+
+pub dma_dor : (value : ℕ) (chips : Chips) → dor_of chips.controller ≡ value → dor_of (dma_stepped chips).controller ≡ value
+dma_dor value chips was = dma_controller dor_of (λ fdc. refl) (λ fdc. refl) (λ byte fdc. refl) value chips was
+
+-- where DRQ is low nothing is moved
+pub idle_dma : (chips : Chips) → chips.controller.asking ≡ false → dma_stepped chips ≡ record chips { holding = record chips.holding { request = Low } }
+unfolding dma_stepped
+idle_dma chips low = by_line (asks chips.controller) (ap (λ b. is_gated chips.controller && b) low ∙ and_right (is_gated chips.controller) false refl)
+  where
+    by_line : (line : Bool) → line ≡ false
+        → (if is_due (looked line chips.holding).request then granted (record chips { holding = looked line chips.holding }) else record chips { holding = looked line chips.holding })
+        ≡ record chips { holding = record chips.holding { request = Low } }
+    by_line true is = absurd (false≢true (sym is))
+    by_line false is = refl
+
+-- ---- while it takes commands, device steps keep it so
+
+rests_command : (old between : Fdc) (track0 : Bool) → old.phase ≡ Command → RestsIn (polled old).phase track0 (polled old) between → between.phase ≡ Command
+rests_command old between track0 is rests =
+    let same = polled_phase old ∙ is in
+    let quiet = subst (λ phase. RestsIn phase track0 (polled old) between) same rests in
+    ap (λ fdc. fdc.phase) quiet ∙ same
+
+pub step_command : (old new : Board) → Step old new → (controller_of old).phase ≡ Command → (controller_of new).phase ≡ Command
+step_command old new step is =
+    after_step (λ c. c.controller.phase ≡ Command) (by_bytes (λ fdc. fdc.phase ≡ Command) (λ fdc was. ap phase_told was)
+    (λ fdc was. was) (λ byte fdc was. was)) old new step
+    (controller (step.between.phase ≡ Command) old new step
+    (λ before after works. rests_command (controller_of old) step.between (before.cylinder == 0) is works.rests)
+    (λ works. rests_command (controller_of old) step.between false is works.rests))

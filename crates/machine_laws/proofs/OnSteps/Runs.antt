@@ -68,9 +68,3 @@ from_start R progress start = record {
 
 pub goes_runs : (R : Board → Board → Type 0) → Progress R → (n : ℕ) (old new : Board) → Runs n old new → R old new
 goes_runs R progress n old new ran = runs (R old) (from_start R progress old) n old new ran (progress.same old)
-
-pub goes_wait : (R : Board → Board → Type 0) → Progress R → (n : ℕ) (old new : Board) → Runs n (stirred old) new → R old new
-goes_wait R progress n old new ran = wait (R old) (from_start R progress old) n old new ran (progress.same old)
-
-pub goes_waits : (R : Board → Board → Type 0) → Progress R → (most : ℕ) (set : Bool) (old new : Board) → Waits most old set new → R old new
-goes_waits R progress most set old new ran = waits (R old) (from_start R progress old) most set old new ran (progress.same old)
