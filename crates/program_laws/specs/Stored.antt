@@ -19,10 +19,10 @@ use Rattle.rescue_commands.specs.Logs.{IsLogFound}
 use Rattle.rescue_commands.specs.Rescue.{asked_keys}
 use Rattle.command_laws.specs.Rescued.{failing_lines}
 use Rattle.command_laws.specs.Verified.{IsStandardKey}
-use Rattle.command_laws.specs.Copied.{AllLone}
+use Rattle.command_laws.specs.Copied.{AllLone, IsFieldOf}
 use Rattle.command_laws.specs.EndsComplete.{HaveSameSector}
 use Rattle.command_laws.specs.Imported.{sector_bytes}
-use Rattle.command_laws.specs.Exported.{IsFieldOf, HasContent}
+use Rattle.command_laws.specs.Exported.{HasContent}
 use Rattle.program_laws.specs.Disturbed.{HadNoFault}
 
 -- what is read of a disk in bay 0 is its sectors: it is regular, and the drive had no fault, or no field has two data marks
