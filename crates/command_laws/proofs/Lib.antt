@@ -36,6 +36,7 @@ mod Taking
 mod Gone
 pub mod RescueRecords
 mod Telling
+mod RescueGiven
 mod RescueOpening
 pub mod Whole
 pub mod Order
