@@ -9,13 +9,13 @@ mod Formatting
 mod Looks
 mod Marks
 mod DiskOpening
-mod Prepared
+pub mod Prepared
 mod PutIn
 mod Ranges
 pub mod Reading
 mod DiskRecords
 mod Sectors
-mod Steps
+pub mod Steps
 mod TrackParts
 mod Tracks
 mod UserMemory

@@ -14,6 +14,8 @@ mod Replies
 mod RescueStatus
 mod Rescues
 mod Stepping
+mod Inserting
+mod KeptSteps
 pub mod Telling
 mod Unstopped
 mod Verifies

@@ -72,11 +72,11 @@ sorted true yes_ no_ = yes_ refl
 sorted false yes_ no_ = no_ refl
 
 -- one of two cases holds, and the first has its equation
-either_is : {A : Type 0} {P R : Type 0} {Q : A → Type 0} (value : Option A) → MatchOption value P Q → (value ≡ None → P → R) → ((x : A) → Q x → R) → R
+pub either_is : {A : Type 0} {P R : Type 0} {Q : A → Type 0} (value : Option A) → MatchOption value P Q → (value ≡ None → P → R) → ((x : A) → Q x → R) → R
 either_is None holds none some = none refl holds
 either_is (Some x) holds none some = some x holds
 
-either : {A : Type 0} {P R : Type 0} {Q : A → Type 0} (value : Option A) → MatchOption value P Q → (P → R) → ((x : A) → Q x → R) → R
+pub either : {A : Type 0} {P R : Type 0} {Q : A → Type 0} (value : Option A) → MatchOption value P Q → (P → R) → ((x : A) → Q x → R) → R
 either value holds none some = either_is value holds (λ is. none) some
 
 write_open : (a b c d : Bool)
