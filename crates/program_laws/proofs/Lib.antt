@@ -16,6 +16,8 @@ mod Rescues
 mod Stepping
 mod Inserting
 mod KeptSteps
+mod PlayStatus
+mod CallStatus
 pub mod Telling
 mod Unstopped
 mod Verifies
