@@ -64,8 +64,8 @@ IsPart course whole = (c h r : ℕ) (deleted : Bool) (content : List ℕ) → So
 -- a sector of another track stays as it was given
 given_elsewhere : (sure : Type 0) (source : Disk) (whole : List Taken) (disk : Disk) (b g : ℕ) (next : Disk) (c h r : ℕ) → KeepsTracks disk b g next
     → (c ≡ b → h ≡ g → ⊥) → HasAsGiven sure whole source disk c h r → HasAsGiven sure whole source next c h r
-given_elsewhere sure source whole disk b g next c h r keeps other (place, deleted, content, step, on, sector) =
-    (place, deleted, content, step, (elsewhere_on_map disk b g next keeps (copied_entry c h r place deleted content) other).0 on, sector)
+given_elsewhere sure source whole disk b g next c h r keeps other (place, deleted, content, step, on, sector, field) =
+    (place, deleted, content, step, (elsewhere_on_map disk b g next keeps (copied_entry c h r place deleted content) other).0 on, sector, field)
 
 module _ (rate : Rate) (b g : ℕ) (later : List Track) (disk next : Disk) (keeps : KeepsTracks disk b g next) where
   -- after the first track

@@ -118,7 +118,7 @@ given_copied : (sure : Type 0) (source : Disk) (course : List Taken) (memory : L
     → HasAsGiven sure course source final c h r
 given_copied sure source course memory final c h a [] given copied r from below = absurd (omega arith)
 given_copied sure source course memory final c h a (deleted ∷ marks) given copied r from below = elim (cases_eq r a) [
-  | inl same ↦ subst (HasAsGiven sure course source final c h) (sym same) (copied.0.0, deleted, _, given.0.step, copied.0.1, given.0.sector)
+  | inl same ↦ subst (HasAsGiven sure course source final c h) (sym same) (copied.0.0, deleted, _, given.0.step, copied.0.1, given.0.sector, given.0.field)
   | inr other ↦ given_copied sure source course memory final c h (a + 1) marks given.1 copied.1 r (omega arith) (omega arith)
 ]
 
@@ -126,7 +126,8 @@ given_copied sure source course memory final c h a (deleted ∷ marks) given cop
 pub given_in : (sure : Type 0) (source : Disk) (course whole : List Taken) (copied : Disk) (c h r : ℕ)
     → ((deleted : Bool) (content : List ℕ) → SomeStep (Gave (key_of c h r) deleted content) course → SomeStep (Gave (key_of c h r) deleted content) whole)
     → HasAsGiven sure course source copied c h r → HasAsGiven sure whole source copied c h r
-given_in sure source course whole copied c h r more (place, deleted, content, step, on, sector) = (place, deleted, content, more deleted content step, on, sector)
+given_in sure source course whole copied c h r more (place, deleted, content, step, on, sector, field) =
+    (place, deleted, content, more deleted content step, on, sector, field)
 
 -- ---- the track
 

@@ -28,7 +28,7 @@ use Rattle.sector_model.specs.Runs.{Taken, requests_of, has_refusal}
 use Rattle.command_laws.specs.Done.{DoesAll}
 use Rattle.scripts.specs.Records.{record_address}
 use Rattle.command_laws.specs.Requests.{read_records, mark_of, marks_read}
-use Rattle.command_laws.specs.Copied.{SomeStep, Gave, IsSure}
+use Rattle.command_laws.specs.Copied.{SomeStep, Gave, IsFieldOf, IsSure}
 use Rattle.command_laws.proofs.Steps.{NeverFell, step_never_fell, never_fell, keeps_drives, reached, or_false, done_does}
 use Rattle.track_model.proofs.Splices.{length-with_items}
 use Rattle.command_laws.proofs.UserMemory.{below_stays, at_stands}
@@ -118,6 +118,7 @@ sure_parts source old mid new one two (regular, inr lone) = ((regular, inr lone)
 pub record IsGiven (sure : Type 0) (source : Disk) (course : List Taken) (memory : List ℕ) (c h r : ℕ) (deleted : Bool) : Type 0 where
   pub step : SomeStep (Gave (key_of c h r) deleted (bytes_from memory (record_address r) 512)) course
   pub sector : sure → IsSector (track_of source c h) (key_of c h r) deleted (bytes_from memory (record_address r) 512)
+  pub field : IsFieldOf source (key_of c h r) deleted (bytes_from memory (record_address r) 512)
 
 -- so each from a on
 abbrev pub AreGiven : Type 0 → Disk → List Taken → List ℕ → ℕ → ℕ → ℕ → List Bool → Type 0
@@ -129,7 +130,7 @@ pub given_later : (sure : Type 0) (source : Disk) (taken : Taken) (course : List
     → AreGiven sure source course memory c h a marks → AreGiven sure source (taken ∷ course) memory c h a marks
 given_later sure source taken course memory c h a [] given = tt
 given_later sure source taken course memory c h a (deleted ∷ marks) given =
-    (record { step = inr given.0.step; sector = given.0.sector }, given_later sure source taken course memory c h (a + 1) marks given.1)
+    (record { step = inr given.0.step; sector = given.0.sector; field = given.0.field }, given_later sure source taken course memory c h (a + 1) marks given.1)
 
 -- what the reads of n records from a on did
 pub record ReadsAll (sure : Type 0) (source : Disk) (c h a n : ℕ) (old : State) (told : Option Files) (course : List Taken) (new : State) (after : Option Files) : Type 0 where
@@ -197,6 +198,7 @@ all_records sure source c h a (suc n) old new told after (taken ∷ later) all s
         record {
           step = inl (record { address = address; asked = asked; mark = marked; content = stays });
           sector = λ s. subst (λ (bytes : List ℕ). IsSector (track_of source c h) key one.deleted bytes) (sym (stays ∙ placed)) (one.sector (calms s).0);
+          field = subst (λ (bytes : List ℕ). IsFieldOf source key one.deleted bytes) (sym (stays ∙ placed)) one.field;
         },
         given_later sure source taken later new.station.memory c h (a + 1) rest.marks rest.given,
       );

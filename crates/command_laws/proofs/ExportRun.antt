@@ -26,7 +26,7 @@ use Rattle.scripts.specs.Records.{record_address}
 use Rattle.scripts.proofs.Passed.{Passes, IsTaken, known, needs_passes, Did, Opened, opens_passes, acknowledges_passes}
 use Rattle.flat_commands.specs.Export.{reads_record, reads_track, export_text, export_script}
 use Rattle.command_laws.specs.Requests.{mark_of}
-use Rattle.command_laws.specs.Copied.{SomeStep, Gave, IsSure}
+use Rattle.command_laws.specs.Copied.{SomeStep, Gave, IsFieldOf, IsSure}
 use Rattle.command_laws.proofs.CopiedTrack.{both_fell}
 use Rattle.command_laws.proofs.Marks.{some_first, some_second}
 use Rattle.command_laws.proofs.DiskRecords.{one_record, sure_parts}
@@ -41,7 +41,7 @@ use Rattle.scripts.specs.Scripts.{Stores, RunsScript, StoresLast, IsStored, NotS
 use Rattle.scripts.proofs.Reading.{last_stored}
 use Rattle.flat_commands.specs.Import.{sectors_of}
 use Rattle.command_laws.specs.Imported.{sector_bytes}
-use Rattle.command_laws.specs.Exported.{IsFieldOf, IsAsRead, StoresExported}
+use Rattle.command_laws.specs.Exported.{IsAsRead, StoresExported}
 use Rattle.command_laws.proofs.Taking.{some_sectors, one_track, next_track, place_is, Takes, each_takes, fed, counts, readied, did_fell, one_done, tracks_take}
 
 -- ---- one read

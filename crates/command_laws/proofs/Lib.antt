@@ -9,13 +9,13 @@ mod Formatting
 mod Looks
 mod Marks
 mod DiskOpening
-mod Prepared
+pub mod Prepared
 mod PutIn
 mod Ranges
 pub mod Reading
 mod DiskRecords
 mod Sectors
-mod Steps
+pub mod Steps
 mod TrackParts
 mod Tracks
 mod UserMemory
@@ -36,6 +36,7 @@ mod Taking
 mod Gone
 pub mod RescueRecords
 mod Telling
+mod RescueGiven
 mod RescueOpening
 pub mod Whole
 pub mod Order

@@ -416,6 +416,15 @@ holds_first from to disk files logged old new after course image all quiet =
     } in
     (it.count, holds)
 
+-- also where something disturbed the opening
+pub first_in : (from to : List ℕ) (disk : Disk) (files : Files) (logged : Bool) (old new : State) (after : Option Files) (course : List Taken)
+    → IsImageOf (Some files) from disk → DoesAll (opening from to (shape_of disk) logged) old (Some files) course new after
+    → (bay_of new.station 0).medium ≡ Some disk
+first_in from to disk files logged old new after course image all =
+    let it = are_open from to disk files logged old new after course image all in
+    let same = formats_stay (shape_of disk) logged it.mid new it.mid_files after it.course it.formats_left in
+    ap (λ (b : Bay). b.medium) same.0 ∙ it.first
+
 -- a regular disk is in bay 1 under its name
 pub record HasOther (start : Disk) (to : List ℕ) (files : Files) (state : State) (told : Option Files) : Type 0 where
   pub medium : (bay_of state.station 1).medium ≡ Some start

@@ -54,8 +54,9 @@ use Rattle.rescue_commands.specs.Rescue.{rescues, asked_keys, outcome_of, last_t
 use Rattle.rescue_commands.proofs.Rests.{by_rest}
 use Rattle.command_laws.specs.Rescued.{IsNotStopped, count_writes, IsLogged, IsSaved, IsSettled, WasNotRead, HasTarget, KeepsEntries, outcome_in, IsRescue, LogsNotFound, WasRefused, log_of, line_at, AreTidy}
 use Rattle.command_laws.proofs.Gone.{later_fine, not_refused, carried, GoesKeys, keys_gone, Fell, fell_both, keys_fell, line_of_done, gave_reads, never_both}
-use Rattle.command_laws.proofs.RescueOpening.{opening, ready_requests, second_request, formats_for, prepares_carried, HasOther, begins_new, begins_again, holds_first, is_plain, plain_facts, plain_keep, opening_plain}
+use Rattle.command_laws.proofs.RescueOpening.{opening, ready_requests, second_request, formats_for, prepares_carried, HasOther, begins_new, begins_again, holds_first, first_in, is_plain, plain_facts, plain_keep, opening_plain}
 use Rattle.command_laws.proofs.RescueRecords.{heads_for, asked_all, asked_distinct, IsGuarded, IsPart, SavesKeys, saves_keys, ReadsKey, some_apart, keys_read, keys_counted}
+use Rattle.command_laws.proofs.RescueGiven.{IsAtHand, keys_give}
 use Rattle.command_laws.proofs.Telling.{tells_keys}
 
 -- ---- the new log
@@ -389,6 +390,12 @@ module _ (from to log : List ℕ) (disk : Disk) (found : Option (List LogLine)) 
         p.stores.stores ∙ ap (λ (f : Option Files). stored f log (log_text (log_of p.body))) disk_stored
         ∙ ap (λ (row : List LogLine). stored (stored (Some files) to (file_of saves.final)) log (log_text row)) lines in
         let both = stores_both files to log (file_of saves.final) text new.files differ is in
+        let few = image_ranges files from disk image in
+        let asked_keys_are = asked_all disk files log found few.0 few.1 there in
+        let hand : IsAtHand disk p.opened.state.station = record {
+          medium = first_in from to disk files (is_some found) old.state p.opened.state p.opened.files p.top image p.opens;
+          size = has.size;
+        } in
         let same = ap (λ (row : List LogLine). outcome_of asked row) lines ∙ same_outcome course asked counted in
         record {
           found = found;
@@ -401,6 +408,8 @@ module _ (from to log : List ℕ) (disk : Disk) (found : Option (List LogLine)) 
             log_there = both.1;
             settled = All-weaker _ (IsSettled course saves.final (log_of course)) settles keys (All-from_recursion _ keys saves.settled);
             kept = keeps;
+            given = λ key deleted content some. keys_give disk (heads_for disk found) keys p.opened p.body p.rescued p.goes asked_keys_are hand key deleted content
+                (inner _ key (gave_reads key deleted content) some);
           };
           tells = record {
             report = p.stores.report ∙ ap (λ (r : Option (List ℕ)). grown r (last_text (outcome_of asked (log_of p.body)))) p.report

@@ -6,7 +6,7 @@ use Rattle.flop_base.specs.declared.key.Chrn.{Chrn}
 use Rattle.raw_image.specs.Disk.{Disk, IsDisk, HasTrack, track_of}
 use Rattle.raw_image.specs.Image.{file_of}
 use Rattle.track_model.specs.Fields.{IsAddressAt, content_size}
-use Rattle.track_model.specs.Sectors.{IsSector, IsLone}
+use Rattle.track_model.specs.Sectors.{IsSector, IsUnder, IsLone}
 use Rattle.bay_model.specs.Counters.{Counters, IsFaultless}
 use Rattle.track_model.specs.Laid.{IsLaid}
 use Rattle.bay_model.specs.Memory.{bytes_from}
@@ -31,6 +31,11 @@ pub record Gave (key : Chrn) (deleted : Bool) (bytes : List ℕ) (taken : Taken)
   pub mark : mark_of taken.asked taken.answer ≡ deleted ∷ []
   pub content : bytes ≡ bytes_from taken.after.station.memory address (content_size key.n)
 
+-- these are the bytes of an intact field of the key, on a track of the key's head
+abbrev pub IsFieldOf : Disk → Chrn → Bool → List ℕ → Type 0
+IsFieldOf disk key deleted content =
+    (b : ℕ) × HasTrack disk b key.h × IsUnder (track_of disk b key.h) key deleted content
+
 -- a sector of a copy, where its address field is at this place
 abbrev pub copied_entry : ℕ → ℕ → ℕ → ℕ → Bool → List ℕ → Entry
 copied_entry c h r place deleted content = record {
@@ -51,12 +56,14 @@ AllLone disk =
 abbrev pub IsSure : Disk → Counters → Counters → Type 0
 IsSure disk old new = IsRegularDisk disk × (IsFaultless 0 old new ⊎ AllLone disk)
 
--- a copy has the sector of a key as a read of it in the course gave it; that is the sector of the source, where that is sure
+-- a copy has the sector of a key as a read of it in the course gave it; that is the sector of the source, where that is sure, and always
+-- an intact field of its key there
 abbrev pub HasAsGiven : Type 0 → List Taken → Disk → Disk → ℕ → ℕ → ℕ → Type 0
 HasAsGiven sure course source copied c h r =
     (place : ℕ) × (deleted : Bool) × (content : List ℕ) × SomeStep (Gave (key_of c h r) deleted content) course
     × IsOnMap copied (copied_entry c h r place deleted content)
     × (sure → IsSector (track_of source c h) (key_of c h r) deleted content)
+    × IsFieldOf source (key_of c h r) deleted content
 
 -- the copy of a disk was stored under this name, and no other file changed: a regular disk of the same cylinders and rate,
 -- with two heads, that has each standard key of the other disk with the mark and the content that the read gave; its tracks

@@ -2,22 +2,15 @@
 use Rattle.std.specs.Prelude.{◌≡◌, ℕ, Bool, List, length, Option}
 use Rattle.flop_base.specs.Shelf.{Files, stored}
 use Rattle.flop_base.specs.Standard.{sectors_at}
-use Rattle.flop_base.specs.declared.key.Chrn.{Chrn}
-use Rattle.raw_image.specs.Disk.{Disk, HasTrack, track_of}
-use Rattle.track_model.specs.Sectors.{IsUnder}
+use Rattle.raw_image.specs.Disk.{Disk, track_of}
 use Rattle.track_model.specs.Sectors as track
 use Rattle.bay_model.specs.Counters.{Counters}
 use Rattle.sector_map.specs.Standard.{key_of}
 use Rattle.flat_image.specs.Flat.{IsSector, flat_length}
 use Rattle.sector_model.specs.Runs.{Taken}
 use Rattle.sector_model.specs.Steps.{IsImageOf}
-use Rattle.command_laws.specs.Copied.{SomeStep, Gave, IsSure}
+use Rattle.command_laws.specs.Copied.{SomeStep, Gave, IsFieldOf, IsSure}
 use Rattle.command_laws.specs.Imported.{sector_bytes}
-
--- these are the bytes of an intact field of the key, on a track of the key's head
-abbrev pub IsFieldOf : Disk → Chrn → Bool → List ℕ → Type 0
-IsFieldOf disk key deleted content =
-    (b : ℕ) × HasTrack disk b key.h × IsUnder (track_of disk b key.h) key deleted content
 
 -- a read of a key in the course gave these bytes: those of an intact field of the key, and of its sector where that is sure
 pub record IsAsRead (sure : Type 0) (course : List Taken) (disk : Disk) (c h r : ℕ) (bytes : List ℕ) : Type 0 where

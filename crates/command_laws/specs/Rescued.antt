@@ -26,7 +26,7 @@ use Rattle.sector_model.specs.Runs.{Taken}
 use Rattle.sector_model.specs.Plays.{World}
 use Rattle.sector_model.specs.Stations.{StationState, bay_of}
 use Rattle.floppy_session.specs.Shapes.{shape_of}
-use Rattle.command_laws.specs.Copied.{SomeStep, Gave}
+use Rattle.command_laws.specs.Copied.{SomeStep, Gave, IsFieldOf}
 use Rattle.command_laws.specs.Verified.{all_told_of}
 use Rattle.rescue.specs.Course.{read_of, outcome_status}
 use Rattle.rescue.specs.Log.{log_text}
@@ -156,6 +156,11 @@ pub record TellsRescue (asked : ℕ) (old : World) (course : List Taken) (new : 
   pub status : ended ≡ outcome_status (outcome_in course asked)
   pub others : count_writes course + length (log_of course) ≡ asked
 
+-- what a read of a course gave is an intact field of its key on the disk
+abbrev pub GivesFields : Disk → List Taken → Type 0
+GivesFields disk course =
+    (key : Chrn) (deleted : Bool) (content : List ℕ) → SomeStep (Gave key deleted content) course → IsFieldOf disk key deleted content
+
 -- the other diskette was stored under its name, then the new log under its own, and no other file changed
 pub record StoresRescue (disk target : Disk) (found : Option (List LogLine)) (to log : List ℕ) (files : Files) (course : List Taken) (new : World) : Type 0 where
   pub saved : Disk
@@ -165,6 +170,7 @@ pub record StoresRescue (disk target : Disk) (found : Option (List LogLine)) (to
   pub log_there : IfSome new.files (λ files. file_at files log ≡ Some (log_text (log_of course)))
   pub settled : All (IsSettled course saved (log_of course)) (asked_keys (shape_of disk) found)
   pub kept : KeepsEntries found course target saved
+  pub given : GivesFields disk course
 
 -- the lines of records that aren't found, each with the code of its look: 02 where the track has no address mark or the record
 -- no data, 04 where no address field has its key, and 10 where its data is damaged

@@ -9,9 +9,9 @@ ghost use Rattle.sector_model.specs.Runs.{Taken};
 ghost use Rattle.command_laws.specs.Copied.{CopiesDisk, StoresCopy};
 
 /// A law: where each request of the command that copies was done, and the drive of bay 1 had no fault meanwhile, the stored disk
-/// has each standard key of the other with the mark and the content that its read gave, also where DMA requests waited. These
-/// are the sectors of the other disk where it is regular, and bay 0's drive had no fault or none of its fields has two data
-/// marks.
+/// has each standard key of the other with the mark and the content that its read gave, also where DMA requests waited: those of
+/// an intact field of the key on the other disk, whatever faults bay 0's drive had. These are its sectors where it is regular,
+/// and bay 0's drive had no fault or none of its fields has two data marks.
 pub fn copies_disk(_from: &str, _to: &str)
     ensures { (old new : State) (files : Files) (disk : Disk) (course : List Taken)
         (after : Option Files)

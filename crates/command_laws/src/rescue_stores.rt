@@ -17,7 +17,8 @@ ghost use Rattle.command_laws.specs.Rescued.{IsNotStopped, HasTarget, IsRescue};
 
 /// A law: where a rescue ends with status 0 or 1, no refusal stopped it, and the drive of bay 1 had no fault meanwhile, each
 /// record that was asked for is either in the new log, with the code that its read gave, or on the stored disk, with the mark and
-/// the content that its read gave, and never in both; the last line counts those on the disk, and all. Where there was a log, all
+/// the content that its read gave, and never in both; whatever faults the drive of bay 0 had, these are those of an intact
+/// field of the record on the first disk; the last line counts those on the disk, and all. Where there was a log, all
 /// other sectors of the disk stay as they were, if that disk was regular, and no address mark could come up in a write that stopped
 /// short; where there was none, this is so by itself. The disk is stored first, and then the log.
 pub fn rescue_settles_each_record(_from: &str, _to: &str, _log: &str)

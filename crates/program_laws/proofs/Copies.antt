@@ -22,7 +22,7 @@ use Rattle.command_laws.proofs.Reading.{key_is}
 use Rattle.command_laws.proofs.CopyRun.{copy_stores}
 use Rattle.command_laws.proofs.CommandEnds.{fresh_memory}
 use Rattle.program_laws.specs.Disturbed.{HadNoFault}
-use Rattle.program_laws.specs.Stored.{IsReadSure, StoresCopyOf}
+use Rattle.program_laws.specs.Stored.{IsReadSure, HasSomeField, StoresCopyAsRead}
 use Rattle.program_laws.proofs.OnBoards.{faultless_first, faultless_second}
 use Rattle.program_laws.proofs.OfForms.{form_well}
 
@@ -33,10 +33,10 @@ sure_read disk old new spares start last starts shows sure = elim sure.drive [
   | inr lone ↦ (sure.regular, inr lone)
 ]
 
--- the sectors that the reads gave are those of the disk
-copy_of : (disk : Disk) (to : List ℕ) (old new : Counters) (course : List Taken) (told after : Option Files) → IsSure disk old new
-    → StoresCopy disk to old told course new after → StoresCopyOf disk to told after
-copy_of disk to old new course told after sure stores = record {
+-- the sectors that the reads gave are fields of the disk, and its sectors where that is sure
+copy_of : (sure : Type 0) (disk : Disk) (to : List ℕ) (old new : Counters) (course : List Taken) (told after : Option Files)
+    → (sure → IsSure disk old new) → StoresCopy disk to old told course new after → StoresCopyAsRead sure disk to told after
+copy_of sure disk to old new course told after safe stores = record {
   copied = stores.copied;
   valid = stores.valid;
   protected = stores.protected;
@@ -46,23 +46,30 @@ copy_of disk to old new course told after sure stores = record {
   words_per_track = stores.words_per_track;
   regular = stores.regular;
   laid = stores.laid;
-  sectors = λ key standard.
+  fields = λ key standard.
       let given = stores.sectors key.c key.h key.r standard.track standard.sector.0 standard.sector.1 in
       let on = given.4 in
       let found = on.content in
-      let same : HaveSameSector disk stores.copied (key_of key.c key.h key.r) = (given.1, given.2, given.5 sure, (given.0, found.0, on.address, found.1, found.2)) in
+      let some : HasSomeField disk stores.copied (key_of key.c key.h key.r) = (given.1, given.2, given.6, (given.0, found.0, on.address, found.1, found.2)) in
+      subst (λ (k : Chrn). HasSomeField disk stores.copied k) (sym (key_is key standard.size)) some;
+  sectors = λ is key standard.
+      let given = stores.sectors key.c key.h key.r standard.track standard.sector.0 standard.sector.1 in
+      let on = given.4 in
+      let found = on.content in
+      let same : HaveSameSector disk stores.copied (key_of key.c key.h key.r) =
+      (given.1, given.2, given.5 (safe is), (given.0, found.0, on.address, found.1, found.2)) in
       subst (λ (k : Chrn). HaveSameSector disk stores.copied k) (sym (key_is key standard.size)) same;
   files = stores.files;
 }
 
 pub copies_well : (from to : List ℕ) (spares : List DriveCounts) (old new : Board) (before after : Desk) (files : Files) (disk : Disk)
     → RunsOver (Some (form.Copy from to)) old spares before new after status.AllOk → before.files ≡ Some files → IsImageOf (Some files) from disk
-    → IsReadSure disk old new → HadNoFault 1 old new → StoresCopyOf disk to (Some files) after.files
-copies_well from to spares old new before after files disk over told image sure calm =
+    → HadNoFault 1 old new → StoresCopyAsRead (IsReadSure disk old new) disk to (Some files) after.files
+copies_well from to spares old new before after files disk over told image calm =
     let runs = form_well (form.Copy from to) old spares before new after over in
     let start = over.start.station in
     let last = over.last.station in
-    copy_of disk to start.counters last.counters runs.course (Some files) after.files
-    (sure_read disk old new spares start last over.set_up.starts over.shows sure)
+    copy_of (IsReadSure disk old new) disk to start.counters last.counters runs.course (Some files) after.files
+    (sure_read disk old new spares start last over.set_up.starts over.shows)
     (copy_stores from to (world over.start before.files before.report) (world over.last after.files after.report) runs.course files disk runs.does told image
     (fresh_memory start over.set_up.fresh) (faultless_second old new spares start last over.set_up.starts over.shows calm))

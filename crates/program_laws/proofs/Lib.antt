@@ -14,6 +14,10 @@ mod Replies
 mod RescueStatus
 mod Rescues
 mod Stepping
+mod Inserting
+mod KeptSteps
+mod PlayStatus
+mod CallStatus
 pub mod Telling
 mod Unstopped
 mod Verifies

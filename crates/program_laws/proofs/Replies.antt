@@ -22,6 +22,13 @@ use Rattle.program_laws.specs.Ends.{EndsByReplies}
 use Rattle.program_laws.proofs.Telling.{EndsBy}
 use Rattle.program_laws.proofs.Completed.{format_by, copy_by, verify_by, import_by, export_by, exercise_by}
 use Rattle.program_laws.proofs.RescueStatus.{rescue_by}
+use Rattle.program_laws.proofs.PlayStatus.{play_by, begins_kept}
+use Rattle.program_laws.specs.Inserted.{IsDiskFile, InsertsDisks}
+use Rattle.bay_model.specs.Bays.{both}
+use Rattle.floppy_requests.specs.Texts.{job_of}
+use Rattle.floppy_requests.specs.declared.request.Request.{Request}
+use Rattle.sector_model.specs.Plays.{IsText}
+use Rattle.std.proofs.Common.{Ok}
 
 counted_by : (refused : Bool) (old new : Stand) (ended : Status) → Blames (ended ≡ status.FileFault) old.desk.shelf_faults new.desk.shelf_faults
     → BlamesAlone (ended ≡ status.SinkFault) old.desk.sink_faults new.desk.sink_faults → EndsBy refused ended → EndsByReplies refused old new ended
@@ -104,3 +111,11 @@ module _ (spares : List DriveCounts) (old new : Stand) (ended : Status) where
   rescue_replies from to log files disk told image absent ran =
       let asked = form.Rescue from to log in
       by_form asked ran (rescue_by from to log files disk (first asked ran) (last asked ran) ran.runs.runs.course ended told image absent)
+
+  pub play_replies : (job : List ℕ) (files : Files) (text : List ℕ) (requests : List Request) → old.desk.desk.files ≡ Some files
+      → IsText (Some files) job text → job_of text ≡ Ok requests → InsertsDisks (IsDiskFile (Some files)) (both None) requests
+      → (ran : RanOver (Some (form.Play job)) spares old new ended) → Tells (form.Play job) ran
+  play_replies job files text requests told is spells inserts ran =
+      let asked = form.Play job in
+      by_form asked ran (play_by job files text requests (first asked ran) ran.runs.runs.course (last asked ran) ended told is spells inserts
+      (begins_kept files ran.runs.start old.desk.desk.files told ran.runs.set_up.names ran.runs.set_up.fresh))

@@ -24,7 +24,8 @@ use Rattle.sector_model.specs.Steps.{Step, refusal_of, read_reply, reply_of}
 use Rattle.sector_model.specs.Texts.{is_refusal}
 use Rattle.sector_model.specs.Runs.{Taken, Run}
 use Rattle.track_model.specs.Fields.{content_size}
-use Rattle.program_laws.specs.Steps.{EachStep, is_same_bay, exchanges, IsGuarded, KeepsGuarded, ReadsField, IsWrite, WritesField}
+use Rattle.program_laws.specs.Steps.{EachStep, is_same_bay, exchanges, IsGuarded, KeepsGuarded, ReadsField, IsWrite, WritesField, WritesAlone, KeepsOtherFields}
+use Rattle.sector_map.specs.Disks.{IsRegularDisk}
 
 -- ---- bays
 
@@ -72,11 +73,11 @@ sorted true yes_ no_ = yes_ refl
 sorted false yes_ no_ = no_ refl
 
 -- one of two cases holds, and the first has its equation
-either_is : {A : Type 0} {P R : Type 0} {Q : A → Type 0} (value : Option A) → MatchOption value P Q → (value ≡ None → P → R) → ((x : A) → Q x → R) → R
+pub either_is : {A : Type 0} {P R : Type 0} {Q : A → Type 0} (value : Option A) → MatchOption value P Q → (value ≡ None → P → R) → ((x : A) → Q x → R) → R
 either_is None holds none some = none refl holds
 either_is (Some x) holds none some = some x holds
 
-either : {A : Type 0} {P R : Type 0} {Q : A → Type 0} (value : Option A) → MatchOption value P Q → (P → R) → ((x : A) → Q x → R) → R
+pub either : {A : Type 0} {P R : Type 0} {Q : A → Type 0} (value : Option A) → MatchOption value P Q → (P → R) → ((x : A) → Q x → R) → R
 either value holds none some = either_is value holds (λ is. none) some
 
 write_open : (a b c d : Bool)
@@ -276,3 +277,25 @@ each_writes old new told after (taken ∷ later) run = (
   writes_at old told run.0 taken run.1,
   each_writes taken.after new run.0 after later run.2,
 )
+
+-- ---- writes to regular disks
+
+alone_step : (bay address : ℕ) (key : Chrn) (deleted : Bool) (old : State) (taken : Taken) (called : Result (Unit {0}) Code) → taken.answer ≡ reply_of called
+    → WritesTo bay key address deleted old.station called taken.after.station → (disk : Disk) → (bay_of old.station bay).medium ≡ Some disk
+    → IsRegularDisk disk → ((bay_of taken.after.station bay).medium ≡ Some disk) ⊎ WritesAlone bay key address deleted disk old taken
+alone_step bay address key deleted old taken called is writes disk medium regular =
+    either (write_refusal old.station bay key address) writes
+    (λ does. inr (called, is, does.regular disk medium regular))
+    (λ code refused. inl (becomes_medium (record old.station { counters = taken.after.station.counters }) taken.after.station bay refused.stays ∙ medium))
+
+alone_at : (old : State) (told files : Option Files) (taken : Taken) → Step taken.asked old told taken.answer taken.after files → KeepsOtherFields old taken
+alone_at old told files taken step bay address key false is =
+    let here = subst (λ (q : Request). Step q old told taken.answer taken.after files) is step in
+    alone_step bay address key false old taken here.1.0 here.1.1 here.1.2
+alone_at old told files taken step bay address key true is =
+    let here = subst (λ (q : Request). Step q old told taken.answer taken.after files) is step in
+    alone_step bay address key true old taken here.1.0 here.1.1 here.1.2
+
+pub each_alone : (old new : State) (told after : Option Files) (course : List Taken) → Run old told course new after → EachStep KeepsOtherFields old course
+each_alone old new told after [] run = tt
+each_alone old new told after (taken ∷ later) run = (alone_at old told run.0 taken run.1, each_alone taken.after new run.0 after later run.2)

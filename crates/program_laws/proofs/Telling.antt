@@ -54,11 +54,11 @@ IsFaithful refused (Stores name bytes line wanted) = wanted ≡ whole_status ref
 IsFaithful refused (MayStarve rest) = IsFaithful refused rest
 IsFaithful refused (Fails cause) = EndsBy refused cause
 
-whole_by : (refused : Bool) → EndsBy refused (whole_status refused)
+pub whole_by : (refused : Bool) → EndsBy refused (whole_status refused)
 whole_by true = refl
 whole_by false = refl
 
-put_by : (refused : Bool) (ended : Status) → IsPutFault ended → EndsBy refused ended
+pub put_by : (refused : Bool) (ended : Status) → IsPutFault ended → EndsBy refused ended
 put_by refused status.NoMemory fault = tt
 put_by refused status.SinkFault fault = tt
 put_by refused status.AllOk fault = absurd fault

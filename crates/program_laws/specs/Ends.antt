@@ -14,6 +14,16 @@ EndsWell Holds old new status.FileFault = Rose old.desk.shelf_faults new.desk.sh
 EndsWell Holds old new status.SinkFault = Rose old.desk.sink_faults new.desk.sink_faults
 EndsWell Holds old new _ = ⊥
 
+-- the program ended with status 0 or 1, and this holds; or memory couldn't be had; or the shelf or the sink failed, and its faults were
+-- counted
+abbrev pub EndsAnswered : Type 0 → Stand → Stand → Status → Type 0
+EndsAnswered Holds old new status.AllOk = Holds
+EndsAnswered Holds old new status.SomeRefused = Holds
+EndsAnswered Holds old new status.NoMemory = Unit {0}
+EndsAnswered Holds old new status.FileFault = Rose old.desk.shelf_faults new.desk.shelf_faults
+EndsAnswered Holds old new status.SinkFault = Rose old.desk.sink_faults new.desk.sink_faults
+EndsAnswered Holds old new _ = ⊥
+
 -- the program ended with status 1 where some reply was a refusal, and else with 0; or memory couldn't be had; or the shelf or the sink
 -- failed, and its faults were counted
 abbrev pub EndsByReplies : Bool → Stand → Stand → Status → Type 0

@@ -5,3 +5,4 @@ pub mod Ends
 pub mod Answered
 pub mod Made
 pub mod Steps
+pub mod Inserted

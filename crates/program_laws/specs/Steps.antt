@@ -1,15 +1,19 @@
 -- What each step of a run may do to the media in the bays, and what a read and a write that were done have done.
-use Rattle.std.specs.Prelude.{◌≡◌, ◌≤◌, ◌⊎◌, ℕ, ◌==◌, Bool, true, false, not, List, [], ◌∷◌, length, if◌then◌else◌}
+use Rattle.std.specs.Prelude.{◌≡◌, ◌≤◌, ◌⊎◌, ℕ, ◌==◌, Bool, true, false, not, List, [], ◌∷◌, length, Some, Result, if◌then◌else◌}
+use Rattle.flop_base.specs.declared.answers.Code.{Code}
 use Rattle.flop_base.specs.declared.key.Chrn.{Chrn}
 use Rattle.floppy_requests.specs.declared.request.Request.{Request}
 use Rattle.floppy_requests.specs.declared.request.Request.TheVariants as request
 use Rattle.bay_model.specs.Counters.{IsDriven}
+use Rattle.raw_image.specs.Disk.{Disk}
 use Rattle.sector_map.specs.Changes.{Change}
+use Rattle.sector_map.specs.Disks.{IsRegularDisk}
 use Rattle.sector_model.specs.Stations.{StationState, bay_of}
 use Rattle.sector_model.specs.States.{State}
 use Rattle.sector_model.specs.Orders.{is_acknowledged, is_protected}
 use Rattle.sector_model.specs.Reads.{IsRead}
-use Rattle.sector_model.specs.Writes.{IsWritten, Reaches, written_from}
+use Rattle.sector_model.specs.Writes.{IsWritten, Reaches, KeepsRegular, written_from}
+use Rattle.sector_model.specs.Steps.{reply_of}
 use Rattle.sector_model.specs.Texts.{is_refusal}
 use Rattle.sector_model.specs.Runs.{Taken}
 
@@ -70,3 +74,17 @@ WritesField old taken =
     × Reaches (written_from old.station key address deleted) (bay_of old.station bay).medium changes (bay_of taken.after.station bay).medium
     × (is_refusal taken.answer ≡ false
     → IsWritten (written_from old.station key address deleted) bay changes old.station taken.after.station)
+
+-- a write to a regular disk that reached the drive of its bay kept it regular: no field of the key was met, and the disk is as it was; or
+-- one, at p, and where nothing disturbed the write, or no address mark could come up in a write that stopped short, that field alone changed
+abbrev pub WritesAlone : ℕ → Chrn → ℕ → Bool → Disk → State → Taken → Type 0
+WritesAlone bay key address deleted disk old taken =
+    (called : Result (Unit {0}) Code) × (taken.answer ≡ reply_of called)
+    × KeepsRegular (written_from old.station key address deleted) bay disk old.station called taken.after.station
+
+-- a write to a regular disk, done or refused, left the medium as it was, or changed at most the field of its key
+abbrev pub KeepsOtherFields : State → Taken → Type 0
+KeepsOtherFields old taken =
+    (bay address : ℕ) (key : Chrn) (deleted : Bool) → IsWrite taken.asked bay key address deleted
+    → (disk : Disk) → (bay_of old.station bay).medium ≡ Some disk → IsRegularDisk disk
+    → ((bay_of taken.after.station bay).medium ≡ Some disk) ⊎ WritesAlone bay key address deleted disk old taken

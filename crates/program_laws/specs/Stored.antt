@@ -6,6 +6,7 @@ use Rattle.flop_base.specs.declared.key.Chrn.{Chrn}
 use Rattle.raw_image.specs.Disk.{Disk, IsDisk, HasTrack, track_of}
 use Rattle.raw_image.specs.Image.{file_of}
 use Rattle.track_model.specs.Laid.{IsLaid}
+use Rattle.track_model.specs.Sectors.{IsSector as IsSectorOf}
 use Rattle.sector_map.specs.Disks.{IsRegularDisk}
 use Rattle.sector_map.specs.Standard.{key_of}
 use Rattle.flat_image.specs.Flat.{IsSector, flat_length}
@@ -19,10 +20,10 @@ use Rattle.rescue_commands.specs.Logs.{IsLogFound}
 use Rattle.rescue_commands.specs.Rescue.{asked_keys}
 use Rattle.command_laws.specs.Rescued.{failing_lines}
 use Rattle.command_laws.specs.Verified.{IsStandardKey}
-use Rattle.command_laws.specs.Copied.{AllLone}
+use Rattle.command_laws.specs.Copied.{AllLone, IsFieldOf}
 use Rattle.command_laws.specs.EndsComplete.{HaveSameSector}
 use Rattle.command_laws.specs.Imported.{sector_bytes}
-use Rattle.command_laws.specs.Exported.{IsFieldOf, HasContent}
+use Rattle.command_laws.specs.Exported.{HasContent}
 use Rattle.program_laws.specs.Disturbed.{HadNoFault}
 
 -- what is read of a disk in bay 0 is its sectors: it is regular, and the drive had no fault, or no field has two data marks
@@ -30,9 +31,15 @@ pub record IsReadSure (disk : Disk) (old new : Board) : Type 0 where
   pub regular : IsRegularDisk disk
   pub drive : HadNoFault 0 old new ⊎ AllLone disk
 
+-- a copied disk has a sector of the key, with the mark and the content of an intact field of the key on the other
+abbrev pub HasSomeField : Disk → Disk → Chrn → Type 0
+HasSomeField disk copied key =
+    (deleted : Bool) × (content : List ℕ) × IsFieldOf disk key deleted content × IsSectorOf (track_of copied key.c key.h) key deleted content
+
 -- a copy of a disk was stored under a name, and no other file changed: a regular disk of the same cylinders and rate, with two
--- heads, that has each standard sector of the other with its mark and its content; its tracks are Laid
-pub record StoresCopyOf (disk : Disk) (to : List ℕ) (told after : Option Files) : Type 0 where
+-- heads, that has for each standard key a sector with the mark and the content of an intact field of the key on the other: of its
+-- sector, where what is read of the disk is its sectors; its tracks are Laid
+pub record StoresCopyAsRead (sure : Type 0) (disk : Disk) (to : List ℕ) (told after : Option Files) : Type 0 where
   pub copied : Disk
   pub valid : IsDisk copied
   pub protected : copied.protected ≡ false
@@ -42,7 +49,8 @@ pub record StoresCopyOf (disk : Disk) (to : List ℕ) (told after : Option Files
   pub words_per_track : copied.words_per_track ≡ words_at disk.rate
   pub regular : IsRegularDisk copied
   pub laid : (c h : ℕ) → HasTrack disk c h → IsLaid (track_of copied c h)
-  pub sectors : (key : Chrn) → IsStandardKey disk key → HaveSameSector disk copied key
+  pub fields : (key : Chrn) → IsStandardKey disk key → HasSomeField disk copied key
+  pub sectors : sure → (key : Chrn) → IsStandardKey disk key → HaveSameSector disk copied key
   pub files : after ≡ stored told to (file_of copied)
 
 -- a flat file was stored under a name, and no other file changed: it has at the place of each sector of a disk the bytes of an

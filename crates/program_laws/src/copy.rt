@@ -9,16 +9,18 @@ ghost use Rattle.archive_commands.specs.Files.{Desk};
 ghost use Rattle.floppy_words.specs.declared.form.Form.TheVariants as form;
 ghost use Rattle.floppy_tools.specs.Machines.{RunsOver};
 ghost use Rattle.program_laws.specs.Disturbed.{HadNoFault};
-ghost use Rattle.program_laws.specs.Stored.{IsReadSure, StoresCopyOf};
+ghost use Rattle.program_laws.specs.Stored.{IsReadSure, StoresCopyAsRead};
 
 use flop_base::Status;
 
-/// A law: where `copy FROM TO` ends with status 0, FROM is the image of a regular disk, the drive of bay 0 had no fault or no field of
-/// that disk has two data marks, and the drive of bay 1 had no fault, the file TO is the image of a disk that has each standard sector
-/// of FROM, under its key, with its mark and its content, and no other file changed. DMA requests may have waited.
+/// A law: where `copy FROM TO` ends with status 0, FROM is the image of a disk, and the drive of bay 1 had no fault, the file TO is the
+/// image of a regular disk that has for each standard key of FROM a sector with the mark and the content of an intact field of the key
+/// on FROM, whatever faults the drive of bay 0 had; and no other file changed. These are its sectors where FROM is regular, and the
+/// drive of bay 0 had no fault or no field of FROM has two data marks. DMA requests may have waited.
 pub fn copy_of_a_disk(_from: &str, _to: &str)
     ensures { (spares : List DriveCounts) (old new : Board) (before after : Desk) (files : Files) (disk : Disk)
         → RunsOver (Some (form.Copy _from.now _to.now)) old spares before new after Status.AllOk
         → before.files ≡ Some files → IsImageOf (Some files) _from.now disk
-        → IsReadSure disk old new → HadNoFault 1 old new → StoresCopyOf disk _to.now (Some files) after.files }
+        → HadNoFault 1 old new
+        → StoresCopyAsRead (IsReadSure disk old new) disk _to.now (Some files) after.files }
 {}

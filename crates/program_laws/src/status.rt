@@ -1,5 +1,5 @@
 // What the status of a form tells, where its files are there and in their grammar.
-ghost use Rattle.std.specs.Prelude.{◌≡◌, ℕ, List, Some, None};
+ghost use Rattle.std.specs.Prelude.{◌≡◌, ℕ, List, Some, None, Ok};
 ghost use Rattle.flop_base.specs.Shelf.{Files, file_at};
 ghost use Rattle.flop_base.specs.declared.answers.Rate.{Rate};
 ghost use Rattle.flop_base.specs.declared.answers.Status.{Status};
@@ -10,7 +10,15 @@ ghost use Rattle.sector_model.specs.Steps.{IsImageOf};
 ghost use Rattle.flat_commands.specs.FlatFiles.{IsFlatFile};
 ghost use Rattle.floppy_words.specs.declared.form.Form.TheVariants as form;
 ghost use Rattle.floppy_tools.specs.Performed.{Stand, RanOver};
-ghost use Rattle.program_laws.specs.Ends.{EndsByReplies};
+ghost use Rattle.bay_model.specs.Bays.{both};
+ghost use Rattle.floppy_requests.specs.Texts.{job_of};
+ghost use Rattle.floppy_requests.specs.declared.request.Request.{Request};
+ghost use Rattle.sector_model.specs.Plays.{IsText};
+ghost use Rattle.program_laws.specs.Ends.{EndsByReplies, EndsAnswered};
+ghost use Rattle.program_laws.specs.Inserted.{IsDiskFile, InsertsDisks, requests_among};
+ghost use Rattle.program_laws.specs.Answered.{AnswersCalls};
+ghost use Rattle.floppy_jobs.specs.Texts.{calls_of};
+ghost use Rattle.floppy_jobs.specs.declared.calls.CallLine.{CallLine};
 
 /// A law: `format NAME CYLS` ends with status 1 where some request of its run was refused, and else with 0, unless memory couldn't be
 /// had, or the shelf or the sink failed, and counted it.
@@ -72,4 +80,25 @@ pub fn new_rescue_status(_from: &str, _to: &str, _log: &str)
         → old.desk.desk.files ≡ Some files → IsImageOf (Some files) _from.now disk → file_at files _log.now ≡ None
         → (ran : RanOver (Some (form.Rescue _from.now _to.now _log.now)) spares old new ended)
         → EndsByReplies (has_refusal ran.runs.runs.course) old new ended }
+{}
+
+/// A law: so does `play JOB`, where JOB is a job of at most 4,194,304 bytes, and each file that it inserts is the file of a disk, or was
+/// stored by one of its ejects before.
+pub fn play_status(_job: &str)
+    ensures { (spares : List DriveCounts) (old new : Stand) (ended : Status) (files : Files) (text : List ℕ) (requests : List Request)
+        → old.desk.desk.files ≡ Some files → IsText (Some files) _job.now text → job_of text ≡ Ok requests
+        → InsertsDisks (IsDiskFile (Some files)) (both None) requests
+        → (ran : RanOver (Some (form.Play _job.now)) spares old new ended)
+        → EndsByReplies (has_refusal ran.runs.runs.course) old new ended }
+{}
+
+/// A law: `int13 FILE`, where FILE is a text of calls of at most 4,194,304 bytes, and each file that its requests insert is the file of a
+/// disk, or was stored by one of their ejects before, ends with status 0 or 1, and then has answered its calls, with status 1 where
+/// something counts as a refusal, unless memory couldn't be had, or the shelf or the sink failed, and counted it.
+pub fn int13_status(_file: &str)
+    ensures { (spares : List DriveCounts) (old new : Stand) (ended : Status) (files : Files) (text : List ℕ) (lines : List CallLine)
+        → old.desk.desk.files ≡ Some files → IsText (Some files) _file.now text → calls_of text ≡ Ok lines
+        → InsertsDisks (IsDiskFile (Some files)) (both None) (requests_among lines)
+        → RanOver (Some (form.Int13 _file.now)) spares old new ended
+        → EndsAnswered (AnswersCalls _file.now old.desk.desk new.desk.desk ended) old new ended }
 {}

@@ -9,7 +9,7 @@ ghost use Rattle.sector_model.specs.Runs.{Taken, Run};
 ghost use Rattle.archive_commands.specs.Files.{Desk};
 ghost use Rattle.floppy_words.specs.declared.form.Form.{Form};
 ghost use Rattle.floppy_tools.specs.Machines.{RunsOver};
-ghost use Rattle.program_laws.specs.Steps.{EachStep, KeepsGuarded, ReadsField, WritesField};
+ghost use Rattle.program_laws.specs.Steps.{EachStep, KeepsGuarded, ReadsField, WritesField, KeepsOtherFields};
 
 /// A law: in each step of a run the medium of a bay that isn't acknowledged, or that has a protected medium, stays as it is, unless
 /// the step exchanges it.
@@ -32,6 +32,15 @@ pub fn steps_read_fields()
 pub fn steps_write_fields()
     ensures { (old new : State) (told after : Option Files) (course : List Taken)
         → Run old told course new after → EachStep WritesField old course }
+{}
+
+/// A law: in each step of a run, a write to a regular disk, done or refused, left the disk as it was where it met no address field of
+/// its key or didn't reach the drive; else, where nothing disturbed it, or no address mark could come up in a write that stopped short,
+/// the disk stays regular, and all entries of its map but that of the key stay; where the write was done, that entry has the mark and
+/// the content, if the drive had at most one fault or the field has no second data mark.
+pub fn steps_keep_other_fields()
+    ensures { (old new : State) (told after : Option Files) (course : List Taken)
+        → Run old told course new after → EachStep KeepsOtherFields old course }
 {}
 
 /// A law: the course of each form over a machine is a run, from the session that was set up and the files as they were, so that the

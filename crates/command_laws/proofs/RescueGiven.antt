@@ -1,0 +1,109 @@
+-- What the reads of a rescue gave: intact fields of the disk in bay 0, whatever faults there were.
+use Rattle.std.proofs.Common.{arith, ◌≡◌, ◌∙◌, ◌+◌, ◌≤◌, ℕ, Bool, List, [], ◌∷◌, length, refl, sym, ap, subst, inl, inr, Option, Some, Result, Ok, Err}
+use Rattle.std.specs.List.{AllByRecursion}
+use Rattle.flop_base.specs.Shelf.{Files}
+use Rattle.flop_base.specs.declared.key.Chrn.{Chrn}
+use Rattle.flop_base.specs.declared.answers.Code.{Code}
+use Rattle.raw_image.specs.Disk.{Disk, track_of}
+use Rattle.bay_model.specs.Bays.{Two, in_bay}
+use Rattle.bay_model.specs.Memory.{user_bytes, bytes_from}
+use Rattle.track_model.specs.Fields.{content_size}
+use Rattle.sector_model.specs.Stations.{StationState, Bay, bay_of}
+use Rattle.sector_model.specs.Orders.{read_refusal, write_refusal}
+use Rattle.sector_model.specs.Runs.{Taken}
+use Rattle.sector_model.specs.Plays.{World}
+use Rattle.scripts.specs.Leading.{with_report}
+use Rattle.rescue.specs.Course.{read_of, write_of}
+use Rattle.command_laws.specs.Copied.{SomeStep, Gave, IsFieldOf}
+use Rattle.command_laws.proofs.DiskRecords.{length-bytes_at}
+use Rattle.command_laws.proofs.Steps.{ok_called, reached}
+use Rattle.command_laws.proofs.UserMemory.{at_stands}
+use Rattle.command_laws.proofs.Gone.{read_keeps, gave, never_both, write_no_read, IsRead, IsWrite, GoesKeys}
+use Rattle.command_laws.proofs.RescueRecords.{IsAsked, write_does}
+
+module _ (disk : Disk) where
+  -- bay 0 has the disk, and memory has its size
+  pub record IsAtHand (station : StationState) : Type 0 where
+    pub medium : (bay_of station 0).medium ≡ Some disk
+    pub size : length station.memory ≡ user_bytes
+
+  -- a read that was done gave a field of its key
+  done_gives : (key : Chrn) (mark : Bool) (old : World) (read : Taken) (files : Option Files) → key.n ≡ 2 → IsRead key (Ok mark) old read files
+      → IsAtHand old.state.station → (deleted : Bool) (content : List ℕ) → Gave key deleted content read → IsFieldOf disk key deleted content
+  done_gives key mark old read files sized is hand deleted content given =
+      let before = old.state.station.memory in
+      let after = read.after.station.memory in
+      let found = (reached (read_refusal old.state.station 0 key 0x10000) (Ok mark) old.state.station read.after.station is.reads refl).found in
+      let same : found.disk ≡ disk = cc (found.medium, hand.medium) in
+      let field = subst (λ (d : Disk). IsFieldOf d key mark found.content) same
+      (found.cylinder, found.track, (found.place, found.mark, found.address_field, found.data_mark, found.whole)) in
+      let own = gave key mark read is.asked is.answered in
+      let one = own.mark in
+      let other = given.mark in
+      let same_mark : mark ≡ deleted = cc (one, other) in
+      let first = is.asked in
+      let second = given.asked in
+      let place : given.address ≡ 0x10000 = cc (first, second) in
+      let long : length found.content ≡ 512 =
+      ap length found.whole.content_is ∙ length-bytes_at (track_of found.disk found.cylinder key.h) (found.mark + 64) (content_size key.n)
+      ∙ ap content_size sized in
+      let size = hand.size in
+      let fits : 0x10000 + length found.content ≤ length before = omega (arith, size, long) in
+      let bytes : content ≡ found.content =
+      given.content ∙ ap (λ (a : ℕ). bytes_from after a (content_size key.n)) place ∙ ap (λ (n : ℕ). bytes_from after 0x10000 (content_size n)) sized
+      ∙ ap (λ (s : StationState). bytes_from s.memory 0x10000 512) found.becomes ∙ at_stands before 0x10000 found.content 512 long fits in
+      subst (λ (b : Bool). IsFieldOf disk key b content) same_mark (subst (λ (row : List ℕ). IsFieldOf disk key mark row) (sym bytes) field)
+
+  read_gives : (key other : Chrn) (called : Result Bool Code) (old : World) (read : Taken) (files : Option Files) → key.n ≡ 2
+      → IsRead key called old read files → IsAtHand old.state.station → (deleted : Bool) (content : List ℕ) → Gave other deleted content read
+      → IsFieldOf disk other deleted content
+  read_gives key other called old read files sized is hand deleted content given =
+      let first = is.asked in
+      let second = given.asked in
+      let same : other ≡ key = cc (first, second) in
+      subst (λ (k : Chrn). IsFieldOf disk k deleted content) (sym same)
+      (by_answer called is (subst (λ (k : Chrn). Gave k deleted content read) same given))
+    where
+      by_answer : (called : Result Bool Code) → IsRead key called old read files → Gave key deleted content read → IsFieldOf disk key deleted content
+      by_answer (Ok mark) is given = done_gives key mark old read files sized is hand deleted content given
+      by_answer (Err cause) is given = absurd (never_both key cause deleted content read (is.asked, is.answered) given)
+
+  -- it leaves the bays, and memory its size
+  read_at_hand : (key : Chrn) (called : Result Bool Code) (old : World) (read : Taken) (files : Option Files) → key.n ≡ 2
+      → IsRead key called old read files → IsAtHand old.state.station → IsAtHand read.after.station
+  read_at_hand key called old read files sized is hand =
+      let keeps = read_keeps key old.state.station read.after.station called sized hand.size is.reads in
+      record { medium = ap (λ (bays : Two Bay). (in_bay bays 0).medium) keeps.bays ∙ hand.medium; size = keeps.size ∙ hand.size }
+
+  -- so does a write, which goes to bay 1
+  write_at_hand : (key : Chrn) (deleted : Bool) (old : World) (write : Taken) (files : Option Files) → IsWrite key deleted old write files
+      → IsAtHand old.state.station → IsAtHand write.after.station
+  write_at_hand key deleted old write files wrote hand =
+      let does = write_does key deleted old.state write.after old.files files write.answer wrote.step in
+      let ok = ok_called does.1.0 write.answer does.1.1 wrote.done in
+      let drive = reached (write_refusal old.state.station 1 key 0x10000) does.1.0 old.state.station write.after.station does.1.2 ok in
+      record {
+        medium = ap (λ (s : StationState). (bay_of s 0).medium) drive.becomes ∙ hand.medium;
+        size = ap (λ (s : StationState). length s.memory) drive.becomes ∙ hand.size;
+      }
+
+  pub keys_give : (heads : ℕ) (keys : List Chrn) (old : World) (course : List Taken) (new : World) → GoesKeys keys old course new
+      → AllByRecursion (IsAsked disk heads) keys → IsAtHand old.state.station → (other : Chrn) (deleted : Bool) (content : List ℕ)
+      → SomeStep (Gave other deleted content) course → IsFieldOf disk other deleted content
+  keys_give heads [] old course new goes asked hand other deleted content some = absurd (subst (SomeStep (Gave other deleted content)) goes.0 some)
+  keys_give heads (key ∷ keys) old [] new goes asked hand other deleted content some = absurd some
+  keys_give heads (key ∷ keys) old (read ∷ later) new (Err cause, files, is, goes) asked hand other deleted content some = elim some [
+    | inl here ↦ read_gives key other (Err cause) old read files asked.0.size is hand deleted content here
+    | inr there ↦
+        keys_give heads keys (with_report read.after files old.report) later new goes asked.1 (read_at_hand key (Err cause) old read files asked.0.size is hand)
+        other deleted content there
+  ]
+  keys_give heads (key ∷ keys) old (read ∷ []) new (Ok mark, files, is, goes) asked hand other deleted content some = absurd goes
+  keys_give heads (key ∷ keys) old (read ∷ write ∷ later) new (Ok mark, files, is, (more, wrote, goes)) asked hand other deleted content some =
+      let mid = with_report read.after files old.report in
+      let now = write_at_hand key mark mid write more wrote (read_at_hand key (Ok mark) old read files asked.0.size is hand) in
+      elim some [
+        | inl here ↦ read_gives key other (Ok mark) old read files asked.0.size is hand deleted content here
+        | inr (inl here) ↦ absurd (write_no_read key other mark here.address (sym wrote.asked ∙ here.asked))
+        | inr (inr there) ↦ keys_give heads keys (with_report write.after more old.report) later new goes asked.1 now other deleted content there
+      ]

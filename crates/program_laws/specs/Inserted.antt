@@ -1,0 +1,61 @@
+-- Files that requests put in: which names hold the file of a disk, by what stood there and what is stored.
+use Rattle.std.specs.Prelude.{◌≡◌, ◌≤◌, ◌⊎◌, ℕ, Bool, true, is_some, List, [], ◌∷◌, length, Option, Some, None, IfSome, IsSomeAnd, if◌then◌else◌}
+use Rattle.flop_base.specs.Shelf.{Files, file_at}
+use Rattle.raw_image.specs.Disk.{Disk}
+use Rattle.raw_image.specs.Image.{Spells}
+use Rattle.bay_model.specs.Bays.{Two, in_bay, with_bay}
+use Rattle.floppy_requests.specs.declared.request.Request.{Request}
+use Rattle.floppy_requests.specs.declared.request.Request.TheVariants as request
+use Rattle.floppy_jobs.specs.declared.calls.CallLine.{CallLine}
+use Rattle.floppy_jobs.specs.declared.calls.CallLine.TheVariants as call
+use Rattle.sector_model.specs.Orders.{is_bay}
+use Rattle.sector_model.specs.Steps.{is_blank_request, most_image_bytes}
+
+-- the bytes are the file of a disk
+abbrev pub IsDiskText : List ℕ → Disk → Type 0
+IsDiskText bytes disk = (length bytes ≤ most_image_bytes) × Spells bytes disk
+
+-- the told file of this name is the file of a disk
+abbrev pub IsDiskFile : Option Files → List ℕ → Type 0
+IsDiskFile told name = (disk : Disk) × IfSome told (λ files. IsSomeAnd (file_at files name) (λ bytes. IsDiskText bytes disk))
+
+-- the names of the media in the bays
+abbrev pub Names : Type 0
+Names = Two (Option (List ℕ))
+
+-- a medium is put into a bay where none is
+abbrev pub put_in : Names → Bool → ℕ → List ℕ → Names
+put_in names good bay name = if good then (if is_some (in_bay names bay) then names else with_bay names bay (Some name)) else names
+
+-- the names behind a request: it changes none where it has to be refused
+abbrev pub named_by : Names → Request → Names
+named_by names (request.Insert bay name) = put_in names (is_bay bay) bay name
+named_by names (request.Blank bay name cylinders) = put_in names (is_blank_request bay cylinders) bay name
+named_by names (request.BlankDd bay name cylinders) = put_in names (is_blank_request bay cylinders) bay name
+named_by names (request.Eject bay) = if is_bay bay then (if is_some (in_bay names bay) then with_bay names bay None else names) else names
+named_by names _ = names
+
+-- the request stores a disk under this name
+abbrev pub IsStoredBy : Names → Request → List ℕ → Type 0
+IsStoredBy names (request.Eject bay) name = (is_bay bay ≡ true) × (in_bay names bay ≡ Some name)
+IsStoredBy names _ name = ⊥
+
+-- a name that holds the file of a disk, also behind a request
+abbrev pub HoldsBy : (List ℕ → Type 0) → Names → Request → List ℕ → Type 0
+HoldsBy Holds names asked name = Holds name ⊎ IsStoredBy names asked name
+
+-- what a request puts in, is the file of a disk
+abbrev pub InsertsDisk : (List ℕ → Type 0) → Request → Type 0
+InsertsDisk Holds (request.Insert bay name) = Holds name
+InsertsDisk Holds _ = Unit {0}
+
+-- each file that requests put in is the file of a disk, or was stored by one of them before
+abbrev pub InsertsDisks : (List ℕ → Type 0) → Names → List Request → Type 0
+InsertsDisks Holds names [] = Unit {0}
+InsertsDisks Holds names (asked ∷ later) = InsertsDisk Holds asked × InsertsDisks (HoldsBy Holds names asked) (named_by names asked) later
+
+-- the requests among lines of calls: a call of INT 13h puts nothing in, and takes nothing out
+abbrev pub requests_among : List CallLine → List Request
+requests_among [] = []
+requests_among (call.Job asked ∷ later) = asked ∷ requests_among later
+requests_among (call.Call ax bx cx dx es ∷ later) = requests_among later
