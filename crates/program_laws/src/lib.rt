@@ -29,6 +29,9 @@ pub use status::{
     copy_status, exercise_status, export_status, format_status, formatdd_status, import_status,
     int13_status, new_rescue_status, play_status, verify_status,
 };
-pub use steps::{course_is_a_run, steps_keep_guarded_media, steps_keep_other_fields, steps_read_fields, steps_write_fields};
+pub use steps::{
+    course_is_a_run, steps_keep_guarded_media, steps_keep_other_fields, steps_read_fields,
+    steps_write_fields,
+};
 pub use verify::{verify_finds_all, verify_of_a_disk};
 pub use words::form_of_words_ran;
