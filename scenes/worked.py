@@ -4,7 +4,7 @@ Reports and reasons come from the rules of docs/FORMATS.md, worked by hand; stor
 and sum from its draws, reckoned here.
 """
 from book import Made, raw, text
-from disks import Disk, formatted, layout, standard
+from disks import Disk, crc, formatted, layout, standard, window
 from samples import *
 
 READ = "insert 0 a.rt;ack 0;read 0 0 0 1 2 10000"
@@ -16,7 +16,7 @@ SURVEY = ";".join(f"{c} {h} {16 * (158 + 682 * (r - 1))} {c} {h} {r} 2 ok"
 
 
 def scenes(book):
-    for part in reading, writing, memory, media, faulty, plans, disks, texts, images, rates, ports, flat_files, workload, archives:
+    for part in reading, writing, memory, media, faulty, torn, plans, disks, texts, images, rates, ports, flat_files, workload, archives:
         part(book)
 
 
@@ -144,6 +144,38 @@ def faulty(book):
         planned(book, f"eight dropouts with {tries} tries", "drop 0 0 0 300 8",
                 f"insert 0 a.rt;ack 0;tries {tries};read 0 0 0 1 2 10000", "insert ok;ack ok;tries ok;read " + end, status)
     planned(book, "a plan with a count of 0", "drop 0 0 0 300 0", "", "plan line 1 not understood", 3)
+
+
+def torn(book):
+    """A whole write, and three that stop at words 209, 208 and 207, so that words 207 to 209 are each the first that the next left.
+
+    They record 34, 34 and 3F, each after a bit 1, so without a first clock, and each stands behind a bit 0 of the next write. So
+    their clocks are lost as those of three A1 that begin at cell 6 of word 206, and the bits behind them are an address field.
+    The check that the whole write left is that of the content in the end: 01 10 21 is the check's polynomial.
+    """
+    marks, key = b"\xA1\xA1\xA1\xFE", bytes([0, 0, 19, 2])
+    field = marks + key + crc(marks + key)
+    bits = (1 << 8 * len(field) | int.from_bytes(field, "big")) << 5     # the field's bits behind 001
+    stream = bits.to_bytes(len(field) + 1, "big")
+    assert stream[:4] == b"\x34\x34\x34\x3F"
+    disk = Disk(1, 1, tracks=[layout([(0, 0, 1, 2)])])
+
+    def play(end, first, wrote, found, shown):
+        content = first + stream[3:] + b"\x01" * (512 - len(stream))
+        disk.tracks[0][190:end] = window(content)[:end - 190]
+        fills = "".join(";fill %05X 1 %02X" % (0x10000 + i, byte) for i, byte in enumerate(first + stream[3:]))
+        book.play("insert 0 a.rt;ack 0;fill 10000 512 01" + fills + ";write 0 0 0 1 2 10000;read 0 0 0 19 2 20000",
+                  "insert ok;ack ok;fill ok" + ";fill ok" * len(stream) + f";write {wrote};read refused {found}", 1, {"a.rt": disk.file()})
+        book.run("survey a.rt", "0 0 2528 0 0 1 2 " + shown)
+
+    book.scene("writes that stop over two that stopped bring up an address field")
+    book.file("a.rt", Made(disk.file(), "head 0 1 1 0 12500", "lay 2 108 246 12500 00000102"))
+    play(720, b"\x35\x24\x15", "ok", "04", "ok;survey 1")
+    for end, first in (209, b"\x01\x01\x34"), (208, b"\x01\x34\x34"):
+        book.plan(f"cut 0 0 0 {end} 3")
+        play(end, first, "refused 10", "04", "10;survey 1")
+    book.plan("cut 0 0 0 207 1")
+    play(207, b"\x34\x34\x34", "ok", "02", f"ok;0 0 {16 * 206 + 6} 0 0 19 2 02;survey 2")
 
 
 def plans(book):
