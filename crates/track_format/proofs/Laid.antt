@@ -15,7 +15,7 @@ use Rattle.track_model.proofs.Unique.{one_key}
 use Rattle.track_model.proofs.Recorded.{bit_behind, symbol_behind, get_or-recorded, byte_word_bit}
 use Rattle.track_model.proofs.Seams.{IsAlignedAt, IsSeam, IsAligned, unstopped}
 use Rattle.track_model.proofs.Aligned.{aligned_tidy}
-use Rattle.track_model.proofs.Torn.{torn_aligned, torn_addresses, torn_regular}
+use Rattle.track_model.proofs.Torn.{whole_writes, whole_torn, torn_aligned, torn_addresses, torn_regular}
 use Rattle.track_model.proofs.Laid.{comes_aligned, comes_addresses, comes_regular}
 use Rattle.track_format.proofs.Parts.{filler, in_gap}
 use Rattle.track_format.proofs.Tracked.{sector_words}
@@ -119,6 +119,18 @@ laid_regular track laid =
     )
 
 -- ---- what is Torn
+
+-- what is Laid is
+pub laid_torn : (track : List ℕ) → IsLaid track → IsTorn track
+laid_torn track laid =
+    let it = laid.lay in
+    let formatted = lay_aligned laid.formatted it.0 it.1 it.2 it.3 it.4 it.5 in
+    record {
+      formatted = laid.formatted;
+      lay = laid.lay;
+      writes = whole_writes laid.writes;
+      written = whole_torn unstopped laid.formatted laid.writes track (λ q. refl) formatted laid.written;
+    }
 
 torn_is_aligned : (track : List ℕ) → IsTorn track → (stops : ℕ → ℕ) × IsAligned stops track
 torn_is_aligned track torn =

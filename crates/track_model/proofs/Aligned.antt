@@ -10,7 +10,6 @@ use Rattle.track_model.specs.Marks.{data_byte, IsAddressMark}
 use Rattle.track_model.specs.Fields.{after_marks, IsAddressAt, content_size}
 use Rattle.track_model.specs.Writing.{check_bytes, window}
 use Rattle.track_model.specs.Windows.{window_word, window_words, cut_of, IsFieldFor, IsTidy}
-use Rattle.track_model.specs.Regular.{IsSpaced}
 use Rattle.track_model.specs.Kept.{KeepsOthers}
 use Rattle.track_model.proofs.Unique.{one_key}
 use Rattle.track_model.proofs.Frames.{same_back, same_address_mark}
@@ -198,7 +197,7 @@ module _ (stops : ℕ → ℕ) (track : List ℕ) (p : ℕ) (key : Chrn) (delete
   pub cut_keeps : (k : ℕ) → k ≤ length words → KeepsOthers track (cut_of track p k words) p
   cut_keeps k most = cut_kept track p key deleted content k aligned.spaced field most (inl aligned_tidy)
 
-  room : here + length words ≤ length track
+  pub room : here + length words ≤ length track
   room = let inside = aligned.spaced.spans.inside p key field.address in omega (arith, long)
 
   -- ---- what a write leaves that goes at least as far as the one before it there

@@ -6,7 +6,7 @@ use Rattle.flop_base.specs.declared.key.Chrn.{Chrn}
 use Rattle.track_model.specs.Cells.{cell}
 use Rattle.track_model.specs.Bytes.{byte_at}
 use Rattle.track_model.specs.Marks.{data_byte}
-use Rattle.track_model.specs.Fields.{IsAddressAt, content_size}
+use Rattle.track_model.specs.Fields.{IsAddressAt}
 use Rattle.track_model.specs.Windows.{window_word, window_words}
 use Rattle.track_model.specs.Regular.{IsSpaced}
 use Rattle.track_model.proofs.Unique.{one_key}

@@ -32,6 +32,11 @@ ComesTorn stops track (write ∷ rest) after =
     IsOver stops track write
     × ComesTorn (stops_after stops write) (cut_of track write.place write.count (words_of write)) rest after
 
+-- how many words these writes left at each place
+abbrev pub stops_of : (ℕ → ℕ) → List TornWrite → ℕ → ℕ
+stops_of stops [] = stops
+stops_of stops (write ∷ rest) = stops_of (stops_after stops write) rest
+
 -- Torn: a regular formatted track, or what comes from one by such writes
 pub record IsTorn (track : List ℕ) : Type 0 where
   pub formatted : List ℕ
