@@ -5,9 +5,9 @@ ghost use Rattle.track_model.specs.Marks.{IsAddressMark};
 ghost use Rattle.track_model.specs.Fields.{IsAddressAt};
 ghost use Rattle.track_model.specs.Layouts.{lay, Fits};
 ghost use Rattle.track_model.specs.LaidFields.{HasLaidFields, IsKey, HasEndRoom};
-ghost use Rattle.track_model.specs.Windows.{HasFieldFor, IsTidy, cut_of};
+ghost use Rattle.track_model.specs.Windows.{HasFieldFor, IsTidy};
 ghost use Rattle.track_model.specs.Laid.{IsLaid};
-ghost use Rattle.track_model.specs.Torn.{TornWrite, IsOver, IsTorn, words_of, stops_of};
+ghost use Rattle.track_model.specs.Torn.{IsTorn};
 ghost use Rattle.track_model.specs.Regular.{IsSpaced, IsRegular};
 ghost use Rattle.track_model.specs.Sectors.{IsPlain, IsLone};
 ghost use Rattle.track_format.specs.Reads.{HasClearField, AllFilled, HoldsFill};
@@ -78,12 +78,11 @@ pub fn torn_is_tidy(_words: &[u16], _place: usize, _deleted: bool, _content: &[u
     ensures { IsTidy _words.now _place _deleted _content.now }
 {}
 
-/// A Laid track is Torn, and so is a Torn one with one such write more.
-pub fn torn_tracks(_words: &[u16])
-    ensures laid { IsLaid _words.now → IsTorn _words.now }
-    ensures written { (torn : IsTorn _words.now) (write : TornWrite)
-        → IsOver (stops_of (λ p. 0) torn.writes) _words.now write
-        → IsTorn (cut_of _words.now write.place write.count (words_of write)) }
+/// A Laid track is Torn.
+#[tactic(auto, using(crate::proofs::Laid::laid_torn))]
+pub fn laid_is_torn(_words: &[u16])
+    requires { IsLaid _words.now }
+    ensures { IsTorn _words.now }
 {}
 
 /// A Torn track is regular, with the address fields of the formatted track that it comes from.

@@ -4,16 +4,16 @@ use Rattle.std.proofs.lemmas.Bool.{cases_eq, eq-eqb, ne_eqb, cond-true, cond-fal
 use Rattle.flop_base.specs.declared.key.Chrn.{Chrn}
 use Rattle.track_model.specs.Fields.{IsAddressAt}
 use Rattle.track_model.specs.Writing.{window}
-use Rattle.track_model.specs.Windows.{cut_of}
 use Rattle.track_model.specs.Regular.{IsRegular}
 use Rattle.track_model.specs.Laid.{FieldWrite, with_window, ComesBy}
-use Rattle.track_model.specs.Torn.{TornWrite, words_of, stops_after, stops_of, IsOver, ComesTorn, IsTorn}
+use Rattle.track_model.specs.Torn.{TornWrite, words_of, stops_after, stops_of, with_torn, IsOver, ComesTorn, IsTorn}
 use Rattle.track_model.proofs.Seams.{IsAligned, unstopped}
 use Rattle.track_model.proofs.Aligned.{room, cut_keeps, cut_aligned, whole_aligned}
 
 module _ (stops : ℕ → ℕ) (write : TornWrite) where
   stops_own : stops_after stops write write.place ≡ (cond (eqb write.count (length (words_of write))) 0 write.count)
-  stops_own = cond-true (eqb write.place write.place) (cond (eqb write.count (length (words_of write))) 0 write.count) (stops write.place) (eq-eqb write.place write.place refl)
+  stops_own =
+      cond-true (eqb write.place write.place) (cond (eqb write.count (length (words_of write))) 0 write.count) (stops write.place) (eq-eqb write.place write.place refl)
 
   stops_whole : write.count ≡ length (words_of write) → stops_after stops write write.place ≡ 0
   stops_whole all = stops_own ∙ cond-true (eqb write.count (length (words_of write))) 0 write.count (eq-eqb write.count (length (words_of write)) all)
@@ -33,7 +33,7 @@ module _ (stops : ℕ → ℕ) (write : TornWrite) where
 
   module _ (track : List ℕ) (aligned : IsAligned stops track) (is : IsOver stops track write) where
     abbrev left : List ℕ
-    left = cut_of track write.place write.count (words_of write)
+    left = with_torn track write
 
     write_aligned : IsAligned (stops_after stops write) left
     write_aligned =
@@ -49,35 +49,40 @@ module _ (stops : ℕ → ℕ) (write : TornWrite) where
         (cut_keeps stops track write.place is.field.0 write.deleted write.content aligned is.field.1 write.count is.cuttable.most).regular
 
 -- what comes from an Aligned track is Aligned
-pub torn_aligned : (stops : ℕ → ℕ) (track : List ℕ) (writes : List TornWrite) (after : List ℕ) → IsAligned stops track → ComesTorn stops track writes after → (later : ℕ → ℕ) × IsAligned later after
+pub torn_aligned : (stops : ℕ → ℕ) (track : List ℕ) (writes : List TornWrite) (after : List ℕ) → IsAligned stops track
+    → ComesTorn stops track writes after → (later : ℕ → ℕ) × IsAligned later after
 torn_aligned stops track [] after aligned same = (stops, subst (IsAligned stops) (sym same) aligned)
 torn_aligned stops track (write ∷ writes) after aligned (is, rest) =
-    torn_aligned (stops_after stops write) (cut_of track write.place write.count (words_of write)) writes after (write_aligned stops write track aligned is) rest
+    torn_aligned (stops_after stops write) (with_torn track write) writes after (write_aligned stops write track aligned is) rest
 
 -- it has the same address fields
-pub torn_addresses : (stops : ℕ → ℕ) (track : List ℕ) (writes : List TornWrite) (after : List ℕ) → IsAligned stops track → ComesTorn stops track writes after → (q : ℕ) (key : Chrn) → IsAddressAt track q key ↔ IsAddressAt after q key
+pub torn_addresses : (stops : ℕ → ℕ) (track : List ℕ) (writes : List TornWrite) (after : List ℕ) → IsAligned stops track
+    → ComesTorn stops track writes after → (q : ℕ) (key : Chrn) → IsAddressAt track q key ↔ IsAddressAt after q key
 torn_addresses stops track [] after aligned same q key =
     (λ a. subst (λ it. IsAddressAt it q key) (sym same) a, λ a. subst (λ it. IsAddressAt it q key) same a)
 torn_addresses stops track (write ∷ writes) after aligned (is, rest) q key =
     let here = write_addresses stops write track aligned is q key in
-    let more = torn_addresses (stops_after stops write) (cut_of track write.place write.count (words_of write)) writes after (write_aligned stops write track aligned is) rest q key in
+    let more = torn_addresses (stops_after stops write) (with_torn track write) writes after (write_aligned stops write track aligned is) rest q key in
     (λ a. more.0 (here.0 a), λ a. here.1 (more.1 a))
 
 -- and is regular where the track is
-pub torn_regular : (stops : ℕ → ℕ) (track : List ℕ) (writes : List TornWrite) (after : List ℕ) (c h : ℕ) → IsAligned stops track → ComesTorn stops track writes after → IsRegular track c h → IsRegular after c h
+pub torn_regular : (stops : ℕ → ℕ) (track : List ℕ) (writes : List TornWrite) (after : List ℕ) (c h : ℕ) → IsAligned stops track
+    → ComesTorn stops track writes after → IsRegular track c h → IsRegular after c h
 torn_regular stops track [] after c h aligned same regular = subst (λ it. IsRegular it c h) (sym same) regular
 torn_regular stops track (write ∷ writes) after c h aligned (is, rest) regular =
-    torn_regular (stops_after stops write) (cut_of track write.place write.count (words_of write)) writes after c h (write_aligned stops write track aligned is) rest (write_regular stops write track aligned is c h regular)
+    torn_regular (stops_after stops write) (with_torn track write) writes after c h (write_aligned stops write track aligned is) rest
+    (write_regular stops write track aligned is c h regular)
 
 -- one write more behind the others
-pub torn_more : (stops : ℕ → ℕ) (track : List ℕ) (writes : List TornWrite) (after : List ℕ) (write : TornWrite) → ComesTorn stops track writes after → IsOver (stops_of stops writes) after write → ComesTorn stops track (writes ++ write ∷ []) (cut_of after write.place write.count (words_of write))
+pub torn_more : (stops : ℕ → ℕ) (track : List ℕ) (writes : List TornWrite) (after : List ℕ) (write : TornWrite)
+    → ComesTorn stops track writes after → IsOver (stops_of stops writes) after write → ComesTorn stops track (writes ++ write ∷ []) (with_torn after write)
 torn_more stops track [] after write same over =
-    subst (λ it. IsOver stops it write × (cut_of after write.place write.count (words_of write) ≡ cut_of it write.place write.count (words_of write))) same (over, refl)
+    subst (λ it. IsOver stops it write × (with_torn after write ≡ with_torn it write)) same (over, refl)
 torn_more stops track (first ∷ writes) after write (is, rest) over =
-    (is, torn_more (stops_after stops first) (cut_of track first.place first.count (words_of first)) writes after write rest over)
+    (is, torn_more (stops_after stops first) (with_torn track first) writes after write rest over)
 
 -- a Torn track with such a write is Torn
-pub write_torn : (track : List ℕ) (torn : IsTorn track) (write : TornWrite) → IsOver (stops_of (λ p. 0) torn.writes) track write → IsTorn (cut_of track write.place write.count (words_of write))
+pub write_torn : (track : List ℕ) (torn : IsTorn track) (write : TornWrite) → IsOver (stops_of (λ p. 0) torn.writes) track write → IsTorn (with_torn track write)
 write_torn track torn write over = record {
   formatted = torn.formatted;
   lay = torn.lay;
@@ -95,7 +100,8 @@ abbrev pub whole_writes : List FieldWrite → List TornWrite
 whole_writes [] = []
 whole_writes (write ∷ rest) = whole_write write ∷ whole_writes rest
 
-pub whole_torn : (stops : ℕ → ℕ) (track : List ℕ) (writes : List FieldWrite) (after : List ℕ) → ((q : ℕ) → stops q ≡ 0) → IsAligned unstopped track → ComesBy track writes after → ComesTorn stops track (whole_writes writes) after
+pub whole_torn : (stops : ℕ → ℕ) (track : List ℕ) (writes : List FieldWrite) (after : List ℕ)
+    → ((q : ℕ) → stops q ≡ 0) → IsAligned unstopped track → ComesBy track writes after → ComesTorn stops track (whole_writes writes) after
 whole_torn stops track [] after none aligned same = same
 whole_torn stops track (write ∷ writes) after none aligned (field, rest) =
     let whole = whole_write write in

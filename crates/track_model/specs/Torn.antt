@@ -15,6 +15,10 @@ pub record TornWrite : Type 0 where
 abbrev pub words_of : TornWrite → List ℕ
 words_of write = window write.deleted write.content
 
+-- the track with the words that are written
+abbrev pub with_torn : List ℕ → TornWrite → List ℕ
+with_torn track write = cut_of track write.place write.count (words_of write)
+
 -- how many words the last write at each place left, 0 where it was whole or there was none
 abbrev pub stops_after : (ℕ → ℕ) → TornWrite → ℕ → ℕ
 stops_after stops write q = if q == write.place then (if write.count == length (words_of write) then 0 else write.count) else stops q
@@ -29,8 +33,7 @@ pub record IsOver (stops : ℕ → ℕ) (track : List ℕ) (write : TornWrite) :
 abbrev pub ComesTorn : (ℕ → ℕ) → List ℕ → List TornWrite → List ℕ → Type 0
 ComesTorn stops track [] after = after ≡ track
 ComesTorn stops track (write ∷ rest) after =
-    IsOver stops track write
-    × ComesTorn (stops_after stops write) (cut_of track write.place write.count (words_of write)) rest after
+    IsOver stops track write × ComesTorn (stops_after stops write) (with_torn track write) rest after
 
 -- how many words these writes left at each place
 abbrev pub stops_of : (ℕ → ℕ) → List TornWrite → ℕ → ℕ
