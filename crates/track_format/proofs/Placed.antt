@@ -14,7 +14,7 @@ use Rattle.track_model.specs.Layouts.{word_after, symbol_byte, field_symbols, ad
 use Rattle.track_model.proofs.CrcSteps.{crc_below}
 use Rattle.track_model.proofs.Places.{cells_at-word}
 use Rattle.track_model.proofs.Recorded.{get_or-recorded, symbol_behind, byte_at-recorded, word_some}
-use Rattle.track_format.proofs.Parts.{filler, in_marks, in_symbols, in_high, in_low, check_of}
+use Rattle.track_format.proofs.Parts.{filler, in_marks, in_symbols, in_high, in_low, in_gap, check_of}
 use Rattle.track_format.proofs.Steps.{length-data_content}
 use Rattle.track_format.proofs.Tracked.{sector_words, length-all, sector_ends}
 use Rattle.track_format.proofs.Runs.{symbols, track, are_marks, length-track, address_symbol, data_symbol}
@@ -179,6 +179,16 @@ module _ (n gap3 fill : ℕ) (keys : List Chrn) (d : Chrn) (words : ℕ) (fits :
 
   pub first_byte : (i : ℕ) → i < length keys → byte_at laid (data_place i + 48) ≡ 0xFB
   first_byte i h = data_byte_is i 0 (data_place i + 48) (Byte 0xFB) h (omega arith) (omega arith) refl (lit< tt)
+
+  -- behind its check stands a gap
+  pub gap_byte : (i : ℕ) → i < length keys → 1 ≤ gap3 → byte_at laid (16 * (begin i + 62 + content_size n)) ≡ 0x4E
+  gap_byte i h wide =
+      let content = data_content (content_size n) fill in
+      let room = inside_of i (62 + content_size n) h (omega arith) in
+      byte_is (16 * (begin i + 62 + content_size n)) (begin i + 62 + content_size n) filler refl (omega arith)
+      (at_data i (18 + content_size n) (begin i + 62 + content_size n) h (omega arith) (omega arith)
+      ∙ in_gap content gap3 (18 + content_size n) (omega (arith, length-data_content (content_size n) fill)))
+      (lit< tt)
 
   pub content_is : (i : ℕ) → i < length keys → fill < 256 → content_at laid (data_place i + 64) n ≡ replicate (content_size n) fill
   content_is i h fit =

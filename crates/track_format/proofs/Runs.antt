@@ -295,7 +295,7 @@ module _ (size gap3 fill : ℕ) (keys : List Chrn) (d : Chrn) (words : ℕ) (fit
   -- every run is in front of an address field's bytes or a data field's
   pub run_place : (p : ℕ) → IsRun track p → (k i : ℕ) × (p ≡ 16 * k) × (i < length keys) × ((k ≡ start i + 12) ⊎ (k ≡ start i + 56))
   run_place p run =
-      let found = run_at_word Nowhere false track (are_words Nowhere) (λ k one two three. one) p run in
+      let found = run_at_word Nowhere false track (are_words Nowhere) (λ k one two three bit. one) p run in
       let k = found.0 in
       let here = found.1 in
       let last_inside = word_inside (k + 2) here.third in

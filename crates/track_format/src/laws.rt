@@ -7,6 +7,7 @@ ghost use Rattle.track_model.specs.Layouts.{lay, Fits};
 ghost use Rattle.track_model.specs.LaidFields.{HasLaidFields, IsKey, HasEndRoom};
 ghost use Rattle.track_model.specs.Windows.{HasFieldFor, IsTidy};
 ghost use Rattle.track_model.specs.Laid.{IsLaid};
+ghost use Rattle.track_model.specs.Torn.{IsTorn};
 ghost use Rattle.track_model.specs.Regular.{IsSpaced, IsRegular};
 ghost use Rattle.track_model.specs.Sectors.{IsPlain, IsLone};
 ghost use Rattle.track_format.specs.Reads.{HasClearField, AllFilled, HoldsFill};
@@ -66,4 +67,29 @@ pub fn laid_is_regular(_words: &[u16])
     ensures regular { (c h : ℕ) × IsRegular _words.now c h }
     ensures addresses { (laid : IsLaid _words.now) (q : ℕ) (key : Chrn)
         → IsAddressAt laid.formatted q key ↔ IsAddressAt _words.now q key }
+{}
+
+/// On a Torn track, what comes from a regular formatted track by writes that may stop anywhere, but none short of one before
+/// it at its place that stopped, no write brings up an address mark, however short it stops.
+#[tactic(auto, using(crate::proofs::Laid::torn_tidy))]
+pub fn torn_is_tidy(_words: &[u16], _place: usize, _deleted: bool, _content: &[u8])
+    requires torn { IsTorn _words.now }
+    requires field { HasFieldFor _words.now _place _content.now }
+    ensures { IsTidy _words.now _place _deleted _content.now }
+{}
+
+/// A Laid track is Torn.
+#[tactic(auto, using(crate::proofs::Laid::laid_torn))]
+pub fn laid_is_torn(_words: &[u16])
+    requires { IsLaid _words.now }
+    ensures { IsTorn _words.now }
+{}
+
+/// A Torn track is regular, with the address fields of the formatted track that it comes from.
+pub fn torn_is_regular(_words: &[u16])
+    requires { IsTorn _words.now }
+    ensures spaced { IsSpaced _words.now }
+    ensures regular { (c h : ℕ) × IsRegular _words.now c h }
+    ensures addresses { (torn : IsTorn _words.now) (q : ℕ) (key : Chrn)
+        → IsAddressAt torn.formatted q key ↔ IsAddressAt _words.now q key }
 {}

@@ -1,6 +1,6 @@
 -- Tracks on which each data field stands word by word where its window does: no cut of a window brings up an address mark.
-use Rattle.std.proofs.Common.{◌≡◌, ℕ, ◌+◌, ◌-◌, ◌*◌, ◌<◌, ◌≤◌, Bool, true, false, List, [], ◌∷◌, ◌++◌, length, get_or, take, refl, sym, ap, subst, ◌∙◌, ◌⊎◌, arith, inl, inr}
-use Rattle.std.proofs.lemmas.Bool.{cases_lt, cases_order}
+use Rattle.std.proofs.Common.{◌≡◌, ◌≢◌, ℕ, ◌+◌, ◌-◌, ◌*◌, ◌<◌, ◌≤◌, Bool, true, false, List, [], ◌∷◌, ◌++◌, length, get_or, take, refl, sym, ap, subst, ◌∙◌, ◌⊎◌, arith, inl, inr}
+use Rattle.std.proofs.lemmas.Bool.{cases_eq, cases_lt, cases_order}
 use Rattle.std.proofs.lemmas.List.{length-take}
 use Rattle.flop_base.specs.declared.key.Chrn.{Chrn}
 use Rattle.track_model.specs.Crc.{crc}
@@ -10,7 +10,6 @@ use Rattle.track_model.specs.Marks.{data_byte, IsAddressMark}
 use Rattle.track_model.specs.Fields.{after_marks, IsAddressAt, content_size}
 use Rattle.track_model.specs.Writing.{check_bytes, window}
 use Rattle.track_model.specs.Windows.{window_word, window_words, cut_of, IsFieldFor, IsTidy}
-use Rattle.track_model.specs.Regular.{IsSpaced}
 use Rattle.track_model.specs.Kept.{KeepsOthers}
 use Rattle.track_model.proofs.Unique.{one_key}
 use Rattle.track_model.proofs.Frames.{same_back, same_address_mark}
@@ -18,28 +17,10 @@ use Rattle.track_model.proofs.Places.{cells_at-word}
 use Rattle.track_model.proofs.Splices.{same_before, same_behind}
 use Rattle.track_model.proofs.Written.{length-window}
 use Rattle.track_model.proofs.WindowMarks.{marks_in, byte_behind}
-use Rattle.track_model.proofs.Recorded.{bit_behind, AreWords, AreSparse, IsRunAtWord, run_at_word, byte_at_word}
+use Rattle.track_model.proofs.Recorded.{AreWords, AreSparse, IsRunAtWord, run_at_word, byte_at_word}
+use Rattle.track_model.proofs.Seams.{IsAlignedAt, IsSeam, IsAligned, unstopped, sparse}
 use Rattle.track_model.proofs.WindowWords.{moved_word, same_bit, marked_words, put_before, put_at, put_behind, put_words}
 use Rattle.track_model.proofs.Kept.{cut_kept}
-
--- before a window's place stands a bit 0, and at the place of its mark byte the byte of a data field
-pub record IsAlignedAt (track : List ℕ) (start : ℕ) : Type 0 where
-  pub bit : bit_behind false track start ≡ false
-  pub deleted : Bool
-  pub byte : byte_at track (16 * (start + 15)) ≡ data_byte deleted
-
--- word k is the first behind the window of an address field
-pub record IsBehind (track : List ℕ) (k : ℕ) : Type 0 where
-  pub place : ℕ
-  pub key : Chrn
-  pub address : IsAddressAt track place key
-  pub word : k ≡ window_word place + window_words key.n
-
--- Aligned: a Spaced track of recorded words, with seams behind its windows alone
-pub record IsAligned (track : List ℕ) : Type 0 where
-  pub spaced : IsSpaced track
-  pub words : AreWords (IsBehind track) false track
-  pub fields : (p : ℕ) (key : Chrn) → IsAddressAt track p key → IsAlignedAt track (window_word p)
 
 same_byte : (track after : List ℕ) (i j : ℕ) → get_or after j 0 ≡ get_or track i 0 → byte_at after (16 * j) ≡ byte_at track (16 * i)
 same_byte track after i j same =
@@ -86,38 +67,9 @@ window_byte deleted content track i same =
     let check = check_bytes (crc (after_marks (data_byte deleted ∷ content))) in
     same_byte words track 15 i same ∙ byte_behind deleted (content ++ check)
 
--- ---- two windows of an Aligned track end far from each other
-
-module _ (track : List ℕ) (spaced : IsSpaced track) where
-  ends_apart : (j k : ℕ) → IsBehind track j → IsBehind track k → j < k → k ≤ j + 2 → ⊥
-  ends_apart j k one two less near =
-      let e = one.word in
-      let f = two.word in
-      elim (cases_order one.place two.place) [
-        | inl same ↦
-            let moved = subst (λ p. IsAddressAt track p one.key) same one.address in
-            let keys = one_key track two.place one.key two.key moved two.address in
-            let places : window_word one.place ≡ window_word two.place = ap window_word same in
-            let sizes : content_size one.key.n ≡ content_size two.key.n = ap (λ (key : Chrn). content_size key.n) keys in
-            omega arith
-        | inr (inl before) ↦
-            let far = spaced.spans.apart one.place two.place one.key two.key one.address two.address before in omega arith
-        | inr (inr behind) ↦
-            let far = spaced.spans.apart two.place one.place two.key one.key two.address one.address behind in omega arith
-      ]
-
-  -- so with one seam more no three words are seams
-  sparse : (end : ℕ) → AreSparse (λ i. IsBehind track i ⊎ (i ≡ end))
-  sparse end k (inl a) (inl b) c = ends_apart k (k + 1) a b (omega arith) (omega arith)
-  sparse end k (inl a) (inr b) (inl c) = ends_apart k (k + 2) a c (omega arith) (omega arith)
-  sparse end k (inl a) (inr b) (inr c) = omega (arith, b, c)
-  sparse end k (inr a) (inl b) (inl c) = ends_apart (k + 1) (k + 2) b c (omega arith) (omega arith)
-  sparse end k (inr a) (inl b) (inr c) = omega (arith, a, c)
-  sparse end k (inr a) (inr b) c = omega (arith, a, b)
-
 -- ---- a cut of a window
 
-module _ (track : List ℕ) (p : ℕ) (key : Chrn) (deleted : Bool) (content : List ℕ) (aligned : IsAligned track) (field : IsFieldFor track p key content) where
+module _ (stops : ℕ → ℕ) (track : List ℕ) (p : ℕ) (key : Chrn) (deleted : Bool) (content : List ℕ) (aligned : IsAligned stops track) (field : IsFieldFor track p key content) where
   abbrev here : ℕ
   here = window_word p
 
@@ -140,8 +92,44 @@ module _ (track : List ℕ) (p : ℕ) (key : Chrn) (deleted : Bool) (content : L
     abbrev after : List ℕ
     after = cut_of track p k words
 
-    cut_words : AreWords (λ i. IsBehind track i ⊎ (i ≡ here + k)) false after
-    cut_words = put_words track here words k most inside (aligned.fields p key field.address).bit (IsBehind track) aligned.words own_words
+    -- the seams that are left, and one behind the cut
+    abbrev Left : ℕ → Type 0
+    Left i = (IsSeam stops track i × ((i < here) ⊎ (here + k ≤ i))) ⊎ (i ≡ here + k)
+
+    pub cut_words : AreWords Left false after
+    cut_words = put_words track here words k most inside (aligned.fields p key field.address).bit (IsSeam stops track) aligned.words own_words
+
+    -- the word behind a window is the old one
+    gap_word : (q : ℕ) (other : Chrn) → IsAddressAt track q other → get_or after (window_word q + window_words other.n) 0 ≡ get_or track (window_word q + window_words other.n) 0
+    gap_word q other address =
+        let end = window_word q + window_words other.n in
+        elim (cases_order q p) [
+          | inl e ↦
+              let moved = subst (λ m. IsAddressAt track m other) e address in
+              let keys = one_key track p other key moved field.address in
+              let places : window_word q ≡ here = ap window_word e in
+              let sizes : content_size other.n ≡ content_size key.n = ap (λ (it : Chrn). content_size it.n) keys in
+              put_behind track here words k most inside end (omega (arith, long))
+          | inr (inl before) ↦
+              let far = aligned.spaced.spans.apart q p other key address field.address before in
+              put_before track here words k most inside end (omega arith)
+          | inr (inr behind) ↦
+              let far = aligned.spaced.spans.apart p q key other field.address address behind in
+              put_behind track here words k most inside end (omega (arith, long))
+        ]
+
+    pub gap_byte : (q : ℕ) (other : Chrn) → IsAddressAt track q other → byte_at after (16 * (window_word q + window_words other.n)) ≡ 0x4E
+    gap_byte q other address =
+        let end = window_word q + window_words other.n in
+        same_byte track after end end (gap_word q other address) ∙ aligned.gaps q other address
+
+    was : (i : ℕ) → Left i → IsSeam stops track i ⊎ (i ≡ here + k)
+    was i (inl seam) = inl seam.0
+    was i (inr e) = inr e
+
+    are_sparse : AreSparse Left after
+    are_sparse i one two three bit =
+        sparse stops track aligned k p key field.address (omega (arith, long)) after gap_byte i (was i one) (was (i + 1) two) (was (i + 2) three) bit
 
     -- the place of the window stays aligned
     pub own_aligned : IsAlignedAt after here
@@ -182,7 +170,7 @@ module _ (track : List ℕ) (p : ℕ) (key : Chrn) (deleted : Bool) (content : L
 
     pub old_mark : (q : ℕ) → IsAddressMark after q → IsAddressMark track q
     old_mark q mark =
-        let found = run_at_word (λ i. IsBehind track i ⊎ (i ≡ here + k)) false after cut_words (sparse track aligned.spaced (here + k)) q mark.run in
+        let found = run_at_word Left false after cut_words are_sparse q mark.run in
         let j = found.0 in
         let run = found.1 in
         let place = run.place in
@@ -206,52 +194,108 @@ module _ (track : List ℕ) (p : ℕ) (key : Chrn) (deleted : Bool) (content : L
   pub aligned_tidy : IsTidy track p deleted content
   aligned_tidy k q cuttable mark = old_mark k cuttable.most cuttable.inside q mark
 
-  -- ---- the whole window
+  pub cut_keeps : (k : ℕ) → k ≤ length words → KeepsOthers track (cut_of track p k words) p
+  cut_keeps k most = cut_kept track p key deleted content k aligned.spaced field most (inl aligned_tidy)
 
-  abbrev pub whole : List ℕ
-  whole = cut_of track p (length words) words
-
-  all : length words ≤ length words
-  all = omega arith
-
-  pub whole_keeps : KeepsOthers track whole p
-  whole_keeps = cut_kept track p key deleted content (length words) aligned.spaced field all (inr refl)
-
-  room : here + length words ≤ length track
+  pub room : here + length words ≤ length track
   room = let inside = aligned.spaced.spans.inside p key field.address in omega (arith, long)
 
-  same_aligned : (start : ℕ) → ((i : ℕ) → start ≤ i + 1 → i ≤ start + 15 → get_or whole i 0 ≡ get_or track i 0) → IsAlignedAt track start → IsAlignedAt whole start
-  same_aligned start same was = record {
-    bit = sym (same_bit false track whole start (λ j e. same j (omega arith) (omega arith))) ∙ was.bit;
-    deleted = was.deleted;
-    byte = same_byte track whole (start + 15) (start + 15) (same (start + 15) (omega arith) (omega arith)) ∙ was.byte;
-  }
+  -- ---- what a write leaves that goes at least as far as the one before it there
 
-  whole_behind : (i : ℕ) → IsBehind track i ⊎ (i ≡ here + length words) → IsBehind whole i
-  whole_behind i (inl seam) =
-      record { place = seam.place; key = seam.key; address = (whole_keeps.addresses seam.place seam.key).0 seam.address; word = seam.word }
-  whole_behind i (inr e) =
-      record { place = p; key = key; address = (whole_keeps.addresses p key).0 field.address; word = omega (arith, e, long) }
+  module _ (k : ℕ) (most : k ≤ length words) (over : stops p ≤ k) (later : ℕ → ℕ) (others : (q : ℕ) → q ≢ p → later q ≡ stops q) (own : (later p ≡ k) ⊎ ((k ≡ length words) × (later p ≡ 0))) where
+    abbrev left : List ℕ
+    left = cut_of track p k words
 
-  whole_fields : (q : ℕ) (other : Chrn) → IsAddressAt whole q other → IsAlignedAt whole (window_word q)
-  whole_fields q other address =
-      let was = (whole_keeps.addresses q other).1 address in
-      elim (cases_order q p) [
-        | inl e ↦
-            subst (λ m. IsAlignedAt whole (window_word m)) (sym e) (own_aligned (length words) all room)
-        | inr (inl h) ↦
-            let far = aligned.spaced.spans.apart q p other key was field.address h in
-            same_aligned (window_word q) (λ i low high. put_before track here words (length words) all room i (omega arith)) (aligned.fields q other was)
-        | inr (inr h) ↦
-            let far = aligned.spaced.spans.apart p q key other field.address was h in
-            same_aligned (window_word q) (λ i low high. put_behind track here words (length words) all room i (omega (arith, long))) (aligned.fields q other was)
-      ]
+    within : here + k ≤ length track
+    within = omega (arith, room)
 
-  -- a whole window leaves an Aligned track
-  pub whole_aligned : IsAligned whole
-  whole_aligned = record {
-    spaced = whole_keeps.spaced;
-    words = λ i h.
-        moved_word (λ j. IsBehind track j ⊎ (j ≡ here + length words)) (IsBehind whole) false false whole whole i i refl (inl refl) (whole_behind i) (cut_words (length words) all room i h);
-    fields = whole_fields;
-  }
+    kept : KeepsOthers track left p
+    kept = cut_keeps k most
+
+    end_seam : (i : ℕ) → i ≡ here + k → IsSeam later left i
+    end_seam i e = record {
+      place = p;
+      key = key;
+      address = (kept.addresses p key).0 field.address;
+      word = elim own [ inl same ↦ inr (e ∙ ap (λ m. here + m) (sym same)) | inr (all, none) ↦ inl (omega (arith, e, all, long)) ];
+    }
+
+    seam_stays : (i : ℕ) → Left k most within i → IsSeam later left i
+    seam_stays i (inr e) = end_seam i e
+    seam_stays i (inl (seam, outside)) =
+        let address = (kept.addresses seam.place seam.key).0 seam.address in
+        elim seam.word [
+          | inl e ↦ record { place = seam.place; key = seam.key; address = address; word = inl e }
+          | inr e ↦
+              elim (cases_eq seam.place p) [
+                | inl same ↦
+                    let there : i ≡ here + stops p = e ∙ ap (λ q. window_word q + stops q) same in
+                    elim outside [ inl low ↦ absurd (omega arith) | inr high ↦ end_seam i (omega arith) ]
+                | inr other ↦
+                    record {
+                      place = seam.place;
+                      key = seam.key;
+                      address = address;
+                      word = inr (e ∙ ap (λ m. window_word seam.place + m) (sym (others seam.place other)));
+                    }
+              ]
+        ]
+
+    same_aligned : (start : ℕ) → ((i : ℕ) → start ≤ i + 1 → i ≤ start + 15 → get_or left i 0 ≡ get_or track i 0) → IsAlignedAt track start → IsAlignedAt left start
+    same_aligned start same there = record {
+      bit = sym (same_bit false track left start (λ j e. same j (omega arith) (omega arith))) ∙ there.bit;
+      deleted = there.deleted;
+      byte = same_byte track left (start + 15) (start + 15) (same (start + 15) (omega arith) (omega arith)) ∙ there.byte;
+    }
+
+    field_stays : (q : ℕ) (other : Chrn) → IsAddressAt left q other → IsAlignedAt left (window_word q)
+    field_stays q other address =
+        let old = (kept.addresses q other).1 address in
+        elim (cases_order q p) [
+          | inl e ↦ subst (λ m. IsAlignedAt left (window_word m)) (sym e) (own_aligned k most within)
+          | inr (inl h) ↦
+              let far = aligned.spaced.spans.apart q p other key old field.address h in
+              same_aligned (window_word q) (λ i low high. put_before track here words k most within i (omega arith)) (aligned.fields q other old)
+          | inr (inr h) ↦
+              let far = aligned.spaced.spans.apart p q key other field.address old h in
+              same_aligned (window_word q) (λ i low high. put_behind track here words k most within i (omega (arith, long))) (aligned.fields q other old)
+        ]
+
+    own_short : later p ≤ window_words key.n
+    own_short = elim own [ inl same ↦ omega (arith, same, long) | inr (all, none) ↦ omega (arith, none) ]
+
+    short_stays : (q : ℕ) (other : Chrn) → IsAddressAt left q other → later q ≤ window_words other.n
+    short_stays q other address =
+        let old = (kept.addresses q other).1 address in
+        elim (cases_eq q p) [
+          | inl e ↦
+              let keys = one_key track p other key (subst (λ m. IsAddressAt track m other) e old) field.address in
+              subst (λ (it : Chrn). later q ≤ window_words it.n) (sym keys) (subst (λ m. later m ≤ window_words key.n) (sym e) own_short)
+          | inr h ↦
+              let same = others q h in
+              let short = aligned.short q other old in omega (arith, same, short)
+        ]
+
+    pub cut_aligned : IsAligned later left
+    cut_aligned = record {
+      spaced = kept.spaced;
+      words = λ i h.
+          moved_word (Left k most within) (IsSeam later left) false false left left i i refl (inl refl) (seam_stays i) (cut_words k most within i h);
+      fields = field_stays;
+      gaps = λ q other address. gap_byte k most within q other ((kept.addresses q other).1 address);
+      short = short_stays;
+    }
+
+-- ---- the whole window
+
+module _ (track : List ℕ) (p : ℕ) (key : Chrn) (deleted : Bool) (content : List ℕ) (aligned : IsAligned unstopped track) (field : IsFieldFor track p key content) where
+  all : length (window deleted content) ≤ length (window deleted content)
+  all = omega arith
+
+  pub whole_keeps : KeepsOthers track (cut_of track p (length (window deleted content)) (window deleted content)) p
+  whole_keeps = cut_keeps unstopped track p key deleted content aligned field (length (window deleted content)) all
+
+  -- a whole window leaves a track where no write stopped one
+  pub whole_aligned : IsAligned unstopped (cut_of track p (length (window deleted content)) (window deleted content))
+  whole_aligned =
+      cut_aligned unstopped track p key deleted content aligned field (length (window deleted content)) all (omega arith) unstopped (λ q h. refl) (inr (refl, refl))

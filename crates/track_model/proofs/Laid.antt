@@ -5,7 +5,8 @@ use Rattle.track_model.specs.Fields.{IsAddressAt}
 use Rattle.track_model.specs.Windows.{HasFieldFor}
 use Rattle.track_model.specs.Regular.{IsRegular}
 use Rattle.track_model.specs.Laid.{IsRegularLay, FieldWrite, with_window, ComesBy, IsLaid}
-use Rattle.track_model.proofs.Aligned.{IsAligned, whole_aligned, whole_keeps}
+use Rattle.track_model.proofs.Aligned.{whole_aligned, whole_keeps}
+use Rattle.track_model.proofs.Seams.{IsAligned, unstopped}
 
 -- a regular formatted track is Laid
 pub lay_laid : (track : List ℕ) (keys : List Chrn) (n gap3 fill words : ℕ) → IsRegularLay track keys n gap3 fill words → IsLaid track
@@ -29,15 +30,15 @@ written_laid track p deleted content laid field = record {
 }
 
 -- what comes from an Aligned track is Aligned
-pub comes_aligned : (track : List ℕ) (writes : List FieldWrite) (after : List ℕ) → IsAligned track → ComesBy track writes after → IsAligned after
-comes_aligned track [] after aligned same = subst IsAligned (sym same) aligned
+pub comes_aligned : (track : List ℕ) (writes : List FieldWrite) (after : List ℕ) → IsAligned unstopped track → ComesBy track writes after → IsAligned unstopped after
+comes_aligned track [] after aligned same = subst (IsAligned unstopped) (sym same) aligned
 comes_aligned track (write ∷ writes) after aligned (field, rest) =
     comes_aligned (with_window track write.place write.deleted write.content) writes after
     (whole_aligned track write.place field.0 write.deleted write.content aligned field.1)
     rest
 
 -- it has the same address fields
-pub comes_addresses : (track : List ℕ) (writes : List FieldWrite) (after : List ℕ) → IsAligned track → ComesBy track writes after → (q : ℕ) (key : Chrn) → IsAddressAt track q key ↔ IsAddressAt after q key
+pub comes_addresses : (track : List ℕ) (writes : List FieldWrite) (after : List ℕ) → IsAligned unstopped track → ComesBy track writes after → (q : ℕ) (key : Chrn) → IsAddressAt track q key ↔ IsAddressAt after q key
 comes_addresses track [] after aligned same q key =
     (λ a. subst (λ it. IsAddressAt it q key) (sym same) a, λ a. subst (λ it. IsAddressAt it q key) same a)
 comes_addresses track (write ∷ writes) after aligned (field, rest) q key =
@@ -46,7 +47,7 @@ comes_addresses track (write ∷ writes) after aligned (field, rest) q key =
     (λ a. more.0 (here.0 a), λ a. here.1 (more.1 a))
 
 -- and is regular where the track is
-pub comes_regular : (track : List ℕ) (writes : List FieldWrite) (after : List ℕ) (c h : ℕ) → IsAligned track → ComesBy track writes after → IsRegular track c h → IsRegular after c h
+pub comes_regular : (track : List ℕ) (writes : List FieldWrite) (after : List ℕ) (c h : ℕ) → IsAligned unstopped track → ComesBy track writes after → IsRegular track c h → IsRegular after c h
 comes_regular track [] after c h aligned same regular = subst (λ it. IsRegular it c h) (sym same) regular
 comes_regular track (write ∷ writes) after c h aligned (field, rest) regular =
     comes_regular (with_window track write.place write.deleted write.content) writes after c h

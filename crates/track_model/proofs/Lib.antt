@@ -15,10 +15,12 @@ pub mod OwnField
 pub mod OwnLooks
 pub mod Places
 pub mod Recorded
+pub mod Seams
 pub mod Sectored
 pub mod Sizes
 pub mod Spans
 pub mod Splices
+pub mod Torn
 pub mod Unique
 pub mod WindowMarks
 pub mod WindowWords

@@ -42,9 +42,9 @@ AreWords Seam first track = (k : ℕ) → k < length track → IsWord Seam first
 abbrev pub Nowhere : ℕ → Type 0
 Nowhere k = ⊥
 
--- of three words one after the other some word is no seam
-abbrev pub AreSparse : (ℕ → Type 0) → Type 0
-AreSparse Seam = (k : ℕ) → Seam k → Seam (k + 1) → Seam (k + 2) → ⊥
+-- of three words one after the other some word is no seam, or the third has another second bit than a run needs there
+abbrev pub AreSparse : (ℕ → Type 0) → List ℕ → Type 0
+AreSparse Seam track = (k : ℕ) → Seam k → Seam (k + 1) → Seam (k + 2) → cell track (16 * (k + 2) + 3) ≡ 0 → ⊥
 
 -- ---- three cells 0 about a clock cell
 
@@ -232,11 +232,14 @@ module _ (Seam : ℕ → Type 0) (first : Bool) (track : List ℕ) (words : AreW
         | inr (inr found) ↦ found.1
       ]
 
-  module _ (sparse : AreSparse Seam) where
+  module _ (sparse : AreSparse Seam track) where
     -- no run has its lost clocks in seams
-    no_seams : (e k : ℕ) → k + 2 < length track → e ≡ 16 * k → IsLost track e → IsLost track (e + 16) → IsLost track (e + 32) → ⊥
-    no_seams e k within place one two three =
-        sparse k (the_seam e k (omega arith) place one) (the_seam (e + 16) (k + 1) (omega arith) (omega arith) two) (the_seam (e + 32) (k + 2) within (omega arith) three)
+    no_seams : (e k : ℕ) → k + 2 < length track → e ≡ 16 * k → IsLost track e → IsLost track (e + 16) → IsLost track (e + 32) → cell track (e + 35) ≡ 0 → ⊥
+    no_seams e k within place one two three bit =
+        let there : 16 * (k + 2) + 3 ≡ e + 35 = omega arith in
+        sparse k (the_seam e k (omega arith) place one) (the_seam (e + 16) (k + 1) (omega arith) (omega arith) two)
+        (the_seam (e + 32) (k + 2) within (omega arith) three)
+        (ap (cell track) there ∙ bit)
 
     even_run : (p : ℕ) → IsRun track p → p % 2 ≡ 0 → (k : ℕ) × IsRunAtWord track p k
     even_run p run even =
@@ -270,7 +273,9 @@ module _ (Seam : ℕ → Type 0) (first : Bool) (track : List ℕ) (words : AreW
           | inr (inr found) ↦
               let at_zero = found.0 in
               let start : p + 10 ≡ 16 * k = omega (arith, at_zero) in
-              absurd (no_seams (p + 10) k (omega arith) start one two three)
+              let there : p + 10 + 35 ≡ p + 32 + 13 = omega arith in
+              let bit : cell track (p + 10 + 35) ≡ 0 = ap (cell track) there ∙ mark_cell track (p + 32) 13 run.third (lit< tt) in
+              absurd (no_seams (p + 10) k (omega arith) start one two three bit)
         ]
 
     odd_run : (p : ℕ) → IsRun track p → p % 2 ≡ 1 → ⊥
@@ -306,7 +311,9 @@ module _ (Seam : ℕ → Type 0) (first : Bool) (track : List ℕ) (words : AreW
           | inr (inr found) ↦
               let at_zero = found.0 in
               let start : p + 3 ≡ 16 * k = omega (arith, at_zero) in
-              no_seams (p + 3) k (omega arith) start one two three
+              let there : p + 3 + 35 ≡ p + 32 + 6 = omega arith in
+              let bit : cell track (p + 3 + 35) ≡ 0 = ap (cell track) there ∙ mark_cell track (p + 32) 6 run.third (lit< tt) in
+              no_seams (p + 3) k (omega arith) start one two three bit
         ]
 
     -- every run on a recorded track is three marks at a word boundary

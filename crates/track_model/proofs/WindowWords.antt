@@ -83,9 +83,9 @@ module _ (track : List ℕ) (start : ℕ) (words : List ℕ) (k : ℕ) (most : k
   abbrev after : List ℕ
   after = with_items track start (take k words)
 
-  -- the seams that were there, and the word behind the words put in
+  -- the seams that were there outside of the words put in, and the word behind these
   abbrev pub WithCut : (ℕ → Type 0) → ℕ → Type 0
-  WithCut Seam i = Seam i ⊎ (i ≡ start + k)
+  WithCut Seam i = (Seam i × ((i < start) ⊎ (start + k ≤ i))) ⊎ (i ≡ start + k)
 
   long : length (take k words) ≡ k
   long = omega (arith, length-take k words)
@@ -121,7 +121,7 @@ module _ (track : List ℕ) (start : ℕ) (words : List ℕ) (k : ℕ) (most : k
         let within : i < length track = omega (arith, length-put) in
         elim (cases_lt i start) [
           | inl before ↦
-              moved_word Seam (WithCut Seam) false false track after i i (put_before i before) (inl (same_bit false track after i (λ j e. put_before j (omega arith)))) (λ seam. inl seam) (old i within)
+              moved_word Seam (WithCut Seam) false false track after i i (put_before i before) (inl (same_bit false track after i (λ j e. put_before j (omega arith)))) (λ seam. inl (seam, inl before)) (old i within)
           | inr low ↦
               elim (cases_lt i (start + k)) [
                 | inl high ↦
@@ -131,9 +131,9 @@ module _ (track : List ℕ) (start : ℕ) (words : List ℕ) (k : ℕ) (most : k
                 | inr behind ↦
                     elim (cases_eq i (start + k)) [
                       | inl e ↦
-                          moved_word Seam (WithCut Seam) false false track after i i (put_behind i behind) (inr (inr e)) (λ seam. inl seam) (old i within)
+                          moved_word Seam (WithCut Seam) false false track after i i (put_behind i behind) (inr (inr e)) (λ seam. inl (seam, inr behind)) (old i within)
                       | inr other ↦
-                          moved_word Seam (WithCut Seam) false false track after i i (put_behind i behind) (inl (same_bit false track after i (λ j e. put_behind j (omega arith)))) (λ seam. inl seam) (old i within)
+                          moved_word Seam (WithCut Seam) false false track after i i (put_behind i behind) (inl (same_bit false track after i (λ j e. put_behind j (omega arith)))) (λ seam. inl (seam, inr behind)) (old i within)
                     ]
               ]
         ]

@@ -12,3 +12,4 @@ pub mod Kept
 pub mod Layouts
 pub mod LaidFields
 pub mod Laid
+pub mod Torn

@@ -6,6 +6,7 @@ ghost use Rattle.track_model.specs.Fields.{IsAddressAt, content_at, content_size
 ghost use Rattle.track_model.specs.Looks.{LookAt, LookFor};
 ghost use Rattle.track_model.specs.Windows.{HasFieldFor};
 ghost use Rattle.track_model.specs.Laid.{IsRegularLay, with_window, IsLaid};
+ghost use Rattle.track_model.specs.Torn.{TornWrite, stops_of, with_torn, IsOver, IsTorn};
 ghost use Rattle.track_model.specs.Sectors.{IsClear, IsPlain, IsSector, IsUnder};
 
 use crate::Look;
@@ -71,4 +72,11 @@ pub fn written_is_laid(_words: &[u16], _place: usize, _deleted: bool, _content: 
     requires laid { IsLaid _words.now }
     requires field { HasFieldFor _words.now _place _content.now }
     ensures { IsLaid (with_window _words.now _place _deleted _content.now) }
+{}
+
+/// A Torn track stays Torn behind a write that isn't short of the last one at its place, where that one stopped.
+#[tactic(auto, using(crate::proofs::Torn::write_torn))]
+pub fn written_is_torn(_words: &[u16])
+    ensures { (torn : IsTorn _words.now) (write : TornWrite)
+        → IsOver (stops_of (λ p. 0) torn.writes) _words.now write → IsTorn (with_torn _words.now write) }
 {}
