@@ -1,3 +1,4 @@
 pub mod Entries
 pub mod Protection
 pub mod Saved
+pub mod Passing

@@ -1,4 +1,5 @@
 pub mod Drive
+pub mod Ahead
 pub mod Mechanics
 pub mod PlainDrive
 pub mod Fault

@@ -3,6 +3,7 @@ ghost use Rattle.std.specs.Prelude.{◌≡◌, ◌↔◌, IsTrue, IsErr, IsSome,
 ghost use Rattle.drive_model.specs.Drive.{DriveState, Becomes, InRange};
 ghost use Rattle.drive_model.specs.Drive.{loaded, unloaded, with_motor, with_gate, passed, at_index};
 ghost use Rattle.drive_model.specs.Drive.{is_protected, rate_of, Pulses, Reads, Writes};
+ghost use Rattle.drive_model.specs.Ahead.{LetsPass, AreAhead};
 
 use flop_base::Rate;
 use raw_image::Medium;
@@ -89,6 +90,25 @@ pub trait Drive: Drop {
         ensures index { result ≡ at_index (state self.old) }
         ensures range_before { InRange (state self.old) }
         ensures range { InRange (state self.new) };
+
+    /// Words that are certain to pass next under a head, as `read_word` would give them, the first of them first. Behind none
+    /// of them the index comes. There may be none: a drive that has planned a dropout tells none.
+    #[tactic(auto, unfolding(crate::specs::Ahead::AreAhead))]
+    fn ahead(&self, _head: u8) -> &[u16]
+        ensures { AreAhead _head result.now (state self.now) }
+    {
+        &[]
+    }
+
+    /// Closes the gate and lets so many word times pass.
+    fn let_pass(&mut self, count: u32)
+        ensures passes { LetsPass count (state self.old) (state self.new) }
+    {
+        for _i in 0..count {
+            self.gate(false);
+            self.pass();
+        }
+    }
 
     /// The count of faults, which stays at its last value.
     fn faults(&self) -> u64

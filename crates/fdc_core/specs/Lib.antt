@@ -18,3 +18,4 @@ pub mod Waiting
 pub mod Tellings
 pub mod Whole
 pub mod Saving
+pub mod Courses

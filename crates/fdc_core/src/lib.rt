@@ -4,6 +4,7 @@
 
 mod commands;
 mod controller;
+mod courses;
 mod dma;
 mod formatting;
 pub mod laws;

@@ -9,11 +9,12 @@ use Rattle.track_separator.specs.declared.state.Seen.TheVariants.{Nothing, Mark,
 use Rattle.track_separator.specs.declared.state.Separator.{Separator}
 use Rattle.track_separator.specs.Parts.{with_word, turn_after, EndsInLast}
 use Rattle.track_separator.specs.Hunts.{SHunts, SFollows, SHuntSeen, GivesAll, Stands}
+use Rattle.track_separator.specs.Past.{HuntsPast}
 use Rattle.track_separator.specs.Turns.{SBegins, IsHunted}
 use Rattle.track_separator.proofs.Lawful.{part_with_word, mark_stays, no_run_stood, mark_old_or_new, address_old_or_new, follows_hunts}
 use Rattle.fdc_stages.specs.History.{Past, heard}
 use Rattle.fdc_stages.proofs.Lawful.{turned_few}
-use Rattle.fdc_stages.specs.Searches.{Wants, HasNoClear, HasNoneIn, HasMarkIn, HasTurned, IsSearchingIn, IsPassed, IsMet, HasMissed}
+use Rattle.fdc_stages.specs.Searches.{Wants, HasNoClear, HasNoneIn, HasMarkIn, HasTurned, IsSearchingIn, IsPassed, IsMet, HasMissed, HearsNothingIn}
 
 -- ---- behind a turn that is over nothing was heard
 
@@ -160,3 +161,14 @@ pub passes_by : (past : Past) (word : ℕ) (wanted : Option Chrn) (old new : Sep
 passes_by past word wanted old new turned marked hunted searching =
     on_within false past word wanted new turned marked refl
     (passed_of false past word wanted old new turned marked marked Nothing searching hunted.follows hunted.gives (λ fed hunts. tt) (λ key is wants. absurd (cc is)) (stays_marked marked))
+
+-- words of a hunt that pass by
+pub hears_past : (words : List ℕ) (turned marked : Bool) (old new : Separator) → HuntsPast words old new
+    → HearsNothingIn words (record { separator = old; turned = turned; marked = marked }) (record { separator = new; turned = turned; marked = marked })
+unfolding HuntsPast HearsNothingIn
+hears_past [] turned marked old new same = ap (λ s. record { separator = s; turned = turned; marked = marked }) same
+hears_past (word ∷ rest) turned marked old new (mid, first, past) = (
+  record { separator = mid; turned = turned; marked = marked },
+  λ so_far wanted searching. passes_by so_far word wanted old mid turned marked first searching,
+  hears_past rest turned marked mid new past,
+)

@@ -13,7 +13,7 @@ use Rattle.fdc_stages.specs.declared.ending.Ending.TheVariants.{NoMark, NoSector
 use Rattle.fdc_stages.specs.declared.searching.Search.{Search}
 use Rattle.fdc_stages.specs.declared.searching.Searched.{Searched}
 use Rattle.fdc_stages.specs.declared.searching.Searched.TheVariants as searched
-use Rattle.fdc_stages.specs.History.{Past, IsTurnIn, IsJustOver, HasFewTurns}
+use Rattle.fdc_stages.specs.History.{Past, heard, IsTurnIn, IsJustOver, HasFewTurns}
 
 -- an address field of this key is searched for; without a wanted key each one is
 abbrev pub Wants : Option Chrn → Chrn → Type 0
@@ -119,3 +119,14 @@ IsMiss _ = ⊥
 abbrev pub MissesWell : SearchOutcome → Type 0
 MissesWell (Missed ending) = IsMiss ending
 MissesWell _ = Unit {0}
+
+-- nothing is seen in a word, and no index follows it, whatever is wanted and was heard before
+abbrev pub HearsNothing : ℕ → Search → Search → Type 0
+HearsNothing word search next =
+    (past : Past) (wanted : Option Chrn) → IsSearching past wanted search → IsSearching (heard false word past) wanted next
+
+-- nor in any of these words
+unfoldable pub HearsNothingIn : List ℕ → Search → Search → Type 0
+HearsNothingIn [] search next = next ≡ search
+HearsNothingIn (word ∷ rest) search next =
+    (mid : Search) × HearsNothing word search mid × HearsNothingIn rest mid next

@@ -1,8 +1,8 @@
 // The search for an address field.
-ghost use Rattle.std.specs.Prelude.{◌≡◌, ◌⊎◌, ◌↔◌, ℕ, Bool, true, false, IsTrue, MatchBool, MatchOption, Option, List};
+ghost use Rattle.std.specs.Prelude.{◌≡◌, ◌≤◌, ◌⊎◌, ◌↔◌, ℕ, Bool, true, false, IsTrue, MatchBool, MatchOption, Option, List, length, take};
 ghost use Rattle.flop_base.specs.declared.key.Chrn.{Chrn};
 ghost use Rattle.fdc_stages.specs.History.{Past, begun, heard};
-ghost use Rattle.fdc_stages.specs.Searches.{Wants, IsSearching, IsPassed, IsMissed, HasMissed, HasMarkIn, search_outcome, HasSearched, IsMiss, MissesWell};
+ghost use Rattle.fdc_stages.specs.Searches.{Wants, IsSearching, IsPassed, IsMissed, HasMissed, HasMarkIn, search_outcome, HasSearched, IsMiss, MissesWell, HearsNothingIn};
 
 use crate::ending::Ending;
 use flop_base::Chrn;
@@ -121,6 +121,16 @@ impl Search {
             return false;
         }
         self.separator.pass_by(word)
+    }
+
+    /// Hears the first of these words, none of which the index follows, for as long as nothing is seen in them, and tells how many
+    /// it heard.
+    #[inline(always)]
+    pub fn pass_many(&mut self, words: &[u16]) -> usize
+        ensures within { result ≤ length words.now }
+        ensures passed { HearsNothingIn (take result words.now) self.old self.new }
+    {
+        self.separator.hunt_many(words)
     }
 
     /// Goes on searching behind a word in which nothing was met, unless the second index followed it.

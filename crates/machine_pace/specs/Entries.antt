@@ -1,5 +1,5 @@
 -- Lists of a pace, used up from their front.
-use Rattle.std.specs.Prelude.{ℕ, ◌-◌, Bool, false, nat_le, if◌then◌else◌, List, [], ◌∷◌, Option, Some, None}
+use Rattle.std.specs.Prelude.{◌≡◌, ℕ, zero, suc, ◌-◌, Bool, false, nat_le, if◌then◌else◌, List, [], ◌∷◌, Option, Some, None}
 
 -- the next entry, 0 where none is left
 abbrev pub next_entry : List ℕ → ℕ
@@ -25,3 +25,13 @@ strays_after (steps ∷ rest) = if nat_le steps 1 then rest else (steps - 1) ∷
 abbrev pub coming : Option ℕ → List ℕ → List ℕ
 coming None rest = []
 coming (Some steps) rest = steps ∷ rest
+
+-- no stray comes in so many device steps
+unfoldable pub AreQuiet : ℕ → List ℕ → Type 0
+AreQuiet zero strays = Unit {0}
+AreQuiet (suc count) strays = (is_stray_due strays ≡ false) × AreQuiet count (strays_after strays)
+
+-- the strays that are to come after so many device steps
+unfoldable pub strays_later : ℕ → List ℕ → List ℕ
+strays_later zero strays = strays
+strays_later (suc count) strays = strays_later count (strays_after strays)

@@ -1,6 +1,6 @@
 // Stray interrupts.
-ghost use Rattle.std.specs.Prelude.{◌≡◌};
-ghost use Rattle.machine_pace.specs.Entries.{is_stray_due, strays_after};
+ghost use Rattle.std.specs.Prelude.{◌≡◌, ◌≤◌};
+ghost use Rattle.machine_pace.specs.Entries.{is_stray_due, strays_after, AreQuiet, strays_later};
 
 mod saving;
 
@@ -50,6 +50,25 @@ impl Strays {
                 self.next = Some(steps - 1);
                 false
             }
+        }
+    }
+
+    /// How many device steps can pass before a stray comes, and `most` at most.
+    #[tactic(auto, unfolding(crate::specs::Entries::AreQuiet))]
+    pub fn quiet_for(&self, _most: u32) -> u32
+        ensures few { result ≤ _most }
+        ensures quiet { AreQuiet result self.now }
+    {
+        0
+    }
+
+    /// Lets so many device steps pass in which no stray comes.
+    pub fn pass_many(&mut self, count: u32)
+        requires { AreQuiet count self.old }
+        ensures { self.new ≡ strays_later count self.old }
+    {
+        for _i in 0..count {
+            self.pass();
         }
     }
 }

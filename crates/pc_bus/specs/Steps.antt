@@ -1,41 +1,18 @@
 -- Device steps of the machine.
-use Rattle.std.specs.Prelude.{◌≡◌, ◌≤◌, ◌==◌, ℕ, zero, suc, Bool, true, false, not, ◌&&◌, ◌||◌}
-use Rattle.drive_model.specs.Drive.{DriveState, Becomes, at_index}
+use Rattle.std.specs.Prelude.{◌≡◌, ◌≤◌, ℕ, zero, suc, Bool, true, false, not, ◌&&◌, ◌||◌}
+use Rattle.drive_model.specs.Drive.{DriveState, Becomes}
 use Rattle.irq_events.specs.Latch.{Latch}
 use Rattle.machine_pace.specs.Entries.{is_stray_due, strays_after}
 use Rattle.machine_pace.specs.Holds.{counted}
 use Rattle.fdc_core.specs.State.{interrupts}
-use Rattle.fdc_core.specs.Listening.{Listens, ListensToNone}
-use Rattle.fdc_core.specs.Steps.{polled, let_pass, Rests, MovesDrive, Ends, Stays, Flows}
-use Rattle.fdc_core.specs.Tasks.{StepsNowhere}
-use Rattle.fdc_core.specs.Waiting.{LastsOn}
-use Rattle.fdc_core.specs.Writes.{WritesOn}
+pub use Rattle.fdc_core.specs.Courses.{Works, WorksAlone}
+use Rattle.fdc_core.specs.Steps.{let_pass}
 use Rattle.fdc_core.specs.declared.controller.Fdc.{Fdc}
 use Rattle.pc_bus.specs.Boards.{Board, controller_of, selected_of, latch_of}
 use Rattle.pc_bus.specs.Transfers.{dma_stepped}
 use Rattle.pc_bus.specs.declared.bus.Bus.{Bus}
 
 -- ---- the word time of the drives
-
--- the controller and the selected drive make a device step
-pub record Works (old : Fdc) (before : DriveState) (new : Fdc) (after : DriveState) : Type 0 where
-  pub rests : Rests (before.cylinder == 0) (polled old) new
-  pub reads : Listens (polled old) (at_index before) old before after new
-  pub writes : WritesOn (polled old) old before after new
-  pub drive : MovesDrive (polled old) before after
-  pub ends : Ends old new
-  pub stays : Stays old new
-  pub flows : Flows old new
-  pub lasts : LastsOn old new
-
--- the controller makes a device step where no drive is selected
-pub record WorksAlone (old new : Fdc) : Type 0 where
-  pub rests : Rests false (polled old) new
-  pub reads : ListensToNone (polled old) old new
-  pub nowhere : StepsNowhere old.phase (polled old) new
-  pub ends : Ends old new
-  pub stays : Stays old new
-  pub flows : Flows old new
 
 -- a word time passes at a drive that isn't selected, with its gate closed
 abbrev pub Passes : DriveState → DriveState → Type 0

@@ -1,8 +1,8 @@
 // Device steps.
-ghost use Rattle.std.specs.Prelude.{◌≡◌, ◌≤◌, ◌+◌, min};
+ghost use Rattle.std.specs.Prelude.{◌≡◌, ◌≤◌, ◌+◌, min, false};
 ghost use Rattle.flop_base.specs.Counts.{last_count};
 ghost use Rattle.pc_bus.specs.Boards.{board, controller_of, selected_of, latch_of};
-ghost use Rattle.pc_bus.specs.Steps.{Works, WorksAlone, Passes, PassesWordTime, Step, Runs, RunsToIrq, Waits, stirred};
+ghost use Rattle.pc_bus.specs.Steps.{Works, WorksAlone, Passes, PassesWordTime, Step, Runs, RunsUnset, RunsToIrq, Waits, stirred};
 
 use crate::machine::MachineOf;
 use drive_model::Drive;
@@ -42,6 +42,19 @@ impl<D: Drive> MachineOf<D> {
                 pass(&mut self.second);
             }
         }
+    }
+
+    /// Makes device steps at once in which nothing comes of the pace, no line changes and no byte is moved, and tells how many,
+    /// `most` at most: where it is 0, the next step has to be made alone.
+    fn leap(&mut self, _most: u32) -> u32
+        ensures few { result ≤ _most }
+        ensures runs { Runs result (board D.state self.old) (board D.state self.new) }
+        ensures latch { latch_of (board D.state self.new) ≡ latch_of (board D.state self.old) }
+        ensures unset { (latch_of (board D.state self.old)).is_set ≡ false
+            → RunsUnset result (board D.state self.old) (board D.state self.new) }
+        ensures steps { self.new.bus.steps ≡ min (self.old.bus.steps + result) last_count }
+    {
+        0
     }
 
     /// Device steps, so many.

@@ -4,5 +4,6 @@ pub mod Parts
 pub mod Hunts
 pub mod Waits
 pub mod Turns
+pub mod Past
 pub mod Lifts
 pub mod Saving

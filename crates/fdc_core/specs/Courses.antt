@@ -1,0 +1,47 @@
+-- Device steps whole, and so many of them in a row.
+use Rattle.std.specs.Prelude.{◌≡◌, ◌==◌, ℕ, zero, suc, false}
+use Rattle.drive_model.specs.Drive.{DriveState, Becomes, at_index}
+use Rattle.fdc_core.specs.Listening.{Listens, ListensToNone}
+use Rattle.fdc_core.specs.State.{asks, interrupts}
+use Rattle.fdc_core.specs.Steps.{polled, let_pass, Rests, MovesDrive, Ends, Stays, Flows}
+use Rattle.fdc_core.specs.Tasks.{StepsNowhere}
+use Rattle.fdc_core.specs.Waiting.{LastsOn}
+use Rattle.fdc_core.specs.Writes.{WritesOn}
+use Rattle.fdc_core.specs.declared.controller.Fdc.{Fdc}
+
+-- the controller and the selected drive make a device step
+pub record Works (old : Fdc) (before : DriveState) (new : Fdc) (after : DriveState) : Type 0 where
+  pub rests : Rests (before.cylinder == 0) (polled old) new
+  pub reads : Listens (polled old) (at_index before) old before after new
+  pub writes : WritesOn (polled old) old before after new
+  pub drive : MovesDrive (polled old) before after
+  pub ends : Ends old new
+  pub stays : Stays old new
+  pub flows : Flows old new
+  pub lasts : LastsOn old new
+
+-- the controller makes a device step where no drive is selected
+pub record WorksAlone (old new : Fdc) : Type 0 where
+  pub rests : Rests false (polled old) new
+  pub reads : ListensToNone (polled old) old new
+  pub nowhere : StepsNowhere old.phase (polled old) new
+  pub ends : Ends old new
+  pub stays : Stays old new
+  pub flows : Flows old new
+
+-- the DMA request line and the interrupt line are as before
+pub record HoldsLines (old new : Fdc) : Type 0 where
+  pub request : asks new ≡ asks old
+  pub interrupt : interrupts new ≡ interrupts old
+
+-- so many device steps with the selected drive, in which neither line changes
+unfoldable pub Courses : ℕ → Fdc → DriveState → Fdc → DriveState → Type 0
+Courses zero old before new after = (new ≡ old) × (after ≡ before)
+Courses (suc count) old before new after =
+    (mid : Fdc) × (between : DriveState) × Works old before mid between × HoldsLines old mid
+    × Courses count mid between new after
+
+-- a device step changes nothing of the controller, with whatever drive and with none, and lets a word time pass
+pub record Idles (fdc : Fdc) : Type 0 where
+  pub works : (before after : DriveState) → Becomes (let_pass before) before after → Works fdc before fdc after
+  pub alone : WorksAlone fdc fdc
