@@ -42,6 +42,6 @@ Courses (suc count) old before new after =
     × Courses count mid between new after
 
 -- a device step changes nothing of the controller, with whatever drive and with none, and lets a word time pass
-pub record Idles (fdc : Fdc) : Type 0 where
+pub record IsStill (fdc : Fdc) : Type 0 where
   pub works : (before after : DriveState) → Becomes (let_pass before) before after → Works fdc before fdc after
   pub alone : WorksAlone fdc fdc

@@ -46,6 +46,7 @@ impl<D: Drive> MachineOf<D> {
 
     /// Makes device steps at once in which nothing comes of the pace, no line changes and no byte is moved, and tells how many,
     /// `most` at most: where it is 0, the next step has to be made alone.
+    #[tactic(auto, unfolding(crate::specs::Steps::Runs, crate::specs::Steps::RunsUnset))]
     fn leap(&mut self, _most: u32) -> u32
         ensures few { result ≤ _most }
         ensures runs { Runs result (board D.state self.old) (board D.state self.new) }
