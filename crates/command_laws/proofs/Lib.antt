@@ -10,7 +10,7 @@ mod Looks
 mod Marks
 mod DiskOpening
 pub mod Prepared
-mod PutIn
+pub mod PutIn
 mod Ranges
 pub mod Reading
 mod DiskRecords

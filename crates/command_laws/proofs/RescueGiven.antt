@@ -13,7 +13,6 @@ use Rattle.sector_model.specs.Orders.{read_refusal, write_refusal}
 use Rattle.sector_model.specs.Runs.{Taken}
 use Rattle.sector_model.specs.Plays.{World}
 use Rattle.scripts.specs.Leading.{with_report}
-use Rattle.rescue.specs.Course.{read_of, write_of}
 use Rattle.command_laws.specs.Copied.{SomeStep, Gave, IsFieldOf}
 use Rattle.command_laws.proofs.DiskRecords.{length-bytes_at}
 use Rattle.command_laws.proofs.Steps.{ok_called, reached}

@@ -22,7 +22,7 @@ use Rattle.bay_model.specs.Memory.{user_bytes}
 use Rattle.track_format.proofs.Laid.{laid_tidy}
 use Rattle.floppy_requests.specs.declared.request.Request.{Request}
 use Rattle.floppy_requests.specs.declared.request.Request.TheVariants as request
-use Rattle.sector_map.specs.Disks.{Entry, IsOnMap}
+use Rattle.sector_map.specs.Disks.{IsRegularDisk, Entry, IsOnMap}
 use Rattle.sector_model.specs.Steps.{IsImageOf}
 use Rattle.sector_model.specs.Runs.{Taken, requests_of, has_refusal, Run}
 use Rattle.sector_model.specs.Plays.{World}
@@ -52,7 +52,7 @@ use Rattle.rescue.specs.declared.outcome.Outcome.{Outcome}
 use Rattle.rescue_commands.specs.Logs.{IsLogFound, IsFound}
 use Rattle.rescue_commands.specs.Rescue.{rescues, asked_keys, outcome_of, last_text, rescues_all, stores_log, rescue_found, rescue_rest, Rescues}
 use Rattle.rescue_commands.proofs.Rests.{by_rest}
-use Rattle.command_laws.specs.Rescued.{IsNotStopped, count_writes, IsLogged, IsSaved, IsSettled, WasNotRead, HasTarget, KeepsEntries, outcome_in, IsRescue, LogsNotFound, WasRefused, log_of, line_at, AreTidy}
+use Rattle.command_laws.specs.Rescued.{IsNotStopped, count_writes, IsLogged, IsSaved, IsSettled, WasNotRead, HasLaidTracks, HasTarget, KeepsEntries, outcome_in, IsRescue, LogsNotFound, WasRefused, log_of, line_at, AreTidy}
 use Rattle.command_laws.proofs.Gone.{later_fine, not_refused, carried, GoesKeys, keys_gone, Fell, fell_both, keys_fell, line_of_done, gave_reads, never_both}
 use Rattle.command_laws.proofs.RescueOpening.{opening, ready_requests, second_request, formats_for, prepares_carried, HasOther, begins_new, begins_again, holds_first, first_in, is_plain, plain_facts, plain_keep, opening_plain}
 use Rattle.command_laws.proofs.RescueRecords.{heads_for, asked_all, asked_distinct, IsGuarded, IsPart, SavesKeys, saves_keys, ReadsKey, some_apart, keys_read, keys_counted}
@@ -481,6 +481,28 @@ rescue_stores from to log disk target files old course new ended rescues whole f
         let later = tidy_later old.state p.opened.state (Some files) p.opened.files p.top (p.body ++ p.last) p.opens.run whole_tidy in
         rescued from to log disk (Some lines) files old course new ended there image p target target differ has
         (inr (tidy_first p.opened.state p.body p.last later)) faultless (λ final others. others)
+
+-- the same, where each track of the other disk is Laid
+pub rescue_stores_laid : (from to log : List ℕ) (disk target : Disk) (files : Files) (old : World) (course : List Taken) (new : World) (ended : Status)
+    → Rescues from to log old course new ended → IsEndStatus ended → IsNotStopped course → to ≢ log → old.files ≡ Some files → IsImageOf (Some files) from disk
+    → length old.state.station.memory ≡ user_bytes → IsFaultless 1 old.state.station.counters new.state.station.counters
+    → IsImageOf (Some files) to target → IsRegularDisk target → HasLaidTracks target → IsRescue disk target to log files old course new ended
+rescue_stores_laid from to log disk target files old course new ended rescues whole fine differ told image size faultless other regular laid =
+    let all = goes_through from to log disk files old course new ended whole fine told rescues image in
+    go all.found all.there all.goes
+  where
+    go : (found : Option (List LogLine)) → IsLogFound (Some files) log (sectors_at disk.rate) found
+        → GoesThrough (opening from to (shape_of disk) (is_some found)) (asked_keys (shape_of disk) found) log files old course new ended
+        → IsRescue disk target to log files old course new ended
+    go None there p =
+        let fell = fell_opened from to log disk None files old course new ended there image p in
+        let begins = begins_new from to disk files old.state p.opened.state p.opened.files p.top image p.opens size
+        (omega (arith, fell.second, faultless.0), omega (arith, fell.second, faultless.1)) in
+        rescued from to log disk None files old course new ended there image p target begins.0 differ begins.1 (inl begins.2) faultless (λ final others. tt)
+    go (Some lines) there p =
+        let has = begins_again from to disk target files old.state p.opened.state p.opened.files p.top image other regular p.opens size in
+        rescued from to log disk (Some lines) files old course new ended there image p target target differ has
+        (inl (λ c h track few. laid c h track)) faultless (λ final others. others)
 
 pub rescue_logs : (from to log : List ℕ) (disk : Disk) (files : Files) (old : World) (course : List Taken) (new : World) (ended : Status)
     → Rescues from to log old course new ended → IsEndStatus ended → IsNotStopped course → old.files ≡ Some files → IsImageOf (Some files) from disk

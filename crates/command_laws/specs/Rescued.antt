@@ -12,6 +12,7 @@ use Rattle.bay_model.specs.Memory.{bytes_from}
 use Rattle.track_model.specs.declared.Look.{Look}
 use Rattle.track_model.specs.Fields.{IsAddressAt, content_size}
 use Rattle.track_model.specs.Windows.{IsTidy}
+use Rattle.track_model.specs.Laid.{IsLaid}
 use Rattle.floppy_requests.specs.declared.request.Request.{Request}
 use Rattle.floppy_requests.specs.declared.request.Request.TheVariants as request
 use Rattle.sector_map.specs.Failing.{AreFailing}
@@ -81,6 +82,10 @@ pub record IsTarget (to : List ℕ) (target : Disk) (files : Files) (old : State
   pub image : IsImageOf (Some files) to target
   pub regular : IsRegularDisk target
   pub tidy : AreTidy old course
+
+-- each track of the disk is Laid: no write to it brings up an address mark, however short it stops
+abbrev pub HasLaidTracks : Disk → Type 0
+HasLaidTracks disk = (c h : ℕ) → HasTrack disk c h → IsLaid (track_of disk c h)
 
 -- where there is a log, the other diskette is such a one
 abbrev pub HasTarget : Option (List LogLine) → List ℕ → Disk → Files → State → List Taken → Type 0

@@ -1,9 +1,8 @@
 -- How a text of calls of INT 13h ends, where each file that is put in is the file of a disk.
-use Rattle.std.proofs.Common.{◌≡◌, ◌∙◌, ℕ, Bool, true, false, List, [], ◌∷◌, ◌++◌, map, Option, Some, None, Result, Ok, Err, refl, ap, sym, subst, inl, inr, ◌⊎◌}
-use Rattle.std.specs.Prelude.{◌&&◌, MatchBool, IsSomeAnd, length, ◌≤◌}
+use Rattle.std.proofs.Common.{◌≡◌, ◌∙◌, ℕ, Bool, true, false, List, [], ◌∷◌, ◌++◌, map, Option, Some, None, Result, Ok, refl, ap, sym, subst}
+use Rattle.std.specs.Prelude.{MatchBool, length}
 use Rattle.std.specs.List.{list_all, range_with_len}
-use Rattle.flop_base.specs.Counts.{Rose}
-use Rattle.flop_base.specs.Shelf.{Files, file_at}
+use Rattle.flop_base.specs.Shelf.{Files}
 use Rattle.flop_base.specs.declared.answers.Status.{Status}
 use Rattle.flop_base.specs.declared.answers.Status.TheVariants as status
 use Rattle.flop_base.specs.declared.key.Chrn.{Chrn}
@@ -24,16 +23,15 @@ use Rattle.sector_model.specs.States.{State}
 use Rattle.sector_model.specs.Orders.{is_acknowledged}
 use Rattle.sector_model.specs.Steps.{StopsAt, IsAbsent, IsLonger}
 use Rattle.sector_model.specs.Texts.{stop_status}
-use Rattle.sector_model.specs.Runs.{Taken, Run, requests_of, IsEndStop}
+use Rattle.sector_model.specs.Runs.{Taken, IsEndStop}
 use Rattle.sector_model.specs.Plays.{World, IsText, Prints, Whole, Part, IsPutFault, most_job_bytes, whole_status}
 use Rattle.floppy_report.specs.Faults.{BlamesAlone}
 use Rattle.floppy_session.specs.Services.{record_requests, record_request, record_behind, place_of_record, put_requests, put_request, MovesRecords, All, UpToOne, MovesIn, AcksAlone, DoesWork}
 use Rattle.bios_commands.specs.Rounds.{Round, DoesLine, AreRounds, lines_of, has_refused, Breaks, AtStop, AtPut}
 use Rattle.bios_commands.specs.Courses.{ServesCalls, There, Missing, TooLong, Faulty, Starved, ServesParsed, ServesLines, Through, Broken, EndStopped}
-use Rattle.archive_commands.specs.Files.{Desk}
 use Rattle.floppy_words.specs.declared.form.Form.TheVariants as form
 use Rattle.floppy_forms.specs.Rounds.{world}
-use Rattle.floppy_forms.specs.Programs.{DoesForm, DoesOrStarves, AsAsked, StarvesWords}
+use Rattle.floppy_forms.specs.Programs.{DoesOrStarves, AsAsked, StarvesWords}
 use Rattle.floppy_tools.specs.Performed.{Stand, RanOver}
 use Rattle.command_laws.proofs.Steps.{and_both}
 use Rattle.program_laws.specs.Answered.{AnswersCalls}

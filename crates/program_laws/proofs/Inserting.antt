@@ -1,7 +1,6 @@
 -- What stands in the bays and under their names in a run: the files of disks stay the files of disks.
-use Rattle.std.proofs.Common.{arith, ◌≡◌, ◌∙◌, ◌+◌, ◌*◌, ◌≤◌, ℕ, Bool, true, false, true≢false, cond, List, [], ◌∷◌, length, take, drop, Option, Some, None, Result, Ok, Err, refl, ap, sym, subst, inl, inr, ◌⊎◌}
-use Rattle.std.specs.Prelude.{◌==◌, ◌&&◌, is_some, IsSomeAnd, IfSome, MatchOption, MatchBool, if◌then◌else◌}
-use Rattle.std.proofs.lemmas.Bool.{leb-true}
+use Rattle.std.proofs.Common.{arith, ◌≡◌, ◌∙◌, ◌+◌, ◌*◌, ◌≤◌, ℕ, Bool, true, false, true≢false, cond, List, [], ◌∷◌, length, take, drop, Option, Some, None, Ok, refl, ap, sym, subst, inl}
+use Rattle.std.specs.Prelude.{◌==◌, is_some, IsSomeAnd, MatchOption, if◌then◌else◌}
 use Rattle.std.proofs.lemmas.List.{length-take, length-drop}
 use Rattle.std.proofs.lemmas.Nat.{mul-le}
 use Rattle.std.specs.Ordering.{nat_cmp, eq_by_cmp}
@@ -9,38 +8,24 @@ use Rattle.std.proofs.lemmas.Cmp.{eq_by_cmp_equiv}
 use Rattle.std.specs.Cmp.Lexicographic.{slice_cmp, nat_list_cmp_total}
 use Rattle.std.specs.FinMap as fin
 use Rattle.flop_base.specs.Shelf.{Files, file_at, stored}
-use Rattle.flop_base.specs.declared.answers.Code.{Code}
 use Rattle.flop_base.specs.declared.answers.Code.TheVariants as code
-use Rattle.flop_base.specs.declared.answers.Rate.{Rate}
-use Rattle.flop_base.specs.declared.answers.Rate.TheVariants.{R500, R250}
-use Rattle.flop_base.specs.declared.key.Chrn.{Chrn}
 use Rattle.raw_image.specs.Disk.{Disk, IsDisk}
 use Rattle.raw_image.specs.Words.{bytes_of}
-use Rattle.raw_image.specs.Image.{image_of, file_of, Spells}
+use Rattle.raw_image.specs.Image.{image_of, file_of}
 use Rattle.raw_image.proofs.Pairs.{length-bytes_of}
 use Rattle.raw_image.proofs.Images.{image_again}
 use Rattle.bay_model.specs.Bays.{Two, in_bay, with_bay}
-use Rattle.floppy_requests.specs.declared.request.Request.{Request}
-use Rattle.floppy_requests.specs.declared.request.Request.TheVariants as request
 use Rattle.sector_map.specs.Changes.{Change, Written}
 use Rattle.sector_map.specs.Layings.{Format, Laying}
-use Rattle.sector_model.specs.declared.reply.Reply.{Reply}
 use Rattle.sector_model.specs.declared.reply.Reason.{Reason}
 use Rattle.sector_model.specs.declared.reply.Reason.TheVariants as reason
-use Rattle.sector_model.specs.declared.reply.Stop.{Stop}
-use Rattle.sector_model.specs.declared.reply.Stop.TheVariants as stop
-use Rattle.sector_model.specs.Stations.{StationState, Bay, bay_of, fresh_bay, Stays}
+use Rattle.sector_model.specs.Stations.{Bay}
 use Rattle.sector_model.specs.States.{State}
-use Rattle.sector_model.specs.Orders.{read_refusal, write_refusal, format_refusal, rate_refusal, is_bay, IsRefusedAtOnce}
-use Rattle.sector_model.specs.Calls.{Acks, AcksDrive}
-use Rattle.sector_model.specs.Reads.{Reads, ReadsDrive}
-use Rattle.sector_model.specs.Writes.{WritesTo, Reaches, ChangesDisk}
-use Rattle.sector_model.specs.Formats.{FormatsTo, Lays, LaysDisk}
-use Rattle.sector_model.specs.Steps.{Step, StopsAt, IsImageOf, IsRefused, IsDriverCall, refusal_of, unless_bad, is_loaded, is_blank_request, blank_of, most_image_bytes}
-use Rattle.sector_model.specs.Runs.{Taken, Run, requests_of, IsEndStop}
+use Rattle.sector_model.specs.Writes.{Reaches, ChangesDisk}
+use Rattle.sector_model.specs.Formats.{Lays, LaysDisk}
+use Rattle.sector_model.specs.Steps.{IsImageOf, unless_bad, most_image_bytes}
 use Rattle.command_laws.proofs.Verified.{one_image}
-use Rattle.program_laws.specs.Inserted.{IsDiskText, IsDiskFile, Names, named_by, IsStoredBy, HoldsBy, InsertsDisk, InsertsDisks}
-use Rattle.program_laws.proofs.Stepping.{either, either_is}
+use Rattle.program_laws.specs.Inserted.{IsDiskText, IsDiskFile, Names}
 
 -- ---- files
 

@@ -1,6 +1,6 @@
 -- Each step of a run keeps what stands in the bays and under their names.
-use Rattle.std.proofs.Common.{◌≡◌, ◌∙◌, ◌-◌, ℕ, Bool, true, false, true≢false, List, [], ◌∷◌, Option, Some, None, Result, Ok, Err, refl, ap, sym, subst, inl, inr}
-use Rattle.std.specs.Prelude.{◌&&◌, is_some, MatchBool, if◌then◌else◌}
+use Rattle.std.proofs.Common.{◌≡◌, ◌∙◌, ℕ, Bool, true, false, true≢false, List, [], ◌∷◌, Option, Some, None, Result, Ok, Err, refl, ap, sym, subst, inl, inr}
+use Rattle.std.specs.Prelude.{is_some, MatchBool, if◌then◌else◌}
 use Rattle.std.specs.List.{list_all}
 use Rattle.std.proofs.lemmas.Bool.{leb-true}
 use Rattle.flop_base.specs.Shelf.{Files, stored}
@@ -19,14 +19,14 @@ use Rattle.sector_model.specs.Stations.{StationState, Bay, Becomes, Stays, bay_o
 use Rattle.sector_model.specs.States.{State, IsSame}
 use Rattle.sector_model.specs.Orders.{read_refusal, write_refusal, format_refusal, rate_refusal, is_bay, IsRefusedAtOnce}
 use Rattle.sector_model.specs.Calls.{Acks, AcksDrive}
-use Rattle.sector_model.specs.Reads.{Reads, ReadsDrive}
+use Rattle.sector_model.specs.Reads.{ReadsDrive}
 use Rattle.sector_model.specs.Writes.{WritesTo}
 use Rattle.sector_model.specs.Formats.{FormatsTo}
 use Rattle.sector_model.specs.Steps.{Step, IsImageOf, IsDriverCall, refusal_of, spare_refusal, is_loaded, is_blank_request, blank_of}
 use Rattle.sector_model.specs.Runs.{Taken, Run, requests_of}
 use Rattle.command_laws.proofs.Prepared.{blank_valid}
 use Rattle.command_laws.proofs.Steps.{and_both}
-use Rattle.program_laws.specs.Inserted.{IsDiskFile, Names, named_by, IsStoredBy, HoldsBy, InsertsDisk, InsertsDisks}
+use Rattle.program_laws.specs.Inserted.{IsDiskFile, Names, named_by, IsStoredBy, HoldsBy, InsertsDisk}
 use Rattle.program_laws.proofs.Stepping.{either, either_is}
 use Rattle.program_laws.proofs.Inserting.{IsHeld, AreHeld, IsKept, held_in, held_with, held_still, held_none, held_is, named_loaded, reach_held, lays_held, stored_last, stored_still, inserted_disk, choose, choose_out, not_loaded}
 

@@ -18,6 +18,7 @@ mod Inserting
 mod KeptSteps
 mod PlayStatus
 mod CallStatus
+mod RescueAgain
 pub mod Telling
 mod Unstopped
 mod Verifies

@@ -1,10 +1,8 @@
 -- The status of a job, and how a text of calls ends, where each file that is put in is the file of a disk.
-use Rattle.std.proofs.Common.{arith, ◌≡◌, ◌∙◌, ◌<◌, ◌≤◌, ℕ, Bool, true, false, List, [], ◌∷◌, ◌++◌, length, map, Option, Some, None, Result, Ok, Err, refl, ap, sym, subst, inl, inr}
-use Rattle.std.specs.Prelude.{◌&&◌, IsSomeAnd, MatchBool}
-use Rattle.std.specs.List.{list_all, range_with_len}
+use Rattle.std.proofs.Common.{arith, ◌≡◌, ◌∙◌, ◌<◌, ◌≤◌, ℕ, List, [], ◌∷◌, ◌++◌, length, Option, Some, None, Result, Ok, Err, ap, sym, subst}
+use Rattle.std.specs.Prelude.{IsSomeAnd}
 use Rattle.flop_base.specs.Shelf.{Files, file_at}
 use Rattle.flop_base.specs.declared.answers.Status.{Status}
-use Rattle.flop_base.specs.declared.answers.Status.TheVariants as status
 use Rattle.raw_image.specs.Disk.{Disk}
 use Rattle.raw_image.specs.Image.{image_of}
 use Rattle.raw_image.specs.declared.error.ImageError.{ImageError}
@@ -17,7 +15,6 @@ use Rattle.sector_model.specs.Stations.{IsFresh}
 use Rattle.sector_model.specs.States.{State}
 use Rattle.floppy_requests.specs.declared.request.Request.TheVariants as request
 use Rattle.sector_model.specs.Steps.{StopsAt, StopCause, IsImageOf, IsBadImage, IsLonger, IsAbsent, most_image_bytes}
-use Rattle.sector_model.specs.Texts.{stop_status}
 use Rattle.sector_model.specs.Runs.{Taken, Run, requests_of, has_refusal, IsEndStop}
 use Rattle.sector_model.specs.Plays.{World, Plays, There, Missing, TooLong, Faulty, Starved, PlaysParsed, PlaysRequests, Played, Stopped, BrokenOff, EndStopped, IsText, most_job_bytes}
 use Rattle.program_laws.specs.Inserted.{IsDiskFile, Names, named_by, HoldsBy, InsertsDisk, InsertsDisks}
@@ -27,7 +24,7 @@ use Rattle.program_laws.proofs.KeptSteps.{step_kept}
 
 -- ---- what can stop a request
 
-never_bad : (files : Files) (name : List ℕ) (disk : Disk) (error : ImageError) → IsImageOf (Some files) name disk → IsBadImage (Some files) name error → ⊥
+pub never_bad : (files : Files) (name : List ℕ) (disk : Disk) (error : ImageError) → IsImageOf (Some files) name disk → IsBadImage (Some files) name error → ⊥
 never_bad files name disk error image bad = go (file_at files name) image bad
   where
     clash : (r : Result Disk ImageError) → r ≡ Ok disk → r ≡ Err error → ⊥
@@ -38,7 +35,7 @@ never_bad files name disk error image bad = go (file_at files name) image bad
     go None one two = one
     go (Some bytes) one two = clash (image_of bytes) one.1 two.1
 
-never_long : (files : Files) (name : List ℕ) (disk : Disk) (most : ℕ) → most ≡ most_image_bytes → IsImageOf (Some files) name disk
+pub never_long : (files : Files) (name : List ℕ) (disk : Disk) (most : ℕ) → most ≡ most_image_bytes → IsImageOf (Some files) name disk
     → IsLonger (Some files) name most → ⊥
 never_long files name disk most is image long = go (file_at files name) image long
   where
@@ -47,7 +44,7 @@ never_long files name disk most is image long = go (file_at files name) image lo
     go None one two = one
     go (Some bytes) one two = absurd (omega (arith, is, one.0, two))
 
-never_absent : (files : Files) (name : List ℕ) (disk : Disk) → IsImageOf (Some files) name disk → IsAbsent (Some files) name → ⊥
+pub never_absent : (files : Files) (name : List ℕ) (disk : Disk) → IsImageOf (Some files) name disk → IsAbsent (Some files) name → ⊥
 never_absent files name disk image absent = go (file_at files name) image absent
   where
     go : (o : Option (List ℕ)) → IsSomeAnd o (λ bytes. (length bytes ≤ most_image_bytes) × (image_of bytes ≡ Ok disk)) → o ≡ None → ⊥

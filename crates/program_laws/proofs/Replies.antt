@@ -22,6 +22,10 @@ use Rattle.program_laws.specs.Ends.{EndsByReplies}
 use Rattle.program_laws.proofs.Telling.{EndsBy}
 use Rattle.program_laws.proofs.Completed.{format_by, copy_by, verify_by, import_by, export_by, exercise_by}
 use Rattle.program_laws.proofs.RescueStatus.{rescue_by}
+use Rattle.program_laws.proofs.RescueAgain.{rescue_again_by}
+use Rattle.flop_base.specs.Standard.{sectors_at}
+use Rattle.rescue.specs.declared.line.LogLine.{LogLine}
+use Rattle.rescue_commands.specs.Logs.{IsLogFound}
 use Rattle.program_laws.proofs.PlayStatus.{play_by, begins_kept}
 use Rattle.program_laws.specs.Inserted.{IsDiskFile, InsertsDisks}
 use Rattle.bay_model.specs.Bays.{both}
@@ -119,3 +123,11 @@ module _ (spares : List DriveCounts) (old new : Stand) (ended : Status) where
       let asked = form.Play job in
       by_form asked ran (play_by job files text requests (first asked ran) ran.runs.runs.course (last asked ran) ended told is spells inserts
       (begins_kept files ran.runs.start old.desk.desk.files told ran.runs.set_up.names ran.runs.set_up.fresh))
+
+  pub rescue_again_replies : (from to log : List ℕ) (files : Files) (disk target : Disk) (lines : List LogLine) → old.desk.desk.files ≡ Some files
+      → IsImageOf (Some files) from disk → IsImageOf (Some files) to target → IsLogFound (Some files) log (sectors_at disk.rate) (Some lines)
+      → (ran : RanOver (Some (form.Rescue from to log)) spares old new ended) → Tells (form.Rescue from to log) ran
+  rescue_again_replies from to log files disk target lines told image other found ran =
+      let asked = form.Rescue from to log in
+      by_form asked ran
+      (rescue_again_by from to log files disk target lines (first asked ran) (last asked ran) ran.runs.runs.course ended told image other found)

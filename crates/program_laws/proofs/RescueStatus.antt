@@ -113,14 +113,14 @@ module _ (to log : List ℕ) (shape : Shape) where
   abbrev keys : List Chrn
   keys = asked_keys shape None
 
-  abbrev behind : ℕ → List LogLine → Script
+  abbrev pub behind : ℕ → List LogLine → Script
   behind asked lines = carries (request.Eject 1) (λ still. stores_log log asked lines)
 
   behind_by : (asked : ℕ) (lines : List LogLine) → nat_lt (asked - length lines) asked ≡ some_line lines → IsFaithful (some_line lines) (behind asked lines)
   behind_by asked lines same =
       carries_tells_at (some_line lines) (request.Eject 1) (λ bay name e. absurd (cc e)) (λ still. stores_log log asked lines) (stores_by log asked lines same)
 
-  records_by : (row : List Chrn) → IsFaithful false (through rescues row [] (behind (length row)))
+  pub records_by : (row : List Chrn) → IsFaithful false (through rescues row [] (behind (length row)))
   unfolding through
   records_by [] = behind_by 0 [] refl
   records_by (key ∷ row) =

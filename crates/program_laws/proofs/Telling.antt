@@ -138,7 +138,7 @@ script_tells refused (Fails cause) old new (taken ∷ later) ended is runs = abs
 
 -- ---- Parts.
 
-unrefused : (asked : Request) (answer : Reply) (later : Script) → IsFaithful false later → IsFaithful (false || is_refusal answer) (unless_refused asked answer later)
+pub unrefused : (asked : Request) (answer : Reply) (later : Script) → IsFaithful false later → IsFaithful (false || is_refusal answer) (unless_refused asked answer later)
 unrefused asked (reply.Refused cause) later is = refl
 unrefused asked reply.Done later is = is
 unrefused asked reply.DoneDeleted later is = is

@@ -24,10 +24,14 @@ pub use fitting::{fromimd_status, remaster_status, survey_status, toimd_status};
 pub use flat::{disk_of_a_flat_file, flat_file_of_a_disk};
 pub use format::{format_of_a_disk, formatdd_of_a_disk};
 pub use play::{calls_are_answered, job_is_answered};
-pub use rescued::{new_rescue_settles_each_record, rescue_logs_the_rest, rescue_stores_in_order};
+pub use rescued::{
+    further_rescue_settles_each_record, new_rescue_settles_each_record, rescue_logs_the_rest,
+    rescue_stores_in_order,
+};
 pub use status::{
-    copy_status, exercise_status, export_status, format_status, formatdd_status, import_status,
-    int13_status, new_rescue_status, play_status, verify_status,
+    copy_status, exercise_status, export_status, format_status, formatdd_status,
+    further_rescue_status, import_status, int13_status, new_rescue_status, play_status,
+    verify_status,
 };
 pub use steps::{
     course_is_a_run, steps_keep_guarded_media, steps_keep_other_fields, steps_read_fields,

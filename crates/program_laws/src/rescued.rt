@@ -16,7 +16,8 @@ ghost use Rattle.floppy_words.specs.declared.form.Form.TheVariants as form;
 ghost use Rattle.floppy_forms.specs.Rounds.{world};
 ghost use Rattle.floppy_tools.specs.Machines.{RunsOver};
 ghost use Rattle.rescue.specs.declared.line.LogLine.{LogLine};
-ghost use Rattle.command_laws.specs.Rescued.{StoresInOrder, IsRescue};
+ghost use Rattle.command_laws.specs.Rescued.{StoresInOrder, HasLaidTracks, IsRescue};
+ghost use Rattle.sector_map.specs.Disks.{IsRegularDisk};
 
 /// A law: however `rescue FROM TO LOG` ends, it has stored nothing, or a disk under TO alone, or that and then a log under LOG.
 pub fn rescue_stores_in_order(_from: &str, _to: &str, _log: &str)
@@ -41,7 +42,8 @@ pub fn rescue_logs_the_rest(_from: &str, _to: &str, _log: &str)
 /// A law: where it ends with status 0 or 1, its report doesn't tell that a refusal stopped it, no file LOG was there, TO and LOG
 /// differ, FROM is the image of a disk, and the drive of bay 1 had no fault, a disk is stored under TO, and then a log under LOG, and
 /// each record is either in that log, with the code that its read gave, or on that disk, with the mark and the content that its read
-/// gave, and never in both; the last line counts those on the disk, and all.
+/// gave, and never in both; whatever faults the drive of bay 0 had, these are those of an intact field of the record on FROM. The last
+/// line counts those on the disk, and all.
 pub fn new_rescue_settles_each_record(_from: &str, _to: &str, _log: &str)
     ensures { (spares : List DriveCounts) (old new : Board) (before after : Desk) (ended : Status) (files : Files) (disk : Disk)
         (over : RunsOver (Some (form.Rescue _from.now _to.now _log.now)) old spares before new after ended) → IsEndStatus ended
@@ -49,5 +51,17 @@ pub fn new_rescue_settles_each_record(_from: &str, _to: &str, _log: &str)
         → before.files ≡ Some files → IsImageOf (Some files) _from.now disk → file_at files _log.now ≡ None
         → HadNoFault 1 old new
         → IsRescue disk disk _to.now _log.now files (world over.start before.files before.report) over.runs.course
+        (world over.last after.files after.report) ended }
+{}
+
+/// A law: so it is where a log may be there, and TO is the image of a regular disk each of whose tracks is Laid: asked for are the records
+/// of the log, and all other entries of that disk stay.
+pub fn further_rescue_settles_each_record(_from: &str, _to: &str, _log: &str)
+    ensures { (spares : List DriveCounts) (old new : Board) (before after : Desk) (ended : Status) (files : Files) (disk target : Disk)
+        (over : RunsOver (Some (form.Rescue _from.now _to.now _log.now)) old spares before new after ended) → IsEndStatus ended
+        → IsNotToldStopped before.report after.report → _to.now ≢ _log.now
+        → before.files ≡ Some files → IsImageOf (Some files) _from.now disk → HadNoFault 1 old new
+        → IsImageOf (Some files) _to.now target → IsRegularDisk target → HasLaidTracks target
+        → IsRescue disk target _to.now _log.now files (world over.start before.files before.report) over.runs.course
         (world over.last after.files after.report) ended }
 {}

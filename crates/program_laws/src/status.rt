@@ -11,6 +11,9 @@ ghost use Rattle.flat_commands.specs.FlatFiles.{IsFlatFile};
 ghost use Rattle.floppy_words.specs.declared.form.Form.TheVariants as form;
 ghost use Rattle.floppy_tools.specs.Performed.{Stand, RanOver};
 ghost use Rattle.bay_model.specs.Bays.{both};
+ghost use Rattle.flop_base.specs.Standard.{sectors_at};
+ghost use Rattle.rescue.specs.declared.line.LogLine.{LogLine};
+ghost use Rattle.rescue_commands.specs.Logs.{IsLogFound};
 ghost use Rattle.floppy_requests.specs.Texts.{job_of};
 ghost use Rattle.floppy_requests.specs.declared.request.Request.{Request};
 ghost use Rattle.sector_model.specs.Plays.{IsText};
@@ -78,6 +81,15 @@ pub fn exercise_status()
 pub fn new_rescue_status(_from: &str, _to: &str, _log: &str)
     ensures { (spares : List DriveCounts) (old new : Stand) (ended : Status) (files : Files) (disk : Disk)
         → old.desk.desk.files ≡ Some files → IsImageOf (Some files) _from.now disk → file_at files _log.now ≡ None
+        → (ran : RanOver (Some (form.Rescue _from.now _to.now _log.now)) spares old new ended)
+        → EndsByReplies (has_refusal ran.runs.runs.course) old new ended }
+{}
+
+/// A law: so does `rescue FROM TO LOG`, where FROM and TO are images of disks, and LOG is a log of the records of FROM's rate.
+pub fn further_rescue_status(_from: &str, _to: &str, _log: &str)
+    ensures { (spares : List DriveCounts) (old new : Stand) (ended : Status) (files : Files) (disk target : Disk) (lines : List LogLine)
+        → old.desk.desk.files ≡ Some files → IsImageOf (Some files) _from.now disk → IsImageOf (Some files) _to.now target
+        → IsLogFound (Some files) _log.now (sectors_at disk.rate) (Some lines)
         → (ran : RanOver (Some (form.Rescue _from.now _to.now _log.now)) spares old new ended)
         → EndsByReplies (has_refusal ran.runs.runs.course) old new ended }
 {}
