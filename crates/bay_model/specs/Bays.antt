@@ -1,6 +1,7 @@
 -- Two of a kind, one for each bay.
 use Rattle.std.specs.Prelude.{ℕ, ◌==◌, if◌then◌else◌}
 
+-- the first is of bay 0, the second of bay 1
 pub record Two (T : Type 0) : Type 0 where
   pub first : T
   pub second : T

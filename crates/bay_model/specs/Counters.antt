@@ -10,6 +10,7 @@ pub record DriveCounts : Type 0 where
   -- the most by which that count can still rise, where the drive tells it
   pub left : Option ℕ
 
+-- all that is counted, of drives and machine
 pub record Counters : Type 0 where
   -- of the drive in each bay
   pub drives : Two DriveCounts
@@ -23,7 +24,7 @@ pub record Counters : Type 0 where
   pub data_commands : ℕ
   -- the interrupts that were taken
   pub taken : ℕ
-  -- the accesses to user memory, media and drives past the driver
+  -- the accesses past the driver: a byte of user memory set, a medium put in or taken out, a drive exchanged
   pub direct : ℕ
 
 -- the faults of the drive in a bay
@@ -57,7 +58,7 @@ pub record DriveGoesOn (old new : DriveCounts) : Type 0 where
   pub never_falls : old.faults ≤ new.faults
   pub spends : Spends old.faults old.left new.faults new.left
 
--- how counts go on in a call that exchanges no drive: none falls, and none rises by more than what was left of it
+-- how counts go on in a call that exchanges no drive: none falls, and faults and stalls rise by no more than what was left of them
 pub record GoesOn (old new : Counters) : Type 0 where
   pub first : DriveGoesOn old.drives.first new.drives.first
   pub second : DriveGoesOn old.drives.second new.drives.second
@@ -72,7 +73,7 @@ pub record GoesOn (old new : Counters) : Type 0 where
 abbrev pub DriveTells : DriveCounts → Type 0
 DriveTells drive = CanTell drive.faults drive.left
 
--- so it is with all drives; and what is left of stalls brings their count to its last value at most
+-- so it is with all drives; the count of stalls is below its last value, and what is left brings it there at most
 pub record TellsLeft (counters : Counters) : Type 0 where
   pub first : DriveTells counters.drives.first
   pub second : DriveTells counters.drives.second

@@ -5,7 +5,9 @@ use Rattle.flop_base.specs.declared.answers.Rate.TheVariants.{R500}
 use Rattle.flop_base.specs.Counts.{last_count, Rose, CanTell, Spends}
 use Rattle.raw_image.specs.Disk.{Disk, IsDisk, track_of, with_word}
 
--- a drive: the medium in it or none, the cylinder under its heads, the place that passes them next, its motor, for how many word times the medium has spun up, its change line, its write gate, whether the gate was cut, its count of faults, and the most by which that count can still rise, where the drive tells it
+-- a drive: the medium in it or none, the cylinder under its heads, the place that passes them next, its motor, for how many
+-- word times the medium has spun up, its change line, its write gate, whether the gate was cut, its count of faults, and the
+-- most by which that count can still rise, where the drive tells it
 pub record DriveState : Type 0 where
   pub medium : Option Disk
   pub cylinder : ℕ

@@ -9,7 +9,7 @@ last_count = 18446744073709551615
 abbrev pub RoseBy : ℕ → ℕ → ℕ → Type 0
 RoseBy n before now = min (before + n) last_count ≤ now
 
--- the count rose by less than n
+-- the count rose by less than n, and isn't at its last value
 abbrev pub RoseLess : ℕ → ℕ → ℕ → Type 0
 RoseLess n before now = (now < before + n) × (now < last_count)
 
@@ -17,11 +17,11 @@ RoseLess n before now = (now < before + n) × (now < last_count)
 abbrev pub Rose : ℕ → ℕ → Type 0
 Rose before now = RoseBy 1 before now
 
--- what is left of a count is told only where the count can't reach its last value by it
+-- `left`, the most by which a count can still rise, is told only where that doesn't bring it to its last value
 abbrev pub CanTell : ℕ → Option ℕ → Type 0
 CanTell count left = IfSome left (λ most. count + most < last_count)
 
--- a count rises by no more than what was left of it; who doesn't tell what is left goes on not telling it
+-- where it is told what is left of a count, it stays told, and each rise is taken off it; where it isn't, it stays untold
 abbrev pub Spends : ℕ → Option ℕ → ℕ → Option ℕ → Type 0
 Spends count None after left = left ≡ None
 Spends count (Some most) after left = (rest : ℕ) × (left ≡ Some rest) × (after + rest ≤ count + most)

@@ -16,7 +16,7 @@ words_of line = filter (λ word. not (length word == 0)) (slice_split (λ b. b =
 abbrev pub is_passed_over : List ℕ → Bool
 is_passed_over line = (slice_index line 0 == 35) || (length (words_of line) == 0)
 
--- what a line without its end says: nothing where it is passed over; none where it is bad
+-- what a line without its end says: `Some None` where it is passed over; `None` where it is bad, or has over 200 bytes
 unfoldable pub line_of : {T : Type 0} → (List (List ℕ) → Option T) → List ℕ → Option (Option T)
 line_of spelled line =
     if nat_lt 200 (length line) then None
@@ -29,14 +29,14 @@ with_line n (Some None) said = said
 with_line n (Some (Some item)) (Ok items) = Ok (item ∷ items)
 with_line n (Some (Some item)) (Err bad) = Err bad
 
--- what the lines say that begin with line n: the items in order, or the first bad line
+-- what the lines say that begin with line n: the items in order, or the first bad line; each after the first `most` is bad
 abbrev pub lines_say : {T : Type 0} → (List (List ℕ) → Option T) → ℕ → ℕ → List (List ℕ) → Result (List T) ℕ
 lines_say spelled most n [] = Ok []
 lines_say spelled most n (line ∷ lines) =
     if nat_lt most n then Err n
     else with_line n (line_of spelled (strip_carriage_return line)) (lines_say spelled most (n + 1) lines)
 
--- what a text of at most so many lines says; line 0 where it is too long
+-- what a text of at most so many lines says; line 0 where it has over 4,194,304 bytes
 unfoldable pub text_of : {T : Type 0} → (List (List ℕ) → Option T) → ℕ → List ℕ → Result (List T) ℕ
 text_of spelled most text =
     if nat_lt 4194304 (length text) then Err 0 else lines_say spelled most 1 (lines_of text)

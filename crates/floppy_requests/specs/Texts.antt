@@ -4,6 +4,6 @@ use Rattle.floppy_requests.specs.Lines.{text_of}
 use Rattle.floppy_requests.specs.Requests.{request_of}
 use Rattle.floppy_requests.specs.declared.request.Request.{Request}
 
--- a job
+-- the requests of a job, of at most 100,000 lines, or its first bad line
 unfoldable pub job_of : List ℕ → Result (List Request) ℕ
 job_of text = text_of request_of 100000 text

@@ -14,10 +14,11 @@ use Rattle.machine_commands.specs.declared.machine.CommandedMachine.{CommandedMa
 abbrev pub is_spun : DriveState → Bool
 is_spun drive = at_speed drive
 
--- the user's part of memory, and the driver's
+-- the user's part of memory, below F0000
 unfoldable pub user_part : List ℕ → List ℕ
 user_part memory = take user_bytes memory
 
+-- the driver's part
 unfoldable pub page_part : List ℕ → List ℕ
 page_part memory = drop user_bytes memory
 
@@ -25,6 +26,7 @@ page_part memory = drop user_bytes memory
 abbrev pub stalls_left : List ℕ → ℕ
 stalls_left entries = count_by (λ hold. nat_lt 8 hold) entries
 
+-- what a machine counts; it has no spare drives
 abbrev pub counters_of : Board → Counters
 counters_of board = record {
   drives = record { first = counts_of board.first; second = counts_of board.second };

@@ -11,7 +11,7 @@ use Rattle.sector_model.specs.Stations.{StationState, Becomes, bay_of, set_bay}
 use Rattle.sector_model.specs.Orders.{format_refusal, IsRefusedAtOnce, IsDeviceRefusal}
 use Rattle.sector_model.specs.Reads.{spoilable}
 
--- one after the other
+-- layings one after the other
 abbrev pub LaysDisk : Format → Disk → List Laying → Disk → Type 0
 LaysDisk format disk [] after = after ≡ disk
 LaysDisk format disk (laying ∷ later) after =

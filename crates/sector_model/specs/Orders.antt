@@ -11,7 +11,7 @@ use Rattle.bay_model.specs.Counters.{IsDriven}
 use Rattle.bay_model.specs.Memory.{user_bytes}
 use Rattle.sector_model.specs.Stations.{StationState, Stays, bay_of}
 
--- a bay of the station
+-- there are bays 0 and 1
 abbrev pub is_bay : ℕ → Bool
 is_bay bay = nat_le bay 1
 
@@ -41,14 +41,14 @@ is_acknowledged station bay = is_some (bay_of station bay).acknowledged
 abbrev pub is_protected : StationState → ℕ → Bool
 is_protected station bay = option_map_or (λ disk. disk.protected) (bay_of station bay).medium false
 
--- of a read
+-- the refusal of a read before the drive is asked, if there is one
 abbrev pub read_refusal : StationState → ℕ → Chrn → ℕ → Option Code
 read_refusal station bay key address =
     if not (is_sector_request bay key address) then Some BadRequest
     else (if crosses_page address (content_size key.n) then Some Page
     else (if not (is_acknowledged station bay) then Some Changed else None))
 
--- of a write
+-- that of a write
 abbrev pub write_refusal : StationState → ℕ → Chrn → ℕ → Option Code
 write_refusal station bay key address =
     if not (is_sector_request bay key address) then Some BadRequest
@@ -66,14 +66,14 @@ abbrev pub is_format_request : StationState → ℕ → ℕ → ℕ → ℕ → 
 is_format_request station bay c h gap3 =
     is_bay bay && is_place c h && nat_le 16 gap3 && nat_le gap3 (most_format_gap (bay_of station bay).rate)
 
--- of a format
+-- that of a format
 abbrev pub format_refusal : StationState → ℕ → ℕ → ℕ → ℕ → Option Code
 format_refusal station bay c h gap3 =
     if not (is_format_request station bay c h gap3) then Some BadRequest
     else (if not (is_acknowledged station bay) then Some Changed
     else (if is_protected station bay then Some Protected else None))
 
--- of a change of the rate
+-- that of a change of the rate
 abbrev pub rate_refusal : StationState → ℕ → Option Code
 rate_refusal station bay =
     if not (is_bay bay) then Some BadRequest

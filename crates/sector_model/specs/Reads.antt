@@ -20,7 +20,7 @@ use Rattle.sector_model.specs.Orders.{read_refusal, IsRefusedAtOnce, IsDeviceRef
 abbrev pub spoilable : ℕ → ℕ
 spoilable tries = max 1 (tries - 1)
 
--- a field of the key was read: where it is, and what is known of it
+-- a field of the key was read: its address field is at `place`, its data mark at `mark`, and what is known of them
 pub record IsRead (bay : ℕ) (key : Chrn) (address : ℕ) (old : StationState) (deleted : Bool) (new : StationState) : Type 0 where
   pub disk : Disk
   pub cylinder : ℕ

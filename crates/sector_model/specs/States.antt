@@ -6,6 +6,7 @@ use Rattle.bay_model.specs.Counters.{GoesOn, IsPastDriver}
 use Rattle.sector_model.specs.Stations.{StationState, Stays}
 use Rattle.sector_model.specs.Calls.{Exchanges}
 
+-- a session: a station, and what its media are called
 pub record State : Type 0 where
   pub station : StationState
   -- the name under which the medium of each bay is stored; none where the bay is empty

@@ -9,17 +9,22 @@ use Rattle.bay_model.specs.Counters.{Counters, TellsLeft, faults_of}
 use Rattle.bay_model.specs.Memory.{user_bytes, zeroes}
 use Rattle.sector_map.specs.Met.{met_in}
 
+-- a bay as the driver knows it
 pub record Bay : Type 0 where
   pub medium : Option Disk
   -- the count of faults that the drive had when the bay was acknowledged; none where it isn't
   pub acknowledged : Option ℕ
+  -- the rate of commands in the bay, whatever that of the medium
   pub rate : Rate
 
+-- what requests are made to
 pub record StationState : Type 0 where
   pub bays : Two Bay
   -- user memory, 983,040 bytes from 00000 to EFFFF
   pub memory : List ℕ
+  -- how many spare drives are left
   pub spares : ℕ
+  -- how many attempts a read, a write or a format has
   pub tries : ℕ
   pub counters : Counters
 

@@ -78,7 +78,7 @@ faults_since bay sum counters [] = sum
 faults_since bay sum counters (taken ∷ later) =
     faults_since bay ((if is_exchange bay taken then 0 else sum) + step_faults bay counters taken) (left_by taken) later
 
--- so it is with all drives, in the bays and spare
+-- P holds of all drives, in the bays and spare
 pub record OfAllDrives (P : DriveCounts → Type 0) (counters : Counters) : Type 0 where
   pub first : P counters.drives.first
   pub second : P counters.drives.second

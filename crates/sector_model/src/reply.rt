@@ -20,7 +20,8 @@ pub enum Reply {
     Refused(Reason),
 }
 
-/// Why a request was refused. A refused request changes nothing but what it says.
+/// Why a request was refused. One that the driver sent to the drive may have changed memory or the medium; any other changes
+/// nothing.
 #[derive(Clone, Copy, Debug, PartialEq, Eq, Error)]
 pub enum Reason {
     /// The driver refused it.

@@ -84,7 +84,7 @@ lay keys n gap3 fill words = recorded false (take words (track_symbols keys n ga
 abbrev pub laid_words : ℕ → ℕ → ℕ → ℕ
 laid_words sectors n gap3 = 146 + sectors * (62 + content_size n + gap3)
 
--- the layout exists where the sectors fit
+-- the sectors, and what stands before them, fit on a track of so many words
 abbrev pub Fits : List Chrn → ℕ → ℕ → ℕ → Type 0
 Fits keys n gap3 words = laid_words (length keys) n gap3 ≤ words
 

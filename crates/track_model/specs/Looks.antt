@@ -12,7 +12,7 @@ pub record IsFirstDataMark (track : List ℕ) (p q : ℕ) (deleted : Bool) : Typ
   pub mark : IsDataMark track p q deleted
   pub none_before : (k : ℕ) (other : Bool) → k < q → IsDataMark track p k other → ⊥
 
--- the first data mark is at q, and its data field is inside the track
+-- n is a size code, the first data mark is at q, and the data field of that size is inside the track
 pub record HasDataField (track : List ℕ) (p n q : ℕ) (deleted : Bool) : Type 0 where
   pub coded : IsSizeCode n
   pub first : IsFirstDataMark track p q deleted
@@ -22,7 +22,7 @@ pub record HasDataField (track : List ℕ) (p n q : ℕ) (deleted : Bool) : Type
 abbrev pub IsIntact : List ℕ → ℕ → ℕ → Type 0
 IsIntact track q n = IsWhole track q n (content_at track (q + 64) n)
 
--- the look at the address field at p, for sectors of size code n
+-- the look at the address field at p, for sectors of size code n; the last two answers are those of a search for a key alone
 abbrev pub LookAt : List ℕ → ℕ → ℕ → Look → Type 0
 LookAt track p n (Found deleted place) =
     (q : ℕ) × HasDataField track p n q deleted × (place ≡ q + 64) × IsIntact track q n

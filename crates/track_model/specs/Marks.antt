@@ -12,13 +12,13 @@ pub record IsSound (track : List ℕ) (p count : ℕ) : Type 0 where
   pub inside : IsInside track p count
   pub no_zero : TouchesNoZero track p count
 
--- a run at p: three marks A1 one after the other, at any phase
+-- a run at p: three marks one after the other; 4489 is the byte A1 without one of its clock cells. Any cell may be p
 pub record IsRun (track : List ℕ) (p : ℕ) : Type 0 where
   pub first : cells_at track p ≡ 0x4489
   pub second : cells_at track (p + 16) ≡ 0x4489
   pub third : cells_at track (p + 32) ≡ 0x4489
 
--- an address mark at p: a run and then the byte FE
+-- an address mark at p: a run and then the byte FE, all of it recorded
 pub record IsAddressMark (track : List ℕ) (p : ℕ) : Type 0 where
   pub run : IsRun track p
   pub mark : byte_at track (p + 48) ≡ 0xFE
@@ -28,7 +28,7 @@ pub record IsAddressMark (track : List ℕ) (p : ℕ) : Type 0 where
 abbrev pub data_byte : Bool → ℕ
 data_byte deleted = if deleted then 0xF8 else 0xFB
 
--- a run and the byte of a data field at q
+-- a run and the byte of a data field at q, all of it recorded
 pub record IsDataRun (track : List ℕ) (q : ℕ) (deleted : Bool) : Type 0 where
   pub run : IsRun track q
   pub mark : byte_at track (q + 48) ≡ data_byte deleted
