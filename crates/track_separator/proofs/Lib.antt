@@ -7,6 +7,7 @@ mod Staged
 pub mod Lawful
 mod Hunted
 mod HuntedWord
+mod NoRun
 mod Started
 mod Waited
 mod Read
