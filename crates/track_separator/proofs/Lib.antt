@@ -8,6 +8,8 @@ pub mod Lawful
 mod Hunted
 mod HuntedWord
 mod NoRun
+mod Twins
+mod Remade
 mod Started
 mod Waited
 mod Read

@@ -32,3 +32,8 @@ hunts_by [] old new is back stage same =
 hunts_by (word ∷ rest) old new is back stage (m, by, low, clear, on) =
     let mid : Separator = record { cells = m; back = old.back; stage = old.stage; few = old.few; small = old.small; early = old.early } in
     (mid, hunted_on old.cells old.back word m old.stage is by clear, hunts_by rest mid new is back stage on)
+
+-- so it does where the register is told to be the one that they bring
+pub hunts_told : (words : List ℕ) (old new : Separator) → old.stage ≡ Hunting → new.back ≡ old.back → new.stage ≡ old.stage → (after : ℕ) × BringsNoRun words old.cells after → ((after : ℕ) → BringsNoRun words old.cells after → new.cells ≡ after) → HuntsPast words old new
+hunts_told words old new is back stage (after, brings) told =
+    hunts_by words old new is back stage (subst (BringsNoRun words old.cells) (sym (told after brings)) brings)
