@@ -12,7 +12,7 @@ use Rattle.track_model.proofs.Places.{cell_in}
 use Rattle.track_separator.specs.Register.{IsShifted, IsNext, IsBlank, HasRunBits, register_byte, register_check}
 
 -- the low bits of a number
-bit_at-mod : (n w i : ℕ) → n / 2 ^ w * 2 ^ w + n % 2 ^ w ≡ n → i < w → bit_at (n % 2 ^ w) i ≡ bit_at n i
+pub bit_at-mod : (n w i : ℕ) → n / 2 ^ w * 2 ^ w + n % 2 ^ w ≡ n → i < w → bit_at (n % 2 ^ w) i ≡ bit_at n i
 bit_at-mod n w i split h = sym (bit_at_cat_low (n / 2 ^ w) w (n % 2 ^ w) i h) ∙ ap (λ m. bit_at m i) split
 
 pub bit_at-div : (n b i : ℕ) → bit_at (n / 2 ^ b) i ≡ bit_at n (b + i)

@@ -7,6 +7,9 @@ mod Staged
 pub mod Lawful
 mod Hunted
 mod HuntedWord
+mod NoRun
+mod Twins
+mod Remade
 mod Started
 mod Waited
 mod Read

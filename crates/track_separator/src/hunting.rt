@@ -1,6 +1,7 @@
 // The hunt for address marks and address fields.
 ghost use Rattle.std.specs.Prelude.{◌≡◌, ◌≤◌, ℕ, List, length, take, true, false};
 
+use crate::passing::{cells_behind, count_passing};
 use crate::register::{byte_before, ends_no_run, key_before, next_cells, run_end};
 use crate::state::{Seen, Separator, Stage};
 
@@ -51,12 +52,20 @@ impl Separator {
 
     /// Takes the first of these words, inside the turn, for as long as a run of marks is hunted for and none ends in them, and
     /// tells how many it took. Nothing is seen in them.
+    #[inline(never)]
     #[tactic(auto, unfolding(crate::specs::Past::HuntsPast))]
-    pub fn hunt_many(&mut self, _words: &[u16]) -> usize
-        ensures within { result ≤ length _words.now }
-        ensures past { HuntsPast (take result _words.now) self.old self.new }
+    pub fn hunt_many(&mut self, words: &[u16]) -> usize
+        ensures within { result ≤ length words.now }
+        ensures past { HuntsPast (take result words.now) self.old self.new }
     {
-        0
+        match self.stage {
+            Stage::Hunting => {
+                let count = count_passing(self.cells, words);
+                self.cells = cells_behind(self.cells, words, count);
+                count
+            }
+            _ => 0,
+        }
     }
 
     /// Takes one word while address marks are hunted for. A run that ends in it begins a field anew.

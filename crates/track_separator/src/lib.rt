@@ -6,6 +6,7 @@
 
 mod hunting;
 pub mod laws;
+mod passing;
 mod reading;
 mod register;
 mod saving;

@@ -1,0 +1,43 @@
+// Words in which no run of marks ends, many at once.
+ghost use Rattle.std.specs.Prelude.{◌≡◌, ℕ, ◌≤◌, length, take};
+ghost use Rattle.track_separator.specs.Past.{BringsNoRun};
+
+use crate::register::next_cells;
+
+/// How many ones the cells of a mark A1 have, however they are turned.
+const MARK_ONES: u32 = 5;
+
+/// How many words fill the register.
+const REGISTER_WORDS: usize = 8;
+
+/// Counts the first of these words, for as long as no run of marks ends in them. The two words before the one in which a run
+/// ends lie in it, so they are alike, and each is a mark that is turned: up to the second of such words, each is counted.
+pub(crate) fn count_passing(cells: u128, words: &[u16]) -> usize
+    ensures within { result ≤ length words.now }
+    ensures past { (after : ℕ) × BringsNoRun (take result words.now) cells after }
+{
+    let mut before = (cells & 0xFFFF) as u16;
+    if before.count_ones() == MARK_ONES {
+        return 0;
+    }
+    for (i, word) in words.iter().enumerate() {
+        if *word == before && word.count_ones() == MARK_ONES {
+            return i + 1;
+        }
+        before = *word;
+    }
+    words.len()
+}
+
+/// The register behind so many of these words, in none of which a run of marks ends. The last of them make it anew.
+pub(crate) fn cells_behind(cells: u128, words: &[u16], count: usize) -> u128
+    requires { count ≤ length words.now }
+    ensures { (after : ℕ) → BringsNoRun (take count words.now) cells after → result ≡ after }
+{
+    let first = count.saturating_sub(REGISTER_WORDS);
+    let mut kept = cells;
+    for place in first..count {
+        kept = next_cells(kept, words[place]);
+    }
+    kept
+}
