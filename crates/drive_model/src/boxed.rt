@@ -54,6 +54,14 @@ impl Drive for Box<dyn Drive> {
         (**self).write_word(head, word)
     }
 
+    fn ahead(&self, head: u8) -> &[u16] {
+        (**self).ahead(head)
+    }
+
+    fn let_pass(&mut self, count: u32) {
+        (**self).let_pass(count);
+    }
+
     fn faults(&self) -> u64 {
         (**self).faults()
     }

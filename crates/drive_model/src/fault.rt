@@ -1,7 +1,7 @@
 // Planned faults.
 ghost use Rattle.std.specs.Prelude.{◌≡◌, ◌+◌, position, is_some};
 ghost use Rattle.std.specs.Bool.{OnTrue, OnFalse};
-ghost use Rattle.drive_model.specs.Fault.{is_for, meets, lowered, count_left, comes, spent, total_left};
+ghost use Rattle.drive_model.specs.Fault.{is_for, meets, is_dropout, has_dropout, lowered, count_left, comes, spent, total_left};
 
 /// A fault that comes up to `count` times. `c` is the cylinder under the heads, 0 to 82, `h` the head and `word` the
 /// place on the track, counted from the index on, from 0.
@@ -72,6 +72,16 @@ impl Fault {
         self.count() > 0 && self.is_for(event)
     }
 
+    /// It is a dropout, and can still come.
+    fn is_dropout(self) -> bool
+        ensures { result ≡ is_dropout self }
+    {
+        match self {
+            Fault::Dropout { count, .. } => count > 0,
+            _ => false,
+        }
+    }
+
     fn lowered(self) -> Fault
         ensures { result ≡ lowered self }
     {
@@ -105,6 +115,13 @@ fn first_planned(faults: &[Fault], event: Event) -> Option<usize>
     ensures { result ≡ position (meets event) faults.now }
 {
     faults.iter().position(|fault| fault.meets(event))
+}
+
+/// A dropout is planned that can still come.
+pub(crate) fn has_dropout(faults: &[Fault]) -> bool
+    ensures { result ≡ has_dropout faults.now }
+{
+    faults.iter().any(|fault| fault.is_dropout())
 }
 
 /// Takes one time off the first fault that meets the event, if there is one.

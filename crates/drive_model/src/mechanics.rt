@@ -1,5 +1,5 @@
 // A drive without its faults: the parts that move, and the lines.
-ghost use Rattle.std.specs.Prelude.{◌≡◌, ◌↔◌, ◌≤◌, ◌<◌, ◌-◌, ℕ, Some, is_some, IsErr, IsSome, OnOk, IfErr, IfSome, MatchOption, slice_index, false, if◌then◌else◌};
+ghost use Rattle.std.specs.Prelude.{◌≡◌, ◌↔◌, ◌≤◌, ◌<◌, ◌-◌, ℕ, Option, Some, is_some, IsErr, IsSome, OnOk, IfErr, IfSome, MatchOption, slice_index, false, if◌then◌else◌};
 ghost use Rattle.std.specs.Option.{ForSome};
 ghost use Rattle.raw_image.specs.Disk.{IsDisk};
 ghost use Rattle.drive_model.specs.Drive.{track_words, rewritten};
@@ -53,7 +53,8 @@ pub(crate) struct Mechanics {
 impl Mechanics {
     ghost use Rattle.drive_model.specs.Drive.{loaded, unloaded, with_motor, with_gate, moved, passed, written, cut_off};
     ghost use Rattle.drive_model.specs.Drive.{at_speed, can_write, at_index, word_under, words_on, is_protected, rate_of};
-    ghost use Rattle.drive_model.specs.Mechanics.{faultless, at_rest};
+    ghost use Rattle.drive_model.specs.Mechanics.{state_of, faultless, at_rest};
+    ghost use Rattle.drive_model.specs.Ahead.{LetsPass, AreAhead};
 
     /// Without a medium, at cylinder 0, with the change line set.
     pub(crate) fn new() -> Mechanics
@@ -204,6 +205,27 @@ impl Mechanics {
         }
     }
 
+    /// Closes the gate and lets so many word times pass.
+    pub(crate) fn let_pass(&mut self, count: u32)
+        ensures { (faults : ℕ) (left : Option ℕ)
+            → LetsPass count (state_of self.old faults left) (state_of self.new faults left) }
+    {
+        if count == 0 {
+            return;
+        }
+        self.gate = false;
+        let Some(medium) = &self.medium else {
+            return;
+        };
+        if !self.motor {
+            return;
+        }
+        let words = u64::from(medium.words());
+        let spinning = count.min(u32::from(SPIN_UP - self.spin));
+        self.spin += spinning as u16;
+        self.place = ((u64::from(self.place) + u64::from(count - spinning)) % words) as u16;
+    }
+
     /// The word at a place under a head.
     fn word_at(&self, head: u8, place: u16) -> u16
         requires { place < track_words self.now.medium }
@@ -215,6 +237,23 @@ impl Mechanics {
         match medium.track(self.cylinder, head) {
             Some(track) => track[place as usize],
             None => 0,
+        }
+    }
+
+    /// The words of the track under a head that pass next, but for its last, where the medium is spun up.
+    #[tactic(auto, unfolding(crate::specs::Ahead::AreAhead))]
+    pub(crate) fn ahead(&self, head: u8) -> &[u16]
+        ensures { AreAhead head result.now (faultless self.now) }
+    {
+        if !self.is_at_speed() {
+            return &[];
+        }
+        let Some(medium) = &self.medium else {
+            return &[];
+        };
+        match medium.track(self.cylinder, head) {
+            Some(track) => &track[self.place as usize..track.len() - 1],
+            None => &[],
         }
     }
 

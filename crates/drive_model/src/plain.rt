@@ -81,6 +81,14 @@ impl Drive for PlainDrive {
         self.mechanics.write(head, word)
     }
 
+    fn ahead(&self, head: u8) -> &[u16] {
+        self.mechanics.ahead(head)
+    }
+
+    fn let_pass(&mut self, count: u32) {
+        self.mechanics.let_pass(count);
+    }
+
     fn faults(&self) -> u64 {
         0
     }

@@ -1,12 +1,12 @@
 // The faults that a drive still has.
 ghost use Rattle.std.specs.Prelude.{◌≡◌, ◌+◌};
 ghost use Rattle.std.specs.Bool.{OnTrue, OnFalse};
-ghost use Rattle.drive_model.specs.Fault.{comes, spent, total_left};
+ghost use Rattle.drive_model.specs.Fault.{has_dropout, comes, spent, total_left};
 
 mod saving;
 
 use crate::Fault;
-use crate::fault::{Event, take_fault};
+use crate::fault::{Event, has_dropout, take_fault};
 use std::marker::Model;
 
 /// Planned faults in their order.
@@ -29,6 +29,13 @@ impl Plan {
         ensures { result ≡ faults.items }
     {
         Plan { faults }
+    }
+
+    /// A dropout is planned that can still come.
+    pub(crate) fn has_dropout(&self) -> bool
+        ensures { result ≡ has_dropout self.now }
+    {
+        has_dropout(&self.faults)
     }
 
     /// Takes one time off the first fault that meets the event, if there is one.

@@ -1,9 +1,10 @@
 // A drive whose faults are planned.
-ghost use Rattle.std.specs.Prelude.{◌≡◌, ◌≤◌, ◌↔◌, IsErr, IsSome, OnOk, IfErr};
+ghost use Rattle.std.specs.Prelude.{◌≡◌, ◌≤◌, ◌↔◌, [], IsErr, IsSome, OnOk, IfErr};
 ghost use Rattle.std.specs.Bool.{OnTrue, OnFalse};
 ghost use Rattle.flop_base.specs.Counts.{last_count, Rose};
 ghost use Rattle.drive_model.specs.Drive.{Becomes, InRange, loaded, unloaded, with_motor, with_gate, moved, passed, written, cut_off, at_index, word_under, Pulses, Reads, Writes};
-ghost use Rattle.drive_model.specs.Fault.{comes};
+ghost use Rattle.drive_model.specs.Ahead.{LetsPass, AreAhead};
+ghost use Rattle.drive_model.specs.Fault.{comes, has_dropout};
 
 mod saving;
 
@@ -239,6 +240,23 @@ impl Drive for ScriptDrive {
         } else {
             self.mechanics.write(head, word)
         }
+    }
+
+    fn ahead(&self, head: u8) -> &[u16]
+        ensures ahead { AreAhead head result.now (script_state self.now) }
+        ensures certain { OnTrue (has_dropout (script_of self.now)) (result.now ≡ []) }
+    {
+        if self.plan.has_dropout() {
+            return &[];
+        }
+        self.mechanics.ahead(head)
+    }
+
+    fn let_pass(&mut self, count: u32)
+        ensures passes { LetsPass count (script_state self.old) (script_state self.new) }
+        ensures no_fault { NoFault self.old self.new }
+    {
+        self.mechanics.let_pass(count);
     }
 
     fn faults(&self) -> u64 {
