@@ -4,6 +4,7 @@ ghost use Rattle.fdc_core.specs.Courses.{Courses, IsStill};
 
 use crate::controller::Fdc;
 use drive_model::Drive;
+use fdc_phases::Phase;
 
 impl Fdc {
     /// Whether a device step changes nothing but the places of the disks, and so each further one.
@@ -11,7 +12,13 @@ impl Fdc {
     pub fn is_still(&self) -> bool
         ensures { result ≡ true → IsStill self.now }
     {
-        false
+        if self.poll_due || self.seeks.is_seeking() {
+            return false;
+        }
+        match &self.phase {
+            Phase::Execute { .. } => false,
+            _ => true,
+        }
     }
 
     /// Makes device steps at once with the selected drive, for as long as a READ DATA hears words in which nothing is seen, and
