@@ -1,6 +1,7 @@
 -- Device steps whole, and so many of them in a row.
-use Rattle.std.specs.Prelude.{◌≡◌, ◌==◌, ℕ, zero, suc, false}
+use Rattle.std.specs.Prelude.{◌≡◌, ◌==◌, ℕ, zero, suc, true, false}
 use Rattle.drive_model.specs.Drive.{DriveState, Becomes, at_index}
+use Rattle.fdc_fifo.specs.Fifo.{wants}
 use Rattle.fdc_core.specs.Listening.{Listens, ListensToNone}
 use Rattle.fdc_core.specs.State.{asks, interrupts}
 use Rattle.fdc_core.specs.Steps.{polled, let_pass, Rests, MovesDrive, Ends, Stays, Flows}
@@ -45,3 +46,9 @@ Courses (suc count) old before new after =
 pub record IsStill (fdc : Fdc) : Type 0 where
   pub works : (before after : DriveState) → Becomes (let_pass before) before after → Works fdc before fdc after
   pub alone : WorksAlone fdc fdc
+
+-- no poll comes, and DRQ stays down
+pub record IsQuiet (fdc : Fdc) : Type 0 where
+  pub due : fdc.poll_due ≡ false
+  pub down : fdc.asking ≡ false
+  pub few : wants true false false fdc.fifo ≡ false
