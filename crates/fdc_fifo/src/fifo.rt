@@ -1,5 +1,5 @@
 // The bytes between a diskette controller and its DMA channel, in the order that they came.
-ghost use Rattle.std.specs.Prelude.{◌≡◌, ◌==◌, ◌≤◌, ◌↔◌, false, [], ◌∷◌, ◌++◌, length, drop, IsNone, IfOk, IfErr, IfSome, OnOk, OnErr};
+ghost use Rattle.std.specs.Prelude.{◌≡◌, ◌==◌, ◌≤◌, ◌↔◌, ◌+◌, ℕ, List, true, false, [], ◌∷◌, ◌++◌, length, drop, IsNone, IfOk, IfErr, IfSome, OnOk, OnErr};
 ghost use Rattle.fdc_fifo.specs.Fifo.{emptied, room_of, IsFull, wants, worth_fetching, low_level};
 
 mod saving;
@@ -112,6 +112,15 @@ impl Fifo {
         } else {
             len < self.room() && !last && (asking || len <= self.low_level())
         }
+    }
+
+    /// How many bytes can come that go to memory, with DRQ down, before it rises; none where it rises at once.
+    pub fn quiet_room(&self) -> usize
+        ensures quiet { wants true false false self.now ≡ false → (more : List ℕ) → length more ≤ result
+            → wants true false false (record self.now { bytes = self.now.bytes ++ more }) ≡ false }
+        ensures fits { length self.now.bytes + result ≤ room_of self.now.on }
+    {
+        (self.worth_fetching() - 1).saturating_sub(self.bytes.len())
     }
 
     fn room(&self) -> usize

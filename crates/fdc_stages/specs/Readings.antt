@@ -152,3 +152,21 @@ abbrev pub PassesBy : ℕ → ReadStage → ReadStage → Type 0
 PassesBy word stage next =
     ((past : Past) (key : Chrn) (told : List ℕ) → IsReading past key told stage → IsReading (heard false word past) key told next)
     × KeepsMark stage (On next)
+
+-- a content is read
+abbrev pub IsContent : ReadStage → Type 0
+IsContent (Content separator deleted) = Unit {0}
+IsContent _ = ⊥
+
+-- a word of a content, which gives this byte, and behind which no index passes, whatever was heard before
+pub record HearsByte (word value : ℕ) (stage next : ReadStage) : Type 0 where
+  pub gives : (past : Past) (key : Chrn) (told : List ℕ) → IsReading past key told stage → IsReading (heard false word past) key (told ++ value ∷ []) next
+  pub mark : KeepsMark stage (Byte next value)
+  pub content : IsContent next
+
+-- words of a content, and the bytes that they give
+unfoldable pub HearsBytes : List ℕ → List ℕ → ReadStage → ReadStage → Type 0
+HearsBytes [] bytes stage next = (bytes ≡ []) × (next ≡ stage)
+HearsBytes (word ∷ words) bytes stage next =
+    (value : ℕ) × (more : List ℕ) × (mid : ReadStage) × (bytes ≡ value ∷ more) × HearsByte word value stage mid
+    × HearsBytes words more mid next

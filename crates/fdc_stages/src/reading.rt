@@ -1,10 +1,10 @@
 // The stages of a reading.
-ghost use Rattle.std.specs.Prelude.{◌≡◌, ◌≤◌, ℕ, Bool, true, false, List, [], length, Some};
+ghost use Rattle.std.specs.Prelude.{◌≡◌, ◌≤◌, ℕ, Bool, true, false, List, [], length, Some, IfSome, IsNone};
 ghost use Rattle.track_model.specs.Fields.{IsSizeCode, content_size, IsAddressAt};
 ghost use Rattle.flop_base.specs.declared.key.Chrn.{Chrn};
 ghost use Rattle.fdc_stages.specs.History.{Past, begun, heard};
 ghost use Rattle.fdc_stages.specs.Searches.{IsMet, IsSearching};
-ghost use Rattle.fdc_stages.specs.Readings.{IsOver, IsWaitingAt, IsContentAt, IsReading, HasRead, read_outcome, HasHeard, FailsWell, IsFailure, KeepsMark, PassesBy};
+ghost use Rattle.fdc_stages.specs.Readings.{IsOver, IsWaitingAt, IsContentAt, IsReading, HasRead, read_outcome, HasHeard, FailsWell, IsFailure, KeepsMark, PassesBy, HearsByte};
 
 use crate::ending::Ending;
 use crate::searching::{Search, Searched};
@@ -83,6 +83,19 @@ impl ReadStage {
         match self {
             ReadStage::Search(search) => search.pass_by(word, index),
             _ => false,
+        }
+    }
+
+    /// Hears a word, behind which no index passes, where bytes of a content are left, and gives its byte: else nothing changes,
+    /// and `hear` has to.
+    #[inline(always)]
+    pub fn next_byte(&mut self, word: u16) -> Option<u8>
+        ensures heard { IfSome result (λ value. HearsByte word value self.old self.new) }
+        ensures others { IsNone result → self.new ≡ self.old }
+    {
+        match self {
+            ReadStage::Content { separator, .. } => separator.next_byte(word),
+            _ => None,
         }
     }
 

@@ -1,5 +1,5 @@
 // The bytes of a data field.
-ghost use Rattle.std.specs.Prelude.{◌≡◌, ◌≢◌, ◌≤◌, ◌↔◌, ℕ, List, Bool, true, false, IsTrue};
+ghost use Rattle.std.specs.Prelude.{◌≡◌, ◌≢◌, ◌<◌, ◌≤◌, ◌↔◌, ℕ, List, Bool, true, false, IsTrue, IfSome, IsNone};
 
 use crate::register::{check_before, last_byte, shifted};
 use crate::state::{Seen, Separator, Stage};
@@ -22,7 +22,7 @@ fn is_good(touched: bool, stored: u16, check: u16) -> bool
 
 impl Separator {
     ghost use Rattle.track_separator.specs.Parts.{with_word};
-    ghost use Rattle.track_separator.specs.Waits.{IsReading, ReadSeenIn};
+    ghost use Rattle.track_separator.specs.Waits.{IsReading, ReadSeenIn, SReads, SReadSeen};
 
     /// Takes one word of a data field, after `taken` bytes behind its mark.
     #[inline(always)]
@@ -42,6 +42,44 @@ impl Separator {
         if taken >= size {
             return self.read_check(word, size, taken, check, before);
         }
+        let value = self.content_byte(word, size, taken, check, before);
+        Seen::Byte { value }
+    }
+
+    /// Takes a word, inside the turn, where bytes of a content are left, and gives its byte. Else nothing changes, and there is
+    /// none.
+    #[inline(always)]
+    pub fn next_byte(&mut self, word: u16) -> Option<u8>
+        ensures reads { IfSome result (λ value. (fed : List ℕ) (p q : ℕ) (deleted : Bool) (size taken : ℕ)
+            → SReads self.old fed p q deleted size taken
+            → SReadSeen (with_word fed word) p q deleted size taken self.new (Seen.Byte value)) }
+        ensures others { IsNone result → self.new ≡ self.old }
+    {
+        match self.stage {
+            Stage::Content {
+                size,
+                taken,
+                check,
+                touched,
+            } => {
+                if taken >= size {
+                    return None;
+                }
+                Some(self.content_byte(word, size, taken, check, touched))
+            }
+            _ => None,
+        }
+    }
+
+    /// Takes one word of the content, and gives its byte.
+    #[inline(always)]
+    fn content_byte(&mut self, word: u16, size: u16, taken: u16, check: u16, before: bool) -> u8
+        requires small { size ≤ 8192 }
+        requires left { taken < size }
+        ensures { (fed : List ℕ) (p q : ℕ) (deleted : Bool)
+            → IsReading fed self.old.cells self.old.back p q deleted size taken check before
+            → ReadSeenIn (with_word fed word) p q deleted size taken self.new.cells self.new.back self.new.stage (Seen.Byte result) }
+    {
         self.cells = shifted(self.cells, word);
         let value = last_byte(self.cells, self.back);
         self.stage = Stage::Content {
@@ -50,7 +88,7 @@ impl Separator {
             check: crc_step(check, value),
             touched: is_touched(before, word),
         };
-        Seen::Byte { value }
+        value
     }
 
     /// Takes one word of the check, behind all bytes of the content.

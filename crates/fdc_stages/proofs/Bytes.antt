@@ -1,0 +1,35 @@
+-- The bytes of a content, one after the other.
+use Rattle.std.proofs.Common.{◌≡◌, ℕ, Bool, false, Option, None, Some, IfSome, List, [], ◌∷◌, ◌++◌, refl, sym, ap, subst}
+use Rattle.track_separator.specs.declared.state.Seen.TheVariants as seen
+use Rattle.track_separator.specs.declared.state.Separator.{Separator}
+use Rattle.track_separator.specs.Parts.{with_word}
+use Rattle.track_separator.specs.Waits.{SReads, SReadSeen}
+use Rattle.track_model.specs.Fields.{content_size}
+use Rattle.fdc_stages.specs.declared.reading.ReadStage.{ReadStage}
+use Rattle.fdc_stages.specs.declared.reading.ReadStage.TheVariants.{Content}
+use Rattle.fdc_stages.specs.Readings.{HearsByte, HearsBytes}
+use Rattle.fdc_stages.proofs.ReadWord.{byte_heard}
+
+-- what the separator's byte says of the reading
+pub byte_comes : (word : ℕ) (before now : Separator) (deleted : Bool) (stage : ReadStage) (answer : Option ℕ) → stage ≡ Content before deleted
+    → IfSome answer (λ value. (fed : List ℕ) (p q : ℕ) (other : Bool) (size taken : ℕ) → SReads before fed p q other size taken → SReadSeen (with_word fed word) p q other size taken now (seen.Byte value))
+    → IfSome answer (λ value. HearsByte word value stage (Content now deleted))
+byte_comes word before now deleted stage None is reads = tt
+byte_comes word before now deleted stage (Some value) is reads = subst (λ stage. HearsByte word value stage (Content now deleted)) (sym is) (record {
+  gives = λ past key told was.
+      byte_heard false past word key told before now (seen.Byte value) deleted was (λ p q taken. reads past.seen p q deleted (content_size key.n) taken) value refl;
+  mark = refl;
+  content = tt;
+})
+
+pub hears_none : (stage : ReadStage) → HearsBytes [] [] stage stage
+unfolding HearsBytes
+hears_none stage = (refl, refl)
+
+-- and one more word
+pub hears_more : (words bytes : List ℕ) (word value : ℕ) (stage mid next : ReadStage) → HearsBytes words bytes stage mid → HearsByte word value mid next → HearsBytes (words ++ word ∷ []) (bytes ++ value ∷ []) stage next
+unfolding HearsBytes
+hears_more [] bytes word value stage mid next hears byte =
+    (value, [], next, ap (λ b. b ++ value ∷ []) hears.0, subst (λ s. HearsByte word value s next) hears.1 byte, (refl, refl))
+hears_more (first ∷ words) bytes word value stage mid next (one, more, between, is, hears, rest) byte =
+    (one, more ++ value ∷ [], between, ap (λ b. b ++ value ∷ []) is, hears, hears_more words more word value between mid next rest byte)

@@ -1,0 +1,16 @@
+use Rattle.std.proofs.Common.{ℕ, sym, subst}
+use Rattle.track_separator.specs.declared.state.Seen.TheVariants.{Byte}
+use Rattle.track_separator.specs.declared.state.Stage.{Stage}
+use Rattle.track_separator.specs.Parts.{with_word}
+use Rattle.track_separator.specs.Waits.{ReadsIn, SReadSeen, IsReading}
+use Rattle.track_separator.proofs.state.Separator.next_byte.Goals as goal
+
+pub returns-else-taken-size-clause-reads : goal.returns-else-taken-size-clause-reads
+returns-else-taken-size-clause-reads c = λ fed p q deleted size taken reads.
+    let old = c.args.self.now in
+    let At : Stage → Type 0 = λ stage. ReadsIn fed old.cells old.back p q deleted size taken stage in
+    let known = subst At c.in-Content.is reads in
+    let Was : ℕ → ℕ → Type 0 = λ asked passed. IsReading fed old.cells old.back p q deleted asked passed c.in-Content.check c.in-Content.touched in
+    let For : ℕ → ℕ → Type 0 = λ asked passed. SReadSeen (with_word fed c.args.word) p q deleted asked passed c.content_byte.new.self (Byte c.content_byte.result) in
+    let was : Was c.in-Content.size c.in-Content.taken = subst (λ asked. Was asked c.in-Content.taken) (sym known.0) (subst (λ passed. Was size passed) (sym known.1) known.2) in
+    subst (λ passed. For size passed) known.1 (subst (λ asked. For asked c.in-Content.taken) known.0 (c.content_byte.ensures fed p q deleted was))
