@@ -38,6 +38,11 @@ impl Fdc {
         }
     }
 
+    /// Whether it is worth a try to make device steps at once.
+    pub fn may_skim(&self) -> bool {
+        true
+    }
+
     /// Makes device steps at once with the selected drive, for as long as a READ DATA hears words in which nothing is seen, and
     /// tells how many it made, at most `most`: where it is 0, the next step is one for `step`.
     #[tactic(auto, unfolding(crate::specs::Courses::Courses))]

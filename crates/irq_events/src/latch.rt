@@ -62,6 +62,13 @@ impl IrqLatch {
         self.set
     }
 
+    /// The level that the line was shown at last.
+    pub fn level(&self) -> bool
+        ensures { result ≡ self.now.level }
+    {
+        self.level
+    }
+
     /// Clears the latch, and tells whether it was set. However many edges came before, one take clears them.
     pub fn take(&mut self) -> bool
         ensures was { result ≡ self.old.is_set }

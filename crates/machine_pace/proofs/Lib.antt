@@ -1,2 +1,2 @@
 pub mod InTime
-mod Quiet
+pub mod Quiet

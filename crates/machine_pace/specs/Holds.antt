@@ -17,6 +17,11 @@ abbrev pub is_due : Request → Bool
 is_due Low = false
 is_due (High left) = left == 0
 
+-- the line is low
+abbrev pub is_low : Request → Bool
+is_low Low = true
+is_low (High left) = false
+
 -- a count, one higher, up to its last value
 abbrev pub counted : ℕ → ℕ
 counted count = min (count + 1) last_count

@@ -2,7 +2,7 @@
 ghost use Rattle.std.specs.Prelude.{◌≡◌, ◌≤◌};
 ghost use Rattle.std.specs.List.{All};
 ghost use Rattle.machine_pace.specs.Entries.{next_entry, rest_of};
-ghost use Rattle.machine_pace.specs.Holds.{AreShort, IsShort, looked, shown, is_due, waited, stalls_with};
+ghost use Rattle.machine_pace.specs.Holds.{AreShort, IsShort, looked, shown, is_due, is_low, waited, stalls_with};
 ghost use Rattle.machine_pace.specs.declared.holding.Request.TheVariants.{Low};
 
 mod saving;
@@ -107,6 +107,13 @@ impl Holding {
             self.stalls = self.stalls.saturating_add(1);
         }
         hold
+    }
+
+    /// The line was low when it was looked at last.
+    pub fn is_low(&self) -> bool
+        ensures { result ≡ is_low self.now.request }
+    {
+        matches!(self.request, Request::Low)
     }
 
     fn is_due(&self) -> bool

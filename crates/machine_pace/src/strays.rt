@@ -54,12 +54,14 @@ impl Strays {
     }
 
     /// How many device steps can pass before a stray comes, and `most` at most.
-    #[tactic(auto, unfolding(crate::specs::Entries::AreQuiet))]
-    pub fn quiet_for(&self, _most: u32) -> u32
-        ensures few { result ≤ _most }
+    pub fn quiet_for(&self, most: u32) -> u32
+        ensures few { result ≤ most }
         ensures quiet { AreQuiet result self.now }
     {
-        0
+        match self.next {
+            None => most,
+            Some(steps) => most.min(u32::from(steps.saturating_sub(1))),
+        }
     }
 
     /// Lets so many device steps pass in which no stray comes.
@@ -67,8 +69,9 @@ impl Strays {
         requires { AreQuiet count self.old }
         ensures { self.new ≡ strays_later count self.old }
     {
-        for _i in 0..count {
-            self.pass();
+        match self.next {
+            None => {}
+            Some(steps) => self.next = Some(u32::from(steps).saturating_sub(count) as u16),
         }
     }
 }
