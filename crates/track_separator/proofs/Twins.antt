@@ -204,11 +204,11 @@ module _ (words : List ℕ) (i cells before : ℕ) (inside : i < length words) (
   scan_last = (next.0, more)
 
   -- nor does the one behind it
-  pub scan_more : (get_or words i 0 ≡ before → count_ones (get_or words i 0) ≡ 5 → ⊥) → IsScanned (take (i + 1) words) cells (get_or words i 0)
-  unfolding word
-  scan_more differ = record {
+  pub scan_more : (last : ℕ) → last ≡ get_or words i 0 → (get_or words i 0 ≡ before → count_ones (get_or words i 0) ≡ 5 → ⊥) → IsScanned (take (i + 1) words) cells last
+  unfolding word Shows
+  scan_more last is differ = record {
     register = next.0;
     brings = more;
-    shows = shows_next scanned.register word next.0 next.2 fits;
+    shows = λ five. shows_next scanned.register word next.0 next.2 fits five ∙ sym is;
     apart = no_twins_next scanned.register word next.0 next.2 before fits scanned.shows differ;
   }

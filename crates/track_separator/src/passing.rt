@@ -21,10 +21,12 @@ pub(crate) fn count_passing(cells: u128, words: &[u16]) -> usize
         return 0;
     }
     for (i, word) in words.iter().enumerate() {
-        if *word == before && word.count_ones() == MARK_ONES {
+        // With one condition for both, the ones of every word would be counted.
+        if *word != before {
+            before = *word;
+        } else if word.count_ones() == MARK_ONES {
             return i + 1;
         }
-        before = *word;
     }
     words.len()
 }
