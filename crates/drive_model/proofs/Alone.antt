@@ -134,7 +134,7 @@ lets_pass_turning (suc count) spinning words spin place s some on same within lo
 -- ---- words ahead
 
 -- with no words there is nothing to say
-pub none_ahead : (head : ℕ) (s : DriveState) → AreAhead head [] s
+none_ahead : (head : ℕ) (s : DriveState) → AreAhead head [] s
 unfolding AreAhead
 none_ahead head s = tt
 
