@@ -99,6 +99,20 @@ impl Drive for AnyDrive {
         }
     }
 
+    fn ahead(&self, head: u8) -> &[u16] {
+        match self {
+            AnyDrive::Plain(drive) => drive.ahead(head),
+            AnyDrive::Scripted(drive) => drive.ahead(head),
+        }
+    }
+
+    fn let_pass(&mut self, count: u32) {
+        match self {
+            AnyDrive::Plain(drive) => drive.let_pass(count),
+            AnyDrive::Scripted(drive) => drive.let_pass(count),
+        }
+    }
+
     fn faults(&self) -> u64 {
         match self {
             AnyDrive::Plain(drive) => drive.faults(),

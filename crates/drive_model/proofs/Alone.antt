@@ -29,6 +29,7 @@ none_pass : (s new : DriveState) → new ≡ s → LetsPass 0 s new
 unfolding LetsPass
 none_pass s new same = same
 
+-- some word times, and then others
 both_pass : (a b : ℕ) (s between new : DriveState) → LetsPass a s between → LetsPass b between new → LetsPass (b + a) s new
 unfolding LetsPass
 both_pass zero b s between new first second =
@@ -77,6 +78,7 @@ speeds_step s on fast = rw (on, le-leb _ _ fast, le-ltb _ _ fast) refl
 next_within : (place words : ℕ) → place < words → next_place place words < words
 next_within place words within = grind arith
 
+-- the index is where the places begin anew
 next_mod : (place words count : ℕ) → place < words → (next_place place words + count) % words ≡ (place + suc count) % words
 next_mod place words count within =
     cond_both (place + 1 == words) 0 (place + 1) (λ p. (p + count) % words ≡ (place + suc count) % words)
@@ -86,25 +88,16 @@ next_mod place words count within =
     ∙ ap (λ n. n % words) (omega (arith, whole)))
     (λ before. ap (λ n. n % words) (omega arith))
 
-speeds : (count : ℕ) (s : DriveState) (words place : ℕ) → turns s ≡ true → 6250 ≤ s.spin → words ≡ track_words s.medium → s.place < words
+speeds : (count : ℕ) (s : DriveState) (words place : ℕ) → turns s ≡ true → (0 < count → 6250 ≤ s.spin) → words ≡ track_words s.medium → s.place < words
     → place ≡ (s.place + count) % words → LetsPass count (with_gate false s) (gone s place)
 speeds zero s words place on fast same within there =
     let first : s.place + 0 ≡ s.place = omega arith in
     none_pass _ _ (ap (gone s) (there ∙ ap (λ n. n % words) first ∙ mod-eq_of_lt within))
 speeds (suc count) s words place on fast same within there =
     let next : ℕ = next_place s.place words in
-    one_more count (with_gate false s) (gone s next) (gone s place) (rw same (speeds_step s on fast))
-    (speeds count (gone s next) words place on fast same (next_within s.place words within)
+    one_more count (with_gate false s) (gone s next) (gone s place) (rw same (speeds_step s on (fast (omega arith))))
+    (speeds count (gone s next) words place on (λ more. fast (omega arith)) same (next_within s.place words within)
     (there ∙ sym (next_mod s.place words count within)))
-
--- what is left of the word times, once the medium is spun up
-rest_speeds : (count : ℕ) (s : DriveState) (words place : ℕ) → turns s ≡ true → (0 < count → 6250 ≤ s.spin) → words ≡ track_words s.medium → s.place < words
-    → place ≡ (s.place + count) % words → LetsPass count (with_gate false s) (gone s place)
-rest_speeds zero s words place on fast same within there =
-    let first : s.place + 0 ≡ s.place = omega arith in
-    none_pass _ _ (ap (gone s) (there ∙ ap (λ n. n % words) first ∙ mod-eq_of_lt within))
-rest_speeds (suc count) s words place on fast same within there =
-    speeds (suc count) s words place on (fast (omega arith)) same within there
 
 -- ---- any number of word times
 
@@ -116,6 +109,7 @@ pub lets_pass_still : (count : ℕ) (s : DriveState) → 0 < count → turns s �
 lets_pass_still zero s some off = absurd (omega (arith, some))
 lets_pass_still (suc count) s some off = shut_first count s (with_gate false s) (still (suc count) s off)
 
+-- it spins up for as many of them as it wants and there are, and turns on by the others
 pub lets_pass_turning : (count spinning words spin place : ℕ) (s : DriveState) → 0 < count → turns s ≡ true
     → words ≡ track_words s.medium → s.place < words → s.spin ≤ 6250 → spinning ≡ min count (6250 - s.spin)
     → spin ≡ s.spin + spinning → place ≡ (s.place + (count - spinning)) % words
@@ -127,14 +121,14 @@ lets_pass_turning (suc count) spinning words spin place s some on same within lo
     let new : DriveState = gone (spun s spin) place in
     let first = spins spinning s spin on spins_to (omega (arith, spins_for, spins_to, low)) in
     let fast : 0 < rest → 6250 ≤ spin = λ more. omega (arith, more, spins_for, spins_to, low) in
-    let second = rest_speeds rest (spun s spin) words place on fast same within goes_to in
+    let second = speeds rest (spun s spin) words place on fast same within goes_to in
     shut_first count s new (subst (λ n. LetsPass n (with_gate false s) new) all
     (both_pass spinning rest (with_gate false s) (spun s spin) new first second))
 
 -- ---- words ahead
 
 -- with no words there is nothing to say
-pub none_ahead : (head : ℕ) (s : DriveState) → AreAhead head [] s
+none_ahead : (head : ℕ) (s : DriveState) → AreAhead head [] s
 unfolding AreAhead
 none_ahead head s = tt
 
@@ -150,7 +144,8 @@ one_ahead head rest s on fast within ahead = (
   subst (AreAhead head rest) (sym (fast_step s on fast within)) ahead,
 )
 
-track_ahead : (count head : ℕ) (track : List ℕ) (s : DriveState) → turns s ≡ true → 6250 ≤ s.spin → track ≡ words_on s.medium s.cylinder head
+-- of the track of a medium at speed, what comes before its last word
+pub track_ahead : (count head : ℕ) (track : List ℕ) (s : DriveState) → turns s ≡ true → 6250 ≤ s.spin → track ≡ words_on s.medium s.cylinder head
     → length track ≡ track_words s.medium → s.place + count < track_words s.medium → AreAhead head (take count (drop s.place track)) s
 track_ahead zero head track s on fast same long within = none_ahead head s
 track_ahead (suc count) head track s on fast same long within =

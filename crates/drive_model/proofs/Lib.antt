@@ -2,4 +2,4 @@ pub mod Entries
 pub mod Protection
 pub mod Saved
 pub mod Passing
-mod Alone
+pub mod Alone

@@ -242,6 +242,7 @@ impl Drive for ScriptDrive {
         }
     }
 
+    #[tactic(auto, unfolding(crate::specs::Ahead::AreAhead))]
     fn ahead(&self, head: u8) -> &[u16]
         ensures ahead { AreAhead head result.now (script_state self.now) }
         ensures certain { OnTrue (has_dropout (script_of self.now)) (result.now ≡ []) }

@@ -139,6 +139,7 @@ impl InspectedDrive {
 
 impl Drive for InspectedDrive {
     ghost use Rattle.drive_model.specs.Drive.{Becomes, InRange, loaded, unloaded, with_motor, with_gate, passed, at_index, Pulses, Reads, Writes};
+    ghost use Rattle.drive_model.specs.Ahead.{LetsPass};
     ghost use Rattle.inspected_drive.specs.InspectedDrive.{inspected_state, is_written, replaces};
 
     ghost state = { inspected_state };
@@ -277,6 +278,40 @@ impl Drive for InspectedDrive {
             self.replace(head, passing.place, word);
         }
         passing.index
+    }
+
+    #[tactic(auto, unfolding(drive_model::specs::Ahead::AreAhead))]
+    fn ahead(&self, head: u8) -> &[u16] {
+        if !self.motor || self.spin < SPIN_UP {
+            return &[];
+        }
+        let Some(medium) = &self.medium else {
+            return &[];
+        };
+        match medium.track(self.cylinder, head) {
+            Some(track) => &track[self.place as usize..track.len() - 1],
+            None => &[],
+        }
+    }
+
+    fn let_pass(&mut self, count: u32)
+        ensures passes { LetsPass count (inspected_state self.old) (inspected_state self.new) }
+        ensures kept { is_written self.new ≡ is_written self.old }
+    {
+        if count == 0 {
+            return;
+        }
+        self.gate = false;
+        let Some(medium) = &self.medium else {
+            return;
+        };
+        if !self.motor {
+            return;
+        }
+        let words = u64::from(medium.words());
+        let spinning = count.min(u32::from(SPIN_UP - self.spin));
+        self.spin += spinning as u16;
+        self.place = ((u64::from(self.place) + u64::from(count - spinning)) % words) as u16;
     }
 
     fn faults(&self) -> u64 {

@@ -1,11 +1,7 @@
 use Rattle.drive_model.specs.Mechanics.{faultless}
 use Rattle.drive_model.specs.ScriptDrive.{script_state}
-use Rattle.drive_model.proofs.Alone.{none_ahead}
 use Rattle.drive_model.proofs.Passing.{ahead_same}
 use Rattle.drive_model.proofs.script.ScriptDriveDrive.ahead.Goals as goal
-
-pub returns-then-has_dropout-clause-ahead : goal.returns-then-has_dropout-clause-ahead
-returns-then-has_dropout-clause-ahead c = none_ahead _ _
 
 pub returns-clause-ahead : goal.returns-clause-ahead
 returns-clause-ahead c =
