@@ -1,5 +1,5 @@
 -- Device steps in a row.
-use Rattle.std.proofs.Common.{◌≡◌, ◌≤◌, ◌<◌, ◌+◌, ℕ, zero, suc, Bool, true, false, not, ◌&&◌, ◌||◌, if◌then◌else◌, ◌==◌, List, [], ◌∷◌, length, take, Option, None, Some, refl, sym, subst, ap, ◌∙◌, inl, arith, length-take-le}
+use Rattle.std.proofs.Common.{◌≡◌, ◌≤◌, ◌<◌, ◌+◌, ℕ, zero, suc, Bool, true, false, not, ◌&&◌, ◌||◌, if◌then◌else◌, ◌==◌, List, [], ◌∷◌, length, take, Option, None, Some, refl, sym, subst, inr, length-append, ap, ◌∙◌, inl, arith, length-take-le}
 use Rattle.std.proofs.lemmas.Bool.{false≢true}
 use Rattle.std.specs.Option.{option_map_or}
 use Rattle.drive_model.specs.Drive.{DriveState, Becomes, at_index, passed, rate_of, word_under}
@@ -10,9 +10,17 @@ use Rattle.fdc_stages.specs.declared.searching.Search.{Search}
 use Rattle.fdc_stages.specs.declared.reading.ReadStage.TheVariants as stages
 use Rattle.fdc_stages.specs.Searches.{HearsNothing, HearsNothingIn}
 use Rattle.fdc_phases.specs.declared.rates.DataRate.{DataRate}
-use Rattle.fdc_phases.specs.declared.phases.Task.TheVariants.{Read}
+use Rattle.fdc_phases.specs.declared.phases.Task.TheVariants.{ReadId, Read, Write}
+use Rattle.fdc_phases.specs.declared.transfers.Writing.{Writing}
+use Rattle.fdc_phases.specs.Writing.{StageHearsWord}
+use Rattle.fdc_writing.specs.declared.writing.WriteStage.TheVariants as write_stages
+use Rattle.fdc_writing.specs.declared.writing.WriteNext.TheVariants as write_next
+use Rattle.fdc_stages.specs.Searches as searched
+use Rattle.fdc_core.specs.Dma.{gone_on}
+use Rattle.fdc_core.specs.Writing.{after_next}
+use Rattle.fdc_core.proofs.Words.{heard_time}
 use Rattle.fdc_phases.specs.declared.transfers.Reading.{Reading}
-use Rattle.fdc_phases.specs.Phases.{head_of}
+use Rattle.fdc_phases.specs.Phases.{head_of, write_at}
 use Rattle.fdc_phases.specs.Rates.{rate_fits, seen_of}
 use Rattle.fdc_core.specs.Reading.{at_stage, gone_on_reading}
 use Rattle.fdc_core.proofs.Following.{at_reading}
@@ -25,8 +33,8 @@ use Rattle.fdc_phases.specs.declared.answers.Answer.{Answer}
 use Rattle.fdc_phases.specs.declared.phases.Execution.{Execution}
 use Rattle.fdc_phases.specs.declared.phases.Phase.{Phase}
 use Rattle.fdc_phases.specs.declared.phases.Phase.TheVariants.{Command, Execute, Result}
-use Rattle.fdc_core.specs.Courses.{Works, HoldsLines, Courses, IsStill, IsQuiet}
-use Rattle.fdc_core.specs.Listening.{Listens, ListensToNone}
+use Rattle.fdc_core.specs.Courses.{PassesMany, Works, HoldsLines, Courses, IsStill, IsQuiet}
+use Rattle.fdc_core.specs.Listening.{SeesUnder, StepsOn, Listens, ListensToNone}
 use Rattle.fdc_core.specs.State.{is_held}
 use Rattle.fdc_core.specs.Steps.{polled, seek_stepped, let_pass, Rests, RestsIn, Moves, MovesDrive, MovesIn, Ends, EndsIn, Stays, Flows, FlowsIn}
 use Rattle.fdc_core.specs.Tasks.{StepsNowhere, TaskSteps}
@@ -155,8 +163,9 @@ ahead_behind : (head : ℕ) (rest : List ℕ) (before mid : DriveState) → Beco
 ahead_behind head rest before mid passes ahead =
     subst (λ s. AreAhead head rest s) (sym passes.becomes) (ahead_same head rest (passed before) false before.cut mid.faults mid.left ahead)
 
--- a word that passes by a search in one device step, behind so many others
-pub record PassesWord (head : ℕ) (rate : DataRate) (steps word : ℕ) (search next : Search) (before after : DriveState) : Type 0 where
+-- a word that passes by a search in one device step, behind so many others and at least some
+pub record PassesWord (least head : ℕ) (rate : DataRate) (steps word : ℕ) (search next : Search) (before after : DriveState) : Type 0 where
+  pub some : least ≤ steps
   pub few : steps < 65535
   pub under : word_under before head ≡ word
   pub no_index : at_index before ≡ false
@@ -164,35 +173,80 @@ pub record PassesWord (head : ℕ) (rate : DataRate) (steps word : ℕ) (search 
   pub hears : HearsNothing word search next
   pub passes : Becomes (let_pass before) before after
 
--- each such word makes of a command that is so at each step the same one step on
-abbrev pub HearsEach : ℕ → DataRate → (ℕ → Search → Fdc) → Type 0
-HearsEach head rate at =
-    (steps word : ℕ) (search next : Search) (before after : DriveState) → PassesWord head rate steps word search next before after
+-- the word is seen
+sees_word : (least head : ℕ) (rate : DataRate) (steps word : ℕ) (search next : Search) (before after : DriveState) → PassesWord least head rate steps word search next before after → SeesUnder rate head before word after
+sees_word least head rate steps word search next before after is =
+    (word, inl (sym is.under), ap (λ fits. seen_of fits word) (sym is.fits))
+
+-- each such word takes a command one step on, and changes neither line
+abbrev pub HearsEach : ℕ → ℕ → DataRate → (ℕ → Search → Fdc) → Type 0
+HearsEach least head rate at =
+    (steps word : ℕ) (search next : Search) (before after : DriveState) → PassesWord least head rate steps word search next before after
     → Works (at steps search) before (at (steps + 1) next) after × HoldsLines (at steps search) (at (steps + 1) next)
 
 -- word by word
-courses : (head : ℕ) (rate : DataRate) (at : ℕ → Search → Fdc) → HearsEach head rate at → (words : List ℕ) (steps last : ℕ) (search final : Search) (before after : DriveState) → last ≡ steps + length words → last ≤ 65535
+courses : (least head : ℕ) (rate : DataRate) (at : ℕ → Search → Fdc) → HearsEach least head rate at → (words : List ℕ) (steps last : ℕ) (search final : Search) (before after : DriveState) → least ≤ steps → last ≡ steps + length words → last ≤ 65535
     → rate_fits rate (rate_of before.medium) ≡ true → AreAhead head words before → HearsNothingIn words search final → LetsPass (length words) before after → Courses (length words) (at steps search) before (at last final) after
 unfolding Courses AreAhead HearsNothingIn LetsPass
-courses head rate at each [] steps last search final before after sum most fits ahead same passes =
+courses least head rate at each [] steps last search final before after some sum few fits ahead same passes =
     let none : last ≡ steps = omega (arith, sum) in
     (ap (λ n. at n final) none ∙ ap (at steps) same, passes)
-courses head rate at each (word ∷ rest) steps last search final before after sum most fits (under, no_index, ahead) (next, hears, more) (mid, passes, others) =
-    let step = each steps word search next before mid (record { few = omega (arith, sum, most); under = under; no_index = no_index; fits = fits; hears = hears; passes = passes }) in (
+courses least head rate at each (word ∷ rest) steps last search final before after some sum few fits (under, no_index, ahead) (next, hears, more) (mid, passes, others) =
+    let step = each steps word search next before mid (record { some = some; few = omega (arith, sum, few); under = under; no_index = no_index; fits = fits; hears = hears; passes = passes }) in (
       at (steps + 1) next,
       mid,
       step.0,
       step.1,
-      courses head rate at each rest (steps + 1) last next final mid after (omega (arith, sum)) most (subst (λ s. rate_fits rate (rate_of s.medium) ≡ true) (sym passes.becomes) fits) (ahead_behind head rest before mid passes ahead) more others,
+      courses least head rate at each rest (steps + 1) last next final mid after (omega (arith, some)) (omega (arith, sum)) few (subst (λ s. rate_fits rate (rate_of s.medium) ≡ true) (sym passes.becomes) fits) (ahead_behind head rest before mid passes ahead) more others,
     )
 
--- the first of some words ahead
-pub courses_over : (head : ℕ) (rate : DataRate) (at : ℕ → Search → Fdc) → HearsEach head rate at → (words : List ℕ) (count steps : ℕ) (search final : Search) (before after : DriveState) → count ≤ length words → steps + count ≤ 65535
-    → rate_fits rate (rate_of before.medium) ≡ true → AreAhead head words before → HearsNothingIn (take count words) search final → LetsPass count before after → Courses count (at steps search) before (at (steps + count) final) after
-courses_over head rate at each words count steps search final before after within most fits ahead hears passes =
-    let exact : length (take count words) ≡ count = length-take-le count words within in
-    subst (λ n. Courses n (at steps search) before (at (steps + count) final) after) exact
-    (courses head rate at each (take count words) steps (steps + count) search final before after (ap (λ n. steps + n) (sym exact)) most fits (ahead_first head count words before ahead) hears (subst (λ n. LetsPass n before after) (sym exact) passes))
+-- and so many
+pub courses_over : (least head : ℕ) (rate : DataRate) (at : ℕ → Search → Fdc) → HearsEach least head rate at → (count steps last : ℕ) (search final : Search) (before after : DriveState) → least ≤ steps → rate_fits rate (rate_of before.medium) ≡ true
+    → PassesMany head steps last count search final before after → Courses count (at steps search) before (at last final) after
+courses_over least head rate at each count steps last search final before after some fits is =
+    subst (λ n. Courses n (at steps search) before (at last final) after) is.count_is
+    (courses least head rate at each is.words steps last search final before after some (is.last_is ∙ ap (λ n. steps + n) (sym is.count_is)) is.few fits is.ahead is.hears (subst (λ n. LetsPass n before after) (sym is.count_is) is.passes))
+
+-- the first of the words ahead were heard
+pub passes_first : (head steps last count : ℕ) (some ahead : List ℕ) (search final : Search) (before after : DriveState) → last ≡ steps + count → steps + length some ≤ 65535 → some ≡ take (length some) ahead → count ≤ length some → AreAhead head ahead before
+    → HearsNothingIn (take count some) search final → LetsPass count before after → PassesMany head steps last count search final before after
+passes_first head steps last count some ahead search final before after sum few first within are hears passes = record {
+  last_is = sum;
+  few = omega (arith, sum, few, within);
+  words = take count some;
+  count_is = length-take-le count some within;
+  ahead = ahead_first head count some before (subst (λ words. AreAhead head words before) (sym first) (ahead_first head (length some) ahead before are));
+  hears = hears;
+  passes = passes;
+}
+
+-- ---- READ ID
+
+-- behind so many steps
+abbrev pub id_at : ℕ → Fdc → ℕ → Search → Fdc
+id_at head_drive old steps search = record old { phase = Execute (record { head_drive = head_drive; steps = steps; task = ReadId search }) }
+
+id_hears : (head_drive : ℕ) (old : Fdc) → IsQuiet old → HearsEach 0 (head_of head_drive) old.rate (id_at head_drive old)
+id_hears head_drive old quiet steps word search next before after is =
+    let was : Fdc = id_at head_drive old steps search in
+    let new : Fdc = id_at head_drive old (steps + 1) next in
+    let goes : new ≡ gone_on head_drive (steps + 1) (ReadId next) was = ap (λ asking. record new { asking = asking }) quiet.down in (
+      works_on was new before after (record { head_drive = head_drive; steps = steps; task = ReadId search }) quiet.due refl (record {
+        word = word;
+        sees = sees_word 0 (head_of head_drive) old.rate steps word search next before after is;
+        passes = is.passes;
+        does = subst (λ index. StepsOn head_drive steps (ReadId search) index word was new) (sym is.no_index) (inr (is.few, (searched.On next, ((λ past searching. is.hears past None searching), tt), goes)));
+      }),
+      record { request = refl; interrupt = refl },
+    )
+
+pub id_courses : (old : Fdc) (execution : Execution) (search final : Search) (count last : ℕ) (before after : DriveState) → IsQuiet old → rate_fits old.rate (rate_of before.medium) ≡ true
+    → old.phase ≡ Execute execution → execution.task ≡ ReadId search → PassesMany (head_of execution.head_drive) execution.steps last count search final before after → Courses count old before (id_at execution.head_drive old last final) after
+id_courses old execution search final count last before after quiet fits at is passes =
+    let head_drive : ℕ = execution.head_drive in
+    let begins : id_at head_drive old execution.steps search ≡ old = ap (λ task. record old { phase = Execute (record execution { task = task }) }) (sym is) ∙ ap (λ phase. record old { phase = phase }) (sym at) in
+    subst (λ fdc. Courses count fdc before (id_at head_drive old last final) after) begins
+    (courses_over 0 (head_of head_drive) old.rate (id_at head_drive old) (id_hears head_drive old quiet) count execution.steps last search final before after (omega arith) fits passes)
 
 -- ---- READ DATA
 
@@ -200,17 +254,68 @@ courses_over head rate at each words count steps search final before after withi
 abbrev pub reads_at : ℕ → Reading → Fdc → ℕ → Search → Fdc
 reads_at head_drive reading old steps search = at_reading head_drive steps (at_stage reading (stages.Search search)) old
 
-pub reading_hears : (head_drive : ℕ) (reading : Reading) (old : Fdc) → IsQuiet old → HearsEach (head_of head_drive) old.rate (reads_at head_drive reading old)
-reading_hears head_drive reading old quiet steps word search next before after is =
+reading_hears : (head_drive : ℕ) (reading : Reading) (old : Fdc) → IsQuiet old → wants true false false old.fifo ≡ false → HearsEach 0 (head_of head_drive) old.rate (reads_at head_drive reading old)
+reading_hears head_drive reading old quiet low steps word search next before after is =
     let was : Fdc = reads_at head_drive reading old steps search in
     let new : Fdc = reads_at head_drive reading old (steps + 1) next in
-    let keeps : old.asking ≡ wants true old.asking false old.fifo = quiet.down ∙ sym quiet.few ∙ ap (λ asking. wants true asking false old.fifo) (sym quiet.down) in
+    let keeps : old.asking ≡ wants true old.asking false old.fifo = quiet.down ∙ sym low ∙ ap (λ asking. wants true asking false old.fifo) (sym quiet.down) in
     let goes : new ≡ gone_on_reading head_drive (steps + 1) (at_stage reading (stages.Search next)) was = ap (λ asking. record new { asking = asking }) keeps in (
       works_on was new before after (record { head_drive = head_drive; steps = steps; task = Read (at_stage reading (stages.Search search)) }) quiet.due refl (record {
         word = word;
-        sees = (word, inl (sym is.under), ap (λ b. seen_of b word) (sym is.fits));
+        sees = sees_word 0 (head_of head_drive) old.rate steps word search next before after is;
         passes = is.passes;
         does = passed_by head_drive steps word (at_index before) (at_stage reading (stages.Search search)) (stages.Search next) was new is.few is.no_index ((λ past key told reads. (is.hears past (Some key) reads.0, reads.1)), tt) goes;
       }),
       record { request = refl; interrupt = refl },
     )
+
+pub reading_courses : (old : Fdc) (execution : Execution) (reading : Reading) (search final : Search) (count last : ℕ) (before after : DriveState) → IsQuiet old → wants true false false old.fifo ≡ false → rate_fits old.rate (rate_of before.medium) ≡ true
+    → old.phase ≡ Execute execution → execution.task ≡ Read reading → reading.stage ≡ stages.Search search → PassesMany (head_of execution.head_drive) execution.steps last count search final before after
+    → Courses count old before (reads_at execution.head_drive reading old last final) after
+reading_courses old execution reading search final count last before after quiet low fits at is stage passes =
+    let head_drive : ℕ = execution.head_drive in
+    let begins : reads_at head_drive reading old execution.steps search ≡ old = ap (λ now. record old { phase = Execute (record execution { task = Read (at_stage reading now) }) }) (sym stage) ∙ ap (λ task. record old { phase = Execute (record execution { task = task }) }) (sym is) ∙ ap (λ phase. record old { phase = phase }) (sym at) in
+    subst (λ fdc. Courses count fdc before (reads_at head_drive reading old last final) after) begins
+    (courses_over 0 (head_of head_drive) old.rate (reads_at head_drive reading old) (reading_hears head_drive reading old quiet low) count execution.steps last search final before after (omega arith) fits passes)
+
+-- ---- a write
+
+-- in its search, behind so many steps
+abbrev pub writes_at : ℕ → Writing → Fdc → ℕ → Search → Fdc
+writes_at head_drive writing old steps search = record old { phase = Execute (record { head_drive = head_drive; steps = steps; task = Write (write_at writing (write_stages.Search search)) }) }
+
+searches_on : (word : ℕ) (writing : Writing) (search next : Search) → HearsNothing word search next → StageHearsWord (write_at writing (write_stages.Search search)) false word (write_next.On (write_stages.Search next))
+searches_on word writing search next hears = (
+  (λ past deleted handed shut was. (omega (arith, was.0, length-append past.seen (word ∷ [])), (hears past (Some writing.wanted.key) was.1.0, was.1.1))),
+  tt,
+  omega arith,
+  λ up. absurd (false≢true up),
+)
+
+writing_hears : (head_drive : ℕ) (writing : Writing) (old : Fdc) → IsQuiet old → wants false false writing.counted old.fifo ≡ false → HearsEach 1 (head_of head_drive) old.rate (writes_at head_drive writing old)
+writing_hears head_drive writing old quiet low steps word search next before after is =
+    let at : Writing = write_at writing (write_stages.Search search) in
+    let was : Fdc = writes_at head_drive writing old steps search in
+    let new : Fdc = writes_at head_drive writing old (steps + 1) next in
+    let keeps : old.asking ≡ wants false old.asking writing.counted old.fifo = quiet.down ∙ sym low ∙ ap (λ asking. wants false asking writing.counted old.fifo) (sym quiet.down) in
+    let goes : new ≡ after_next head_drive (steps + 1) at (write_next.On (write_stages.Search next)) was = ap (λ asking. record new { asking = asking }) keeps in (
+      works_on was new before after (record { head_drive = head_drive; steps = steps; task = Write at }) quiet.due refl (record {
+        does = heard_time head_drive steps at was before after new refl (record {
+          index = false;
+          word = word;
+          is = record { index_is = sym is.no_index; sees = sees_word 1 (head_of head_drive) old.rate steps word search next before after is; passes = is.passes };
+          does = record { few = is.few; next = write_next.On (write_stages.Search next); hears = searches_on word writing search next is.hears; after_is = goes };
+        });
+        guards = λ first protects. absurd (omega (arith, first, is.some));
+      }),
+      record { request = refl; interrupt = refl },
+    )
+
+pub writing_courses : (old : Fdc) (execution : Execution) (writing : Writing) (search final : Search) (count last : ℕ) (before after : DriveState) → IsQuiet old → wants false false writing.counted old.fifo ≡ false → 1 ≤ execution.steps → rate_fits old.rate (rate_of before.medium) ≡ true
+    → old.phase ≡ Execute execution → execution.task ≡ Write writing → writing.stage ≡ write_stages.Search search → PassesMany (head_of execution.head_drive) execution.steps last count search final before after
+    → Courses count old before (writes_at execution.head_drive writing old last final) after
+writing_courses old execution writing search final count last before after quiet low some fits at is stage passes =
+    let head_drive : ℕ = execution.head_drive in
+    let begins : writes_at head_drive writing old execution.steps search ≡ old = ap (λ now. record old { phase = Execute (record execution { task = Write (write_at writing now) }) }) (sym stage) ∙ ap (λ task. record old { phase = Execute (record execution { task = task }) }) (sym is) ∙ ap (λ phase. record old { phase = phase }) (sym at) in
+    subst (λ fdc. Courses count fdc before (writes_at head_drive writing old last final) after) begins
+    (courses_over 1 (head_of head_drive) old.rate (writes_at head_drive writing old) (writing_hears head_drive writing old quiet low) count execution.steps last search final before after some fits passes)

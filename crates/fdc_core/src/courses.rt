@@ -1,13 +1,15 @@
 // Device steps at once.
 ghost use Rattle.std.specs.Prelude.{◌≡◌, ◌≤◌, ◌+◌, true, length, take};
 ghost use Rattle.drive_model.specs.Drive.{rate_of};
+ghost use Rattle.fdc_phases.specs.Phases.{head_of};
 ghost use Rattle.fdc_phases.specs.Rates.{rate_fits};
-ghost use Rattle.fdc_core.specs.Courses.{Courses, IsStill, IsQuiet};
+ghost use Rattle.fdc_core.specs.Courses.{Courses, IsStill, IsQuiet, PassesMany};
 
 use crate::controller::Fdc;
 use drive_model::Drive;
 use fdc_phases::{LAST_STEP, Phase, Task, head_of};
-use fdc_stages::ReadStage;
+use fdc_stages::{ReadStage, Search};
+use fdc_writing::WriteStage;
 
 impl Fdc {
     /// Whether a device step changes nothing but the places of the disks, and so each further one.
@@ -24,46 +26,64 @@ impl Fdc {
         }
     }
 
-    /// Whether `is_still` or `skim` may find steps to make at once.
+    /// Whether `is_still` or `skim` may find steps to make at once. It only chooses between two ways.
     #[inline(always)]
     pub fn may_skim(&self) -> bool {
         match &self.phase {
             Phase::Execute { execution } => match &execution.task {
+                Task::ReadId { .. } => true,
                 Task::Read { reading } => {
                     matches!(reading.stage, ReadStage::Search(_)) && !self.asking
                 }
-                _ => false,
+                Task::Write { writing } => {
+                    matches!(writing.stage, WriteStage::Search(_)) && !self.asking
+                }
+                Task::Format { .. } => false,
             },
             _ => true,
         }
     }
 
-    /// Whether it is worth a try to make device steps at once.
-    pub fn may_skim(&self) -> bool {
-        true
-    }
-
-    /// Makes device steps at once with the selected drive, for as long as a READ DATA hears words in which nothing is seen, and
+    /// Makes device steps at once with the selected drive, for as long as a search hears words in which nothing is seen, and
     /// tells how many it made, at most `most`: where it is 0, the next step is one for `step`.
     #[tactic(auto, unfolding(crate::specs::Courses::Courses))]
     pub fn skim<D: Drive>(&mut self, most: u32, drive: &mut D) -> u32
         ensures few { result ≤ most }
         ensures courses { Courses result self.old (D.state drive.old) self.new (D.state drive.new) }
     {
-        if self.poll_due || self.asking || self.fifo.wants(true, false, false) {
+        if self.poll_due || self.asking {
             return 0;
         }
         let rate = drive.rate();
         if self.rate.fits(rate) {
-            self.skim_reading(most, drive)
+            self.skim_task(most, drive)
         } else {
             0
         }
     }
 
-    /// The same of a READ DATA, whose search hears the words in place.
+    /// The same, by the task.
     #[tactic(auto, unfolding(crate::specs::Courses::Courses))]
-    fn skim_reading<D: Drive>(&mut self, most: u32, drive: &mut D) -> u32
+    fn skim_task<D: Drive>(&mut self, most: u32, drive: &mut D) -> u32
+        requires quiet { IsQuiet self.old }
+        requires fits { rate_fits self.old.rate (rate_of (D.state drive.old).medium) ≡ true }
+        ensures few { result ≤ most }
+        ensures courses { Courses result self.old (D.state drive.old) self.new (D.state drive.new) }
+    {
+        match &self.phase {
+            Phase::Execute { execution } => match &execution.task {
+                Task::ReadId { .. } => self.skim_id(most, drive),
+                Task::Read { .. } => self.skim_reading(most, drive),
+                Task::Write { .. } => self.skim_writing(most, drive),
+                Task::Format { .. } => 0,
+            },
+            _ => 0,
+        }
+    }
+
+    /// The same of a READ ID.
+    #[tactic(auto, unfolding(crate::specs::Courses::Courses))]
+    fn skim_id<D: Drive>(&mut self, most: u32, drive: &mut D) -> u32
         requires quiet { IsQuiet self.old }
         requires fits { rate_fits self.old.rate (rate_of (D.state drive.old).medium) ≡ true }
         ensures few { result ≤ most }
@@ -71,13 +91,33 @@ impl Fdc {
     {
         match &mut self.phase {
             Phase::Execute { execution } => match &mut execution.task {
+                Task::ReadId { search } => {
+                    let head_drive = execution.head_drive;
+                    pass_many(search, head_drive, &mut execution.steps, most, drive)
+                }
+                _ => 0,
+            },
+            _ => 0,
+        }
+    }
+
+    /// The same of a READ DATA.
+    #[tactic(auto, unfolding(crate::specs::Courses::Courses))]
+    fn skim_reading<D: Drive>(&mut self, most: u32, drive: &mut D) -> u32
+        requires quiet { IsQuiet self.old }
+        requires fits { rate_fits self.old.rate (rate_of (D.state drive.old).medium) ≡ true }
+        ensures few { result ≤ most }
+        ensures courses { Courses result self.old (D.state drive.old) self.new (D.state drive.new) }
+    {
+        if self.fifo.wants(true, false, false) {
+            return 0;
+        }
+        match &mut self.phase {
+            Phase::Execute { execution } => match &mut execution.task {
                 Task::Read { reading } => match &mut reading.stage {
                     ReadStage::Search(search) => {
-                        let words = drive.ahead(head_of(execution.head_drive));
-                        let heard = search.pass_many(some_of(words, execution.steps, most));
-                        execution.steps += heard as u16;
-                        drive.let_pass(heard as u32);
-                        heard as u32
+                        let head_drive = execution.head_drive;
+                        pass_many(search, head_drive, &mut execution.steps, most, drive)
                     }
                     _ => 0,
                 },
@@ -86,10 +126,59 @@ impl Fdc {
             _ => 0,
         }
     }
+
+    /// The same of a write, whose first step may meet a protected medium.
+    #[tactic(auto, unfolding(crate::specs::Courses::Courses))]
+    fn skim_writing<D: Drive>(&mut self, most: u32, drive: &mut D) -> u32
+        requires quiet { IsQuiet self.old }
+        requires fits { rate_fits self.old.rate (rate_of (D.state drive.old).medium) ≡ true }
+        ensures few { result ≤ most }
+        ensures courses { Courses result self.old (D.state drive.old) self.new (D.state drive.new) }
+    {
+        match &mut self.phase {
+            Phase::Execute { execution } => match &mut execution.task {
+                Task::Write { writing } => {
+                    let asks = self.fifo.wants(false, false, writing.counted);
+                    if asks || execution.steps == 0 {
+                        return 0;
+                    }
+                    match &mut writing.stage {
+                        WriteStage::Search(search) => {
+                            let head_drive = execution.head_drive;
+                            pass_many(search, head_drive, &mut execution.steps, most, drive)
+                        }
+                        _ => 0,
+                    }
+                }
+                _ => 0,
+            },
+            _ => 0,
+        }
+    }
+}
+
+/// A search hears the words ahead under a head, for as long as nothing is seen in them and the last step isn't reached. Each is a
+/// device step, with the gate closed.
+#[inline(always)]
+fn pass_many<D: Drive>(
+    search: &mut Search,
+    head_drive: u8,
+    steps: &mut u16,
+    most: u32,
+    drive: &mut D,
+) -> u32
+    ensures few { result ≤ most }
+    ensures passes { PassesMany (head_of head_drive) steps.old steps.new result search.old search.new (D.state drive.old) (D.state drive.new) }
+{
+    let words = first_words(drive.ahead(head_of(head_drive)), *steps, most);
+    let heard = search.pass_many(words);
+    *steps += heard as u16;
+    drive.let_pass(heard as u32);
+    heard as u32
 }
 
 /// The first of these words, so many at most, that a data command may hear behind so many steps: its last step hears none.
-fn some_of(words: &[u16], steps: u16, most: u32) -> &[u16]
+fn first_words(words: &[u16], steps: u16, most: u32) -> &[u16]
     ensures first { result.now ≡ take (length result.now) words.now }
     ensures few { length result.now ≤ most }
     ensures left { steps + length result.now ≤ 65535 }
