@@ -3,6 +3,14 @@ use Rattle.std.proofs.Common.{◌≡◌, ◌≤◌, ◌-◌, ℕ, zero, suc, Boo
 use Rattle.std.proofs.lemmas.Bool.{leb-false, lt-leb}
 use Rattle.machine_pace.specs.Entries.{strays_after, strays_later, AreQuiet, coming}
 
+-- fewer steps are quiet too
+pub quiet_fewer : (fewer count : ℕ) (strays : List ℕ) → fewer ≤ count → AreQuiet count strays → AreQuiet fewer strays
+unfolding AreQuiet
+quiet_fewer zero count strays few quiet = tt
+quiet_fewer (suc fewer) zero strays few quiet = absurd (omega (arith, few))
+quiet_fewer (suc fewer) (suc count) strays few quiet =
+    (quiet.0, quiet_fewer fewer count (strays_after strays) (omega (arith, few)) quiet.1)
+
 -- where none comes any more, none comes
 pub quiet_none : (count : ℕ) → AreQuiet count []
 unfolding AreQuiet

@@ -1,3 +1,4 @@
 pub mod Lines
 mod Moves
 pub mod RunSteps
+mod Leaping

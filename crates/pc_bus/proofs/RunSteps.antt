@@ -1,5 +1,5 @@
 -- Device steps one by one, and their count.
-use Rattle.std.proofs.Common.{◌≡◌, ℕ, ◌+◌, ◌≤◌, min, Bool, true, false, refl, ap, sym, ◌∙◌, subst, add-one, arith}
+use Rattle.std.proofs.Common.{◌≡◌, ℕ, zero, suc, add-suc, ◌+◌, ◌≤◌, min, Bool, true, false, refl, ap, sym, ◌∙◌, subst, add-one, arith}
 use Rattle.std.proofs.lemmas.Bool.{true≢false}
 use Rattle.flop_base.specs.Counts.{last_count}
 use Rattle.pc_bus.specs.Boards.{Board, latch_of}
@@ -47,3 +47,48 @@ irq_all most i old new all runs =
 pub waits_of : (most steps : ℕ) (old new : Board) (set : Bool) → RunsToIrq most old steps new → set ≡ (latch_of new).is_set → Waits most old set new
 waits_of most steps old new set runs answer =
     record { steps = steps; within = runs.within; runs = runs.runs; answer = answer; all = λ no. runs.all (sym answer ∙ no) }
+
+-- ---- a run behind another, and behind a step
+
+pub runs_plus : (n m : ℕ) (old between new : Board) → Runs n old between → Runs m between new → Runs (n + m) old new
+unfolding Runs
+runs_plus n zero old between new runs more =
+    let same : n ≡ n + 0 = omega arith in
+    subst (λ (count : ℕ). Runs count old new) same (subst (Runs n old) (sym more) runs)
+runs_plus n (suc m) old between new runs more =
+    subst (λ (count : ℕ). Runs count old new) (sym (add-suc n m)) (more.0, runs_plus n m old between more.0 runs more.1, more.2)
+
+pub unset_plus : (n m : ℕ) (old between new : Board) → RunsUnset n old between → RunsUnset m between new → RunsUnset (n + m) old new
+unfolding RunsUnset
+unset_plus n zero old between new runs more =
+    let same : n ≡ n + 0 = omega arith in
+    subst (λ (count : ℕ). RunsUnset count old new) same (subst (RunsUnset n old) (sym more) runs)
+unset_plus n (suc m) old between new runs more =
+    subst (λ (count : ℕ). RunsUnset count old new) (sym (add-suc n m))
+    (more.0, unset_plus n m old between more.0 runs more.1, more.2, more.3)
+
+pub runs_front : (n : ℕ) (old between new : Board) → Step old between → Runs n between new → Runs (suc n) old new
+unfolding Runs
+runs_front zero old between new step runs = (old, refl, subst (Step old) (sym runs) step)
+runs_front (suc n) old between new step runs = (runs.0, runs_front n old between runs.0 step runs.1, runs.2)
+
+pub unset_front : (n : ℕ) (old between new : Board) → (latch_of old).is_set ≡ false → Step old between → RunsUnset n between new
+    → RunsUnset (suc n) old new
+unfolding RunsUnset
+unset_front zero old between new unset step runs = (old, refl, unset, subst (Step old) (sym runs) step)
+unset_front (suc n) old between new unset step runs = (runs.0, unset_front n old between runs.0 unset step runs.1, runs.2, runs.3)
+
+-- a step where none was made before
+pub runs_one : (none : ℕ) (old between new : Board) → none ≡ 0 → Runs none old between → Step between new → Runs 1 old new
+runs_one none old between new is runs step =
+    runs_more 0 old between new (subst (λ (n : ℕ). Runs n old between) is runs) step
+
+pub unset_one : (none : ℕ) (old between new : Board) → none ≡ 0 → RunsUnset none old between → latch_of between ≡ latch_of old
+    → (latch_of old).is_set ≡ false → Step between new → RunsUnset 1 old new
+unset_one none old between new is runs latch unset step =
+    unset_more 0 old between new (subst (λ (n : ℕ). RunsUnset n old between) is runs) (ap (λ latch. latch.is_set) latch ∙ unset) step
+
+-- a count that rises twice
+pub steps_plus : (n m before between now : ℕ) → between ≡ min (before + n) last_count → now ≡ min (between + m) last_count
+    → now ≡ min (before + (n + m)) last_count
+steps_plus n m before between now first second = second ∙ rw first (omega arith)

@@ -1,9 +1,10 @@
 // The machine without its drives.
-ghost use Rattle.std.specs.Prelude.{◌≡◌, ◌<◌, IfOk, List, false};
+ghost use Rattle.std.specs.Prelude.{◌≡◌, ◌<◌, ◌≤◌, IfOk, List, false, true};
 ghost use Rattle.fdc_core.specs.State.{interrupts};
-ghost use Rattle.machine_pace.specs.Entries.{next_entry, rest_of};
+ghost use Rattle.machine_pace.specs.Entries.{next_entry, rest_of, AreQuiet};
 ghost use Rattle.pc_bus.specs.Boards.{new_bus};
 ghost use Rattle.pc_bus.specs.Handling.{byte_set, irq_taken, touched};
+ghost use Rattle.pc_bus.specs.Leaps.{IsCalm, skipped};
 ghost use Rattle.pc_bus.specs.Ports.{port_value, port_read, WritesChips};
 ghost use Rattle.pc_bus.specs.Steps.{step_begun, step_ended};
 
@@ -70,6 +71,43 @@ impl Bus {
     {
         self.chips.step_dma();
         self.latch.line(self.chips.controller.int());
+    }
+
+    /// No request is there, the latch has seen the interrupt line as it is, and a call came.
+    fn is_calm(&self) -> bool
+        ensures { result ≡ true → IsCalm self.now }
+    {
+        !self.fresh && !self.chips.controller.drq() && self.chips.holding.is_low() && self.is_seen()
+    }
+
+    /// The latch has seen the interrupt line as it is.
+    fn is_seen(&self) -> bool
+        ensures { result ≡ true → self.now.latch.level ≡ interrupts self.now.chips.controller }
+    {
+        self.latch.level() == self.chips.controller.int()
+    }
+
+    /// For how many device steps, `most` at most, nothing comes but word times.
+    #[tactic(auto, unfolding(machine_pace::specs::Entries::AreQuiet))]
+    pub fn quiet_for(&self, most: u32) -> u32
+        ensures few { result ≤ most }
+        ensures quiet { AreQuiet result self.now.strays }
+        ensures calm { 1 ≤ result → IsCalm self.now }
+    {
+        if self.is_calm() {
+            self.strays.quiet_for(most)
+        } else {
+            0
+        }
+    }
+
+    /// Counts so many device steps in which no stray comes.
+    pub fn skip(&mut self, count: u32)
+        requires { AreQuiet count self.old.strays }
+        ensures { self.new ≡ skipped count self.old }
+    {
+        self.steps = self.steps.saturating_add(u64::from(count));
+        self.strays.pass_many(count);
     }
 
     /// Reads a port, where the selected drive has these lines.

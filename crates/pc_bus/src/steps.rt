@@ -2,7 +2,10 @@
 ghost use Rattle.std.specs.Prelude.{◌≡◌, ◌≤◌, ◌+◌, min, false};
 ghost use Rattle.flop_base.specs.Counts.{last_count};
 ghost use Rattle.pc_bus.specs.Boards.{board, controller_of, selected_of, latch_of};
-ghost use Rattle.pc_bus.specs.Steps.{Works, WorksAlone, Passes, PassesWordTime, Step, Runs, RunsUnset, RunsToIrq, Waits, stirred};
+ghost use Rattle.pc_bus.specs.Steps.{Works, WorksAlone, Passes, PassesWordTime, Step, Runs, RunsUnset, RunsToIrq, Waits, stirred, with_controller};
+ghost use Rattle.pc_bus.specs.Leaps.{WordTimes};
+ghost use Rattle.drive_model.specs.Ahead.{LetsPass};
+ghost use Rattle.fdc_core.specs.Courses.{Courses};
 
 use crate::machine::MachineOf;
 use drive_model::Drive;
@@ -46,16 +49,73 @@ impl<D: Drive> MachineOf<D> {
 
     /// Makes device steps at once in which nothing comes of the pace, no line changes and no byte is moved, and tells how many,
     /// `most` at most: where it is 0, the next step has to be made alone.
-    #[tactic(auto, unfolding(crate::specs::Steps::Runs, crate::specs::Steps::RunsUnset))]
-    fn leap(&mut self, _most: u32) -> u32
-        ensures few { result ≤ _most }
+    fn leap(&mut self, most: u32) -> u32
+        ensures few { result ≤ most }
         ensures runs { Runs result (board D.state self.old) (board D.state self.new) }
         ensures latch { latch_of (board D.state self.new) ≡ latch_of (board D.state self.old) }
         ensures unset { (latch_of (board D.state self.old)).is_set ≡ false
             → RunsUnset result (board D.state self.old) (board D.state self.new) }
         ensures steps { self.new.bus.steps ≡ min (self.old.bus.steps + result) last_count }
     {
-        0
+        let _from = self.bus.steps;
+        if !self.bus.chips.controller.may_skim() {
+            return 0;
+        }
+        let count = self.bus.quiet_for(most);
+        if count == 0 {
+            return 0;
+        }
+        let made = self.pass_word_times(count);
+        self.bus.skip(made);
+        made
+    }
+
+    /// Word times in a row in which no line of the controller changes, `most` at most; tells how many.
+    fn pass_word_times(&mut self, most: u32) -> u32
+        ensures few { result ≤ most }
+        ensures passes { WordTimes result (selected_of (board D.state self.old)) (controller_of (board D.state self.old))
+            (D.state self.old.first) (D.state self.old.second)
+            (controller_of (board D.state self.new)) (D.state self.new.first) (D.state self.new.second) }
+        ensures bus { self.new.bus ≡ with_controller self.new.bus.chips.controller self.old.bus }
+    {
+        if self.bus.chips.controller.is_still() {
+            self.first.let_pass(most);
+            self.second.let_pass(most);
+            return most;
+        }
+        match self.bus.chips.controller.selected() {
+            0 => skim(
+                &mut self.bus.chips.controller,
+                &mut self.first,
+                &mut self.second,
+                most,
+            ),
+            1 => skim(
+                &mut self.bus.chips.controller,
+                &mut self.second,
+                &mut self.first,
+                most,
+            ),
+            _ => 0,
+        }
+    }
+
+    /// At least one device step, `most` at most; tells how many.
+    fn advance(&mut self, most: u32) -> u32
+        requires { 1 ≤ most }
+        ensures some { 1 ≤ result }
+        ensures few { result ≤ most }
+        ensures runs { Runs result (board D.state self.old) (board D.state self.new) }
+        ensures unset { (latch_of (board D.state self.old)).is_set ≡ false
+            → RunsUnset result (board D.state self.old) (board D.state self.new) }
+        ensures steps { self.new.bus.steps ≡ min (self.old.bus.steps + result) last_count }
+    {
+        let made = self.leap(most);
+        if made != 0 {
+            return made;
+        }
+        self.step();
+        1
     }
 
     /// Device steps, so many.
@@ -64,8 +124,9 @@ impl<D: Drive> MachineOf<D> {
         ensures steps { self.new.bus.steps ≡ min (self.old.bus.steps + steps) last_count }
     {
         let _from = self.bus.steps;
-        for _i in 0..steps {
-            self.step();
+        let mut made = 0;
+        while made < steps {
+            made += self.advance(steps - made);
         }
     }
 
@@ -83,11 +144,12 @@ impl<D: Drive> MachineOf<D> {
         ensures { RunsToIrq most (board D.state self.old) result (board D.state self.new) }
     {
         self.bus.fresh = false;
-        for i in 0..most {
+        let mut made = 0;
+        while made < most {
             if self.bus.latch.is_set() {
-                return i;
+                return made;
             }
-            self.step();
+            made += self.advance(most - made);
         }
         most
     }
@@ -121,6 +183,17 @@ fn work_alone(controller: &mut Fdc)
     ensures { WorksAlone controller.old controller.new }
 {
     controller.step_empty();
+}
+
+/// The controller's device steps with the selected drive, at once, and as many word times of the other drive.
+fn skim<D: Drive>(controller: &mut Fdc, drive: &mut D, other: &mut D, most: u32) -> u32
+    ensures few { result ≤ most }
+    ensures courses { Courses result controller.old (D.state drive.old) controller.new (D.state drive.new) }
+    ensures passes { LetsPass result (D.state other.old) (D.state other.new) }
+{
+    let made = controller.skim(most, drive);
+    other.let_pass(made);
+    made
 }
 
 /// A word time passes at a drive that isn't selected. Its gate is closed.
