@@ -15,6 +15,7 @@ impl Fdc {
     }
 
     /// Whether it is worth a try to make device steps at once.
+    #[inline(always)]
     pub fn may_skim(&self) -> bool {
         true
     }
