@@ -71,6 +71,7 @@ impl<D: Drive> MachineOf<D> {
     }
 
     /// Word times in a row in which no line of the controller changes, `most` at most; tells how many.
+    #[inline(never)]
     fn pass_word_times(&mut self, most: u32) -> u32
         ensures few { result ≤ most }
         ensures passes { WordTimes result (selected_of (board D.state self.old)) (controller_of (board D.state self.old))
@@ -186,12 +187,16 @@ fn work_alone(controller: &mut Fdc)
 }
 
 /// The controller's device steps with the selected drive, at once, and as many word times of the other drive.
+#[tactic(auto, unfolding(drive_model::specs::Ahead::LetsPass))]
 fn skim<D: Drive>(controller: &mut Fdc, drive: &mut D, other: &mut D, most: u32) -> u32
     ensures few { result ≤ most }
     ensures courses { Courses result controller.old (D.state drive.old) controller.new (D.state drive.new) }
     ensures passes { LetsPass result (D.state other.old) (D.state other.new) }
 {
     let made = controller.skim(most, drive);
+    if made == 0 {
+        return 0;
+    }
     other.let_pass(made);
     made
 }
