@@ -1,7 +1,7 @@
 -- Word times in a row.
-use Rattle.std.proofs.Common.{◌+◌, ℕ, zero, suc, false, Option, Some, None, refl, subst, ap, ◌∙◌, add-one, arith}
+use Rattle.std.proofs.Common.{◌+◌, ℕ, zero, suc, Bool, false, List, [], ◌∷◌, Option, Some, None, refl, subst, ap, ◌∙◌, add-one, arith}
 use Rattle.flop_base.specs.Counts.{Spends}
-use Rattle.drive_model.specs.Ahead.{LetsPass}
+use Rattle.drive_model.specs.Ahead.{LetsPass, AreAhead}
 use Rattle.drive_model.specs.Drive.{DriveState, Becomes, passed, with_gate}
 
 pub spends_twice : (a b c : ℕ) (l m n : Option ℕ) → Spends a l b m → Spends b m c n → Spends a l c n
@@ -29,3 +29,13 @@ lets_pass_suc (suc count) old between new (mid, first, rest) step = (mid, first,
 
 pub lets_pass_more : (count : ℕ) (old between new : DriveState) → LetsPass count old between → Becomes (passed (with_gate false between)) between new → LetsPass (count + 1) old new
 lets_pass_more count old between new passes step = rw add-one (lets_pass_suc count old between new passes step)
+
+-- ---- words ahead
+
+-- the gate, the cut and the count of faults play no part
+pub ahead_same : (head : ℕ) (words : List ℕ) (s : DriveState) (gate cut : Bool) (faults : ℕ) (left : Option ℕ)
+    → AreAhead head words s → AreAhead head words (record s { gate = gate; cut = cut; faults = faults; left = left })
+unfolding AreAhead
+ahead_same head [] s gate cut faults left ahead = tt
+ahead_same head (word ∷ rest) s gate cut faults left (same, before, ahead) =
+    (same, before, ahead_same head rest (passed s) gate cut faults left ahead)

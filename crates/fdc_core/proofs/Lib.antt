@@ -13,3 +13,4 @@ pub mod Waiting
 pub mod Tellings
 pub mod Feeding
 pub mod Given
+mod Taking
