@@ -14,3 +14,4 @@ pub mod Tellings
 pub mod Feeding
 pub mod Given
 mod Taking
+pub mod Coursing

@@ -56,7 +56,7 @@ goes head_drive steps task old mid same was = record {
   flows = subst (λ asking. (gone_on head_drive steps task mid).asking ≡ phase_asks (gone_on head_drive steps task mid).phase asking mid.fifo) same refl;
 }
 
-same_stays : (old : Fdc) → Stays old old
+pub same_stays : (old : Fdc) → Stays old old
 same_stays old = record { dor = refl; rate = refl; non_dma = refl; polling = refl; command = refl; data_commands = refl; on = refl; threshold = refl; few = omega arith }
 
 pushed_stays : (value : ℕ) (old : Fdc) → Stays old (pushed value old)

@@ -1,92 +1,31 @@
 -- The bytes of a content in many device steps at once.
-use Rattle.std.proofs.Common.{◌≡◌, ◌≤◌, ◌<◌, ◌+◌, ℕ, zero, suc, Bool, true, false, not, ◌&&◌, if◌then◌else◌, ◌==◌, List, [], ◌∷◌, ◌++◌, append_assoc, length, length-append, length-take-le, take, get_or, refl, sym, subst, ap, ◌∙◌, inl, inr, arith}
+use Rattle.std.proofs.Common.{◌≡◌, ◌≤◌, ◌<◌, ◌+◌, ℕ, suc, Bool, true, false, if◌then◌else◌, ◌==◌, List, [], ◌∷◌, ◌++◌, append_assoc, length, length-append, length-take-le, take, get_or, refl, sym, subst, ap, ◌∙◌, inl, inr, arith}
 use Rattle.std.proofs.lemmas.Bool.{false≢true, ne_eqb}
 use Rattle.std.proofs.lemmas.List.{append-nil, take_more}
-use Rattle.drive_model.specs.Drive.{DriveState, Becomes, at_index, passed, rate_of, word_under}
+use Rattle.drive_model.specs.Drive.{DriveState, Becomes, at_index, rate_of, word_under}
 use Rattle.drive_model.specs.Ahead.{LetsPass, AreAhead}
-use Rattle.drive_model.proofs.Passing.{ahead_same}
 use Rattle.fdc_fifo.specs.Fifo.{Fifo, room_of, wants}
-use Rattle.fdc_seek.specs.Seeking.{with_polls}
 use Rattle.fdc_stages.specs.declared.ending.Ending.TheVariants.{Overrun}
 use Rattle.fdc_stages.specs.declared.reading.ReadStage.{ReadStage}
 use Rattle.fdc_stages.specs.declared.reading.ReadStage.TheVariants as stages
 use Rattle.fdc_stages.specs.Readings.{IsContent, HearsByte, HearsBytes}
 use Rattle.fdc_stages.specs.Readings as given
 use Rattle.fdc_stages.proofs.Bytes.{hears_none, hears_more}
-use Rattle.fdc_phases.specs.declared.phases.Execution.{Execution}
 use Rattle.fdc_phases.specs.declared.phases.Phase.TheVariants.{Execute}
 use Rattle.fdc_phases.specs.declared.phases.Task.TheVariants.{Read}
 use Rattle.fdc_phases.specs.declared.transfers.Reading.{Reading}
 use Rattle.fdc_phases.specs.Phases.{head_of}
 use Rattle.fdc_phases.specs.declared.rates.DataRate.{DataRate}
 use Rattle.fdc_phases.specs.Rates.{rate_fits, seen_of}
-use Rattle.fdc_core.specs.Contents.{IsQuiet, with_bytes, TakesByte, TakesBytes, HasSpace, HasRoom, TakesMany}
-use Rattle.fdc_core.specs.Courses.{Works, Courses}
-use Rattle.fdc_core.specs.Listening.{Listens, StepsOn}
+use Rattle.fdc_core.specs.Contents.{with_bytes, TakesByte, TakesBytes, HasSpace, HasRoom, TakesMany}
+use Rattle.fdc_core.specs.Courses.{IsQuiet, Works, Courses}
+use Rattle.fdc_core.specs.Listening.{StepsOn}
 use Rattle.fdc_core.specs.Reading.{at_stage, gone_on_reading, pushed, is_full}
-use Rattle.fdc_core.specs.State.{is_held, finished}
-use Rattle.fdc_core.specs.Steps.{polled, let_pass, Rests, RestsIn, MovesDrive, Ends, Stays, Flows}
-use Rattle.fdc_core.specs.Tasks.{TaskSteps}
-use Rattle.fdc_core.specs.Waiting.{LastsOn}
-use Rattle.fdc_core.specs.Writes.{WritesOn}
+use Rattle.fdc_core.specs.State.{finished}
+use Rattle.fdc_core.specs.Steps.{let_pass}
 use Rattle.fdc_core.specs.declared.controller.Fdc.{Fdc}
 use Rattle.fdc_core.proofs.Following.{at_reading}
-use Rattle.fdc_core.proofs.Ending.{executes_left}
-use Rattle.fdc_core.proofs.Hearing.{executes_hears}
-use Rattle.fdc_core.proofs.Staying.{executes_stays, executes_flows, executes_moves}
-use Rattle.fdc_core.proofs.Waiting.{executes_lasts}
-use Rattle.fdc_core.proofs.Writes.{executes_writes}
-
--- ---- no poll comes
-
-undue : (due held : Bool) (old : Fdc) → due ≡ false → (if due && not held then record old { poll_due = false; interrupt = true; seeks = with_polls old.seeks } else old) ≡ old
-undue true held old is = absurd (false≢true (sym is))
-undue false held old is = refl
-
--- without a poll that is due
-unpolled : (old : Fdc) → old.poll_due ≡ false → polled old ≡ old
-unpolled old is = undue old.poll_due (is_held old) old is
-
--- a device step in which no poll comes
-works_unpolled : (old : Fdc) → old.poll_due ≡ false → (new : Fdc) (before after : DriveState) → Rests (before.cylinder == 0) old new → Listens old (at_index before) old before after new → WritesOn old old before after new → MovesDrive old before after → Ends old new → Stays old new → Flows old new → LastsOn old new
-    → Works old before new after
-works_unpolled old due new before after rests reads writes drive ends stays flows lasts = record {
-  rests = subst (λ polls. Rests (before.cylinder == 0) polls new) (sym (unpolled old due)) rests;
-  reads = subst (λ polls. Listens polls (at_index before) old before after new) (sym (unpolled old due)) reads;
-  writes = subst (λ polls. WritesOn polls old before after new) (sym (unpolled old due)) writes;
-  drive = subst (λ polls. MovesDrive polls before after) (sym (unpolled old due)) drive;
-  ends = ends;
-  stays = stays;
-  flows = flows;
-  lasts = lasts;
-}
-
--- a device step of what is in execution
-works_on : (old new : Fdc) (before after : DriveState) (execution : Execution) → old.poll_due ≡ false → old.phase ≡ Execute execution → TaskSteps execution.task execution.head_drive execution.steps old before after new → Works old before new after
-works_on old new before after execution due is steps =
-    works_unpolled old due new before after
-    (subst (λ phase. RestsIn phase (before.cylinder == 0) old new) (sym is) tt)
-    (executes_hears old new before after execution is steps)
-    (executes_writes old new before after execution is steps)
-    (executes_moves old new before after execution is steps)
-    (executes_left old new before after execution is steps)
-    (executes_stays old new before after execution is steps)
-    (executes_flows old new before after execution is steps)
-    (executes_lasts old new before after execution is steps)
-
--- ---- words ahead
-
--- the first of the words ahead are ahead
-ahead_first : (head count : ℕ) (words : List ℕ) (s : DriveState) → AreAhead head words s → AreAhead head (take count words) s
-unfolding AreAhead
-ahead_first head zero words s ahead = tt
-ahead_first head (suc count) [] s ahead = tt
-ahead_first head (suc count) (word ∷ rest) s (same, before, ahead) = (same, before, ahead_first head count rest (passed s) ahead)
-
--- behind a word time with the gate closed
-ahead_behind : (head : ℕ) (rest : List ℕ) (before mid : DriveState) → Becomes (let_pass before) before mid → AreAhead head rest (passed before) → AreAhead head rest mid
-ahead_behind head rest before mid passes ahead =
-    subst (λ s. AreAhead head rest s) (sym passes.becomes) (ahead_same head rest (passed before) false before.cut mid.faults mid.left ahead)
+use Rattle.fdc_core.proofs.Coursing.{works_on, ahead_first, ahead_behind}
 
 -- ---- bytes to the FIFO
 

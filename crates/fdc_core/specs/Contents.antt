@@ -2,15 +2,9 @@
 use Rattle.std.specs.Prelude.{◌≡◌, ◌≤◌, ℕ, ◌+◌, Bool, true, false, List, [], ◌∷◌, ◌++◌, length}
 use Rattle.drive_model.specs.Ahead.{LetsPass, AreAhead}
 use Rattle.drive_model.specs.Drive.{DriveState}
-use Rattle.fdc_core.specs.declared.controller.Fdc.{Fdc}
 use Rattle.fdc_fifo.specs.Fifo.{Fifo, room_of, wants}
 use Rattle.fdc_stages.specs.declared.reading.ReadStage.{ReadStage}
 use Rattle.fdc_stages.specs.Readings.{HearsByte, HearsBytes}
-
--- no poll comes, and DRQ is down
-pub record IsQuiet (fdc : Fdc) : Type 0 where
-  pub due : fdc.poll_due ≡ false
-  pub down : fdc.asking ≡ false
 
 -- the FIFO with more bytes at its end; after the terminal count they are dropped
 abbrev pub with_bytes : Bool → List ℕ → Fifo → Fifo

@@ -1,6 +1,9 @@
 -- Device steps whole, and so many of them in a row.
-use Rattle.std.specs.Prelude.{◌≡◌, ◌==◌, ℕ, zero, suc, false}
+use Rattle.std.specs.Prelude.{◌≡◌, ◌==◌, ℕ, zero, suc, ◌+◌, ◌≤◌, false, List, length}
 use Rattle.drive_model.specs.Drive.{DriveState, Becomes, at_index}
+use Rattle.drive_model.specs.Ahead.{LetsPass, AreAhead}
+use Rattle.fdc_stages.specs.declared.searching.Search.{Search}
+use Rattle.fdc_stages.specs.Searches.{HearsNothingIn}
 use Rattle.fdc_core.specs.Listening.{Listens, ListensToNone}
 use Rattle.fdc_core.specs.State.{asks, interrupts}
 use Rattle.fdc_core.specs.Steps.{polled, let_pass, Rests, MovesDrive, Ends, Stays, Flows}
@@ -45,3 +48,18 @@ Courses (suc count) old before new after =
 pub record IsStill (fdc : Fdc) : Type 0 where
   pub works : (before after : DriveState) → Becomes (let_pass before) before after → Works fdc before fdc after
   pub alone : WorksAlone fdc fdc
+
+-- no poll comes, and DRQ is down
+pub record IsQuiet (fdc : Fdc) : Type 0 where
+  pub due : fdc.poll_due ≡ false
+  pub down : fdc.asking ≡ false
+
+-- so many words in a row pass by a search, in as many device steps of a data command, none of them its last
+pub record PassesMany (head steps last count : ℕ) (search final : Search) (before after : DriveState) : Type 0 where
+  pub last_is : last ≡ steps + count
+  pub few : last ≤ 65535
+  pub words : List ℕ
+  pub count_is : length words ≡ count
+  pub ahead : AreAhead head words before
+  pub hears : HearsNothingIn words search final
+  pub passes : LetsPass count before after

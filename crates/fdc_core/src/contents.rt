@@ -3,35 +3,19 @@ ghost use Rattle.std.specs.Prelude.{◌≡◌, ◌≤◌, ◌+◌, ◌∷◌, []
 ghost use Rattle.drive_model.specs.Drive.{rate_of};
 ghost use Rattle.fdc_fifo.specs.Fifo.{wants};
 ghost use Rattle.fdc_phases.specs.Rates.{rate_fits};
-ghost use Rattle.fdc_core.specs.Contents.{IsQuiet, with_bytes, TakesByte, TakesBytes, HasSpace, HasRoom, TakesMany};
-ghost use Rattle.fdc_core.specs.Courses.{Courses};
+ghost use Rattle.fdc_core.specs.Contents.{with_bytes, TakesByte, TakesBytes, HasSpace, HasRoom, TakesMany};
+ghost use Rattle.fdc_core.specs.Courses.{Courses, IsQuiet};
 
 use crate::controller::Fdc;
+use crate::courses::first_words;
 use drive_model::Drive;
 use fdc_fifo::Fifo;
-use fdc_phases::{LAST_STEP, Phase, Task, head_of};
+use fdc_phases::{Phase, Task, head_of};
 use fdc_stages::ReadStage;
 
 impl Fdc {
     /// Makes device steps at once with the selected drive, for as long as a READ DATA hears bytes of its content and DRQ stays down,
-    /// and tells how many it made, at most `most`: where it is 0, the next step is one for `step`.
-    #[tactic(auto, unfolding(crate::specs::Courses::Courses))]
-    pub(crate) fn skim_content<D: Drive>(&mut self, most: u32, drive: &mut D) -> u32
-        ensures few { result ≤ most }
-        ensures courses { Courses result self.old (D.state drive.old) self.new (D.state drive.new) }
-    {
-        if self.poll_due || self.asking {
-            return 0;
-        }
-        let rate = drive.rate();
-        if self.rate.fits(rate) {
-            self.read_content(most, drive)
-        } else {
-            0
-        }
-    }
-
-    /// The same once all but the FIFO lets it.
+    /// and tells how many it made, at most `most`.
     #[tactic(auto, unfolding(crate::specs::Courses::Courses))]
     pub(crate) fn read_content<D: Drive>(&mut self, most: u32, drive: &mut D) -> u32
         requires quiet { IsQuiet self.old }
@@ -82,7 +66,7 @@ fn take_many<D: Drive>(
         (D.state drive.old) (D.state drive.new) }
 {
     let room = room_for(fifo, counted, most);
-    let words = words_for(drive.ahead(head), *steps, room);
+    let words = first_words(drive.ahead(head), *steps, room);
     let taken = take_bytes(stage, fifo, counted, words);
     *steps += taken as u16;
     drive.let_pass(taken as u32);
@@ -99,17 +83,6 @@ fn room_for(fifo: &Fifo, counted: bool, most: u32) -> u32
         return most;
     }
     (most as usize).min(fifo.quiet_room()) as u32
-}
-
-/// The first of these words, so many at most, that a data command may hear behind so many steps: its last step hears none.
-fn words_for(words: &[u16], steps: u16, most: u32) -> &[u16]
-    ensures first { result.now ≡ take (length result.now) words.now }
-    ensures few { length result.now ≤ most }
-    ensures left { steps + length result.now ≤ 65535 }
-{
-    let left = LAST_STEP - steps;
-    let count = words.len().min(most as usize).min(usize::from(left));
-    &words[..count]
 }
 
 /// A stage hears the first of these words, for as long as they give bytes of a content, and tells how many. The bytes go to the

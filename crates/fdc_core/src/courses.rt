@@ -1,9 +1,15 @@
 // Device steps at once.
-ghost use Rattle.std.specs.Prelude.{◌≡◌, ◌≤◌, true};
-ghost use Rattle.fdc_core.specs.Courses.{Courses, IsStill};
+ghost use Rattle.std.specs.Prelude.{◌≡◌, ◌≤◌, ◌+◌, true, length, take};
+ghost use Rattle.drive_model.specs.Drive.{rate_of};
+ghost use Rattle.fdc_phases.specs.Phases.{head_of};
+ghost use Rattle.fdc_phases.specs.Rates.{rate_fits};
+ghost use Rattle.fdc_core.specs.Courses.{Courses, IsStill, IsQuiet, PassesMany};
 
 use crate::controller::Fdc;
 use drive_model::Drive;
+use fdc_phases::{LAST_STEP, Phase, Task, head_of};
+use fdc_stages::{ReadStage, Search};
+use fdc_writing::WriteStage;
 
 impl Fdc {
     /// Whether a device step changes nothing but the places of the disks, and so each further one.
@@ -11,16 +17,181 @@ impl Fdc {
     pub fn is_still(&self) -> bool
         ensures { result ≡ true → IsStill self.now }
     {
-        false
+        if self.poll_due || self.seeks.is_seeking() {
+            return false;
+        }
+        match &self.phase {
+            Phase::Execute { .. } => false,
+            _ => true,
+        }
     }
 
-    /// Makes device steps at once with the selected drive, for as long as a READ DATA hears words in which nothing is seen, and
-    /// tells how many it made, at most `most`: where it is 0, the next step is one for `step`.
-    #[tactic(auto, unfolding(crate::specs::Courses::Courses))]
-    pub fn skim<D: Drive>(&mut self, _most: u32, _drive: &mut D) -> u32
-        ensures few { result ≤ _most }
-        ensures courses { Courses result self.old (D.state _drive.old) self.new (D.state _drive.new) }
-    {
-        0
+    /// Whether `is_still` or `skim` may find steps to make at once. It only chooses between two ways.
+    #[inline(always)]
+    pub fn may_skim(&self) -> bool {
+        match &self.phase {
+            Phase::Execute { execution } => match &execution.task {
+                Task::ReadId { .. } => true,
+                Task::Read { reading } => {
+                    matches!(
+                        reading.stage,
+                        ReadStage::Search(_) | ReadStage::Content { .. }
+                    ) && !self.asking
+                }
+                Task::Write { writing } => {
+                    matches!(writing.stage, WriteStage::Search(_)) && !self.asking
+                }
+                Task::Format { .. } => false,
+            },
+            _ => true,
+        }
     }
+
+    /// Makes device steps at once with the selected drive, for as long as a search hears words in which nothing is seen, or a
+    /// READ DATA hears bytes of its content and DRQ stays down, and tells how many it made, at most `most`: where it is 0, the next
+    /// step is one for `step`.
+    #[tactic(auto, unfolding(crate::specs::Courses::Courses))]
+    pub fn skim<D: Drive>(&mut self, most: u32, drive: &mut D) -> u32
+        ensures few { result ≤ most }
+        ensures courses { Courses result self.old (D.state drive.old) self.new (D.state drive.new) }
+    {
+        if self.poll_due || self.asking {
+            return 0;
+        }
+        let rate = drive.rate();
+        if self.rate.fits(rate) {
+            self.skim_task(most, drive)
+        } else {
+            0
+        }
+    }
+
+    /// The same, by the task.
+    #[tactic(auto, unfolding(crate::specs::Courses::Courses))]
+    fn skim_task<D: Drive>(&mut self, most: u32, drive: &mut D) -> u32
+        requires quiet { IsQuiet self.old }
+        requires fits { rate_fits self.old.rate (rate_of (D.state drive.old).medium) ≡ true }
+        ensures few { result ≤ most }
+        ensures courses { Courses result self.old (D.state drive.old) self.new (D.state drive.new) }
+    {
+        match &self.phase {
+            Phase::Execute { execution } => match &execution.task {
+                Task::ReadId { .. } => self.skim_id(most, drive),
+                Task::Read { reading } => match &reading.stage {
+                    ReadStage::Search(_) => self.skim_reading(most, drive),
+                    ReadStage::Content { .. } => self.read_content(most, drive),
+                    _ => 0,
+                },
+                Task::Write { .. } => self.skim_writing(most, drive),
+                Task::Format { .. } => 0,
+            },
+            _ => 0,
+        }
+    }
+
+    /// The same of a READ ID.
+    #[tactic(auto, unfolding(crate::specs::Courses::Courses))]
+    fn skim_id<D: Drive>(&mut self, most: u32, drive: &mut D) -> u32
+        requires quiet { IsQuiet self.old }
+        requires fits { rate_fits self.old.rate (rate_of (D.state drive.old).medium) ≡ true }
+        ensures few { result ≤ most }
+        ensures courses { Courses result self.old (D.state drive.old) self.new (D.state drive.new) }
+    {
+        match &mut self.phase {
+            Phase::Execute { execution } => match &mut execution.task {
+                Task::ReadId { search } => {
+                    let head_drive = execution.head_drive;
+                    pass_many(search, head_drive, &mut execution.steps, most, drive)
+                }
+                _ => 0,
+            },
+            _ => 0,
+        }
+    }
+
+    /// The same of a READ DATA.
+    #[tactic(auto, unfolding(crate::specs::Courses::Courses))]
+    fn skim_reading<D: Drive>(&mut self, most: u32, drive: &mut D) -> u32
+        requires quiet { IsQuiet self.old }
+        requires fits { rate_fits self.old.rate (rate_of (D.state drive.old).medium) ≡ true }
+        ensures few { result ≤ most }
+        ensures courses { Courses result self.old (D.state drive.old) self.new (D.state drive.new) }
+    {
+        if self.fifo.wants(true, false, false) {
+            return 0;
+        }
+        match &mut self.phase {
+            Phase::Execute { execution } => match &mut execution.task {
+                Task::Read { reading } => match &mut reading.stage {
+                    ReadStage::Search(search) => {
+                        let head_drive = execution.head_drive;
+                        pass_many(search, head_drive, &mut execution.steps, most, drive)
+                    }
+                    _ => 0,
+                },
+                _ => 0,
+            },
+            _ => 0,
+        }
+    }
+
+    /// The same of a write, whose first step may meet a protected medium.
+    #[tactic(auto, unfolding(crate::specs::Courses::Courses))]
+    fn skim_writing<D: Drive>(&mut self, most: u32, drive: &mut D) -> u32
+        requires quiet { IsQuiet self.old }
+        requires fits { rate_fits self.old.rate (rate_of (D.state drive.old).medium) ≡ true }
+        ensures few { result ≤ most }
+        ensures courses { Courses result self.old (D.state drive.old) self.new (D.state drive.new) }
+    {
+        match &mut self.phase {
+            Phase::Execute { execution } => match &mut execution.task {
+                Task::Write { writing } => {
+                    let asks = self.fifo.wants(false, false, writing.counted);
+                    if asks || execution.steps == 0 {
+                        return 0;
+                    }
+                    match &mut writing.stage {
+                        WriteStage::Search(search) => {
+                            let head_drive = execution.head_drive;
+                            pass_many(search, head_drive, &mut execution.steps, most, drive)
+                        }
+                        _ => 0,
+                    }
+                }
+                _ => 0,
+            },
+            _ => 0,
+        }
+    }
+}
+
+/// A search hears the words ahead under a head, for as long as nothing is seen in them and the last step isn't reached. Each is a
+/// device step, with the gate closed.
+#[inline(always)]
+fn pass_many<D: Drive>(
+    search: &mut Search,
+    head_drive: u8,
+    steps: &mut u16,
+    most: u32,
+    drive: &mut D,
+) -> u32
+    ensures few { result ≤ most }
+    ensures passes { PassesMany (head_of head_drive) steps.old steps.new result search.old search.new (D.state drive.old) (D.state drive.new) }
+{
+    let words = first_words(drive.ahead(head_of(head_drive)), *steps, most);
+    let heard = search.pass_many(words);
+    *steps += heard as u16;
+    drive.let_pass(heard as u32);
+    heard as u32
+}
+
+/// The first of these words, so many at most, that a data command may hear behind so many steps: its last step hears none.
+pub(crate) fn first_words(words: &[u16], steps: u16, most: u32) -> &[u16]
+    ensures first { result.now ≡ take (length result.now) words.now }
+    ensures few { length result.now ≤ most }
+    ensures left { steps + length result.now ≤ 65535 }
+{
+    let left = LAST_STEP - steps;
+    let count = words.len().min(most as usize).min(usize::from(left));
+    &words[..count]
 }
