@@ -73,7 +73,7 @@ module _ (old : Fdc) (due : old.poll_due ≡ false) where
   }
 
 -- a device step of what is in execution
-works_on : (old new : Fdc) (before after : DriveState) (execution : Execution) → old.poll_due ≡ false → old.phase ≡ Execute execution → TaskSteps execution.task execution.head_drive execution.steps old before after new → Works old before new after
+pub works_on : (old new : Fdc) (before after : DriveState) (execution : Execution) → old.poll_due ≡ false → old.phase ≡ Execute execution → TaskSteps execution.task execution.head_drive execution.steps old before after new → Works old before new after
 works_on old new before after execution due is steps =
     works_unpolled old due new before after
     (subst (λ phase. RestsIn phase (before.cylinder == 0) old new) (sym is) tt)
@@ -159,7 +159,7 @@ ahead_first head (suc count) [] s ahead = tt
 ahead_first head (suc count) (word ∷ rest) s (same, before, ahead) = (same, before, ahead_first head count rest (passed s) ahead)
 
 -- behind a word time with the gate closed
-ahead_behind : (head : ℕ) (rest : List ℕ) (before mid : DriveState) → Becomes (let_pass before) before mid → AreAhead head rest (passed before) → AreAhead head rest mid
+pub ahead_behind : (head : ℕ) (rest : List ℕ) (before mid : DriveState) → Becomes (let_pass before) before mid → AreAhead head rest (passed before) → AreAhead head rest mid
 ahead_behind head rest before mid passes ahead =
     subst (λ s. AreAhead head rest s) (sym passes.becomes) (ahead_same head rest (passed before) false before.cut mid.faults mid.left ahead)
 

@@ -13,4 +13,5 @@ pub mod Waiting
 pub mod Tellings
 pub mod Feeding
 pub mod Given
+mod Taking
 pub mod Coursing

@@ -19,3 +19,4 @@ pub mod Tellings
 pub mod Whole
 pub mod Saving
 pub mod Courses
+pub mod Contents

@@ -33,7 +33,10 @@ impl Fdc {
             Phase::Execute { execution } => match &execution.task {
                 Task::ReadId { .. } => true,
                 Task::Read { reading } => {
-                    matches!(reading.stage, ReadStage::Search(_)) && !self.asking
+                    matches!(
+                        reading.stage,
+                        ReadStage::Search(_) | ReadStage::Content { .. }
+                    ) && !self.asking
                 }
                 Task::Write { writing } => {
                     matches!(writing.stage, WriteStage::Search(_)) && !self.asking
@@ -44,8 +47,9 @@ impl Fdc {
         }
     }
 
-    /// Makes device steps at once with the selected drive, for as long as a search hears words in which nothing is seen, and
-    /// tells how many it made, at most `most`: where it is 0, the next step is one for `step`.
+    /// Makes device steps at once with the selected drive, for as long as a search hears words in which nothing is seen, or a
+    /// READ DATA hears bytes of its content and DRQ stays down, and tells how many it made, at most `most`: where it is 0, the next
+    /// step is one for `step`.
     #[tactic(auto, unfolding(crate::specs::Courses::Courses))]
     pub fn skim<D: Drive>(&mut self, most: u32, drive: &mut D) -> u32
         ensures few { result ≤ most }
@@ -73,7 +77,11 @@ impl Fdc {
         match &self.phase {
             Phase::Execute { execution } => match &execution.task {
                 Task::ReadId { .. } => self.skim_id(most, drive),
-                Task::Read { .. } => self.skim_reading(most, drive),
+                Task::Read { reading } => match &reading.stage {
+                    ReadStage::Search(_) => self.skim_reading(most, drive),
+                    ReadStage::Content { .. } => self.read_content(most, drive),
+                    _ => 0,
+                },
                 Task::Write { .. } => self.skim_writing(most, drive),
                 Task::Format { .. } => 0,
             },
@@ -178,7 +186,7 @@ fn pass_many<D: Drive>(
 }
 
 /// The first of these words, so many at most, that a data command may hear behind so many steps: its last step hears none.
-fn first_words(words: &[u16], steps: u16, most: u32) -> &[u16]
+pub(crate) fn first_words(words: &[u16], steps: u16, most: u32) -> &[u16]
     ensures first { result.now ≡ take (length result.now) words.now }
     ensures few { length result.now ≤ most }
     ensures left { steps + length result.now ≤ 65535 }

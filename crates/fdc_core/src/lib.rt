@@ -3,6 +3,7 @@
 #![tactic(auto)]
 
 mod commands;
+mod contents;
 mod controller;
 mod courses;
 mod dma;

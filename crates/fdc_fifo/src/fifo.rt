@@ -114,10 +114,12 @@ impl Fifo {
         }
     }
 
-    /// How many bytes can come that go to memory, with DRQ down, before it rises; none where it rises at once.
+    /// How many bytes for memory can come while DRQ is down, before the one that raises it.
     pub fn quiet_room(&self) -> usize
         ensures quiet { wants true false false self.now ≡ false → (more : List ℕ) → length more ≤ result
             → wants true false false (record self.now { bytes = self.now.bytes ++ more }) ≡ false }
+        ensures rises { wants true false false self.now ≡ false → (more : List ℕ) → length more ≡ result + 1
+            → wants true false false (record self.now { bytes = self.now.bytes ++ more }) ≡ true }
         ensures fits { length self.now.bytes + result ≤ room_of self.now.on }
     {
         (self.worth_fetching() - 1).saturating_sub(self.bytes.len())
