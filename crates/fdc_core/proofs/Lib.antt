@@ -6,6 +6,7 @@ pub mod Hearing
 pub mod Meanings
 mod Following
 mod Passing
+mod Laid
 pub mod Words
 pub mod MayWrite
 pub mod Writes

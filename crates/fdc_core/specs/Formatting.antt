@@ -1,9 +1,11 @@
 -- FORMAT TRACK, word by word.
-use Rattle.std.specs.Prelude.{◌≡◌, ◌<◌, ℕ, ◌+◌, Bool, true, false, Some}
+use Rattle.std.specs.Prelude.{◌≡◌, ◌<◌, ℕ, ◌+◌, Bool, true, false, Option, Some, None}
 use Rattle.drive_model.specs.Drive.{DriveState, is_protected, at_index, Writes, InRange}
+use Rattle.fdc_fifo.specs.Fifo.{wants}
 use Rattle.fdc_stages.specs.declared.ending.Ending.{Ending}
 use Rattle.fdc_writing.specs.Formats.{opens, is_due, Takes}
 use Rattle.fdc_writing.specs.Leads.{HasLead}
+use Rattle.fdc_writing.specs.declared.formatting.FormatEnd.{FormatEnd}
 use Rattle.fdc_writing.specs.declared.formatting.FormatNext.{FormatNext}
 use Rattle.fdc_writing.specs.declared.formatting.FormatNext.TheVariants.{On, Ended}
 use Rattle.fdc_writing.specs.declared.formatting.FormatWord.{FormatWord}
@@ -22,6 +24,15 @@ use Rattle.fdc_phases.specs.Formatting.{is_ended, StageHearsIndex, StageLaysWord
 abbrev pub after_laid : ℕ → ℕ → Formatting → FormatNext → Fdc → Fdc
 after_laid head_drive steps formatting (On stage) old = gone_on head_drive steps (Format (format_at formatting stage)) old
 after_laid head_drive steps formatting (Ended ending key) old = finished ending head_drive key old
+
+-- the same in place, once the stage is the one behind the word: it goes on, and DRQ by the FIFO's rule, or it is over
+abbrev pub format_followed : ℕ → Bool → Option FormatEnd → Fdc → Fdc
+format_followed head_drive counted None old = record old { asking = wants false old.asking counted old.fifo }
+format_followed head_drive counted (Some over) old = finished over.ending head_drive over.key old
+
+abbrev pub is_over : Option FormatEnd → Bool
+is_over None = false
+is_over (Some _) = true
 
 -- ---- a device step, behind so many others, by what its word time is
 

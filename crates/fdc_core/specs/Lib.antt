@@ -11,6 +11,7 @@ pub mod Meaning
 pub mod Times
 pub mod Writing
 pub mod Formatting
+pub mod Transfers
 pub mod Tasks
 pub mod Written
 pub mod Writes

@@ -15,9 +15,6 @@ use Rattle.fdc_core.specs.State.{finished}
 use Rattle.fdc_core.specs.Times.{WordTime, Saw, KeptOut, Wrote, Stopped, IsTime, IsHeardTime, Opens, Closes}
 use Rattle.fdc_core.specs.declared.controller.Fdc.{Fdc}
 use Rattle.fdc_phases.specs.declared.phases.End.{End}
-use Rattle.fdc_phases.specs.declared.phases.Phase.{Phase}
-use Rattle.fdc_phases.specs.declared.phases.Phase.TheVariants.{Execute}
-use Rattle.fdc_phases.specs.declared.phases.Task.{Task}
 use Rattle.fdc_phases.specs.declared.phases.Task.TheVariants.{Write}
 use Rattle.fdc_phases.specs.declared.transfers.Writing.{Writing}
 use Rattle.fdc_phases.specs.Writing.{is_ended, StageHearsWord, StageWritesWord}
@@ -48,16 +45,9 @@ byte_taken needs counted fifo = if needs then oldest_of counted fifo.bytes else 
 abbrev pub without_byte : Bool → Fdc → Fdc
 without_byte needs old = if needs then record old { fifo = record old.fifo { bytes = drop 1 old.fifo.bytes } } else old
 
--- a write in execution hears a word
-abbrev pub HearsToWriteTask : ℕ → ℕ → Task → Bool → ℕ → Fdc → Fdc → Type 0
-HearsToWriteTask head_drive steps (Write writing) index word old new =
-    (next : WriteNext) × StageHearsWord writing index word next × (new ≡ after_next head_drive steps writing next old)
-HearsToWriteTask head_drive steps _ index word old new = Unit {0}
-
-abbrev pub HearsToWrite : Phase → Bool → ℕ → Fdc → Fdc → Type 0
-HearsToWrite (Execute execution) index word old new =
-    HearsToWriteTask execution.head_drive (execution.steps + 1) execution.task index word old new
-HearsToWrite _ index word old new = Unit {0}
+-- the FIFO without it
+abbrev pub fifo_without : Bool → Fifo → Fifo
+fifo_without needs fifo = if needs then record fifo { bytes = drop 1 fifo.bytes } else fifo
 
 -- ---- a device step, behind so many others, by what its word time is
 

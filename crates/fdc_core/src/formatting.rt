@@ -1,11 +1,11 @@
 // FORMAT TRACK, word by word.
-ghost use Rattle.std.specs.Prelude.{◌≡◌, ◌<◌, ◌+◌, Bool, true, false};
+ghost use Rattle.std.specs.Prelude.{◌≡◌, ◌<◌, ◌+◌, ℕ, Bool, true};
 ghost use Rattle.drive_model.specs.Drive.{rate_of};
 ghost use Rattle.fdc_writing.specs.Formats.{opens, is_due};
 ghost use Rattle.fdc_phases.specs.Rates.{rate_fits};
-ghost use Rattle.fdc_writing.specs.declared.formatting.FormatNext.{FormatNext};
 ghost use Rattle.fdc_core.specs.Formatting.{IsFormatStep, IsFormatTime, AwaitsIndex, LaysByte, after_laid};
-ghost use Rattle.fdc_phases.specs.Formatting.{StageHearsIndex};
+ghost use Rattle.fdc_core.specs.Listening.{HasStepsLeft};
+ghost use Rattle.fdc_phases.specs.Formatting.{IsFormattingAt};
 
 use crate::controller::Fdc;
 use crate::steps::listen;
@@ -24,6 +24,7 @@ impl Fdc {
         formatting: Formatting,
         drive: &mut D,
     )
+        requires { IsFormattingAt head_drive steps formatting self.old.phase }
         ensures { IsFormatStep head_drive steps formatting self.old (D.state drive.old) (D.state drive.new) self.new }
     {
         if steps == LAST_STEP {
@@ -43,7 +44,8 @@ impl Fdc {
         formatting: Formatting,
         drive: &mut D,
     )
-        requires { steps < 65535 }
+        requires few { steps < 65535 }
+        requires at { IsFormattingAt head_drive steps formatting self.old.phase }
         ensures { IsFormatTime head_drive steps formatting self.old (D.state drive.old) (D.state drive.new) self.new }
     {
         if formatting.stage.opens() {
@@ -51,32 +53,19 @@ impl Fdc {
         } else if formatting.stage.is_due() {
             self.go_on_track(head_drive, steps, formatting, drive);
         } else {
-            self.hear_formatting(head_drive, steps, formatting, drive);
+            self.hear_formatting(head_drive, drive);
         }
     }
 
     /// The word is heard.
-    fn hear_formatting<D: Drive>(
-        &mut self,
-        head_drive: u8,
-        steps: u16,
-        formatting: Formatting,
-        drive: &mut D,
-    )
-        requires { steps < 65535 }
-        ensures { AwaitsIndex head_drive steps formatting self.old (D.state drive.old) (D.state drive.new) self.new }
+    #[inline(always)]
+    pub(crate) fn hear_formatting<D: Drive>(&mut self, head_drive: u8, drive: &mut D)
+        requires { HasStepsLeft self.old.phase }
+        ensures { (steps : ℕ) (formatting : Formatting) → IsFormattingAt head_drive steps formatting self.old.phase
+            → AwaitsIndex head_drive steps formatting self.old (D.state drive.old) (D.state drive.new) self.new }
     {
         let passing = listen(self.rate, head_of(head_drive), drive);
-        let next = formatting.stage.hear(passing.index);
-        self.follow_formatting(head_drive, steps + 1, formatting, next);
-    }
-
-    /// Where no drive is selected, no index comes.
-    pub(crate) fn await_nothing(&mut self, head_drive: u8, steps: u16, formatting: Formatting)
-        ensures { (next : FormatNext) × StageHearsIndex formatting false next × (self.new ≡ after_laid head_drive steps formatting next self.old) }
-    {
-        let next = formatting.stage.hear(false);
-        self.follow_formatting(head_drive, steps, formatting, next);
+        self.hear_to_write(passing);
     }
 
     /// The first word of the layout is written, where the rate is the medium's.
@@ -88,13 +77,14 @@ impl Fdc {
         drive: &mut D,
     )
         requires few { steps < 65535 }
+        requires at { IsFormattingAt head_drive steps formatting self.old.phase }
         requires opens { opens formatting.stage ≡ true }
         ensures { IsFormatTime head_drive steps formatting self.old (D.state drive.old) (D.state drive.new) self.new }
     {
         if self.rate.fits(drive.rate()) {
             self.go_on_track(head_drive, steps, formatting, drive);
         } else {
-            self.hear_formatting(head_drive, steps, formatting, drive);
+            self.hear_formatting(head_drive, drive);
         }
     }
 

@@ -13,6 +13,7 @@ mod ports;
 mod reading;
 mod saving;
 mod steps;
+mod transfers;
 mod whole;
 mod writing;
 

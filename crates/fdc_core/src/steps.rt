@@ -181,9 +181,40 @@ impl Fdc {
         self.hear(passing);
     }
 
-    /// A device step of a data command, by its task. The usual step of a write that searches hears a word in place.
+    /// A device step of a data command, by its task. The usual steps of a write and of a FORMAT are made in place.
     #[inline(never)]
     fn execute_any<D: Drive>(&mut self, drive: &mut D)
+        ensures { ExecutionSteps self.old.phase self.old (D.state drive.old) (D.state drive.new) self.new }
+    {
+        match &self.phase {
+            Phase::Execute { execution } => {
+                let head_drive = execution.head_drive;
+                let steps = execution.steps;
+                match &execution.task {
+                    Task::Write { writing } => {
+                        if writing.only_hears(steps) {
+                            self.hear_writing(head_drive, drive);
+                        } else {
+                            self.execute_rare(drive);
+                        }
+                    }
+                    Task::Format { formatting } => {
+                        if formatting.only_hears(steps) {
+                            self.hear_formatting(head_drive, drive);
+                        } else {
+                            self.lay_on(drive);
+                        }
+                    }
+                    _ => self.execute_rare(drive),
+                }
+            }
+            _ => {}
+        }
+    }
+
+    /// The same, whatever the step is. What is done is copied here.
+    #[inline(never)]
+    pub(crate) fn execute_rare<D: Drive>(&mut self, drive: &mut D)
         ensures { ExecutionSteps self.old.phase self.old (D.state drive.old) (D.state drive.new) self.new }
     {
         match &self.phase {
@@ -196,12 +227,8 @@ impl Fdc {
                         self.listen_on(head_drive, steps, task, drive);
                     }
                     Task::Write { writing } => {
-                        if writing.only_hears(steps) {
-                            self.hear_writing(head_drive, drive);
-                        } else {
-                            let writing = *writing;
-                            self.step_writing(head_drive, steps, writing, drive);
-                        }
+                        let writing = *writing;
+                        self.step_writing(head_drive, steps, writing, drive);
                     }
                     Task::Format { formatting } => {
                         let formatting = *formatting;
@@ -230,8 +257,7 @@ impl Fdc {
         }
         match task {
             Task::ReadId { .. } | Task::Read { .. } => self.hear(NOTHING),
-            Task::Write { .. } => self.hear_to_write(NOTHING),
-            Task::Format { formatting } => self.await_nothing(head_drive, steps + 1, formatting),
+            Task::Write { .. } | Task::Format { .. } => self.hear_to_write(NOTHING),
         }
     }
 

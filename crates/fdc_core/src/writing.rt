@@ -5,13 +5,14 @@ ghost use Rattle.fdc_writing.specs.Writings.{opens, is_due};
 ghost use Rattle.fdc_phases.specs.Rates.{rate_fits};
 ghost use Rattle.fdc_core.specs.Times.{Opens, Closes};
 ghost use Rattle.fdc_core.specs.Listening.{HasStepsLeft};
-ghost use Rattle.fdc_core.specs.Writing.{HearsToWrite, gone_or_over, IsWriteStep, IsWriteTime, HearsAWord, PutsByte, after_next, byte_taken, without_byte};
+ghost use Rattle.fdc_core.specs.Writing.{IsWriteStep, IsWriteTime, HearsAWord, PutsByte, after_next, byte_taken, without_byte, fifo_without};
 ghost use Rattle.fdc_phases.specs.Writing.{IsWritingAt};
 
 use crate::controller::Fdc;
 use crate::steps::listen;
-use drive_model::{Drive, Turn};
-use fdc_phases::{End, LAST_STEP, Phase, Task, Writing, head_of, is_write_over};
+use drive_model::Drive;
+use fdc_fifo::Fifo;
+use fdc_phases::{LAST_STEP, Task, Writing, head_of, is_write_over};
 use fdc_stages::Ending;
 use fdc_writing::WriteNext;
 
@@ -63,39 +64,6 @@ impl Fdc {
     {
         let passing = listen(self.rate, head_of(head_drive), drive);
         self.hear_to_write(passing);
-    }
-
-    /// A write hears a word, in place.
-    pub(crate) fn hear_to_write(&mut self, passing: Turn)
-        requires { HasStepsLeft self.old.phase }
-        ensures { HearsToWrite self.old.phase passing.index passing.word self.old self.new }
-    {
-        match &mut self.phase {
-            Phase::Execute { execution } => {
-                let head_drive = execution.head_drive;
-                execution.steps += 1;
-                match &mut execution.task {
-                    Task::Write { writing } => {
-                        let counted = writing.counted;
-                        let over = writing.hear(head_drive, passing);
-                        self.follow_over(counted, over);
-                    }
-                    _ => {}
-                }
-            }
-            _ => {}
-        }
-    }
-
-    /// The command goes on, unless it is over.
-    #[inline(always)]
-    fn follow_over(&mut self, counted: bool, over: Option<End>)
-        ensures { self.new ≡ gone_or_over counted over self.old }
-    {
-        match over {
-            None => self.asking = self.fifo.wants(false, self.asking, counted),
-            Some(over) => self.finish(over.ending, over.head_drive, over.key),
-        }
     }
 
     /// The first word of the window is written, where the rate is the medium's.
@@ -169,20 +137,29 @@ impl Fdc {
         }
     }
 
-    /// The byte that the next word records, where it needs one: the oldest, and 00 behind the terminal count where there is
-    /// none. None where it is missing.
+    /// Takes the byte of the next word.
     pub(crate) fn take_byte_for(&mut self, needs: bool, counted: bool) -> Option<u8>
         ensures byte { result ≡ byte_taken needs counted self.old.fifo }
         ensures after { self.new ≡ without_byte needs self.old }
     {
-        if !needs {
-            return Some(NO_BYTE);
-        }
-        match self.fifo.pop() {
-            Some(byte) => Some(byte),
-            None if counted => Some(NO_BYTE),
-            None => None,
-        }
+        take_byte(&mut self.fifo, needs, counted)
+    }
+}
+
+/// The byte that the next word records, where it needs one: the oldest, and 00 behind the terminal count where there is none. None
+/// where it is missing.
+#[inline(always)]
+pub(crate) fn take_byte(fifo: &mut Fifo, needs: bool, counted: bool) -> Option<u8>
+    ensures byte { result ≡ byte_taken needs counted fifo.old }
+    ensures after { fifo.new ≡ fifo_without needs fifo.old }
+{
+    if !needs {
+        return Some(NO_BYTE);
+    }
+    match fifo.pop() {
+        Some(byte) => Some(byte),
+        None if counted => Some(NO_BYTE),
+        None => None,
     }
 }
 

@@ -7,12 +7,20 @@ use Rattle.fdc_writing.specs.Writings.{handed_with, heard_where}
 use Rattle.fdc_writing.specs.declared.formatting.FormatNext.{FormatNext}
 use Rattle.fdc_writing.specs.declared.formatting.FormatNext.TheVariants.{On, Ended}
 use Rattle.fdc_writing.specs.declared.formatting.FormatWord.{FormatWord}
+use Rattle.fdc_phases.specs.declared.phases.Phase.{Phase}
+use Rattle.fdc_phases.specs.declared.phases.Phase.TheVariants.{Execute}
+use Rattle.fdc_phases.specs.declared.phases.Task.TheVariants.{Format}
 use Rattle.fdc_phases.specs.declared.transfers.Formatting.{Formatting}
 
 -- the FORMAT is over
 abbrev pub is_ended : FormatNext → Bool
 is_ended (Ended _ _) = true
 is_ended (On _) = false
+
+-- a FORMAT is in execution, behind so many steps
+abbrev pub IsFormattingAt : ℕ → ℕ → Formatting → Phase → Type 0
+IsFormattingAt head_drive steps formatting phase =
+    phase ≡ Execute (record { head_drive = head_drive; steps = steps; task = Format formatting })
 
 -- ---- what a stage makes of a word, whatever has passed before
 

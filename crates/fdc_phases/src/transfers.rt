@@ -3,7 +3,8 @@ ghost use Rattle.std.specs.Prelude.{◌≡◌, ◌<◌, ◌≤◌, IfSome, true,
 ghost use Rattle.fdc_stages.specs.Readings.{mark_at};
 ghost use Rattle.fdc_writing.specs.Writings.{is_due};
 ghost use Rattle.fdc_phases.specs.Answers.{next_key, key_after};
-ghost use Rattle.fdc_phases.specs.Formatting.{is_ended as is_format_ended};
+ghost use Rattle.fdc_writing.specs.Formats.{is_open, is_due as is_format_due, format_next};
+ghost use Rattle.fdc_phases.specs.Formatting.{StageHearsIndex, is_ended as is_format_ended};
 ghost use Rattle.fdc_phases.specs.Phases.{told, is_over, ending_of, write_at, write_told, format_at, format_told};
 ghost use Rattle.fdc_phases.specs.Writing.{StageHearsWord, write_over, write_end, is_ended};
 
@@ -11,7 +12,7 @@ use crate::phases::{End, LAST_STEP};
 use crate::sized_key::SizedKey;
 use drive_model::Turn;
 use fdc_stages::{Ending, ReadStage};
-use fdc_writing::{FormatNext, FormatStage, WriteNext, WriteStage};
+use fdc_writing::{FormatEnd, FormatNext, FormatStage, WriteNext, WriteStage};
 use flop_base::Chrn;
 
 /// A READ DATA.
@@ -163,6 +164,38 @@ impl Writing {
 }
 
 impl Formatting {
+    /// Whether the step behind `steps` others does no more than hear a word: it isn't the first nor the last, and none is due.
+    #[inline(always)]
+    pub fn only_hears(&self, steps: u16) -> bool
+        ensures { result ≡ true → (1 ≤ steps) × (steps < 65535) × (is_format_due self.now.stage ≡ false) }
+    {
+        if steps == 0 || steps == LAST_STEP {
+            return false;
+        }
+        !self.stage.is_due()
+    }
+
+    /// Whether the step behind `steps` others writes a word of the layout behind others: it isn't the first nor the last, and the
+    /// gate is open.
+    #[inline(always)]
+    pub fn lays_on(&self, steps: u16) -> bool
+        ensures { result ≡ true → (1 ≤ steps) × (steps < 65535) × (is_open self.now.stage ≡ true) }
+    {
+        if steps == 0 || steps == LAST_STEP {
+            return false;
+        }
+        self.stage.is_open()
+    }
+
+    /// Hears a word, and tells how the command is over, where it is.
+    #[inline(always)]
+    pub fn hear(&mut self, index: bool) -> Option<FormatEnd>
+        ensures same { self.new ≡ format_at self.old self.new.stage }
+        ensures hears { StageHearsIndex self.old index (format_next self.new.stage result) }
+    {
+        self.stage.hear(index)
+    }
+
     /// The same command at this stage.
     pub fn at(self, stage: FormatStage) -> Formatting
         ensures { result ≡ format_at self stage }

@@ -1,5 +1,5 @@
 -- What a format has heard and written.
-use Rattle.std.specs.Prelude.{◌≡◌, ◌⊎◌, ◌↔◌, ℕ, zero, suc, ◌+◌, ◌*◌, ◌≤◌, Bool, true, false, IsTrue, List, [], ◌∷◌, ◌++◌, length, drop, slice_index}
+use Rattle.std.specs.Prelude.{◌≡◌, ◌⊎◌, ◌↔◌, ℕ, zero, suc, ◌+◌, ◌*◌, ◌≤◌, Bool, true, false, IsTrue, Option, None, Some, List, [], ◌∷◌, ◌++◌, length, drop, slice_index}
 use Rattle.std.specs.List.{flat_map}
 use Rattle.flop_base.specs.declared.key.Chrn.{Chrn}
 use Rattle.track_model.specs.declared.symbol.Symbol.{Symbol}
@@ -17,6 +17,7 @@ use Rattle.fdc_writing.specs.Writings.{IsFirstOf}
 use Rattle.fdc_writing.specs.declared.formatting.FormatPart.{FormatPart}
 use Rattle.fdc_writing.specs.declared.formatting.FormatPart.TheVariants.{Await, Due, Lay, Barred}
 use Rattle.fdc_writing.specs.declared.formatting.FormatStage.{FormatStage}
+use Rattle.fdc_writing.specs.declared.formatting.FormatEnd.{FormatEnd}
 use Rattle.fdc_writing.specs.declared.formatting.FormatNext.{FormatNext}
 use Rattle.fdc_writing.specs.declared.formatting.FormatNext.TheVariants as next
 
@@ -211,6 +212,11 @@ IsResultKey numbers handed _ key = key ≡ no_key
 abbrev pub IsUnopened : Bool → Past → Type 0
 IsUnopened true past = IsBarred past
 IsUnopened false past = HasTurned past.turns × (past.words ≡ []) × (past.barred ≡ true)
+
+-- what a word gave a format, from its stage as it then is and how it is over, where it is
+abbrev pub format_next : FormatStage → Option FormatEnd → FormatNext
+format_next after None = next.On after
+format_next after (Some over) = next.Ended over.ending over.key
 
 -- what a word gave a format
 abbrev pub HasNext : Past → Numbers → List ℕ → FormatNext → Type 0

@@ -3,7 +3,7 @@ ghost use Rattle.std.specs.Prelude.{◌≡◌, ◌-◌, ◌≤◌, ℕ, Bool, tr
 ghost use Rattle.flop_base.specs.declared.key.Chrn.{Chrn};
 ghost use Rattle.fdc_stages.specs.History.{Past, begun, heard, wrote};
 ghost use Rattle.fdc_writing.specs.Writings.{handed_with, heard_where};
-ghost use Rattle.fdc_writing.specs.Formats.{Numbers, is_open, opens, is_due, Takes, IsLaid, IsLastKey, IsFormatting, IsNextLaid, IsUnopened, HasNext, FailsWell, EndsWell};
+ghost use Rattle.fdc_writing.specs.Formats.{Numbers, is_open, opens, is_due, Takes, IsLaid, IsLastKey, IsFormatting, IsNextLaid, IsUnopened, HasNext, FailsWell, EndsWell, IsEnd, format_next};
 ghost use Rattle.fdc_writing.specs.Leads.{StreamLeads, HasLead, LeadsOn};
 
 use fdc_stages::Ending;
@@ -50,6 +50,14 @@ pub enum FormatNext {
     Ended { ending: Ending, key: Chrn },
 }
 
+/// How a format is over.
+#[derive(Clone, Copy)]
+pub struct FormatEnd {
+    pub ending: Ending,
+    /// The key of the result.
+    pub key: Chrn,
+}
+
 /// A word to be written.
 #[derive(Clone, Copy)]
 pub struct FormatWord {
@@ -90,6 +98,13 @@ impl FormatStage {
         matches!(self.part, FormatPart::Due)
     }
 
+    /// Whether the gate is open.
+    pub fn is_open(&self) -> bool
+        ensures { result ≡ is_open self.now }
+    {
+        matches!(self.part, FormatPart::Lay)
+    }
+
     /// Whether the next word is a byte of a key, which `write` is to be handed.
     pub fn needs_byte(&self) -> bool
         ensures takes { is_due self.now ≡ true → Takes self.now result }
@@ -102,21 +117,23 @@ impl FormatStage {
         }
     }
 
-    /// Hears a word of the track. `index` says that the index follows it. A word that is heard where the first of the layout
-    /// is due says that the gate could not be opened. While the gate is open no word is heard.
-    pub fn hear(self, index: bool) -> FormatNext
-        ensures hears { (past : Past) (numbers : Numbers) (handed : List ℕ) (word : ℕ) → is_open self ≡ false
-            → IsFormatting past numbers handed self
-            → HasNext (heard_where (opens self) index word past) numbers handed result }
-        ensures well { FailsWell result }
-        ensures lead { (lead : ℕ) → HasLead self lead → LeadsOn lead result }
-        ensures stays { is_open self ≡ true → result ≡ FormatNext.On self }
+    /// Hears a word of the track, and tells how the format is over, where it is. `index` says that the index follows it. A word
+    /// that is heard where the first of the layout is due says that the gate could not be opened. While the gate is open no word
+    /// is heard.
+    #[inline(always)]
+    pub fn hear(&mut self, index: bool) -> Option<FormatEnd>
+        ensures hears { (past : Past) (numbers : Numbers) (handed : List ℕ) (word : ℕ) → is_open self.old ≡ false
+            → IsFormatting past numbers handed self.old
+            → HasNext (heard_where (opens self.old) index word past) numbers handed (format_next self.new result) }
+        ensures well { FailsWell (format_next self.new result) }
+        ensures lead { (lead : ℕ) → HasLead self.old lead → LeadsOn lead (format_next self.new result) }
+        ensures stays { is_open self.old ≡ true → format_next self.new result ≡ FormatNext.On self.old }
     {
         match self.part {
             FormatPart::Await => self.wait(index),
             FormatPart::Due => self.listen(index),
             FormatPart::Barred => self.listen(index),
-            FormatPart::Lay => FormatNext::On(self),
+            FormatPart::Lay => None,
         }
     }
 
@@ -127,56 +144,102 @@ impl FormatStage {
             → IsNextLaid past numbers (handed_with takes byte handed) result.word result.stream result.key }
         ensures lead { (lead : ℕ) → HasLead self lead → StreamLeads result.stream (lead - 1) }
     {
-        let mut stream = self.stream;
-        let key = key_behind(stream.needs_byte(), self.key, byte);
-        let word = stream.next(byte);
-        FormatWord { word, stream, key }
-    }
-
-    /// Awaits the index at which the layout begins.
-    fn wait(self, index: bool) -> FormatNext
-        ensures hears { (past : Past) (numbers : Numbers) (handed : List ℕ) (word : ℕ) → self.part ≡ FormatPart.Await
-            → IsFormatting past numbers handed self → HasNext (heard index word past) numbers handed result }
-        ensures well { FailsWell result }
-        ensures lead { (lead : ℕ) → HasLead self lead → LeadsOn lead result }
-    {
-        if index {
-            return FormatNext::On(FormatStage {
-                part: FormatPart::Due,
-                ..self
-            });
+        let mut stage = self;
+        let word = stage.lay(byte);
+        FormatWord {
+            word,
+            stream: stage.stream,
+            key: stage.key,
         }
-        FormatNext::On(FormatStage {
-            part: FormatPart::Await,
-            ..self
-        })
     }
 
-    /// Awaits the second index without an open gate.
-    fn listen(self, index: bool) -> FormatNext
-        ensures hears { (past : Past) (numbers : Numbers) (handed : List ℕ) → IsUnopened index past
-            → IsLaid past.words numbers handed self.stream → IsLastKey handed self.key
-            → HasNext past numbers handed result }
-        ensures well { FailsWell result }
-        ensures lead { (lead : ℕ) → HasLead self lead → LeadsOn lead result }
+    /// The same in place.
+    pub fn lay(&mut self, byte: u8) -> u16
+        ensures writes { (past : Past) (numbers : Numbers) (handed : List ℕ) (takes : Bool) → is_due self.old ≡ true
+            → IsFormatting past numbers handed self.old → Takes self.old takes
+            → IsNextLaid past numbers (handed_with takes byte handed) result self.new.stream self.new.key }
+        ensures lead { (lead : ℕ) → HasLead self.old lead → HasLead self.new (lead - 1) }
+        ensures part { self.new.part ≡ self.old.part }
     {
-        if index {
-            return FormatNext::Ended {
-                ending: Ending::NoMark,
+        let key = key_behind(self.stream.needs_byte(), self.key, byte);
+        self.key = key;
+        self.stream.next(byte)
+    }
+
+    /// How the format is over once a word of the layout was written, where it is. `index` says that the index follows the word.
+    /// The format is over at the index: normally where the whole layout was written, whether the terminal count came or not, since
+    /// EN is of a command that names a sector and the last of its track; a layout that is longer than the turn has no data field
+    /// for each key.
+    #[inline(always)]
+    pub fn end(&self, index: bool) -> Option<FormatEnd>
+        ensures goes_on { (past : Past) (numbers : Numbers) (handed : List ℕ) (word : ℕ) → is_open self.now ≡ true
+            → IsNextLaid past numbers handed word self.now.stream self.now.key
+            → HasNext (wrote index word past) numbers handed (format_next self.now result) }
+        ensures well { EndsWell (format_next self.now result) }
+        ensures lead { (lead : ℕ) → HasLead self.now lead → LeadsOn lead (format_next self.now result) }
+    {
+        if !index {
+            return None;
+        }
+        Some(self.end_at_index())
+    }
+
+    /// How the format is over at the index.
+    #[inline(never)]
+    fn end_at_index(&self) -> FormatEnd
+        ensures goes_on { (past : Past) (numbers : Numbers) (handed : List ℕ) (word : ℕ)
+            → IsNextLaid past numbers handed word self.now.stream self.now.key
+            → HasNext (wrote true word past) numbers handed (FormatNext.Ended result.ending result.key) }
+        ensures well { IsEnd result.ending }
+    {
+        if !self.stream.is_whole() {
+            return FormatEnd {
+                ending: Ending::NoField,
                 key: NO_KEY,
             };
         }
-        FormatNext::On(FormatStage {
-            part: FormatPart::Barred,
-            ..self
-        })
+        FormatEnd {
+            ending: Ending::Done { deleted: false },
+            key: self.key,
+        }
+    }
+
+    /// Awaits the index at which the layout begins.
+    #[inline(always)]
+    fn wait(&mut self, index: bool) -> Option<FormatEnd>
+        ensures hears { (past : Past) (numbers : Numbers) (handed : List ℕ) (word : ℕ) → self.old.part ≡ FormatPart.Await
+            → IsFormatting past numbers handed self.old → HasNext (heard index word past) numbers handed (format_next self.new result) }
+        ensures well { FailsWell (format_next self.new result) }
+        ensures lead { (lead : ℕ) → HasLead self.old lead → LeadsOn lead (format_next self.new result) }
+    {
+        if index {
+            self.part = FormatPart::Due;
+        }
+        None
+    }
+
+    /// Awaits the second index without an open gate.
+    #[inline(never)]
+    fn listen(&mut self, index: bool) -> Option<FormatEnd>
+        ensures hears { (past : Past) (numbers : Numbers) (handed : List ℕ) → IsUnopened index past
+            → IsLaid past.words numbers handed self.old.stream → IsLastKey handed self.old.key
+            → HasNext past numbers handed (format_next self.new result) }
+        ensures well { FailsWell (format_next self.new result) }
+        ensures lead { (lead : ℕ) → HasLead self.old lead → LeadsOn lead (format_next self.new result) }
+    {
+        if index {
+            return Some(FormatEnd {
+                ending: Ending::NoMark,
+                key: NO_KEY,
+            });
+        }
+        self.part = FormatPart::Barred;
+        None
     }
 }
 
 impl FormatWord {
-    /// What the word gives the format once it was written. `index` says that the index follows it. The format is over at the
-    /// index: normally where the whole layout was written, whether the terminal count came or not, since EN is of a command that
-    /// names a sector and the last of its track; a layout that is longer than the turn has no data field for each key.
+    /// What the word gives the format once it was written. `index` says that the index follows it.
     pub fn after(self, index: bool) -> FormatNext
         ensures goes_on { (past : Past) (numbers : Numbers) (handed : List ℕ)
             → IsNextLaid past numbers handed self.word self.stream self.key
@@ -184,22 +247,17 @@ impl FormatWord {
         ensures well { EndsWell result }
         ensures lead { (lead : ℕ) → StreamLeads self.stream lead → LeadsOn lead result }
     {
-        if !index {
-            return FormatNext::On(FormatStage {
-                part: FormatPart::Lay,
-                stream: self.stream,
-                key: self.key,
-            });
-        }
-        if !self.stream.is_whole() {
-            return FormatNext::Ended {
-                ending: Ending::NoField,
-                key: NO_KEY,
-            };
-        }
-        FormatNext::Ended {
-            ending: Ending::Done { deleted: false },
+        let stage = FormatStage {
+            part: FormatPart::Lay,
+            stream: self.stream,
             key: self.key,
+        };
+        match stage.end(index) {
+            None => FormatNext::On(stage),
+            Some(end) => FormatNext::Ended {
+                ending: end.ending,
+                key: end.key,
+            },
         }
     }
 }

@@ -10,6 +10,6 @@ mod saving;
 mod window;
 mod writing;
 
-pub use formatting::{FormatNext, FormatPart, FormatStage, FormatWord};
+pub use formatting::{FormatEnd, FormatNext, FormatPart, FormatStage, FormatWord};
 pub use window::{Given, Part, Window};
 pub use writing::{WriteNext, WriteStage, WriteWord};

@@ -14,4 +14,4 @@ pub returns-else-fits : goal.returns-else-fits
 returns-else-fits g c =
     let before : DriveState = g.D.Drive.state c.args.drive.now in
     let unfit : rate_fits c.args.self.now.rate (rate_of before.medium) ≡ false = ap (rate_fits c.args.self.now.rate) (sym c.rate.ensures) ∙ sym c.fits.ensures ∙ c.if-fits.false in
-    kept_index c.args.head_drive c.args.steps c.args.formatting c.args.self.now before (g.D.Drive.state c.hear_formatting.new.drive) c.hear_formatting.new.self c.requires.opens unfit c.hear_formatting.ensures
+    kept_index c.args.head_drive c.args.steps c.args.formatting c.args.self.now before (g.D.Drive.state c.hear_formatting.new.drive) c.hear_formatting.new.self c.requires.opens unfit (c.hear_formatting.ensures c.args.steps c.args.formatting c.requires.at)
