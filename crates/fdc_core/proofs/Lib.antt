@@ -7,6 +7,7 @@ pub mod Meanings
 mod Following
 mod Passing
 mod Laid
+mod Put
 pub mod Words
 pub mod MayWrite
 pub mod Writes

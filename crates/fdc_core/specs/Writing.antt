@@ -30,6 +30,10 @@ abbrev pub gone_or_over : Bool → Option End → Fdc → Fdc
 gone_or_over counted None old = record old { asking = wants false old.asking counted old.fifo }
 gone_or_over counted (Some over) old = finished over.ending over.head_drive over.key old
 
+abbrev pub is_end : Option End → Bool
+is_end None = false
+is_end (Some _) = true
+
 -- ---- bytes from the FIFO
 
 abbrev pub oldest_of : Bool → List ℕ → Option ℕ

@@ -195,7 +195,7 @@ impl Fdc {
                         if writing.only_hears(steps) {
                             self.hear_writing(head_drive, drive);
                         } else {
-                            self.execute_rare(drive);
+                            self.put_on(drive);
                         }
                     }
                     Task::Format { formatting } => {

@@ -6,7 +6,7 @@ ghost use Rattle.fdc_core.specs.State.{finished};
 ghost use Rattle.fdc_core.specs.Tasks.{ExecutionSteps};
 ghost use Rattle.fdc_core.specs.Times.{Closes};
 ghost use Rattle.fdc_core.specs.Transfers.{HearsToWrite};
-ghost use Rattle.fdc_core.specs.Writing.{gone_or_over};
+ghost use Rattle.fdc_core.specs.Writing.{gone_or_over, is_end};
 
 use crate::controller::Fdc;
 use crate::writing::take_byte;
@@ -63,6 +63,54 @@ impl Fdc {
         match over {
             None => self.asking = self.fifo.wants(false, self.asking, counted),
             Some(over) => self.finish(over.ending, head_drive, over.key),
+        }
+    }
+
+    /// A device step of a write. The usual one writes the next word of the window in place; each other is a call at the end, so that
+    /// nothing is copied here.
+    #[inline(never)]
+    pub(crate) fn put_on<D: Drive>(&mut self, drive: &mut D)
+        ensures { ExecutionSteps self.old.phase self.old (D.state drive.old) (D.state drive.new) self.new }
+    {
+        match &mut self.phase {
+            Phase::Execute { execution } => match &mut execution.task {
+                Task::Write { writing } => {
+                    let head_drive = execution.head_drive;
+                    let steps = execution.steps;
+                    let key = writing.wanted.key;
+                    if writing.puts_on(steps) {
+                        let needs = writing.stage.needs_byte();
+                        let counted = writing.counted;
+                        match take_byte(&mut self.fifo, needs, counted) {
+                            Some(byte) => {
+                                let last = writing.stage.is_last();
+                                let word = writing.stage.put(byte);
+                                let index = drive.write_word(head_of(head_drive), word);
+                                execution.steps = steps + 1;
+                                let over = writing.end(head_drive, last, index);
+                                self.follow_put(counted, over, drive);
+                            }
+                            None => self.stop(Ending::Overrun, head_drive, key, drive),
+                        }
+                    } else {
+                        self.execute_rare(drive);
+                    }
+                }
+                _ => self.execute_rare(drive),
+            },
+            _ => {}
+        }
+    }
+
+    /// The write goes on behind a word that it wrote, unless it is over.
+    #[inline(always)]
+    fn follow_put<D: Drive>(&mut self, counted: bool, over: Option<End>, drive: &mut D)
+        ensures state { self.new ≡ gone_or_over counted over self.old }
+        ensures drive { Closes (is_end over) (D.state drive.old) (D.state drive.new) }
+    {
+        match over {
+            None => self.asking = self.fifo.wants(false, self.asking, counted),
+            Some(over) => self.close(over.ending, over.head_drive, over.key, drive),
         }
     }
 

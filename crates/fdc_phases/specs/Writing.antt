@@ -1,9 +1,10 @@
 -- WRITE DATA and WRITE DELETED: what a word makes of their stage.
-use Rattle.std.specs.Prelude.{◌≡◌, ℕ, Bool, true, false, List, Option, Some, None}
+use Rattle.std.specs.Prelude.{◌≡◌, ◌≤◌, ◌+◌, ℕ, Bool, true, false, List, Option, Some, None}
 use Rattle.flop_base.specs.declared.key.Chrn.{Chrn}
 use Rattle.fdc_stages.specs.History.{Past, wrote}
 use Rattle.fdc_stages.specs.declared.ending.Ending.{Ending}
-use Rattle.fdc_writing.specs.Writings.{is_open, opens, is_due, needs_byte, handed_with, heard_where, IsWriting, IsNextWord, HasNext, FailsWell, EndsWell, LeadsOn, lead_of}
+use Rattle.fdc_writing.specs.Windows.{lead_behind}
+use Rattle.fdc_writing.specs.Writings.{is_open, opens, is_due, needs_byte, handed_with, heard_where, IsWriting, IsNextWord, HasNext, FailsWell, EndsWell, LeadsOn, lead_of, rest_behind}
 use Rattle.fdc_writing.specs.declared.writing.WriteStage.{WriteStage}
 use Rattle.fdc_writing.specs.declared.writing.WriteNext.{WriteNext}
 use Rattle.fdc_writing.specs.declared.writing.WriteNext.TheVariants.{On, Ended}
@@ -50,3 +51,10 @@ pub record StageWritesWord (writing : Writing) (byte : ℕ) (index : Bool) (give
       → IsNextWord past key deleted handed given.word given.rest → HasNext (wrote index given.word past) key deleted handed next
   pub well : EndsWell next
   pub lead : is_due writing.stage ≡ true → LeadsOn (lead_of writing.stage) next
+
+-- in place: a word of the window was written, which was the last or wasn't
+pub record EndsWord (now : WriteStage) (last index counted : Bool) (next : WriteNext) : Type 0 where
+  pub goes_on : (past : Past) (key : Chrn) (deleted : Bool) (handed : List ℕ) (word : ℕ) → is_open now ≡ true → past.counted ≡ counted
+      → IsNextWord past key deleted handed word (rest_behind last now) → HasNext (wrote index word past) key deleted handed next
+  pub well : EndsWell next
+  pub lead : (before : ℕ) → is_open now ≡ true → before ≤ lead_behind (rest_behind last now) + 1 → LeadsOn before next

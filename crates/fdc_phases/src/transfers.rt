@@ -1,12 +1,12 @@
 // What READ DATA, WRITE DATA, WRITE DELETED and FORMAT TRACK do.
 ghost use Rattle.std.specs.Prelude.{◌≡◌, ◌<◌, ◌≤◌, IfSome, true, false};
 ghost use Rattle.fdc_stages.specs.Readings.{mark_at};
-ghost use Rattle.fdc_writing.specs.Writings.{is_due};
+ghost use Rattle.fdc_writing.specs.Writings.{is_open, is_due};
 ghost use Rattle.fdc_phases.specs.Answers.{next_key, key_after};
-ghost use Rattle.fdc_writing.specs.Formats.{is_open, is_due as is_format_due, format_next};
+ghost use Rattle.fdc_writing.specs.Formats.{is_open as is_format_open, is_due as is_format_due, format_next};
 ghost use Rattle.fdc_phases.specs.Formatting.{StageHearsIndex, is_ended as is_format_ended};
 ghost use Rattle.fdc_phases.specs.Phases.{told, is_over, ending_of, write_at, write_told, format_at, format_told};
-ghost use Rattle.fdc_phases.specs.Writing.{StageHearsWord, write_over, write_end, is_ended};
+ghost use Rattle.fdc_phases.specs.Writing.{StageHearsWord, EndsWord, write_over, write_end, is_ended};
 
 use crate::phases::{End, LAST_STEP};
 use crate::sized_key::SizedKey;
@@ -135,6 +135,34 @@ impl Writing {
         }
     }
 
+    /// Whether the step behind `steps` others writes a word of the window behind others: it isn't the first nor the last, and the
+    /// gate is open.
+    #[inline(always)]
+    pub fn puts_on(&self, steps: u16) -> bool
+        ensures { result ≡ true → (1 ≤ steps) × (steps < 65535) × (is_open self.now.stage ≡ true) }
+    {
+        if steps == 0 || steps == LAST_STEP {
+            return false;
+        }
+        self.stage.is_open()
+    }
+
+    /// How the command is over once a word of the window was written, which was the last or wasn't, where it is.
+    #[inline(always)]
+    pub fn end(&self, head_drive: u8, last: bool, index: bool) -> Option<End>
+        ensures ends { EndsWord self.now.stage last index self.now.counted (write_over self.now.stage result) }
+        ensures over { IfSome result (λ over. over ≡ write_end over.ending head_drive self.now) }
+    {
+        match self.stage.end(last, index, self.counted) {
+            None => None,
+            Some(ending) => Some(End {
+                ending,
+                head_drive,
+                key: self.key_after(ending),
+            }),
+        }
+    }
+
     /// The same command at this stage.
     pub fn at(self, stage: WriteStage) -> Writing
         ensures { result ≡ write_at self stage }
@@ -179,7 +207,7 @@ impl Formatting {
     /// gate is open.
     #[inline(always)]
     pub fn lays_on(&self, steps: u16) -> bool
-        ensures { result ≡ true → (1 ≤ steps) × (steps < 65535) × (is_open self.now.stage ≡ true) }
+        ensures { result ≡ true → (1 ≤ steps) × (steps < 65535) × (is_format_open self.now.stage ≡ true) }
     {
         if steps == 0 || steps == LAST_STEP {
             return false;

@@ -1,6 +1,6 @@
 -- A word of a window that a writing writes.
-use Rattle.std.proofs.Common.{◌≡◌, ℕ, ◌≤◌, Bool, true, false, Option, Some, None, List, [], ◌∷◌, ◌++◌, length, replicate, refl, sym, ap, subst, ◌∙◌, append_assoc, arith, inl, inr, length-append}
-use Rattle.std.proofs.lemmas.Bool.{false≢true}
+use Rattle.std.proofs.Common.{◌≡◌, ℕ, ◌+◌, ◌≤◌, Bool, true, false, Option, Some, None, List, [], ◌∷◌, ◌++◌, length, replicate, refl, sym, ap, subst, ◌∙◌, append_assoc, arith, inl, inr, length-append}
+use Rattle.std.proofs.lemmas.Bool.{false≢true, true≢false}
 use Rattle.std.proofs.lemmas.List.{append-nil, length-replicate}
 use Rattle.flop_base.specs.declared.key.Chrn.{Chrn}
 use Rattle.track_model.specs.Writing.{window}
@@ -8,7 +8,7 @@ use Rattle.track_separator.specs.Parts.{with_word}
 use Rattle.fdc_writing.specs.declared.window.Part.{Part}
 use Rattle.fdc_writing.specs.declared.window.Part.TheVariants as part
 use Rattle.fdc_writing.specs.declared.window.Window.{Window}
-use Rattle.fdc_writing.specs.Windows.{bytes_left, count_from, is_content, with_byte, needs_byte, words_behind, bytes_behind, Gives}
+use Rattle.fdc_writing.specs.Windows.{bytes_left, count_from, is_content, with_byte, needs_byte, words_behind, bytes_behind, lead_behind, Gives}
 use Rattle.fdc_stages.specs.declared.ending.Ending.TheVariants.{Done, NoField}
 use Rattle.fdc_stages.specs.History.{Past, wrote}
 use Rattle.fdc_writing.specs.declared.writing.WriteStage.{WriteStage}
@@ -105,3 +105,43 @@ cut_next true word past key deleted handed behind now is more was =
       begun = begun_next true word past key deleted handed behind was;
       cause = inr (inl (was.1.0, record { index = refl; some = some; address = at.address; few = omega (arith, at.count, left) }));
     }
+
+-- ---- in place
+
+abbrev WritesAt : Past → Chrn → Bool → List ℕ → ℕ → ℕ → Option Window → WriteStage → Type 0
+WritesAt past key deleted handed byte word behind at =
+    writing.is_open at ≡ true → IsWriting past key deleted handed at → IsNextWord past key deleted (handed_with (writing.needs_byte at) byte handed) word behind
+
+pub put_in_window : (past : Past) (key : Chrn) (deleted : Bool) (handed : List ℕ) (now : Window) (byte word : ℕ) (behind : Option Window) → Gives now.part now byte word behind → WritesAt past key deleted handed byte word behind (stage.Window now)
+put_in_window past key deleted handed now byte word behind gives opened was = write_word past key deleted handed (stage.Window now) now byte word behind was was.1.0 refl gives
+
+-- it goes on
+pub goes_next : (index last : Bool) (word : ℕ) (past : Past) (key : Chrn) (deleted : Bool) (handed : List ℕ) (at : WriteStage) → index ≡ false → last ≡ false → writing.is_open at ≡ true → IsNextWord past key deleted handed word (writing.rest_behind last at) → IsWriting (wrote index word past) key deleted handed at
+goes_next true last word past key deleted handed at on more opened was = absurd (true≢false on)
+goes_next false true word past key deleted handed at on more opened was = absurd (true≢false more)
+goes_next false false word past key deleted handed (stage.Search searching) on more opened was = absurd (false≢true opened)
+goes_next false false word past key deleted handed (stage.Gap left) on more opened was = absurd (false≢true opened)
+goes_next false false word past key deleted handed (stage.Window now) on more opened (place, inside) =
+    let long = length-append past.words (word ∷ []) in
+    (omega (arith, place, long), (inside, omega (arith, long)))
+
+-- the index cuts it
+pub cut_open : (index last : Bool) (word : ℕ) (past : Past) (key : Chrn) (deleted : Bool) (handed : List ℕ) (at : WriteStage) → index ≡ true → last ≡ false → writing.is_open at ≡ true → IsNextWord past key deleted handed word (writing.rest_behind last at) → HasWritten (wrote index word past) key deleted handed NoField
+cut_open index true word past key deleted handed at is more opened was = absurd (true≢false more)
+cut_open index false word past key deleted handed (stage.Search searching) is more opened was = absurd (false≢true opened)
+cut_open index false word past key deleted handed (stage.Gap left) is more opened was = absurd (false≢true opened)
+cut_open index false word past key deleted handed (stage.Window now) is more opened was = cut_next index word past key deleted handed (Some now) now is refl was
+
+-- nothing is left behind the last
+pub none_behind : (last : Bool) (at : WriteStage) → last ≡ true → writing.rest_behind last at ≡ None
+none_behind false at is = absurd (false≢true is)
+none_behind true (stage.Search searching) is = refl
+none_behind true (stage.Gap left) is = refl
+none_behind true (stage.Window now) is = refl
+
+-- one word fewer passes before a byte is needed
+pub lead_next : (last : Bool) (at : WriteStage) (before : ℕ) → last ≡ false → writing.is_open at ≡ true → before ≤ lead_behind (writing.rest_behind last at) + 1 → before ≤ writing.lead_of at + 1
+lead_next true at before more opened leads = absurd (true≢false more)
+lead_next false (stage.Search searching) before more opened leads = absurd (false≢true opened)
+lead_next false (stage.Gap left) before more opened leads = absurd (false≢true opened)
+lead_next false (stage.Window now) before more opened leads = leads

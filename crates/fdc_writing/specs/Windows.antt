@@ -91,6 +91,19 @@ abbrev pub lead_behind : Option Window → ℕ
 lead_behind (Some now) = lead_left now
 lead_behind None = 16
 
+abbrev pub is_low : Part → Bool
+is_low Low = true
+is_low _ = false
+
+-- the next word is the last
+abbrev pub is_last : Window → Bool
+is_last now = is_low now.part
+
+-- the words behind one, which was the last or wasn't
+abbrev pub window_behind : Bool → Window → Option Window
+window_behind true after = None
+window_behind false after = Some after
+
 -- a part gives the first of the words that are still to come, and takes a byte of the content where it needs one
 pub record Gives (part : Part) (old : Window) (byte word : ℕ) (behind : Option Window) : Type 0 where
   pub words : (rest : List ℕ) → length rest ≡ bytes_behind behind → words_from part old.deleted old.check old.last (with_byte part byte rest) ≡ word ∷ words_behind behind rest

@@ -9,7 +9,7 @@ use Rattle.track_model.specs.Writing.{window}
 use Rattle.track_separator.specs.Parts.{with_word, IsPart}
 use Rattle.fdc_writing.specs.declared.window.Window.{Window}
 use Rattle.fdc_writing.specs.Windows as windowed
-use Rattle.fdc_writing.specs.Windows.{words_behind, bytes_behind, count_behind, lead_left}
+use Rattle.fdc_writing.specs.Windows.{window_behind, words_behind, bytes_behind, count_behind, lead_left}
 use Rattle.fdc_stages.specs.declared.ending.Ending.{Ending}
 use Rattle.fdc_stages.specs.declared.ending.Ending.TheVariants.{Done, NoMark, NoSector, NoField, BadCheck, Overrun, NoCount, Protected, Late}
 use Rattle.fdc_stages.specs.History.{Past, heard, kept_out, IsJustOver}
@@ -48,6 +48,16 @@ abbrev pub lead_of : WriteStage → ℕ
 lead_of (stage.Search _) = 39
 lead_of (stage.Gap left) = left + 16
 lead_of (stage.Window now) = lead_left now
+
+-- the next word is the last of the window
+abbrev pub is_last : WriteStage → Bool
+is_last (stage.Window now) = windowed.is_last now
+is_last _ = false
+
+-- the words behind one, which was the last or wasn't
+abbrev pub rest_behind : Bool → WriteStage → Option Window
+rest_behind last (stage.Window after) = window_behind last after
+rest_behind last _ = None
 
 -- ---- what has passed
 

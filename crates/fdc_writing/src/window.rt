@@ -1,8 +1,8 @@
 // The words of a window, one by one.
-ghost use Rattle.std.specs.Prelude.{◌≡◌, ◌+◌, ◌≤◌, ℕ, List, false};
+ghost use Rattle.std.specs.Prelude.{◌≡◌, ◌+◌, ◌≤◌, ℕ, List, false, Some, None};
 ghost use Rattle.track_model.specs.Marks.{data_byte};
 ghost use Rattle.track_model.specs.Writing.{window};
-ghost use Rattle.fdc_writing.specs.Windows.{Gives, words_left, bytes_left, count_left, lead_left, needs_byte};
+ghost use Rattle.fdc_writing.specs.Windows.{Gives, words_left, bytes_left, count_left, lead_left, needs_byte, is_last, window_behind};
 
 use mfm_cells::{crc_step, encode_byte, mark_crc};
 
@@ -79,9 +79,32 @@ impl Window {
         matches!(self.part, Part::Content { .. })
     }
 
+    /// Whether the next word is the last.
+    pub fn is_last(&self) -> bool
+        ensures { result ≡ is_last self.now }
+    {
+        matches!(self.part, Part::Low)
+    }
+
     /// The next word. Where `needs_byte` says so, `byte` is the byte that it records; elsewhere it isn't used.
     pub fn next(self, byte: u8) -> Given
         ensures { Gives self.part self byte result.word result.rest }
+    {
+        let last = self.is_last();
+        let mut after = self;
+        let word = after.put(byte);
+        if last {
+            return Given { word, rest: None };
+        }
+        Given {
+            word,
+            rest: Some(after),
+        }
+    }
+
+    /// The same in place.
+    pub fn put(&mut self, byte: u8) -> u16
+        ensures { Gives self.old.part self.old byte result (window_behind (is_last self.old) self.new) }
     {
         match self.part {
             Part::Sync { more } => self.give_sync(more),
@@ -93,101 +116,70 @@ impl Window {
         }
     }
 
-    fn give_sync(self, more: u8) -> Given
-        ensures { (byte : ℕ) → Gives (Part.Sync more) self byte result.word result.rest }
+    fn give_sync(&mut self, more: u8) -> u16
+        ensures { (byte : ℕ) → Gives (Part.Sync more) self.old byte result (Some self.new) }
     {
         let word = encode_byte(false, 0);
         if more == 0 {
-            let rest = Some(Window {
-                part: Part::Marks { more: MORE_MARKS },
-                ..self
-            });
-            return Given { word, rest };
+            self.part = Part::Marks { more: MORE_MARKS };
+            return word;
         }
-        let rest = Some(Window {
-            part: Part::Sync { more: more - 1 },
-            ..self
-        });
-        Given { word, rest }
+        self.part = Part::Sync { more: more - 1 };
+        word
     }
 
-    fn give_mark_word(self, more: u8) -> Given
-        ensures { (byte : ℕ) → Gives (Part.Marks more) self byte result.word result.rest }
+    fn give_mark_word(&mut self, more: u8) -> u16
+        ensures { (byte : ℕ) → Gives (Part.Marks more) self.old byte result (Some self.new) }
     {
         if more == 0 {
-            let rest = Some(Window {
-                part: Part::Mark,
-                ..self
-            });
-            return Given { word: MARK, rest };
+            self.part = Part::Mark;
+            return MARK;
         }
-        let rest = Some(Window {
-            part: Part::Marks { more: more - 1 },
-            ..self
-        });
-        Given { word: MARK, rest }
+        self.part = Part::Marks { more: more - 1 };
+        MARK
     }
 
-    fn give_mark(self) -> Given
-        ensures { (byte : ℕ) → Gives Part.Mark self byte result.word result.rest }
+    fn give_mark(&mut self) -> u16
+        ensures { (byte : ℕ) → Gives Part.Mark self.old byte result (Some self.new) }
     {
         let mark = mark_byte(self.deleted);
-        Given {
-            word: encode_byte(true, mark),
-            rest: Some(Window {
-                part: Part::Content { more: self.more },
-                check: mark_crc(mark),
-                last: mark % 2 == 1,
-                ..self
-            }),
-        }
+        let check = mark_crc(mark);
+        self.part = Part::Content { more: self.more };
+        self.check = check;
+        self.last = mark % 2 == 1;
+        encode_byte(true, mark)
     }
 
-    fn give_byte(self, more: u16, byte: u8) -> Given
-        ensures { Gives (Part.Content more) self byte result.word result.rest }
+    fn give_byte(&mut self, more: u16, byte: u8) -> u16
+        ensures { Gives (Part.Content more) self.old byte result (Some self.new) }
     {
         let word = encode_byte(self.last, byte);
-        let checked = Window {
-            check: crc_step(self.check, byte),
-            last: byte % 2 == 1,
-            ..self
-        };
+        let check = crc_step(self.check, byte);
+        self.check = check;
+        self.last = byte % 2 == 1;
         if more == 0 {
-            let rest = Some(Window {
-                part: Part::High,
-                ..checked
-            });
-            return Given { word, rest };
+            self.part = Part::High;
+            return word;
         }
-        let rest = Some(Window {
-            part: Part::Content { more: more - 1 },
-            ..checked
-        });
-        Given { word, rest }
+        self.part = Part::Content { more: more - 1 };
+        word
     }
 
-    fn give_high(self) -> Given
-        ensures { (byte : ℕ) → Gives Part.High self byte result.word result.rest }
+    fn give_high(&mut self) -> u16
+        ensures { (byte : ℕ) → Gives Part.High self.old byte result (Some self.new) }
     {
         let high = (self.check / 256) as u8;
-        Given {
-            word: encode_byte(self.last, high),
-            rest: Some(Window {
-                part: Part::Low,
-                last: high % 2 == 1,
-                ..self
-            }),
-        }
+        let word = encode_byte(self.last, high);
+        self.part = Part::Low;
+        self.last = high % 2 == 1;
+        word
     }
 
-    fn give_low(self) -> Given
-        ensures { (byte : ℕ) → Gives Part.Low self byte result.word result.rest }
+    fn give_low(&self) -> u16
+        ensures { (byte : ℕ) → Gives Part.Low self.now byte result None }
     {
         let low = (self.check % 256) as u8;
-        Given {
-            word: encode_byte(self.last, low),
-            rest: None,
-        }
+        encode_byte(self.last, low)
     }
 }
 

@@ -7,7 +7,7 @@ ghost use Rattle.fdc_writing.specs.Windows as windows;
 ghost use Rattle.fdc_writing.specs.Windows.{lead_left, lead_behind};
 ghost use Rattle.fdc_stages.specs.History.{Past, begun, heard, wrote};
 ghost use Rattle.fdc_stages.specs.Searches.{IsMet};
-ghost use Rattle.fdc_writing.specs.Writings.{is_open, opens, is_due, needs_byte, lead_of, handed_with, heard_where, IsInWindow, IsWriting, IsNextWord, HasBegun, HasWhole, HasWritten, HasNext, FailsWell, EndsWell, IsEnd, LeadsOn, write_heard};
+ghost use Rattle.fdc_writing.specs.Writings.{is_open, opens, is_due, needs_byte, lead_of, handed_with, heard_where, IsInWindow, IsWriting, IsNextWord, HasBegun, HasWhole, HasWritten, HasNext, FailsWell, EndsWell, IsEnd, LeadsOn, write_heard, is_last, rest_behind};
 
 use crate::Window;
 use fdc_stages::{Ending, Search, Searched};
@@ -66,6 +66,23 @@ impl WriteStage {
         ensures { result ≡ opens self.now }
     {
         matches!(self, WriteStage::Gap { left: 0 })
+    }
+
+    /// Whether the gate is open.
+    pub fn is_open(&self) -> bool
+        ensures { result ≡ is_open self.now }
+    {
+        matches!(self, WriteStage::Window(_))
+    }
+
+    /// Whether the next word is the last of the window.
+    pub fn is_last(&self) -> bool
+        ensures { result ≡ is_last self.now }
+    {
+        match self {
+            WriteStage::Window(window) => window.is_last(),
+            _ => false,
+        }
     }
 
     /// Whether the next word is a byte of the content, which `write` is to be handed.
@@ -153,6 +170,42 @@ impl WriteStage {
         }
     }
 
+    /// The same in place, where the gate is open.
+    #[inline(always)]
+    pub fn put(&mut self, byte: u8) -> u16
+        ensures writes { (past : Past) (key : Chrn) (deleted : Bool) (handed : List ℕ) → is_open self.old ≡ true
+            → IsWriting past key deleted handed self.old
+            → IsNextWord past key deleted (handed_with (needs_byte self.old) byte handed) result (rest_behind (is_last self.old) self.new) }
+        ensures lead { is_open self.old ≡ true → lead_of self.old ≤ lead_behind (rest_behind (is_last self.old) self.new) + 1 }
+        ensures opened { is_open self.new ≡ is_open self.old }
+    {
+        match self {
+            WriteStage::Window(window) => window.put(byte),
+            _ => 0,
+        }
+    }
+
+    /// How the writing ended once a word of the window was written, which was the last or wasn't, where it ended. `index` says that
+    /// the index follows the word, and `counted` that the terminal count came. Behind the last word the writing is over, normally
+    /// only after the terminal count; an index behind another word cuts the window.
+    #[inline(always)]
+    pub fn end(&self, last: bool, index: bool, counted: bool) -> Option<Ending>
+        ensures goes_on { (past : Past) (key : Chrn) (deleted : Bool) (handed : List ℕ) (word : ℕ) → is_open self.now ≡ true
+            → past.counted ≡ counted → IsNextWord past key deleted handed word (rest_behind last self.now)
+            → HasNext (wrote index word past) key deleted handed (write_heard self.now result) }
+        ensures well { EndsWell (write_heard self.now result) }
+        ensures lead { (before : ℕ) → is_open self.now ≡ true → before ≤ lead_behind (rest_behind last self.now) + 1
+            → LeadsOn before (write_heard self.now result) }
+    {
+        if last {
+            return Some(whole_ending(counted));
+        }
+        if index {
+            return Some(Ending::NoField);
+        }
+        None
+    }
+
     /// The words of the window that are still to come.
     fn window(self, key: Chrn, deleted: bool) -> Window
         requires { IsSizeCode key.n }
@@ -170,8 +223,7 @@ impl WriteStage {
 
 impl WriteWord {
     /// What the word gives the writing once it was written. `index` says that the index follows it, and `counted` that the
-    /// terminal count came. Behind the last word the writing is over, normally only after the terminal count; an index behind
-    /// another word cuts the window.
+    /// terminal count came.
     pub fn after(self, index: bool, counted: bool) -> WriteNext
         ensures goes_on { (past : Past) (key : Chrn) (deleted : Bool) (handed : List ℕ) → past.counted ≡ counted
             → IsNextWord past key deleted handed self.word self.rest

@@ -5,7 +5,7 @@ use Rattle.fdc_writing.proofs.window.Window.give_high.Goals as goal
 
 pub returns : goal.returns
 returns c = λ byte. record {
-  words = λ rest long. byte_first c.args.self.last (c.args.self.check / 256) c.encode_byte.result (c.args.self.check % 256 ∷ []) c.encode_byte.ensures;
+  words = λ rest long. byte_first c.args.self.now.last (c.args.self.now.check / 256) c.encode_byte-word.result (c.args.self.now.check % 256 ∷ []) c.encode_byte-word.ensures;
   bytes = λ rest long. long;
   count = omega arith;
   lead = omega arith;
