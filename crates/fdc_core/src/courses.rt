@@ -32,12 +32,13 @@ impl Fdc {
         match &self.phase {
             Phase::Execute { execution } => match &execution.task {
                 Task::ReadId { .. } => true,
-                Task::Read { reading } => {
-                    matches!(
-                        reading.stage,
-                        ReadStage::Search(_) | ReadStage::Content { .. }
-                    ) && !self.asking
-                }
+                Task::Read { reading } => match &reading.stage {
+                    ReadStage::Search(_) => !self.asking,
+                    ReadStage::Content { .. } => {
+                        !self.asking && (reading.counted || self.fifo.quiet_room() != 0)
+                    }
+                    _ => false,
+                },
                 Task::Write { writing } => {
                     matches!(writing.stage, WriteStage::Search(_)) && !self.asking
                 }
