@@ -161,6 +161,8 @@ impl Fdc {
                             let counted = reading.counted;
                             let over = reading.is_over();
                             self.follow(head_drive, key, counted, ReadHeard::On, over);
+                        } else if reading.is_in_content() {
+                            self.hear_content(passing);
                         } else {
                             self.hear_seen(passing);
                         }
@@ -172,7 +174,34 @@ impl Fdc {
         }
     }
 
-    /// READ DATA hears a word that didn't pass by.
+    /// READ DATA hears a word of its content.
+    #[inline(never)]
+    fn hear_content(&mut self, passing: Turn)
+        requires { HasStepsLeft self.old.phase }
+        ensures { HearsIn self.old.phase passing.index passing.word self.old self.new }
+    {
+        match &mut self.phase {
+            Phase::Execute { execution } => match &mut execution.task {
+                Task::Read { reading } => {
+                    if reading.is_in_content() {
+                        let head_drive = execution.head_drive;
+                        let key = reading.wanted.key;
+                        let counted = reading.counted;
+                        execution.steps += 1;
+                        let heard = reading.stage.hear(key, passing.word, passing.index);
+                        let over = reading.is_over();
+                        self.follow(head_drive, key, counted, heard, over);
+                    } else {
+                        self.hear_seen(passing);
+                    }
+                }
+                _ => self.hear_seen(passing),
+            },
+            _ => {}
+        }
+    }
+
+    /// READ ID and READ DATA hear a word, whatever it is.
     #[inline(never)]
     fn hear_seen(&mut self, passing: Turn)
         requires { HasStepsLeft self.old.phase }

@@ -73,6 +73,12 @@ impl Reading {
         }
     }
 
+    /// Whether the content of the field passes.
+    #[inline(always)]
+    pub fn is_in_content(&self) -> bool {
+        matches!(self.stage, ReadStage::Content { .. })
+    }
+
     /// Whether the field is over.
     pub fn is_over(&self) -> bool
         ensures { result ≡ is_over self.now.stage }
