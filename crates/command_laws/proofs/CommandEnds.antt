@@ -68,7 +68,7 @@ format_complete rate name count old new ended least most begins runs =
 -- ---- Copy.
 
 -- bay 0 has the source, and in bay 1 a disk of its cylinders and rate is made, of which this holds
-record IsCopying (source : Disk) (Also : Disk → Type 0) (stage : Stage) : Type 0 where
+pub record IsCopying (source : Disk) (Also : Disk → Type 0) (stage : Stage) : Type 0 where
   pub first : IsReadyFor 0 source stage.state.station
   pub second : IsMaking 1 source.rate source.cylinders Also stage.state.station
 

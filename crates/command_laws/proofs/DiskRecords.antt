@@ -56,21 +56,20 @@ pub record ReadsOne (c h r : ℕ) (source : Disk) (old : State) (told : Option F
   pub sector : IsSure source old.station.counters new.station.counters → IsSector (track_of source c h) (key_of c h r) deleted content
 
 -- a field that was read of a regular disk is a sector of the track of its key
-read_sector : (c h r address : ℕ) (deleted : Bool) (source : Disk) (old new : StationState) (found : IsRead 0 (key_of c h r) address old deleted new)
+pub read_sector : (key : Chrn) (address : ℕ) (deleted : Bool) (source : Disk) (old new : StationState) (found : IsRead 0 key address old deleted new)
     → (bay_of old 0).medium ≡ Some source → IsSure source old.counters new.counters
-    → IsSector (track_of source c h) (key_of c h r) deleted found.content
-read_sector c h r address deleted source old new found medium sure =
-    let key = key_of c h r in
+    → IsSector (track_of source key.c key.h) key deleted found.content
+read_sector key address deleted source old new found medium sure =
     let same : found.disk ≡ source = cc (found.medium, medium) in
-    let track = subst (λ (d : Disk). HasTrack d found.cylinder h) same found.track in
-    let field = subst (λ (d : Disk). IsAddressAt (track_of d found.cylinder h) found.place key) same found.address_field in
-    let cylinder = (key_cylinder source found.cylinder h found.place key sure.0 track field).0 in
-    let sector = elim sure.1 as (λ _. IsSector (track_of found.disk found.cylinder h) key deleted found.content) [
+    let track = subst (λ (d : Disk). HasTrack d found.cylinder key.h) same found.track in
+    let field = subst (λ (d : Disk). IsAddressAt (track_of d found.cylinder key.h) found.place key) same found.address_field in
+    let cylinder = (key_cylinder source found.cylinder key.h found.place key sure.0 track field).0 in
+    let sector = elim sure.1 as (λ _. IsSector (track_of found.disk found.cylinder key.h) key deleted found.content) [
       | inl faultless ↦ found.sector (inl faultless)
-      | inr lone ↦ found.sector (inr (subst (λ (d : Disk). IsLone (track_of d found.cylinder h) found.place) (sym same) (lone found.cylinder h found.place key track field)))
+      | inr lone ↦ found.sector (inr (subst (λ (d : Disk). IsLone (track_of d found.cylinder key.h) found.place) (sym same) (lone found.cylinder key.h found.place key track field)))
     ] in
-    let on_source = subst (λ (d : Disk). IsSector (track_of d found.cylinder h) key deleted found.content) same sector in
-    subst (λ (b : ℕ). IsSector (track_of source b h) key deleted found.content) (sym cylinder) on_source
+    let on_source = subst (λ (d : Disk). IsSector (track_of d found.cylinder key.h) key deleted found.content) same sector in
+    subst (λ (b : ℕ). IsSector (track_of source b key.h) key deleted found.content) (sym cylinder) on_source
 
 told_mark : (key : Chrn) (address : ℕ) (deleted : Bool) → mark_of (request.Read 0 key address) (read_reply (Ok deleted)) ≡ deleted ∷ []
 told_mark key address true = refl
@@ -100,7 +99,7 @@ one_record c h r source old new told after answer does done medium =
       field =
           subst (λ (d : Disk). (b : ℕ) × HasTrack d b h × IsUnder (track_of d b h) key ok.0 found.content) same
           (found.cylinder, found.track, (found.place, found.mark, found.address_field, found.data_mark, found.whole));
-      sector = read_sector c h r address ok.0 source old.station new.station found medium;
+      sector = read_sector key address ok.0 source old.station new.station found medium;
     }
 
 -- sureness of two parts

@@ -1,5 +1,5 @@
 -- Scripts that go to their end where nothing disturbs them.
-use Rattle.std.proofs.Common.{arith, ◌≡◌, ◌+◌, ◌<◌, ◌≤◌, ℕ, zero, suc, true, false, true≢false, List, [], ◌∷◌, refl, sym, subst, inl, inr, Option, ◌∙◌}
+use Rattle.std.proofs.Common.{arith, ◌≡◌, ◌+◌, ◌<◌, ◌≤◌, ℕ, zero, suc, true, false, true≢false, List, [], ◌∷◌, refl, sym, subst, inl, inr, Option}
 use Rattle.std.proofs.lemmas.Bool.{leb-true}
 use Rattle.flop_base.specs.Shelf.{Files}
 use Rattle.flop_base.specs.Sink.{grown}
@@ -14,7 +14,7 @@ use Rattle.sector_model.specs.Orders.{is_bay}
 use Rattle.sector_model.specs.States.{State}
 use Rattle.sector_model.specs.Steps.{Step, StopsAt}
 use Rattle.sector_model.specs.Texts.{is_refusal, stop_status}
-use Rattle.sector_model.specs.Runs.{Taken, IsEndStop}
+use Rattle.sector_model.specs.Runs.{Taken, IsEndStop, has_refusal}
 use Rattle.sector_model.specs.Plays.{World, Prints, IsPutFault}
 use Rattle.sector_model.specs.Plays as plays
 use Rattle.sector_model.specs.Ties.{entered_by, AreUndisturbed}
@@ -96,16 +96,16 @@ pub record IsDone (Then : Stage → Type 0) (asked : Request) (old : Stage) : Ty
   pub answers : (answer : Reply) (new : Stage) → Step asked old.state old.files answer new.state new.files
       → IsCalm asked answer old.state.station.counters new.state.station.counters → (is_refusal answer ≡ false) × Then new
 
--- where nothing disturbs its requests, each is safe, and the script ends well
+-- where nothing disturbs its requests, each is safe and none is refused, and the script ends well; where it fails, the outside did
 abbrev pub GoesWell : Script → Stage → Type 0
 GoesWell (Ends line wanted) old = wanted ≡ status.AllOk
 GoesWell (Says line rest) old = GoesWell rest old
 GoesWell (Asks asked rest) old =
     IsSafe asked old × ((answer : Reply) (new : Stage) → Step asked old.state old.files answer new.state new.files
-    → IsCalm asked answer old.state.station.counters new.state.station.counters → GoesWell (rest answer new.state) new)
+    → IsCalm asked answer old.state.station.counters new.state.station.counters → (is_refusal answer ≡ false) × GoesWell (rest answer new.state) new)
 GoesWell (Stores name bytes line wanted) old = wanted ≡ status.AllOk
 GoesWell (MayStarve rest) old = GoesWell rest old
-GoesWell (Fails cause) old = cause ≡ status.AllOk
+GoesWell (Fails cause) old = EndsWellOrOutside (Unit {0}) cause
 
 -- ---- Parts.
 
@@ -114,7 +114,7 @@ pub goes_asks : (P : Stage → Type 0) (asked : Request) (rest : Reply → State
 unfolding asks
 goes_asks P asked rest old done next = (
   done.safe,
-  λ answer new step calm. let it = done.answers answer new step calm in next answer new it.0 it.1,
+  λ answer new step calm. let it = done.answers answer new step calm in (it.0, next answer new it.0 it.1),
 )
 
 unrefused : (asked : Request) (answer : Reply) (later : Script) (old : Stage) → is_refusal answer ≡ false → GoesWell later old
@@ -131,7 +131,7 @@ goes_needs P asked rest old done next = (
   done.safe,
   λ answer new step calm.
       let it = done.answers answer new step calm in
-      unrefused asked answer (rest answer new.state) new it.0 (next answer new it.1),
+      (it.0, unrefused asked answer (rest answer new.state) new it.0 (next answer new it.1)),
 )
 
 pub goes_carries : (P : Stage → Type 0) (asked : Request) (rest : Unit {0} → Script) (old : Stage) → IsDone P asked old
@@ -195,23 +195,28 @@ ends_with Here Holds _ ends holds = absurd ends
 
 -- ---- The end.
 
--- an undisturbed run of a script that goes well ends well, and no count of faults or stalls rose; or the outside failed
+-- an undisturbed run of a script that goes well ends well, no request was refused, and no count of faults or stalls rose; or the outside failed
 module _ (start : Counters) where
-  abbrev EndsStill : World → Status → Type 0
-  EndsStill new ended = EndsWellOrOutside (IsStill start new.state.station.counters) ended
+  abbrev EndsStill : List Taken → World → Status → Type 0
+  EndsStill course new ended = EndsWellOrOutside (IsStill start new.state.station.counters × (has_refusal course ≡ false)) ended
 
   stored_ends : (name bytes line : List ℕ) (old new : World) (ended : Status) → IsStill start old.state.station.counters
-      → StoresLast name bytes line status.AllOk old new ended → EndsStill new ended
+      → StoresLast name bytes line status.AllOk old new ended → EndsStill [] new ended
   stored_ends name bytes line old new ended still (IsStored state files prints) =
-      prints_outside _ old.report line status.AllOk ended new.report (subst (λ (s : State). IsStill start s.station.counters) (sym state) still) prints
+      prints_outside _ old.report line status.AllOk ended new.report (subst (λ (s : State). IsStill start s.station.counters) (sym state) still, refl) prints
   stored_ends name bytes line old new ended still (NotStored same fault) = store_fault_outside _ ended fault
+
+  -- behind an answer that is no refusal
+  answered_ends : (taken : Taken) (later : List Taken) (new : World) (ended : Status) → is_refusal taken.answer ≡ false → EndsStill later new ended
+      → EndsStill (taken ∷ later) new ended
+  answered_ends taken later new ended fine ends = ends_with _ _ ended ends (λ well both. (both.0, rw fine both.1))
 
   goes_ends : (script : Script) (old new : World) (course : List Taken) (ended : Status) → GoesWell script (at old.state old.files)
       → IsStill start old.state.station.counters → AreUndisturbed old.state.station.counters course → RunsScript script old course new ended
-      → EndsStill new ended
+      → EndsStill course new ended
   goes_ends (Ends line wanted) old new [] ended well still calm runs =
       let here = subst (λ (s : State). IsStill start s.station.counters) (sym runs.state) still in
-      prints_outside _ old.report line wanted ended new.report (subst (λ (s : Status). EndsStill new s) (sym well) here) runs.report
+      prints_outside _ old.report line wanted ended new.report (subst (λ (s : Status). EndsStill [] new s) (sym well) (here, refl)) runs.report
   goes_ends (Ends line wanted) old new (taken ∷ later) ended well still calm runs = absurd runs
   goes_ends (Says line rest) old new course ended goes still calm (inl runs) =
       goes_ends rest (record old { report = grown old.report line }) new course ended goes still calm runs
@@ -223,17 +228,19 @@ module _ (start : Counters) where
       let quiet = subst (λ (q : Request). IsCalm q taken.answer old.state.station.counters taken.after.station.counters) runs.0
       (record { first = calm.0; second = calm.1 }) in
       let here = step_still old.state taken.after old.files runs.1 asked taken.answer runs.2 goes.0.keeps quiet in
-      goes_ends (rest taken.answer taken.after) (with_report taken.after runs.1 old.report) new later ended
-      (goes.1 taken.answer (at taken.after runs.1) runs.2 quiet)
-      (still_both start old.state.station.counters taken.after.station.counters still here) calm.2 runs.3
+      let next = goes.1 taken.answer (at taken.after runs.1) runs.2 quiet in
+      answered_ends taken later new ended next.0
+      (goes_ends (rest taken.answer taken.after) (with_report taken.after runs.1 old.report) new later ended next.1
+      (still_both start old.state.station.counters taken.after.station.counters still here) calm.2 runs.3)
   goes_ends (Stores name bytes line wanted) old new [] ended well still calm runs =
       stored_ends name bytes line old new ended still (subst (λ (s : Status). StoresLast name bytes line s old new ended) well runs)
   goes_ends (Stores name bytes line wanted) old new (taken ∷ later) ended well still calm runs = absurd runs
   goes_ends (MayStarve rest) old new course ended goes still calm (inl runs) = goes_ends rest old new course ended goes still calm runs
-  goes_ends (MayStarve rest) old new course ended goes still calm (inr none) = subst (λ (s : Status). EndsStill new s) (sym none.2) tt
-  goes_ends (Fails cause) old new [] ended well still calm runs =
-      subst (λ (s : Status). EndsStill new s) (sym (runs.1 ∙ well)) (subst (λ (w : World). IsStill start w.state.station.counters) (sym runs.0) still)
-  goes_ends (Fails cause) old new (taken ∷ later) ended well still calm runs = absurd runs
+  goes_ends (MayStarve rest) old new course ended goes still calm (inr none) = subst (λ (s : Status). EndsStill course new s) (sym none.2) tt
+  goes_ends (Fails cause) old new [] ended fails still calm runs =
+      let here = subst (λ (w : World). IsStill start w.state.station.counters) (sym runs.0) still in
+      subst (λ (s : Status). EndsStill [] new s) (sym runs.1) (ends_with _ _ cause fails (λ well none. (here, refl)))
+  goes_ends (Fails cause) old new (taken ∷ later) ended fails still calm runs = absurd runs
 
 -- the drives of both bays had no fault, and nothing disturbed that of bay 0
 pub record AreFaultless (old new : Counters) : Type 0 where
@@ -256,14 +263,24 @@ still_faultless old new begins still =
       };
     }
 
--- where nothing is left to go wrong, a script that goes well ends well and faultless, with what holds then; or the outside failed
+-- where nothing is left to go wrong, a script that goes well ends well and faultless, with no request refused, with what holds then; or the
+-- outside failed
+pub completes_unrefused : (script : Script) (Holds : Type 0) (old new : World) (course : List Taken) (ended : Status) (told : Option Files) → old.files ≡ told
+    → BeginsSound old → GoesWell script (at old.state told) → AreUndisturbed old.state.station.counters course → RunsScript script old course new ended
+    → (RunsScript script old course new status.AllOk → AreFaultless old.state.station.counters new.state.station.counters
+    → has_refusal course ≡ false → Holds)
+    → EndsWellOrOutside Holds ended
+completes_unrefused script Holds old new course ended told is begins goes calm runs gives =
+    let here = subst (λ (files : Option Files). GoesWell script (at old.state files)) (sym is) goes in
+    let counters = old.state.station.counters in
+    let still : IsStill counters counters = record { first = refl; second = refl; stalls = refl } in
+    ends_with _ Holds ended (goes_ends counters script old new course ended here still calm runs)
+    (λ well end.
+    gives (subst (λ (s : Status). RunsScript script old course new s) well runs) (still_faultless old new.state.station.counters begins end.0) end.1)
+
 pub completes : (script : Script) (Holds : Type 0) (old new : World) (course : List Taken) (ended : Status) (told : Option Files) → old.files ≡ told
     → BeginsSound old → GoesWell script (at old.state told) → AreUndisturbed old.state.station.counters course → RunsScript script old course new ended
     → (RunsScript script old course new status.AllOk → AreFaultless old.state.station.counters new.state.station.counters → Holds)
     → EndsWellOrOutside Holds ended
 completes script Holds old new course ended told is begins goes calm runs gives =
-    let here = subst (λ (files : Option Files). GoesWell script (at old.state files)) (sym is) goes in
-    let counters = old.state.station.counters in
-    let still : IsStill counters counters = record { first = refl; second = refl; stalls = refl } in
-    ends_with (IsStill counters new.state.station.counters) Holds ended (goes_ends counters script old new course ended here still calm runs)
-    (λ well end. gives (subst (λ (s : Status). RunsScript script old course new s) well runs) (still_faultless old new.state.station.counters begins end))
+    completes_unrefused script Holds old new course ended told is begins goes calm runs (λ done faultless fine. gives done faultless)

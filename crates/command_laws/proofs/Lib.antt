@@ -39,4 +39,5 @@ mod Telling
 mod RescueGiven
 mod RescueOpening
 pub mod Whole
+pub mod RescueEnds
 pub mod Order

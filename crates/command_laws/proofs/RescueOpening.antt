@@ -112,7 +112,7 @@ opening_plain from to shape false = blank_plain from to shape.cylinders shape.ra
 
 -- ---- the script carries them
 
-formats_carried : (tracks : List Track) (rest : Unit {0} → Script)
+pub formats_carried : (tracks : List Track) (rest : Unit {0} → Script)
     → through (λ (track : Track). formats 1 track.0 track.1) tracks tt rest ≡ carries_all (format_each 1 tracks) (rest tt)
 unfolding through carries
 formats_carried [] rest = refl
@@ -149,6 +149,7 @@ disk_in from disk files old new after answer image step done =
 pub record IsFresh (shape : Shape) (disk : Disk) : Type 0 where
   pub valid : IsDisk disk
   pub regular : IsRegularDisk disk
+  pub cylinders : disk.cylinders ≡ shape.cylinders
   pub rate : disk.rate ≡ shape.rate
   pub words : disk.words_per_track ≡ words_at shape.rate
   pub tracks : (c h : ℕ) → HasTrack disk c h ↔ (c < shape.cylinders × h < 2)
@@ -192,6 +193,7 @@ second_put to shape false old new told after answer step done =
       such = record {
         valid = fresh.valid;
         regular = blank_regular shape.cylinders shape.rate;
+        cylinders = refl;
         rate = refl;
         words = refl;
         tracks = λ c h. (λ had. had, λ inside. inside);
@@ -433,11 +435,15 @@ pub record HasOther (start : Disk) (to : List ℕ) (files : Files) (state : Stat
   pub named : in_bay state.names 1 ≡ Some to
   pub files_are : told ≡ Some files
 
+-- it has the cylinders and the rate of the other
+abbrev pub HasShapeOf : Disk → Disk → Type 0
+HasShapeOf disk start = (start.cylinders ≡ disk.cylinders) × (start.rate ≡ disk.rate)
+
 -- a new one, each track of which is Laid
 pub begins_new : (from to : List ℕ) (disk : Disk) (files : Files) (old new : State) (after : Option Files) (course : List Taken)
     → IsImageOf (Some files) from disk
     → DoesAll (opening from to (shape_of disk) false) old (Some files) course new after → length old.station.memory ≡ user_bytes
-    → IsFaultless 1 old.station.counters new.station.counters → (start : Disk) × HasOther start to files new after × AreLaid disk.heads start
+    → IsFaultless 1 old.station.counters new.station.counters → (start : Disk) × HasOther start to files new after × AreLaid disk.heads start × HasShapeOf disk start
 begins_new from to disk files old new after course image all size faultless =
     let it = are_open from to disk files false old new after course image all in
     let such = it.such in
@@ -468,7 +474,7 @@ begins_new from to disk files old new after course image all size faultless =
     let laid : AreLaid disk.heads lays.final = λ c h track few.
     let had = (alike_tracks it.target lays.final c h lays.alike).1 track in
     lays.laid c h had (inl (among_all disk.cylinders disk.heads c h ((such.tracks c h).0 had).0 few)) in
-    (lays.final, there, laid)
+    (lays.final, there, laid, (lays.alike.cylinders ∙ such.cylinders, lays.alike.rate ∙ such.rate))
 
 -- that of an earlier run
 pub begins_again : (from to : List ℕ) (disk target : Disk) (files : Files) (old new : State) (after : Option Files) (course : List Taken)

@@ -95,7 +95,7 @@ pub record IsAsked (disk : Disk) (heads : ℕ) (key : Chrn) : Type 0 where
   pub sector : (1 ≤ key.r) × (key.r ≤ sectors_at disk.rate)
   pub size : key.n ≡ 2
 
-all_standard : (disk : Disk) → All (IsStandardKey disk) (standard_keys disk.rate disk.cylinders disk.heads)
+pub all_standard : (disk : Disk) → All (IsStandardKey disk) (standard_keys disk.rate disk.cylinders disk.heads)
 unfolding standard_keys disk_keys
 all_standard disk = standard_all disk
 
@@ -363,6 +363,8 @@ pub record SavesKeys (whole : List Taken) (lines : List LogLine) (keys : List Ch
   pub final : Disk
   pub medium : (bay_of new.state.station 1).medium ≡ Some final
   pub regular : IsRegularDisk final
+  pub cylinders : final.cylinders ≡ disk.cylinders
+  pub rate : final.rate ≡ disk.rate
   pub names : new.state.names ≡ old.state.names
   pub files : new.files ≡ old.files
   pub settled : AllByRecursion (λ key. IsLogged whole lines key ⊎ IsSaved whole final key) keys
@@ -394,6 +396,8 @@ module _ (tidy : AllTidy) (source : Disk) (heads : ℕ) (whole : List Taken) (li
     final = disk;
     medium = ap (λ (w : World). (bay_of w.state.station 1).medium) goes.1 ∙ medium;
     regular = regular;
+    cylinders = refl;
+    rate = refl;
     names = ap (λ (w : World). w.state.names) goes.1;
     files = ap (λ (w : World). w.files) goes.1;
     settled = tt;
@@ -412,6 +416,8 @@ module _ (tidy : AllTidy) (source : Disk) (heads : ℕ) (whole : List Taken) (li
         final = all.final;
         medium = all.medium;
         regular = all.regular;
+        cylinders = all.cylinders;
+        rate = all.rate;
         names = all.names ∙ is.call.names;
         files = all.files ∙ is.call.files;
         settled = (
@@ -452,6 +458,8 @@ module _ (tidy : AllTidy) (source : Disk) (heads : ℕ) (whole : List Taken) (li
         final = all.final;
         medium = all.medium;
         regular = all.regular;
+        cylinders = all.cylinders ∙ one.wrote.keeps.alike.cylinders;
+        rate = all.rate ∙ one.wrote.keeps.alike.rate;
         names = all.names ∙ one.names ∙ is.call.names;
         files = all.files ∙ one.files ∙ is.call.files;
         settled = (

@@ -1,5 +1,5 @@
 -- Which reads, formats and writes are done where nothing disturbs them: those of a disk that has each of its standard keys, and those that make one.
-use Rattle.std.proofs.Common.{arith, ◌≡◌, ◌∙◌, ◌+◌, ◌-◌, ◌≤◌, ℕ, nat_le, Bool, true, false, List, refl, sym, ap, subst, Some, None, Result, Ok, Err, le-leb, suc, [], ◌∷◌, ◌≢◌, ◌<◌, inl, inr, Option, IsOk, lit≤}
+use Rattle.std.proofs.Common.{arith, ◌≡◌, ◌↔◌, ◌∙◌, ◌+◌, ◌-◌, ◌≤◌, ℕ, nat_le, Bool, true, false, List, refl, sym, ap, subst, Some, None, Result, Ok, Err, le-leb, suc, [], ◌∷◌, ◌≢◌, ◌<◌, inl, inr, Option, IsOk, lit≤}
 use Rattle.std.specs.Prelude.{◌/◌, ◌==◌, not, if◌then◌else◌, All, is_some, IfErr}
 use Rattle.flop_base.specs.Standard.{sectors_at, standard_code, words_at, gap_at, standard_fill}
 use Rattle.flop_base.specs.declared.key.Chrn.{Chrn}
@@ -49,7 +49,7 @@ use Rattle.std.specs.Option.{option_map_or}
 use Rattle.flop_base.specs.declared.answers.Rate.TheVariants.{R500, R250}
 use Rattle.sector_map.specs.Layings.{format_keys, IsFormattable, formatted}
 use Rattle.sector_map.specs.LaidDisks.{format_at}
-use Rattle.sector_map.specs.KeptDisks.{AreAlike}
+use Rattle.sector_map.specs.KeptDisks.{AreAlike, KeepsTracks}
 use Rattle.sector_map.proofs.Laid.{format_fits}
 use Rattle.track_model.specs.Layouts.{Fits, laid_words}
 use Rattle.sector_model.specs.Formats.{FormatsDrive}
@@ -212,6 +212,11 @@ pub record IsMaking (bay : ℕ) (rate : Rate) (count : ℕ) (Also : Disk → Typ
 abbrev pub AnyDisk : Disk → Type 0
 AnyDisk disk = Unit {0}
 
+-- all records but one stay where it was written, and it is there
+pub record KeepsRecords (disk next : Disk) (c h r : ℕ) : Type 0 where
+  pub others : (entry : Entry) → entry.key ≢ key_of c h r → IsOnMap disk entry ↔ IsOnMap next entry
+  pub some : HasSome next c h r
+
 -- the disk has each record of a track
 abbrev pub HasRecords : ℕ → ℕ → ℕ → Disk → Type 0
 HasRecords sectors c h disk = (r : ℕ) → 1 ≤ r → r ≤ sectors → HasSome disk c h r
@@ -299,7 +304,9 @@ format_order : (good acknowledged protected : Bool) → good ≡ true → acknow
 format_order good acknowledged protected e f g = rw (e, f, g) refl
 
 module _ (bay other : ℕ) (rate : Rate) (count c h : ℕ) (is_one : is_bay bay ≡ true) (apart : AreApart bay other) (cylinder : c < count) (head : h < 2)
-    (Also : Disk → Type 0) (old : Stage) (made : IsMaking bay rate count Also old.state.station) where
+    (Also Then : Disk → Type 0)
+    (leads : (disk next : Disk) → KeepsTracks disk c h next → HasRecords (sectors_at rate) c h next → Also disk → Then next)
+    (old : Stage) (made : IsMaking bay rate count Also old.state.station) where
   abbrev station : StationState
   station = old.state.station
 
@@ -316,7 +323,7 @@ module _ (bay other : ℕ) (rate : Rate) (count c h : ℕ) (is_one : is_bay bay 
 
   formatted_done : (answer : Reply) (new : Stage) → Step (request.Format bay c h) old.state old.files answer new.state new.files
       → IsUndisturbed bay station.counters new.state.station.counters
-      → (is_refusal answer ≡ false) × MakesAlone bay other rate count (HasRecords (sectors_at rate) c h) old new
+      → (is_refusal answer ≡ false) × MakesAlone bay other rate count Then old new
   formatted_done answer new step calm =
       let disk = made.disk in
       let alike = made.alike in
@@ -346,15 +353,22 @@ module _ (bay other : ℕ) (rate : Rate) (count c h : ℕ) (is_one : is_bay bay 
       let laid_so = subst (λ (t : List ℕ). IsRegular t c h) (sym is) (track_regular rate c h small_c small_h) in (
         ok_taken called answer step.1.1 ok,
         remade bay other rate count Also _ old new next apart made drive.becomes laid.1 after
-            (stays_regular disk c h next keeps made.regular laid_so) records,
+            (stays_regular disk c h next keeps made.regular laid_so) (leads disk next keeps records made.also),
       )
 
-  pub format_done : IsDone (λ new. MakesAlone bay other rate count (HasRecords (sectors_at rate) c h) old new) (request.Format bay c h) old
-  format_done = record {
+  pub format_leads : IsDone (λ new. MakesAlone bay other rate count Then old new) (request.Format bay c h) old
+  format_leads = record {
     safe = safe (request.Format bay c h) old refl (λ at name same. cc same);
     answers = λ answer new step calm. formatted_done answer new step
         (calm_in bay (request.Format bay c h) answer station.counters new.state.station.counters is_one refl calm);
   }
+
+-- it has its records
+pub format_done : (bay other : ℕ) (rate : Rate) (count c h : ℕ) → is_bay bay ≡ true → AreApart bay other → c < count → h < 2 → (Also : Disk → Type 0) (old : Stage)
+    → IsMaking bay rate count Also old.state.station
+    → IsDone (λ new. MakesAlone bay other rate count (HasRecords (sectors_at rate) c h) old new) (request.Format bay c h) old
+format_done bay other rate count c h is_one apart cylinder head Also old made =
+    format_leads bay other rate count c h is_one apart cylinder head Also (HasRecords (sectors_at rate) c h) (λ disk next keeps records also. records) old made
 
 -- ---- A record is written.
 
@@ -376,20 +390,39 @@ write_order : (good crosses acknowledged protected : Bool) → good ≡ true →
     → (if not good then Some BadRequest else (if crosses then Some Page else (if not acknowledged then Some Changed else (if protected then Some Protected else None)))) ≡ None
 write_order good crosses acknowledged protected e f g i = rw (e, f, g, i) refl
 
-other_key : (c h r s : ℕ) → (r ≡ s → ⊥) → key_of c h r ≢ key_of c h s
-other_key c h r s differ e = differ (ap (λ (k : Chrn). k.r) e)
+-- any record is still there, or is the one that was written
+pub some_still : (disk next : Disk) (c h r : ℕ) → KeepsRecords disk next c h r → (b g s : ℕ) → HasSome disk b g s → HasSome next b g s
+some_still disk next c h r keeps b g s had = elim (cases_eq s r) [
+  | inr other ↦ stays (λ e. other (ap (λ (k : Chrn). k.r) e))
+  | inl same_r ↦ elim (cases_eq g h) [
+    | inr other ↦ stays (λ e. other (ap (λ (k : Chrn). k.h) e))
+    | inl same_h ↦ elim (cases_eq b c) [
+      | inr other ↦ stays (λ e. other (ap (λ (k : Chrn). k.c) e))
+      | inl same_c ↦
+          let at_r = subst (λ (k : ℕ). HasSome next c h k) (sym same_r) keeps.some in
+          let at_h = subst (λ (k : ℕ). HasSome next c k s) (sym same_h) at_r in
+          subst (λ (k : ℕ). HasSome next k g s) (sym same_c) at_h
+    ]
+  ]
+]
+  where
+    stays : key_of b g s ≢ key_of c h r → HasSome next b g s
+    stays differ = (had.0, had.1, had.2, (keeps.others (copied_entry b g s had.0 had.1 had.2) differ).0 had.3)
 
-module _ (bay other : ℕ) (rate : Rate) (count c h r : ℕ) (deleted : Bool) (is_one : is_bay bay ≡ true) (apart : AreApart bay other) (cylinder : c < count)
-    (head : h < 2) (least : 1 ≤ r) (most : r ≤ sectors_at rate) (old : Stage)
-    (making : IsMaking bay rate count (HasRecords (sectors_at rate) c h) old.state.station) where
+module _ (bay other : ℕ) (rate : Rate) (count c h r slot : ℕ) (deleted : Bool) (is_one : is_bay bay ≡ true) (apart : AreApart bay other) (cylinder : c < count)
+    (head : h < 2) (least : 1 ≤ r) (from : 1 ≤ slot) (few : slot ≤ 18) (Also : Disk → Type 0) (has_it : (disk : Disk) → Also disk → HasSome disk c h r)
+    (stays : (disk next : Disk) → KeepsRecords disk next c h r → Also disk → Also next) (old : Stage) (making : IsMaking bay rate count Also old.state.station) where
   abbrev before : StationState
   before = old.state.station
 
   abbrev written : Written
-  written = written_from before (key_of c h r) (record_address r) deleted
+  written = written_from before (key_of c h r) (record_address slot) deleted
+
+  some : HasSome making.disk c h r
+  some = has_it making.disk making.also
 
   abbrev place : ℕ
-  place = (making.also r least most).0
+  place = some.0
 
   track : HasTrack making.disk c h
   track = (omega (arith, cylinder, making.alike.cylinders), omega (arith, head, making.alike.heads))
@@ -399,16 +432,15 @@ module _ (bay other : ℕ) (rate : Rate) (count c h r : ℕ) (deleted : Bool) (i
       (record { is_in = making.medium; has = track; same_rate = making.alike.rate ∙ sym making.bay_rate })
 
   address : IsAddressAt (met (bay_of before bay) c h) place (key_of c h r)
-  address = subst (λ (t : List ℕ). IsAddressAt t place (key_of c h r)) (sym met_is) (making.also r least most).3.address
+  address = subst (λ (t : List ℕ). IsAddressAt t place (key_of c h r)) (sym met_is) some.3.address
 
-  write_free : write_refusal before bay (key_of c h r) (record_address r) ≡ None
+  write_free : write_refusal before bay (key_of c h r) (record_address slot) ≡ None
   write_free =
-      let few : r ≤ 18 = omega (arith, most, few_sectors rate) in
-      let good = sector_asked bay c h r r is_one (omega (arith, track.0, making.alike.valid.cylinders.1)) (omega (arith, head)) least least few in
+      let good = sector_asked bay c h r slot is_one (omega (arith, track.0, making.alike.valid.cylinders.1)) (omega (arith, head)) least from few in
       let bare : is_protected before bay ≡ false = protected_by (bay_of before bay).medium making.disk making.medium making.alike.protected in
-      write_order (is_sector_request bay (key_of c h r) (record_address r)) (crosses_page (record_address r) (content_size standard_code))
+      write_order (is_sector_request bay (key_of c h r) (record_address slot)) (crosses_page (record_address slot) (content_size standard_code))
       (is_acknowledged before bay) (is_protected before bay)
-      good (within_page r least few) making.kept bare
+      good (within_page slot from few) making.kept bare
 
   module _ (new : Stage) (calm : IsUndisturbed bay before.counters new.state.station.counters)
       (stalls : before.counters.stalls ≤ new.state.station.counters.stalls) (called : Result (Unit {0}) Code)
@@ -434,31 +466,35 @@ module _ (bay other : ℕ) (rate : Rate) (count c h r : ℕ) (deleted : Bool) (i
     few_faults : FaultsRoseLess 2 bay before.counters new.state.station.counters
     few_faults = (omega (arith, calm.together, stalls), calm.faults)
 
-    still : HasRecords (sectors_at rate) c h alone.after
-    still s from below = elim (cases_eq s r) [
-      | inl same ↦ subst (λ (k : ℕ). HasSome alone.after c h k) (sym same) (place, deleted, written.content, alone.entry ok (inl few_faults))
-      | inr other ↦
-          let had = making.also s from below in
-          (had.0, had.1, had.2, (alone.others (copied_entry c h s had.0 had.1 had.2) (other_key c h s r other)).0 had.3)
-    ]
+    still : Also alone.after
+    still = stays making.disk alone.after (record { others = alone.others; some = (place, deleted, written.content, alone.entry ok (inl few_faults)) }) making.also
 
-    writes : MakesAlone bay other rate count (HasRecords (sectors_at rate) c h) old new
+    writes : MakesAlone bay other rate count Also old new
     writes =
         let alike = alike_both (blank_of count rate) making.disk alone.after making.alike (with_track_keeps making.disk alone.after c h _ alone.cut).alike in
         remade bay other rate count _ _ old new alone.after apart making drive.becomes alone.medium alike alone.regular still
 
-  write_safe : (d : Bool) → IsSafe (write_to bay d (key_of c h r) (record_address r)) old
-  write_safe true = safe (request.WriteDeleted bay (key_of c h r) (record_address r)) old refl (λ at name same. cc same)
-  write_safe false = safe (request.Write bay (key_of c h r) (record_address r)) old refl (λ at name same. cc same)
+  write_safe : (d : Bool) → IsSafe (write_to bay d (key_of c h r) (record_address slot)) old
+  write_safe true = safe (request.WriteDeleted bay (key_of c h r) (record_address slot)) old refl (λ at name same. cc same)
+  write_safe false = safe (request.Write bay (key_of c h r) (record_address slot)) old refl (λ at name same. cc same)
 
-  pub write_done : IsDone (λ new. MakesAlone bay other rate count (HasRecords (sectors_at rate) c h) old new)
-      (write_to bay deleted (key_of c h r) (record_address r)) old
-  write_done = record {
+  pub write_leads : IsDone (λ new. MakesAlone bay other rate count Also old new)
+      (write_to bay deleted (key_of c h r) (record_address slot)) old
+  write_leads = record {
     safe = write_safe deleted;
     answers = λ answer new step calm.
-        let quiet = calm_in bay (write_to bay deleted (key_of c h r) (record_address r)) answer before.counters new.state.station.counters is_one
+        let quiet = calm_in bay (write_to bay deleted (key_of c h r) (record_address slot)) answer before.counters new.state.station.counters is_one
         (write_safe deleted).keeps calm in
-        let call = write_called bay (key_of c h r) (record_address r) deleted old.state new.state old.files new.files answer step in
-        let drive = reaches _ (write_refusal before bay (key_of c h r) (record_address r)) write_free call.1.2 in
+        let call = write_called bay (key_of c h r) (record_address slot) deleted old.state new.state old.files new.files answer step in
+        let drive = reaches _ (write_refusal before bay (key_of c h r) (record_address slot)) write_free call.1.2 in
         (ok_taken call.1.0 answer call.1.1 (ok new quiet call.0.counts.stalls call.1.0 drive), writes new quiet call.0.counts.stalls call.1.0 drive);
   }
+
+-- a record is written to the track that it stands on, from its own place in memory
+pub write_done : (bay other : ℕ) (rate : Rate) (count c h r : ℕ) (deleted : Bool) → is_bay bay ≡ true → AreApart bay other → c < count → h < 2
+    → 1 ≤ r → r ≤ sectors_at rate → (old : Stage) → IsMaking bay rate count (HasRecords (sectors_at rate) c h) old.state.station
+    → IsDone (λ new. MakesAlone bay other rate count (HasRecords (sectors_at rate) c h) old new) (write_to bay deleted (key_of c h r) (record_address r)) old
+write_done bay other rate count c h r deleted is_one apart cylinder head least most old making =
+    write_leads bay other rate count c h r r deleted is_one apart cylinder head least least (omega (arith, most, few_sectors rate))
+    (HasRecords (sectors_at rate) c h) (λ disk also. also r least most)
+    (λ disk next keeps also s from below. some_still disk next c h r keeps c h s (also s from below)) old making

@@ -1,6 +1,6 @@
 -- Rescues, by the status with which they end: what is stored and told, and when the log is exactly the keys that aren't found.
 use Rattle.std.proofs.Common.{◌≡◌, ◌∙◌, List, [], ◌∷◌, ◌++◌, ℕ, length, ap, subst, inl, inr, append-nil, Option, Some, arith, ◌+◌, Bool, true, false, true≢false, refl, sym, append_assoc, ◌↔◌, None, ◌≢◌, ◌-◌, cond}
-use Rattle.std.specs.Prelude.{is_some, ◌⊎◌, Contains, IfSome}
+use Rattle.std.specs.Prelude.{is_some, ◌⊎◌, Contains, IfSome, All}
 use Rattle.std.specs.List.{list_all}
 use Rattle.std.proofs.lemmas.List.Elements.{All-from_recursion, All-weaker}
 use Rattle.std.specs.FinMap as fin
@@ -39,7 +39,8 @@ use Rattle.command_laws.specs.VerifyRuns.{IsEndStatus}
 use Rattle.command_laws.proofs.VerifyRun.{not_put, end_is_whole}
 use Rattle.command_laws.proofs.PutIn.{opened_shape}
 use Rattle.command_laws.proofs.TrackParts.{did_all}
-use Rattle.command_laws.specs.Copied.{SomeStep}
+use Rattle.command_laws.specs.Copied.{SomeStep, Gave, IsSure}
+use Rattle.command_laws.specs.EndsComplete.{HaveSameSector}
 use Rattle.command_laws.proofs.Steps.{and_both, or_false, NeverFell, begins, ends_there, never_fell}
 use Rattle.command_laws.proofs.Marks.{some_first, some_second}
 use Rattle.command_laws.specs.Verified.{IsUnmistaken}
@@ -56,7 +57,7 @@ use Rattle.command_laws.specs.Rescued.{IsNotStopped, count_writes, IsLogged, IsS
 use Rattle.command_laws.proofs.Gone.{later_fine, not_refused, carried, GoesKeys, keys_gone, Fell, fell_both, keys_fell, line_of_done, gave_reads, never_both}
 use Rattle.command_laws.proofs.RescueOpening.{opening, ready_requests, second_request, formats_for, prepares_carried, HasOther, begins_new, begins_again, holds_first, first_in, is_plain, plain_facts, plain_keep, opening_plain}
 use Rattle.command_laws.proofs.RescueRecords.{heads_for, asked_all, asked_distinct, IsGuarded, IsPart, SavesKeys, saves_keys, ReadsKey, some_apart, keys_read, keys_counted}
-use Rattle.command_laws.proofs.RescueGiven.{IsAtHand, keys_give}
+use Rattle.command_laws.proofs.RescueGiven.{IsAtHand, IsGivenOf, keys_give}
 use Rattle.command_laws.proofs.Telling.{tells_keys}
 
 -- ---- the new log
@@ -381,21 +382,29 @@ module _ (from to log : List ℕ) (disk : Disk) (found : Option (List LogLine)) 
           never_both key logged.code kept.deleted kept.content one.0 one.1 one.2;
     }
 
+    -- what the reads gave is of the first disk
+    given_of : (sure : Type 0) → (sure → IsSure disk p.opened.state.station.counters p.rescued.state.station.counters) → (key : Chrn) (deleted : Bool)
+        (content : List ℕ) → SomeStep (Gave key deleted content) course → IsGivenOf disk sure key deleted content
+    given_of sure calm key deleted content some =
+        let few = image_ranges files from disk image in
+        let hand : IsAtHand disk p.opened.state.station = record {
+          medium = first_in from to disk files (is_some found) old.state p.opened.state p.opened.files p.top image p.opens;
+          size = has.size;
+        } in
+        keys_give disk sure (heads_for disk found) keys p.opened p.body p.rescued p.goes (asked_all disk files log found few.0 few.1 there) hand calm
+        key deleted content (inner _ key (gave_reads key deleted content) some)
+
+    is_stored : new.files ≡ stored (stored (Some files) to (file_of saves.final)) log (log_text (log_of course))
+    is_stored =
+        p.stores.stores ∙ ap (λ (f : Option Files). stored f log (log_text (log_of p.body))) disk_stored
+        ∙ ap (λ (row : List LogLine). stored (stored (Some files) to (file_of saves.final)) log (log_text row)) (sym log_is)
+
     is_rescue : to ≢ log → KeepsEntries found course target saves.final → IsRescue disk target to log files old course new ended
     is_rescue differ keeps =
         let asked = length keys in
         let text = log_text (log_of course) in
         let lines = sym log_is in
-        let is : new.files ≡ stored (stored (Some files) to (file_of saves.final)) log text =
-        p.stores.stores ∙ ap (λ (f : Option Files). stored f log (log_text (log_of p.body))) disk_stored
-        ∙ ap (λ (row : List LogLine). stored (stored (Some files) to (file_of saves.final)) log (log_text row)) lines in
-        let both = stores_both files to log (file_of saves.final) text new.files differ is in
-        let few = image_ranges files from disk image in
-        let asked_keys_are = asked_all disk files log found few.0 few.1 there in
-        let hand : IsAtHand disk p.opened.state.station = record {
-          medium = first_in from to disk files (is_some found) old.state p.opened.state p.opened.files p.top image p.opens;
-          size = has.size;
-        } in
+        let both = stores_both files to log (file_of saves.final) text new.files differ is_stored in
         let same = ap (λ (row : List LogLine). outcome_of asked row) lines ∙ same_outcome course asked counted in
         record {
           found = found;
@@ -403,13 +412,12 @@ module _ (from to log : List ℕ) (disk : Disk) (found : Option (List LogLine)) 
           stores = record {
             saved = saves.final;
             regular = saves.regular;
-            stores = is;
+            stores = is_stored;
             disk_there = both.0;
             log_there = both.1;
             settled = All-weaker _ (IsSettled course saves.final (log_of course)) settles keys (All-from_recursion _ keys saves.settled);
             kept = keeps;
-            given = λ key deleted content some. keys_give disk (heads_for disk found) keys p.opened p.body p.rescued p.goes asked_keys_are hand key deleted content
-                (inner _ key (gave_reads key deleted content) some);
+            given = λ key deleted content some. (given_of ⊥ (λ never. absurd never) key deleted content some).field;
           };
           tells = record {
             report = p.stores.report ∙ ap (λ (r : Option (List ℕ)). grown r (last_text (outcome_of asked (log_of p.body)))) p.report
@@ -419,23 +427,75 @@ module _ (from to log : List ℕ) (disk : Disk) (found : Option (List LogLine)) 
           };
         }
 
+    -- a record that was saved is the sector of the first disk, where its drive had no fault, and nothing was refused
+    same_sector : IsRegularDisk disk → IsFaultless 0 old.state.station.counters new.state.station.counters → log_of course ≡ [] → (key : Chrn)
+        → IsLogged course (log_of course) key ⊎ IsSaved course saves.final key → HaveSameSector disk saves.final key
+    same_sector regular faultless none key (inl logged) =
+        let line = subst (λ (row : List LogLine). Contains row (record { key = key; code = logged.code })) none logged.line in
+        absurd (omega (arith, line.1))
+    same_sector regular faultless none key (inr saved) =
+        let body = keys_fell keys p.opened p.body p.rescued p.goes in
+        let end = fell_rescued in
+        let part : IsFaultless 0 p.opened.state.station.counters p.rescued.state.station.counters =
+        (omega (arith, fell_top.first, end.first, faultless.0), omega (arith, end.first, faultless.1)) in
+        let given = given_of (Unit {0}) (λ sure. (regular, inl part)) key saved.deleted saved.content saved.read in
+        let found = saved.entry.content in
+        (saved.deleted, saved.content, given.sector tt, (saved.place, found.0, saved.entry.address, found.1, found.2))
+
   -- the records are saved to the other disk, as it is in the beginning
-  pub rescued : (target start : Disk) → to ≢ log → HasOther start to files p.opened.state p.opened.files
-      → IsGuarded (heads_for disk found) start p.opened.state p.body
-      → IsFaultless 1 old.state.station.counters new.state.station.counters
-      → ((final : Disk) → ((entry : Entry) → WasNotRead course entry.key → IsOnMap start entry ↔ IsOnMap final entry) → KeepsEntries found course target final)
-      → IsRescue disk target to log files old course new ended
-  rescued target start differ has guarded faultless keeps =
+  saves_all : (start : Disk) → HasOther start to files p.opened.state p.opened.files → IsGuarded (heads_for disk found) start p.opened.state p.body
+      → IsFaultless 1 old.state.station.counters new.state.station.counters → SavesKeys course (log_of course) keys start p.opened p.body p.rescued
+  saves_all start has guarded faultless =
       let fell = fell_rescued in
       let few = image_ranges files from disk image in
       let part : IsPart laid_tidy disk (heads_for disk found) course (log_of course) p.body = record {
         steps = outer;
         lines_are = λ line some. subst (λ (row : List LogLine). Contains row line) (sym log_is) some;
       } in
-      let asked = asked_all disk files log found few.0 few.1 there in
-      let saves = saves_keys laid_tidy disk (heads_for disk found) course (log_of course) keys start p.opened p.body p.rescued p.goes part asked
-      (asked_distinct disk files log found there)
-      has.regular has.size has.medium guarded (omega (arith, fell_top.second, fell.second, faultless.0), omega (arith, fell.second, faultless.1)) in
+      saves_keys laid_tidy disk (heads_for disk found) course (log_of course) keys start p.opened p.body p.rescued p.goes part
+      (asked_all disk files log found few.0 few.1 there) (asked_distinct disk files log found there)
+      has.regular has.size has.medium guarded (omega (arith, fell_top.second, fell.second, faultless.0), omega (arith, fell.second, faultless.1))
+
+  -- where nothing was refused, and no drive had a fault, a disk with the same sectors for the asked keys is stored, and then an empty log
+  pub record SavesSame (start : Disk) : Type 0 where
+    pub final : Disk
+    pub regular : IsRegularDisk final
+    pub cylinders : final.cylinders ≡ start.cylinders
+    pub rate : final.rate ≡ start.rate
+    pub sectors : All (HaveSameSector disk final) keys
+    pub others : (entry : Entry) → WasNotRead course entry.key → IsOnMap start entry ↔ IsOnMap final entry
+    pub files_are : new.files ≡ stored (stored (Some files) to (file_of final)) log (log_text [])
+    pub disk_there : IfSome new.files (λ files. file_at files to ≡ Some (file_of final))
+    pub log_there : IfSome new.files (λ files. file_at files log ≡ Some (log_text []))
+
+  pub saves_same : (start : Disk) → to ≢ log → HasOther start to files p.opened.state p.opened.files
+      → IsGuarded (heads_for disk found) start p.opened.state p.body → IsFaultless 0 old.state.station.counters new.state.station.counters
+      → IsFaultless 1 old.state.station.counters new.state.station.counters → IsRegularDisk disk → has_refusal course ≡ false → SavesSame start
+  saves_same start differ has guarded first second regular fine =
+      let saves = saves_all start has guarded second in
+      let none = done_lines course fine in
+      let is = is_stored start start has saves ∙ ap (λ (row : List LogLine). stored (stored (Some files) to (file_of saves.final)) log (log_text row)) none in
+      let both = stores_both files to log (file_of saves.final) (log_text []) new.files differ is in
+      record {
+        final = saves.final;
+        regular = saves.regular;
+        cylinders = saves.cylinders;
+        rate = saves.rate;
+        sectors = All-weaker _ (HaveSameSector disk saves.final) (same_sector start start has saves regular first none) keys
+            (All-from_recursion _ keys saves.settled);
+        others = λ entry unread. saves.others entry (λ deleted content some. unread deleted content (outer _ some));
+        files_are = is;
+        disk_there = both.0;
+        log_there = both.1;
+      }
+
+  pub rescued : (target start : Disk) → to ≢ log → HasOther start to files p.opened.state p.opened.files
+      → IsGuarded (heads_for disk found) start p.opened.state p.body
+      → IsFaultless 1 old.state.station.counters new.state.station.counters
+      → ((final : Disk) → ((entry : Entry) → WasNotRead course entry.key → IsOnMap start entry ↔ IsOnMap final entry) → KeepsEntries found course target final)
+      → IsRescue disk target to log files old course new ended
+  rescued target start differ has guarded faultless keeps =
+      let saves = saves_all start has guarded faultless in
       is_rescue target start has saves differ (keeps saves.final
       (λ entry unread. saves.others entry (λ deleted content some. unread deleted content (outer _ some))))
 

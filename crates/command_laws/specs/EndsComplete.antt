@@ -1,6 +1,6 @@
 -- Where nothing can go wrong with a command on whole disks, and how it ends there.
-use Rattle.std.specs.Prelude.{◌≡◌, ℕ, Bool, List, Option}
-use Rattle.flop_base.specs.Shelf.{Files, stored}
+use Rattle.std.specs.Prelude.{◌≡◌, ℕ, Bool, List, [], Option, Some, IfSome}
+use Rattle.flop_base.specs.Shelf.{Files, file_at, stored}
 use Rattle.flop_base.specs.declared.key.Chrn.{Chrn}
 use Rattle.flop_base.specs.declared.answers.Status.{Status}
 use Rattle.flop_base.specs.declared.answers.Status.TheVariants as status
@@ -11,6 +11,7 @@ use Rattle.sector_map.specs.Disks.{Entry, IsOnMap, IsRegularDisk}
 use Rattle.sector_model.specs.Stations.{IsFresh}
 use Rattle.sector_model.specs.Plays.{World}
 use Rattle.sector_model.specs.Ties.{HasNothingLeft}
+use Rattle.rescue.specs.Log.{log_text}
 use Rattle.command_laws.specs.Verified.{IsStandardKey}
 
 -- a session begins before the first request of its station, and nothing is left there that could go wrong
@@ -46,3 +47,11 @@ pub record StoresSameSectors (disk : Disk) (to : List ℕ) (told after : Option 
   pub rate : copied.rate ≡ disk.rate
   pub sectors : (key : Chrn) → IsStandardKey disk key → HaveSameSector disk copied key
   pub files : after ≡ stored told to (file_of copied)
+
+-- such a disk was stored under one name, and then an empty log under the other; each file stands under its name
+pub record StoresSameAndLog (disk : Disk) (to log : List ℕ) (told after : Option Files) : Type 0 where
+  pub between : Option Files
+  pub disk_stored : StoresSameSectors disk to told between
+  pub log_stored : after ≡ stored between log (log_text [])
+  pub disk_there : IfSome after (λ files. file_at files to ≡ Some (file_of disk_stored.copied))
+  pub log_there : IfSome after (λ files. file_at files log ≡ Some (log_text []))

@@ -1,0 +1,22 @@
+// The command that rescues, where nothing can go wrong.
+ghost use Rattle.std.specs.Prelude.{◌≡◌, ◌≢◌, Some, None};
+ghost use Rattle.flop_base.specs.Shelf.{Files, file_at};
+ghost use Rattle.flop_base.specs.declared.answers.Status.{Status};
+ghost use Rattle.raw_image.specs.Disk.{Disk};
+ghost use Rattle.sector_model.specs.Steps.{IsImageOf};
+ghost use Rattle.sector_model.specs.Plays.{World};
+ghost use Rattle.scripts.specs.Leading.{Runs};
+ghost use Rattle.rescue_commands.specs.Rescue.{Rescues};
+ghost use Rattle.command_laws.specs.EndsComplete.{BeginsSound, EndsWellOrOutside, IsReadable, StoresSameAndLog};
+
+/// A law: where no drive of a fresh station can have a fault any more and no DMA request can wait too long, a rescue with no log yet
+/// ends well, unless the shelf, the sink or memory fails, if the first name has the image of a regular disk that has each of its
+/// standard keys: no request of it is refused. A disk with the same standard sectors is stored under the second name then, and an
+/// empty log under the third, which is another name.
+pub fn new_rescue_ends_well(_from: &str, _to: &str, _log: &str)
+    ensures { (old new : World) (ended : Status) (files : Files) (disk : Disk)
+        → BeginsSound old → old.files ≡ Some files → IsImageOf (Some files) _from.now disk → IsReadable disk
+        → file_at files _log.now ≡ None → _to.now ≢ _log.now
+        → Runs (Rescues _from.now _to.now _log.now) old new ended
+        → EndsWellOrOutside (StoresSameAndLog disk _to.now _log.now (Some files) new.files) ended }
+{}
