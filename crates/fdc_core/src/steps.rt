@@ -161,8 +161,6 @@ impl Fdc {
                             let counted = reading.counted;
                             let over = reading.is_over();
                             self.follow(head_drive, key, counted, ReadHeard::On, over);
-                        } else if reading.is_in_content() {
-                            self.hear_content(passing);
                         } else {
                             self.hear_seen(passing);
                         }
@@ -174,9 +172,9 @@ impl Fdc {
         }
     }
 
-    /// READ DATA hears a word of its content.
+    /// READ DATA hears a word that didn't pass by: it is mostly a byte of its content, which has a short way here.
     #[inline(never)]
-    fn hear_content(&mut self, passing: Turn)
+    fn hear_seen(&mut self, passing: Turn)
         requires { HasStepsLeft self.old.phase }
         ensures { HearsIn self.old.phase passing.index passing.word self.old self.new }
     {
@@ -192,10 +190,10 @@ impl Fdc {
                         let over = reading.is_over();
                         self.follow(head_drive, key, counted, heard, over);
                     } else {
-                        self.hear_seen(passing);
+                        self.hear_other(passing);
                     }
                 }
-                _ => self.hear_seen(passing),
+                _ => self.hear_other(passing),
             },
             _ => {}
         }
@@ -203,7 +201,7 @@ impl Fdc {
 
     /// READ ID and READ DATA hear a word, whatever it is.
     #[inline(never)]
-    fn hear_seen(&mut self, passing: Turn)
+    fn hear_other(&mut self, passing: Turn)
         requires { HasStepsLeft self.old.phase }
         ensures { HearsIn self.old.phase passing.index passing.word self.old self.new }
     {

@@ -109,11 +109,16 @@ impl WriteStage {
         ensures stays { is_open self.old ≡ true → write_heard self.new result ≡ WriteNext.On self.old }
     {
         match self {
-            WriteStage::Search(search) => match search.hear(Some(key), word, index) {
-                Searched::On => None,
-                Searched::Met { .. } => self.meet(index),
-                Searched::Missed(ending) => Some(ending),
-            },
+            WriteStage::Search(search) => {
+                if search.pass_by(word, index) {
+                    return None;
+                }
+                match search.hear(Some(key), word, index) {
+                    Searched::On => None,
+                    Searched::Met { .. } => self.meet(index),
+                    Searched::Missed(ending) => Some(ending),
+                }
+            }
             WriteStage::Gap { left } => {
                 let left = *left;
                 self.wait_on(left, index)

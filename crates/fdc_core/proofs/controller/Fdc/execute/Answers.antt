@@ -28,26 +28,8 @@ returns-then-pass_by g c =
           (passed_by now.head_drive now.steps passing.word passing.index reading next old new (c.is_last.ensures c.if-is_last.false) passed.0 passed.1 (c.follow.ensures ∙ followed_is now.head_drive (now.steps + 1) reading next On old));
     })
 
-pub returns-then-is_in_content : goal.returns-then-is_in_content
-returns-then-is_in_content g c =
-    let old = c.args.self.now in
-    let now = c.in-Execute.execution in
-    let reading = c.in-Read.reading in
-    let before = g.D.Drive.state c.args.drive.now in
-    let after = g.D.Drive.state c.listen-passing.new.drive in
-    let passing = c.listen-passing.result in
-    let new = c.hear_content.new.self in
-    let at : old.phase ≡ Execute (record { head_drive = now.head_drive; steps = now.steps; task = Read reading }) = c.in-Execute.is ∙ ap (λ task. Execute (record { head_drive = now.head_drive; steps = now.steps; task = task })) c.in-Read.is in
-    subst (λ phase. ExecutionSteps phase old before after new) (sym at) (record {
-      word = passing.word;
-      sees = subst (λ head. SeesUnder old.rate head before passing.word after) c.head_of.ensures c.listen-passing.ensures.word;
-      passes = c.listen-passing.ensures.drive;
-      does = subst (λ index. StepsOn now.head_drive now.steps (Read reading) index passing.word old new) c.listen-passing.ensures.index
-          (heard_after now.head_drive now.steps passing.word passing.index reading c.pass_by.new.self old new (c.is_last.ensures c.if-is_last.false) (c.pass_by.ensures.others c.if-pass_by.false) at c.hear_content.ensures);
-    })
-
-pub returns-else-is_in_content : goal.returns-else-is_in_content
-returns-else-is_in_content g c =
+pub returns-else-pass_by : goal.returns-else-pass_by
+returns-else-pass_by g c =
     let old = c.args.self.now in
     let now = c.in-Execute.execution in
     let reading = c.in-Read.reading in

@@ -2,7 +2,7 @@ use Rattle.std.proofs.Common.{◌+◌, sym, subst, ◌∙◌}
 use Rattle.fdc_stages.specs.Readings.{read_outcome}
 use Rattle.fdc_core.specs.Listening.{HearsIn, Hears}
 use Rattle.fdc_core.proofs.Following.{followed_is}
-use Rattle.fdc_core.proofs.controller.Fdc.hear_content.Goals as goal
+use Rattle.fdc_core.proofs.controller.Fdc.hear_seen.Goals as goal
 
 pub returns-then-is_in_content : goal.returns-then-is_in_content
 returns-then-is_in_content c =
