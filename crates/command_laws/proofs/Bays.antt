@@ -217,9 +217,10 @@ eject_goes bay disk rest old is_one medium behind =
 -- ---- The disk of a name is put in.
 
 -- the disk is in bay 0, and bay 1 is empty
-pub record IsPutIn (disk : Disk) (stage : Stage) : Type 0 where
+pub record IsPutIn (disk : Disk) (told : Option Files) (stage : Stage) : Type 0 where
   pub medium : (bay_of stage.state.station 0).medium ≡ Some disk
   pub empty : is_loaded stage.state 1 ≡ false
+  pub files_are : stage.files ≡ told
 
 -- what is so of a file in two ways is so of one
 pub of_one : {P Q : List ℕ → Type 0} (o : Option (List ℕ)) → IsSomeAnd o P → IsSomeAnd o Q → (bytes : List ℕ) × (o ≡ Some bytes) × P bytes × Q bytes
@@ -227,11 +228,11 @@ of_one None p q = absurd p
 of_one (Some bytes) p q = (bytes, refl, p, q)
 
 -- no stop but one of the outside comes, as the file is there and is the image of a disk
-pub insert_stops : (from : List ℕ) (files : Files) (disk : Disk) (old new : State) (after : Option Files) (cause : Stop)
-    → IsImageOf (Some files) from disk → StopsAt (request.Insert 0 from) old (Some files) cause new after → IsEndStop cause
-insert_stops from files disk old new after stop.FileFault image stops = tt
-insert_stops from files disk old new after stop.NoMemory image stops = tt
-insert_stops from files disk old new after (stop.BadImage name error) image stops =
+pub insert_stops : (bay : ℕ) (from : List ℕ) (files : Files) (disk : Disk) (old new : State) (after : Option Files) (cause : Stop)
+    → IsImageOf (Some files) from disk → StopsAt (request.Insert bay from) old (Some files) cause new after → IsEndStop cause
+insert_stops bay from files disk old new after stop.FileFault image stops = tt
+insert_stops bay from files disk old new after stop.NoMemory image stops = tt
+insert_stops bay from files disk old new after (stop.BadImage name error) image stops =
     let e = stops.cause.0.1 in
     let same : name ≡ from = cc e in
     let both = of_one (file_at files from) image (subst
@@ -240,12 +241,12 @@ insert_stops from files disk old new after (stop.BadImage name error) image stop
   where
     clash : (r : Result Disk ImageError) → r ≡ Ok disk → r ≡ Err error → ⊥
     clash r e f = cc (e, f)
-insert_stops from files disk old new after (stop.TooLong name most) image stops =
+insert_stops bay from files disk old new after (stop.TooLong name most) image stops =
     let e = stops.cause.0.1 in
     let same : name ≡ from = cc e in
     let both = of_one (file_at files from) image (subst (λ (n : List ℕ). IsSomeAnd (file_at files n) (λ bytes. most < length bytes)) same stops.cause.2) in
     absurd (omega (arith, stops.cause.1, both.2.0, both.3))
-insert_stops from files disk old new after (stop.Absent name) image stops =
+insert_stops bay from files disk old new after (stop.Absent name) image stops =
     let e = stops.cause.0.1 in
     let same : name ≡ from = cc e in
     let one = of_one (file_at files from) image image in
@@ -256,14 +257,14 @@ insert_stops from files disk old new after (stop.Absent name) image stops =
 
 -- it is put into an empty bay 0, and its shape is found
 pub opens_goes : (from : List ℕ) (files : Files) (disk : Disk) (rest : Shape → Script) (old : State) → IsImageOf (Some files) from disk
-    → IsFresh old.station → ((new : Stage) → IsPutIn disk new → GoesWell (rest (shape_of disk)) new)
+    → IsFresh old.station → ((new : Stage) → IsPutIn disk (Some files) new → GoesWell (rest (shape_of disk)) new)
     → GoesWell (opens from rest) (at old (Some files))
 unfolding opens
 opens_goes from files disk rest old image fresh behind =
     let empty = fresh_empty old 0 fresh in
     let free : refusal_of old (request.Insert 0 from) ≡ None = rw empty refl in
-    let done : IsDone (λ new. IsPutIn disk new) (request.Insert 0 from) (at old (Some files)) = record {
-      safe = record { keeps = refl; stops = λ cause new stops. insert_stops from files disk old new.state new.files cause image stops };
+    let done : IsDone (λ new. IsPutIn disk (Some files) new) (request.Insert 0 from) (at old (Some files)) = record {
+      safe = record { keeps = refl; stops = λ cause new stops. insert_stops 0 from files disk old new.state new.files cause image stops };
       answers = λ answer new step calm.
           let does = reaches _ (refusal_of old (request.Insert 0 from)) free step in
           let put = does.2 in
@@ -272,10 +273,40 @@ opens_goes from files disk rest old image fresh behind =
             record {
               medium = ap (λ (s : StationState). (bay_of s 0).medium) becomes ∙ ap (λ (d : Disk). Some d) (one_image files from put.0 disk put.1 image);
               empty = ap (λ (s : StationState). is_loaded (record old { station = s }) 1) becomes ∙ fresh_empty old 1 fresh;
+              files_are = does.1;
             },
           );
     } in
-    goes_needs (λ new. IsPutIn disk new) (request.Insert 0 from) _ (at old (Some files)) done
+    goes_needs (λ new. IsPutIn disk (Some files) new) (request.Insert 0 from) _ (at old (Some files)) done
     (λ answer new put.
     let told = ap (λ (medium : Option Disk). option_map shape_of medium) put.medium in
     subst (λ (shape : Option Shape). GoesWell (with_shape shape rest) new) (sym told) (behind new put))
+
+-- a disk is in bay 1, and bay 0 is as it was
+pub record IsPutBehind (target : Disk) (old new : Stage) : Type 0 where
+  pub medium : (bay_of new.state.station 1).medium ≡ Some target
+  pub same : bay_of new.state.station 0 ≡ bay_of old.state.station 0
+
+-- the disk of a name is put into an empty bay 1
+pub second_done : (to : List ℕ) (files : Files) (target : Disk) (old : Stage) → IsImageOf (Some files) to target → is_loaded old.state 1 ≡ false
+    → old.files ≡ Some files → IsDone (λ new. IsPutBehind target old new) (request.Insert 1 to) old
+second_done to files target old image empty told =
+    let free : refusal_of old.state (request.Insert 1 to) ≡ None = rw empty refl in
+    record {
+      safe = record {
+        keeps = refl;
+        stops = λ cause new stops. insert_stops 1 to files target old.state new.state new.files cause image
+            (subst (λ (f : Option Files). StopsAt (request.Insert 1 to) old.state f cause new.state new.files) told stops);
+      };
+      answers = λ answer new step calm.
+          let does = reaches _ (refusal_of old.state (request.Insert 1 to)) free step in
+          let put = does.2 in
+          let there = subst (λ (f : Option Files). IsImageOf f to put.0) told put.1 in
+          let becomes = put.2.exchanged.becomes in (
+            ap is_refusal does.0,
+            record {
+              medium = ap (λ (s : StationState). (bay_of s 1).medium) becomes ∙ ap (λ (d : Disk). Some d) (one_image files to put.0 target there image);
+              same = ap (λ (s : StationState). bay_of s 0) becomes;
+            },
+          );
+    }

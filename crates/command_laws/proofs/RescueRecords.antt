@@ -65,7 +65,7 @@ AreDistinct [] = Unit {0}
 AreDistinct (key ∷ later) = (IsAmong key later → ⊥) × AreDistinct later
 
 -- where it stands
-index_of : (key : Chrn) (keys : List Chrn) → IsAmong key keys → (j : ℕ) × (j < length keys) × ((d : Chrn) → get_or keys j d ≡ key)
+pub index_of : (key : Chrn) (keys : List Chrn) → IsAmong key keys → (j : ℕ) × (j < length keys) × ((d : Chrn) → get_or keys j d ≡ key)
 index_of key [] among = absurd among
 index_of key (first ∷ later) (inl here) = (0, omega arith, λ d. here)
 index_of key (first ∷ later) (inr there) = let rest = index_of key later there in (suc rest.0, omega (arith, rest.1), λ d. rest.2 d)

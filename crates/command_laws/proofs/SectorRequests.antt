@@ -113,12 +113,14 @@ module _ (disk : Disk) (regular : IsRegularDisk disk) (key : Chrn) (has : HasTra
 
 -- ---- the read
 
-module _ (source : Disk) (readable : IsReadable source) (c h r : ℕ) (has : HasTrack source c h) (old new : StationState) (ready : IsReadyFor 0 source old) (calm : IsUndisturbed 0 old.counters new.counters) (standard : HasData (track_of source c h) (key_of c h r)) where
+module _ (source : Disk) (regular : IsRegularDisk source) (c h r : ℕ) (has : HasTrack source c h) (old new : StationState) (ready : IsReadyFor 0 source old)
+    (calm : IsUndisturbed 0 old.counters new.counters) (standard : HasData (track_of source c h) (key_of c h r)) where
   read_never : (code : Code) → IsReadCause (met (bay_of old 0) c h) (key_of c h r) old.tries 0 old code new → ⊥
   read_never code cause =
       let is = met_track (bay_of old 0).medium (bay_of old 0).rate c h source (record { is_in = ready.medium; has = has; same_rate = sym ready.bay_rate }) in
       let on = subst (λ (track : List ℕ). IsReadCause track (key_of c h r) old.tries 0 old code new) is cause in
-      on.never (clear source readable.regular (key_of c h r) has standard) (all_found source readable.regular (key_of c h r) has standard) (disturbed_less old.tries 0 old.counters new.counters calm)
+      on.never (clear source regular (key_of c h r) has standard) (all_found source regular (key_of c h r) has standard)
+      (disturbed_less old.tries 0 old.counters new.counters calm)
 
   called_taken : (address : ℕ) (called : Result Bool Code) → ReadsDrive 0 (key_of c h r) address old called new
       → (is_refusal (read_reply called) ≡ false) × (new.bays ≡ old.bays)
@@ -131,11 +133,11 @@ pub record ReadsAlone (source : Disk) (old new : Stage) : Type 0 where
   pub ready : IsReadyFor 0 source new.state.station
   pub same : new.state.station.bays ≡ old.state.station.bays
 
--- a read of a record, to the place of any in memory
-pub read_done : (source : Disk) (c h r place : ℕ) (old : Stage) → IsReadable source → source.cylinders ≤ 80 → source.heads ≤ 2 → HasTrack source c h → 1 ≤ r
-    → r ≤ sectors_at source.rate → 1 ≤ place → place ≤ 18 → IsReadyFor 0 source old.state.station
+-- a read of a record that stands on its track, to the place of any in memory
+pub stands_read : (source : Disk) (c h r place : ℕ) (old : Stage) → IsRegularDisk source → source.cylinders ≤ 80 → source.heads ≤ 2 → HasTrack source c h → 1 ≤ r
+    → HasData (track_of source c h) (key_of c h r) → 1 ≤ place → place ≤ 18 → IsReadyFor 0 source old.state.station
     → IsDone (λ new. ReadsAlone source old new) (request.Read 0 (key_of c h r) (record_address place)) old
-read_done source c h r place old readable few_cylinders few_heads has least most from few ready = record {
+stands_read source c h r place old regular few_cylinders few_heads has least field from few ready = record {
   safe = safe (request.Read 0 (key_of c h r) (record_address place)) old refl (λ bay name same. cc same);
   answers = λ answer new step calm.
       let key = key_of c h r in
@@ -145,13 +147,20 @@ read_done source c h r place old readable few_cylinders few_heads has least most
       let free = read_order (is_sector_request 0 key address) (crosses_page address (content_size standard_code)) (is_acknowledged station 0) good
       (within_page place from few) ready.kept in
       let drive = reaches _ (read_refusal station 0 key address) free step.1.2 in
-      let there = readable.sectors key (record { track = has; sector = (least, most); size = refl }) in
-      let field = has_data source key there.0 readable.regular there.1 there.2 in
-      let taken = called_taken source readable c h r has station new.state.station ready calm.first field address step.1.0 drive in (
+      let taken = called_taken source regular c h r has station new.state.station ready calm.first field address step.1.0 drive in (
         ap is_refusal step.1.1 ∙ taken.0,
         record { ready = ready_still 0 source station new.state.station (ap (λ (bays : Two Bay). in_bay bays 0) taken.1) ready; same = taken.1 },
       );
 }
+
+-- so a read of a standard key
+pub read_done : (source : Disk) (c h r place : ℕ) (old : Stage) → IsReadable source → source.cylinders ≤ 80 → source.heads ≤ 2 → HasTrack source c h → 1 ≤ r
+    → r ≤ sectors_at source.rate → 1 ≤ place → place ≤ 18 → IsReadyFor 0 source old.state.station
+    → IsDone (λ new. ReadsAlone source old new) (request.Read 0 (key_of c h r) (record_address place)) old
+read_done source c h r place old readable few_cylinders few_heads has least most from few ready =
+    let there = readable.sectors (key_of c h r) (record { track = has; sector = (least, most); size = refl }) in
+    stands_read source c h r place old readable.regular few_cylinders few_heads has least
+    (has_data source (key_of c h r) there.0 readable.regular there.1 there.2) from few ready
 
 -- ---- No key fails.
 
@@ -409,38 +418,44 @@ some_still disk next c h r keeps b g s had = elim (cases_eq s r) [
     stays : key_of b g s ≢ key_of c h r → HasSome next b g s
     stays differ = (had.0, had.1, had.2, (keeps.others (copied_entry b g s had.0 had.1 had.2) differ).0 had.3)
 
-module _ (bay other : ℕ) (rate : Rate) (count c h r slot : ℕ) (deleted : Bool) (is_one : is_bay bay ≡ true) (apart : AreApart bay other) (cylinder : c < count)
-    (head : h < 2) (least : 1 ≤ r) (from : 1 ≤ slot) (few : slot ≤ 18) (Also : Disk → Type 0) (has_it : (disk : Disk) → Also disk → HasSome disk c h r)
-    (stays : (disk next : Disk) → KeepsRecords disk next c h r → Also disk → Also next) (old : Stage) (making : IsMaking bay rate count Also old.state.station) where
+-- what a write of a record made of the disk in a bay; the other bay is as it was
+pub record WritesInto (bay other : ℕ) (disk : Disk) (c h r : ℕ) (old new : Stage) : Type 0 where
+  pub next : Disk
+  pub ready : IsReadyFor bay next new.state.station
+  pub keeps : KeepsTracks disk c h next
+  pub regular : IsRegularDisk next
+  pub records : KeepsRecords disk next c h r
+  pub same : bay_of new.state.station other ≡ bay_of old.state.station other
+
+module _ (bay other : ℕ) (disk : Disk) (c h r slot : ℕ) (deleted : Bool) (is_one : is_bay bay ≡ true) (apart : AreApart bay other) (cylinder : c ≤ 79)
+    (head : h ≤ 1) (least : 1 ≤ r) (from : 1 ≤ slot) (few : slot ≤ 18) (some : HasSome disk c h r) (bare : disk.protected ≡ false)
+    (regular : IsRegularDisk disk) (old : Stage) (ready : IsReadyFor bay disk old.state.station) where
   abbrev before : StationState
   before = old.state.station
 
   abbrev written : Written
   written = written_from before (key_of c h r) (record_address slot) deleted
 
-  some : HasSome making.disk c h r
-  some = has_it making.disk making.also
-
   abbrev place : ℕ
   place = some.0
 
-  track : HasTrack making.disk c h
-  track = (omega (arith, cylinder, making.alike.cylinders), omega (arith, head, making.alike.heads))
+  track : HasTrack disk c h
+  track = some.3.track
 
-  met_is : met (bay_of before bay) c h ≡ track_of making.disk c h
-  met_is = met_track (bay_of before bay).medium (bay_of before bay).rate c h making.disk
-      (record { is_in = making.medium; has = track; same_rate = making.alike.rate ∙ sym making.bay_rate })
+  met_is : met (bay_of before bay) c h ≡ track_of disk c h
+  met_is = met_track (bay_of before bay).medium (bay_of before bay).rate c h disk
+      (record { is_in = ready.medium; has = track; same_rate = sym ready.bay_rate })
 
   address : IsAddressAt (met (bay_of before bay) c h) place (key_of c h r)
   address = subst (λ (t : List ℕ). IsAddressAt t place (key_of c h r)) (sym met_is) some.3.address
 
   write_free : write_refusal before bay (key_of c h r) (record_address slot) ≡ None
   write_free =
-      let good = sector_asked bay c h r slot is_one (omega (arith, track.0, making.alike.valid.cylinders.1)) (omega (arith, head)) least from few in
-      let bare : is_protected before bay ≡ false = protected_by (bay_of before bay).medium making.disk making.medium making.alike.protected in
+      let good = sector_asked bay c h r slot is_one cylinder head least from few in
+      let free : is_protected before bay ≡ false = protected_by (bay_of before bay).medium disk ready.medium bare in
       write_order (is_sector_request bay (key_of c h r) (record_address slot)) (crosses_page (record_address slot) (content_size standard_code))
       (is_acknowledged before bay) (is_protected before bay)
-      good (within_page slot from few) making.kept bare
+      good (within_page slot from few) ready.kept free
 
   module _ (new : Stage) (calm : IsUndisturbed bay before.counters new.state.station.counters)
       (stalls : before.counters.stalls ≤ new.state.station.counters.stalls) (called : Result (Unit {0}) Code)
@@ -448,7 +463,7 @@ module _ (bay other : ℕ) (rate : Rate) (count c h r slot : ℕ) (deleted : Boo
     never : (code : Code)
         → IsWriteCause written (met (bay_of before bay) c h) (met (bay_of new.state.station bay) c h) drive.changes bay before code new.state.station → ⊥
     never code cause =
-        let on = subst (λ (t : List ℕ). IsRegular t c h) (sym met_is) (making.regular c h track) in
+        let on = subst (λ (t : List ℕ). IsRegular t c h) (sym met_is) (regular c h track) in
         cause.never on place address (inr calm) (disturbed_less before.tries bay before.counters new.state.station.counters calm)
 
     ok : IsOk called
@@ -460,27 +475,37 @@ module _ (bay other : ℕ) (rate : Rate) (count c h r slot : ℕ) (deleted : Boo
         go (Ok u) cause = refl
         go (Err code) cause = absurd (never code cause)
 
-    alone : ChangesAlone written bay place making.disk before called new.state.station
-    alone = (drive.regular making.disk making.medium making.regular).one place address (inr calm)
+    alone : ChangesAlone written bay place disk before called new.state.station
+    alone = (drive.regular disk ready.medium regular).one place address (inr calm)
 
     few_faults : FaultsRoseLess 2 bay before.counters new.state.station.counters
     few_faults = (omega (arith, calm.together, stalls), calm.faults)
 
-    still : Also alone.after
-    still = stays making.disk alone.after (record { others = alone.others; some = (place, deleted, written.content, alone.entry ok (inl few_faults)) }) making.also
-
-    writes : MakesAlone bay other rate count Also old new
+    writes : WritesInto bay other disk c h r old new
     writes =
-        let alike = alike_both (blank_of count rate) making.disk alone.after making.alike (with_track_keeps making.disk alone.after c h _ alone.cut).alike in
-        remade bay other rate count _ _ old new alone.after apart making drive.becomes alone.medium alike alone.regular still
+        let keeps = with_track_keeps disk alone.after c h _ alone.cut in
+        let value : Bay = record (bay_of before bay) { medium = (bay_of new.state.station bay).medium } in
+        let at_bay = ap (λ (s : StationState). bay_of s bay) drive.becomes ∙ in_with before.bays bay value in
+        record {
+          next = alone.after;
+          ready = record {
+            medium = alone.medium;
+            bay_rate = ap (λ (b : Bay). b.rate) at_bay ∙ ready.bay_rate ∙ sym keeps.alike.rate;
+            kept = ap (λ (b : Bay). is_some b.acknowledged) at_bay ∙ ready.kept;
+          };
+          keeps = keeps;
+          regular = alone.regular;
+          records = record { others = alone.others; some = (place, deleted, written.content, alone.entry ok (inl few_faults)) };
+          same = other_stays bay other before new.state.station value apart drive.becomes;
+        }
 
   write_safe : (d : Bool) → IsSafe (write_to bay d (key_of c h r) (record_address slot)) old
   write_safe true = safe (request.WriteDeleted bay (key_of c h r) (record_address slot)) old refl (λ at name same. cc same)
   write_safe false = safe (request.Write bay (key_of c h r) (record_address slot)) old refl (λ at name same. cc same)
 
-  pub write_leads : IsDone (λ new. MakesAlone bay other rate count Also old new)
-      (write_to bay deleted (key_of c h r) (record_address slot)) old
-  write_leads = record {
+  -- a record that stands on its track is written, from the place of any in memory
+  pub stands_written : IsDone (λ new. WritesInto bay other disk c h r old new) (write_to bay deleted (key_of c h r) (record_address slot)) old
+  stands_written = record {
     safe = write_safe deleted;
     answers = λ answer new step calm.
         let quiet = calm_in bay (write_to bay deleted (key_of c h r) (record_address slot)) answer before.counters new.state.station.counters is_one
@@ -490,11 +515,39 @@ module _ (bay other : ℕ) (rate : Rate) (count c h r slot : ℕ) (deleted : Boo
         (ok_taken call.1.0 answer call.1.1 (ok new quiet call.0.counts.stalls call.1.0 drive), writes new quiet call.0.counts.stalls call.1.0 drive);
   }
 
+-- a disk that is made in a bay
+pub made_ready : (bay : ℕ) (rate : Rate) (count : ℕ) (Also : Disk → Type 0) (now : StationState) (made : IsMaking bay rate count Also now)
+    → IsReadyFor bay made.disk now
+made_ready bay rate count Also now made = record { medium = made.medium; bay_rate = made.bay_rate ∙ sym made.alike.rate; kept = made.kept }
+
 -- a record is written to the track that it stands on, from its own place in memory
 pub write_done : (bay other : ℕ) (rate : Rate) (count c h r : ℕ) (deleted : Bool) → is_bay bay ≡ true → AreApart bay other → c < count → h < 2
     → 1 ≤ r → r ≤ sectors_at rate → (old : Stage) → IsMaking bay rate count (HasRecords (sectors_at rate) c h) old.state.station
     → IsDone (λ new. MakesAlone bay other rate count (HasRecords (sectors_at rate) c h) old new) (write_to bay deleted (key_of c h r) (record_address r)) old
 write_done bay other rate count c h r deleted is_one apart cylinder head least most old making =
-    write_leads bay other rate count c h r r deleted is_one apart cylinder head least least (omega (arith, most, few_sectors rate))
-    (HasRecords (sectors_at rate) c h) (λ disk also. also r least most)
-    (λ disk next keeps also s from below. some_still disk next c h r keeps c h s (also s from below)) old making
+    let alike = making.alike in
+    let few : r ≤ 18 = omega (arith, most, few_sectors rate) in
+    let small : c ≤ 79 = omega (arith, cylinder, alike.cylinders, alike.valid.cylinders.1) in
+    let ready = made_ready bay rate count (HasRecords (sectors_at rate) c h) old.state.station making in
+    let done = stands_written bay other making.disk c h r r deleted is_one apart small (omega (arith, head)) least least few (making.also r least most)
+    alike.protected making.regular old ready in
+    record {
+      safe = done.safe;
+      answers = λ answer new step calm.
+          let it = done.answers answer new step calm in
+          let wrote = it.1 in (
+            it.0,
+            record {
+              made = record {
+                disk = wrote.next;
+                medium = wrote.ready.medium;
+                alike = alike_both (blank_of count rate) making.disk wrote.next alike wrote.keeps.alike;
+                bay_rate = wrote.ready.bay_rate ∙ wrote.keeps.alike.rate ∙ alike.rate;
+                kept = wrote.ready.kept;
+                regular = wrote.regular;
+                also = λ s from below. some_still making.disk wrote.next c h r wrote.records c h s (making.also s from below);
+              };
+              same = wrote.same;
+            },
+          );
+    }

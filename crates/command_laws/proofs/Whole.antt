@@ -56,7 +56,7 @@ use Rattle.rescue_commands.proofs.Rests.{by_rest}
 use Rattle.command_laws.specs.Rescued.{IsNotStopped, count_writes, IsLogged, IsSaved, IsSettled, WasNotRead, HasLaidTracks, HasTarget, KeepsEntries, outcome_in, IsRescue, LogsNotFound, WasRefused, log_of, line_at, AreTidy}
 use Rattle.command_laws.proofs.Gone.{later_fine, not_refused, carried, GoesKeys, keys_gone, Fell, fell_both, keys_fell, line_of_done, gave_reads, never_both}
 use Rattle.command_laws.proofs.RescueOpening.{opening, ready_requests, second_request, formats_for, prepares_carried, HasOther, begins_new, begins_again, holds_first, first_in, is_plain, plain_facts, plain_keep, opening_plain}
-use Rattle.command_laws.proofs.RescueRecords.{heads_for, asked_all, asked_distinct, IsGuarded, IsPart, SavesKeys, saves_keys, ReadsKey, some_apart, keys_read, keys_counted}
+use Rattle.command_laws.proofs.RescueRecords.{heads_for, asked_all, asked_distinct, IsGuarded, IsPart, SavesKeys, saves_keys, ReadsKey, some_apart, keys_read, keys_counted, index_of}
 use Rattle.command_laws.proofs.RescueGiven.{IsAtHand, IsGivenOf, keys_give}
 use Rattle.command_laws.proofs.Telling.{tells_keys}
 
@@ -456,6 +456,14 @@ module _ (from to log : List ℕ) (disk : Disk) (found : Option (List LogLine)) 
       (asked_all disk files log found few.0 few.1 there) (asked_distinct disk files log found there)
       has.regular has.size has.medium guarded (omega (arith, fell_top.second, fell.second, faultless.0), omega (arith, fell.second, faultless.1))
 
+  -- what isn't asked for wasn't read
+  unread : (key : Chrn) → (Contains keys key → ⊥) → WasNotRead course key
+  unread key never deleted content some =
+      let reads = keys_read keys (asked_distinct disk files log found there) p.opened p.body p.rescued p.goes in
+      let gave = gave_reads key deleted content in
+      let at = index_of key keys (reads.only key (some_apart _ (ReadsKey key) p.body gave (inner _ key gave some))) in
+      never (at.0, at.1, at.2 key)
+
   -- where nothing was refused, and no drive had a fault, a disk with the same sectors for the asked keys is stored, and then an empty log
   pub record SavesSame (start : Disk) : Type 0 where
     pub final : Disk
@@ -463,7 +471,7 @@ module _ (from to log : List ℕ) (disk : Disk) (found : Option (List LogLine)) 
     pub cylinders : final.cylinders ≡ start.cylinders
     pub rate : final.rate ≡ start.rate
     pub sectors : All (HaveSameSector disk final) keys
-    pub others : (entry : Entry) → WasNotRead course entry.key → IsOnMap start entry ↔ IsOnMap final entry
+    pub others : (entry : Entry) → (Contains keys entry.key → ⊥) → IsOnMap start entry ↔ IsOnMap final entry
     pub files_are : new.files ≡ stored (stored (Some files) to (file_of final)) log (log_text [])
     pub disk_there : IfSome new.files (λ files. file_at files to ≡ Some (file_of final))
     pub log_there : IfSome new.files (λ files. file_at files log ≡ Some (log_text []))
@@ -483,7 +491,7 @@ module _ (from to log : List ℕ) (disk : Disk) (found : Option (List LogLine)) 
         rate = saves.rate;
         sectors = All-weaker _ (HaveSameSector disk saves.final) (same_sector start start has saves regular first none) keys
             (All-from_recursion _ keys saves.settled);
-        others = λ entry unread. saves.others entry (λ deleted content some. unread deleted content (outer _ some));
+        others = λ entry never. saves.others entry (λ deleted content some. unread entry.key never deleted content (outer _ some));
         files_are = is;
         disk_there = both.0;
         log_there = both.1;

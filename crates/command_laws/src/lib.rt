@@ -31,7 +31,7 @@ pub use format_runs::format_stores_a_formatted_disk;
 pub use formats::{formats_disk, formatted_disk_has_sectors};
 pub use imports::import_stores_the_flat_file;
 pub use reads::reads_tell_of_disk;
-pub use rescue_ends::new_rescue_ends_well;
+pub use rescue_ends::{further_rescue_ends_well, new_rescue_ends_well};
 pub use rescue_logs::rescue_logs_what_is_not_found;
 pub use rescue_order::rescue_stores_the_log_last;
 pub use rescue_stores::rescue_settles_each_record;

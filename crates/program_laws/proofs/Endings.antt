@@ -1,6 +1,7 @@
 -- How the forms on whole disks end where nothing can go wrong.
-use Rattle.std.proofs.Common.{◌≡◌, ◌≤◌, ℕ, List, [], Some, subst, sym, inl, inr, refl}
-use Rattle.flop_base.specs.Shelf.{Files}
+use Rattle.std.proofs.Common.{◌≡◌, ◌≢◌, ◌≤◌, ℕ, All, List, [], Some, None, subst, sym, inl, inr, refl}
+use Rattle.flop_base.specs.Shelf.{Files, file_at}
+use Rattle.flop_base.specs.Standard.{sectors_at}
 use Rattle.flop_base.specs.declared.answers.Rate.{Rate}
 use Rattle.flop_base.specs.declared.answers.Rate.TheVariants.{R250, R500}
 use Rattle.flop_base.specs.declared.answers.Status.{Status}
@@ -8,7 +9,11 @@ use Rattle.flop_base.specs.declared.answers.Status.TheVariants as status
 use Rattle.raw_image.specs.Disk.{Disk}
 use Rattle.bay_model.specs.Counters.{DriveCounts}
 use Rattle.sector_model.specs.Faults.{Blames}
+use Rattle.sector_map.specs.Disks.{IsRegularDisk}
 use Rattle.sector_model.specs.Steps.{IsImageOf}
+use Rattle.rescue.specs.Course.{logged_keys}
+use Rattle.rescue.specs.declared.line.LogLine.{LogLine}
+use Rattle.rescue_commands.specs.Logs.{IsLogFound}
 use Rattle.sector_model.specs.Plays.{World}
 use Rattle.floppy_report.specs.Faults.{BlamesAlone}
 use Rattle.flat_commands.specs.FlatFiles.{IsFlatFile}
@@ -23,9 +28,10 @@ use Rattle.command_laws.specs.Formatted.{StoresFormatted}
 use Rattle.command_laws.specs.Imported.{StoresDisk}
 use Rattle.command_laws.specs.Exported.{StoresFlatOf}
 use Rattle.command_laws.specs.FlatComplete.{IsWholeDisk}
-use Rattle.command_laws.specs.EndsComplete.{BeginsSound, EndsWellOrOutside, IsReadable, StoresSameSectors}
+use Rattle.command_laws.specs.EndsComplete.{BeginsSound, EndsWellOrOutside, HasKey, IsReadable, StoresSameSectors, StoresSameAndLog, StoresRestAndLog, TakesKeys}
 use Rattle.command_laws.proofs.CommandEnds.{format_complete, copy_complete, verify_complete}
 use Rattle.command_laws.proofs.FlatEnds.{import_complete, export_complete}
+use Rattle.command_laws.proofs.RescueEnds.{new_rescue_complete, further_rescue_complete}
 use Rattle.program_laws.specs.Disturbed.{IsSound}
 use Rattle.program_laws.specs.Ends.{EndsWell}
 use Rattle.program_laws.specs.Told.{ListsFailing}
@@ -118,3 +124,25 @@ export_ends name flat spares old new ended files disk ran sound told image whole
     ends_by asked spares old new ended ran _ _ (λ is. is)
     (export_complete name flat (first asked spares old new ended ran) (last asked spares old new ended ran) ended files disk
     (begins asked spares old new ended ran sound) told image whole)
+
+pub new_rescue_ends : (from to log : List ℕ) (spares : List DriveCounts) (old new : Stand) (ended : Status) (files : Files) (disk : Disk)
+    → RanOver (Some (form.Rescue from to log)) spares old new ended → IsSound old.board spares → old.desk.desk.files ≡ Some files
+    → IsImageOf (Some files) from disk → IsReadable disk → file_at files log ≡ None → to ≢ log
+    → EndsWell (StoresSameAndLog disk to log (Some files) new.desk.desk.files) old new ended
+new_rescue_ends from to log spares old new ended files disk ran sound told image readable absent differ =
+    let asked = form.Rescue from to log in
+    ends_by asked spares old new ended ran _ _ (λ is. is)
+    (new_rescue_complete from to log (first asked spares old new ended ran) (last asked spares old new ended ran) ended files disk
+    (begins asked spares old new ended ran sound) told image readable absent differ)
+
+pub further_rescue_ends : (from to log : List ℕ) (spares : List DriveCounts) (old new : Stand) (ended : Status) (files : Files) (disk target : Disk)
+    (lines : List LogLine)
+    → RanOver (Some (form.Rescue from to log)) spares old new ended → IsSound old.board spares → old.desk.desk.files ≡ Some files
+    → IsImageOf (Some files) from disk → IsImageOf (Some files) to target → IsLogFound (Some files) log (sectors_at disk.rate) (Some lines) → to ≢ log
+    → IsRegularDisk disk → All (HasKey disk) (logged_keys lines) → TakesKeys disk.rate (logged_keys lines) target
+    → EndsWell (StoresRestAndLog disk target (logged_keys lines) to log (Some files) new.desk.desk.files) old new ended
+further_rescue_ends from to log spares old new ended files disk target lines ran sound told image other there differ regular has takes =
+    let asked = form.Rescue from to log in
+    ends_by asked spares old new ended ran _ _ (λ is. is)
+    (further_rescue_complete from to log (first asked spares old new ended ran) (last asked spares old new ended ran) ended files disk target lines
+    (begins asked spares old new ended ran sound) told image other there differ regular has takes)

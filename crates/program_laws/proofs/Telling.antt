@@ -218,7 +218,7 @@ pub opens_tells : (name : List ℕ) (rest : Shape → Script) (files : Files) (d
 unfolding opens needs
 opens_tells name rest files disk old new [] ended told image is runs =
     let stops = subst (λ (f : Option Files). StopsAt (request.Insert 0 name) old.state f runs.0 new.state new.files) told runs.1 in
-    prints_by false _ _ _ _ ended runs.2 (end_by false runs.0 (insert_stops name files disk old.state new.state new.files runs.0 image stops))
+    prints_by false _ _ _ _ ended runs.2 (end_by false runs.0 (insert_stops 0 name files disk old.state new.state new.files runs.0 image stops))
 opens_tells name rest files disk old new (taken ∷ later) ended told image is runs =
     script_tells (false || is_refusal taken.answer) (unless_refused (request.Insert 0 name) taken.answer (with_shape (shape_in (bay_of taken.after.station 0)) rest))
     (with_report taken.after runs.1 old.report) new later ended

@@ -1,12 +1,17 @@
 // The forms on whole disks, on a machine where nothing can go wrong.
-ghost use Rattle.std.specs.Prelude.{◌≡◌, ◌≤◌, ℕ, List, [], Some};
-ghost use Rattle.flop_base.specs.Shelf.{Files};
+ghost use Rattle.std.specs.Prelude.{◌≡◌, ◌≢◌, ◌≤◌, ℕ, All, List, [], Some, None};
+ghost use Rattle.flop_base.specs.Shelf.{Files, file_at};
+ghost use Rattle.flop_base.specs.Standard.{sectors_at};
 ghost use Rattle.flop_base.specs.declared.answers.Rate.{Rate};
 ghost use Rattle.flop_base.specs.declared.answers.Rate.TheVariants.{R250, R500};
 ghost use Rattle.flop_base.specs.declared.answers.Status.{Status};
 ghost use Rattle.raw_image.specs.Disk.{Disk};
 ghost use Rattle.bay_model.specs.Counters.{DriveCounts};
+ghost use Rattle.sector_map.specs.Disks.{IsRegularDisk};
 ghost use Rattle.sector_model.specs.Steps.{IsImageOf};
+ghost use Rattle.rescue.specs.Course.{logged_keys};
+ghost use Rattle.rescue.specs.declared.line.LogLine.{LogLine};
+ghost use Rattle.rescue_commands.specs.Logs.{IsLogFound};
 ghost use Rattle.flat_commands.specs.FlatFiles.{IsFlatFile};
 ghost use Rattle.floppy_words.specs.declared.form.Form.TheVariants as form;
 ghost use Rattle.floppy_tools.specs.Performed.{Stand, RanOver};
@@ -14,7 +19,7 @@ ghost use Rattle.command_laws.specs.Formatted.{StoresFormatted};
 ghost use Rattle.command_laws.specs.Imported.{StoresDisk};
 ghost use Rattle.command_laws.specs.Exported.{StoresFlatOf};
 ghost use Rattle.command_laws.specs.FlatComplete.{IsWholeDisk};
-ghost use Rattle.command_laws.specs.EndsComplete.{IsReadable, StoresSameSectors};
+ghost use Rattle.command_laws.specs.EndsComplete.{HasKey, IsReadable, StoresSameSectors, StoresSameAndLog, StoresRestAndLog, TakesKeys};
 ghost use Rattle.program_laws.specs.Disturbed.{IsSound};
 ghost use Rattle.program_laws.specs.Ends.{EndsWell};
 ghost use Rattle.program_laws.specs.Told.{ListsFailing};
@@ -68,4 +73,26 @@ pub fn export_ends_well(_name: &str, _flat: &str)
         → RanOver (Some (form.Export _name.now _flat.now)) spares old new ended → IsSound old.board spares
         → old.desk.desk.files ≡ Some files → IsImageOf (Some files) _name.now disk → IsWholeDisk disk
         → EndsWell (StoresFlatOf disk _flat.now (Some files) new.desk.desk.files) old new ended }
+{}
+
+/// A law: so does `rescue FROM TO LOG`, where FROM is the image of a regular disk that has each of its standard keys, no file LOG is there,
+/// and TO and LOG differ. It stores a disk with the same standard sectors under TO, and then an empty log under LOG.
+pub fn new_rescue_ends_well(_from: &str, _to: &str, _log: &str)
+    ensures { (spares : List DriveCounts) (old new : Stand) (ended : Status) (files : Files) (disk : Disk)
+        → RanOver (Some (form.Rescue _from.now _to.now _log.now)) spares old new ended → IsSound old.board spares
+        → old.desk.desk.files ≡ Some files → IsImageOf (Some files) _from.now disk → IsReadable disk
+        → file_at files _log.now ≡ None → _to.now ≢ _log.now
+        → EndsWell (StoresSameAndLog disk _to.now _log.now (Some files) new.desk.desk.files) old new ended }
+{}
+
+/// A law: so does one that goes on by a log LOG, whose records FROM has, the image of a regular disk, and TO is the image of a disk that
+/// takes them at FROM's rate. It stores that disk again, with these sectors as FROM has them, and all others as they were, and then an
+/// empty log under LOG.
+pub fn further_rescue_ends_well(_from: &str, _to: &str, _log: &str)
+    ensures { (spares : List DriveCounts) (old new : Stand) (ended : Status) (files : Files) (disk target : Disk) (lines : List LogLine)
+        → RanOver (Some (form.Rescue _from.now _to.now _log.now)) spares old new ended → IsSound old.board spares
+        → old.desk.desk.files ≡ Some files → IsImageOf (Some files) _from.now disk → IsImageOf (Some files) _to.now target
+        → IsLogFound (Some files) _log.now (sectors_at disk.rate) (Some lines) → _to.now ≢ _log.now
+        → IsRegularDisk disk → All (HasKey disk) (logged_keys lines) → TakesKeys disk.rate (logged_keys lines) target
+        → EndsWell (StoresRestAndLog disk target (logged_keys lines) _to.now _log.now (Some files) new.desk.desk.files) old new ended }
 {}

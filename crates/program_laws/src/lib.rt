@@ -17,8 +17,8 @@ mod words;
 pub use archive::{disk_laid_anew, disk_of_an_imd, imd_of_a_disk, survey_of_a_disk};
 pub use copy::copy_of_a_disk;
 pub use ends::{
-    copy_ends_well, export_ends_well, format_ends_well, formatdd_ends_well, import_ends_well,
-    verify_ends_well,
+    copy_ends_well, export_ends_well, format_ends_well, formatdd_ends_well,
+    further_rescue_ends_well, import_ends_well, new_rescue_ends_well, verify_ends_well,
 };
 pub use fitting::{fromimd_status, remaster_status, survey_status, toimd_status};
 pub use flat::{disk_of_a_flat_file, flat_file_of_a_disk};
