@@ -39,5 +39,7 @@ mod Telling
 mod RescueGiven
 mod RescueOpening
 pub mod Whole
+mod RescueSteps
 pub mod RescueEnds
+pub mod RescueFurther
 pub mod Order

@@ -1,4 +1,4 @@
--- Which reads, formats and writes are done where nothing disturbs them: those of a disk that has each of its standard keys, and those that make one.
+-- Which reads, formats and writes are done where nothing disturbs them: those of records that stand on a regular disk, and those that make one.
 use Rattle.std.proofs.Common.{arith, ◌≡◌, ◌↔◌, ◌∙◌, ◌+◌, ◌-◌, ◌≤◌, ℕ, nat_le, Bool, true, false, List, refl, sym, ap, subst, Some, None, Result, Ok, Err, le-leb, suc, [], ◌∷◌, ◌≢◌, ◌<◌, inl, inr, Option, IsOk, lit≤}
 use Rattle.std.specs.Prelude.{◌/◌, ◌==◌, not, if◌then◌else◌, All, is_some, IfErr}
 use Rattle.flop_base.specs.Standard.{sectors_at, standard_code, words_at, gap_at, standard_fill}

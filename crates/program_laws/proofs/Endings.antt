@@ -31,7 +31,8 @@ use Rattle.command_laws.specs.FlatComplete.{IsWholeDisk}
 use Rattle.command_laws.specs.EndsComplete.{BeginsSound, EndsWellOrOutside, HasKey, IsReadable, StoresSameSectors, StoresSameAndLog, StoresRestAndLog, TakesKeys}
 use Rattle.command_laws.proofs.CommandEnds.{format_complete, copy_complete, verify_complete}
 use Rattle.command_laws.proofs.FlatEnds.{import_complete, export_complete}
-use Rattle.command_laws.proofs.RescueEnds.{new_rescue_complete, further_rescue_complete}
+use Rattle.command_laws.proofs.RescueEnds.{new_rescue_complete}
+use Rattle.command_laws.proofs.RescueFurther.{further_rescue_complete}
 use Rattle.program_laws.specs.Disturbed.{IsSound}
 use Rattle.program_laws.specs.Ends.{EndsWell}
 use Rattle.program_laws.specs.Told.{ListsFailing}

@@ -1,4 +1,4 @@
-use Rattle.command_laws.proofs.RescueEnds.{further_rescue_complete}
+use Rattle.command_laws.proofs.RescueFurther.{further_rescue_complete}
 use Rattle.command_laws.proofs.rescue_ends.further_rescue_ends_well.Goals as goal
 
 pub returns : goal.returns
