@@ -1,5 +1,5 @@
 // The controller and its drives: ports, device steps, and the controller's lines.
-ghost use Rattle.std.specs.Prelude.{◌≡◌, ◌%◌, Bool, IfOk, IsTrue, IsFalse, true};
+ghost use Rattle.std.specs.Prelude.{◌≡◌, ◌≤◌, ◌%◌, Bool, IfOk, IsTrue, IsFalse, true};
 ghost use Rattle.fdc_board.specs.WordTimes.{nanoseconds};
 ghost use Rattle.fdc_board.specs.History.{gave_if, took_if};
 ghost use Rattle.fdc_core.specs.Dma.{told_count, to_memory_of};
@@ -10,6 +10,7 @@ ghost use Rattle.fdc_core.specs.Ports.{value_read, after_read, Writes};
 ghost use Rattle.fdc_core.specs.State.{asks, interrupts, dor_of, data_rate};
 ghost use Rattle.fdc_core.specs.Written.{KeepsKnown, MayWrite};
 ghost use Rattle.fdc_stages.specs.History.{Past};
+ghost use Rattle.pc_bus.specs.Leaps.{WordTimes};
 ghost use Rattle.fdc_core.specs.declared.controller.Lines.{Lines as LinesValue};
 
 mod saving;
@@ -19,6 +20,7 @@ use crate::rates::word_time_after;
 use fdc_core::{Fdc, Lines};
 use flop_base::NoMemory;
 use inspected_drive::Inspect;
+use pc_bus::skim;
 use std::alloc::Global;
 
 /// A controller with a drive in each of its two bays.
@@ -33,7 +35,7 @@ pub struct FdcBoard<D> {
 }
 
 impl<D: Inspect> FdcBoard<D> {
-    ghost use Rattle.fdc_board.specs.Boards.{board_state, controller_of, lines_at, SameDrives, IsNewBoard, WritesBoard, Takes, Gives, HasLines, StepsBoard, RunsTo};
+    ghost use Rattle.fdc_board.specs.Boards.{board_state, controller_of, lines_at, SameDrives, IsNewBoard, WritesBoard, Takes, Gives, HasLines, StepsBoard, RunsTo, RunsWith, selected_at};
 
     /// The controller in reset, with two drives, whose motors it turns off.
     pub fn new(alloc: Global, bay0: D, bay1: D) -> Result<FdcBoard<D>, NoMemory>
@@ -111,13 +113,74 @@ impl<D: Inspect> FdcBoard<D> {
     {
         let int = self.int();
         let drq = self.drq();
-        for i in 0..most {
-            self.step();
+        let mut made = 0;
+        while made < most {
+            made += self.advance(most - made);
             if !self.has_lines(int, drq) {
-                return i + 1;
+                return made;
             }
         }
         most
+    }
+
+    /// At least one device step, `most` at most, and none behind one in which a line changes; tells how many.
+    fn advance(&mut self, most: u32) -> u32
+        requires { 1 ≤ most }
+        ensures some { 1 ≤ result }
+        ensures few { result ≤ most }
+        ensures runs { RunsWith (interrupts (controller_of self.old)) (asks (controller_of self.old)) result
+            (board_state D.state self.old) (board_state D.state self.new) }
+    {
+        let made = self.leap(most);
+        if made != 0 {
+            return made;
+        }
+        self.step();
+        1
+    }
+
+    /// Makes device steps at once in which neither line changes, and tells how many, `most` at most: where it is 0, the next
+    /// step has to be made alone.
+    fn leap(&mut self, most: u32) -> u32
+        ensures few { result ≤ most }
+        ensures passes { WordTimes result (selected_at (board_state D.state self.old)) (controller_of self.old)
+            (D.state self.old.first) (D.state self.old.second)
+            (controller_of self.new) (D.state self.new.first) (D.state self.new.second) }
+    {
+        if !self.controller.may_skim() {
+            return 0;
+        }
+        self.pass_word_times(most)
+    }
+
+    /// The same, where there may be some.
+    #[inline(never)]
+    fn pass_word_times(&mut self, most: u32) -> u32
+        ensures few { result ≤ most }
+        ensures passes { WordTimes result (selected_at (board_state D.state self.old)) (controller_of self.old)
+            (D.state self.old.first) (D.state self.old.second)
+            (controller_of self.new) (D.state self.new.first) (D.state self.new.second) }
+    {
+        if self.controller.is_still() {
+            self.first.let_pass(most);
+            self.second.let_pass(most);
+            return most;
+        }
+        match self.controller.selected() {
+            0 => skim(
+                &mut self.controller,
+                &mut self.first,
+                &mut self.second,
+                most,
+            ),
+            1 => skim(
+                &mut self.controller,
+                &mut self.second,
+                &mut self.first,
+                most,
+            ),
+            _ => 0,
+        }
     }
 
     /// Whether the lines are these.

@@ -154,7 +154,7 @@ calm_stepped old controller calm holds = record {
 }
 
 -- DOR, and so which drive is selected, stays
-dor_stays : (selected : ℕ) (old : Fdc) (first second : DriveState) (new : Fdc) (first_after second_after : DriveState)
+pub dor_stays : (selected : ℕ) (old : Fdc) (first second : DriveState) (new : Fdc) (first_after second_after : DriveState)
     → PassesWordTime selected old first second new first_after second_after → new.dor ≡ old.dor
 dor_stays zero old first second new first_after second_after passes = (passes.at_first refl).0.stays.dor
 dor_stays (suc zero) old first second new first_after second_after passes = (passes.at_second refl).0.stays.dor

@@ -1,4 +1,4 @@
 pub mod Lines
 mod Moves
 pub mod RunSteps
-mod Leaping
+pub mod Leaping

@@ -15,3 +15,4 @@ mod saving;
 mod steps;
 
 pub use machine::{Machine, MachineOf};
+pub use steps::skim;

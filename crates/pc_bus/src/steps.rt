@@ -186,9 +186,10 @@ fn work_alone(controller: &mut Fdc)
     controller.step_empty();
 }
 
-/// The controller's device steps with the selected drive, at once, and as many word times of the other drive.
+/// The controller's device steps with the selected drive, at once, and as many word times of the other drive; tells how many, `most`
+/// at most: where it is 0, the next step is one to be made alone.
 #[tactic(auto, unfolding(drive_model::specs::Ahead::LetsPass))]
-fn skim<D: Drive>(controller: &mut Fdc, drive: &mut D, other: &mut D, most: u32) -> u32
+pub fn skim<D: Drive>(controller: &mut Fdc, drive: &mut D, other: &mut D, most: u32) -> u32
     ensures few { result ≤ most }
     ensures courses { Courses result controller.old (D.state drive.old) controller.new (D.state drive.new) }
     ensures passes { LetsPass result (D.state other.old) (D.state other.new) }

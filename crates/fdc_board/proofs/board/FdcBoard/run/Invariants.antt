@@ -1,6 +1,10 @@
+use Rattle.std.proofs.Common.{◌≤◌, ◌-◌}
 use Rattle.fdc_board.specs.Boards.{board_state, HasLines, RunsWith}
 use Rattle.fdc_board.proofs.board.FdcBoard.run.Given as goal
 
-abbrev pub invariant-loop-i : goal.invariant-loop-i
-invariant-loop-i g l = RunsWith l.int l.drq l.i (board_state g.D.Drive.state l.fn.self) (board_state g.D.Drive.state l.self)
-    × HasLines l.int l.drq (board_state g.D.Drive.state l.self)
+abbrev pub invariant-loop-made : goal.invariant-loop-made
+invariant-loop-made g l = RunsWith l.int l.drq l.made (board_state g.D.Drive.state l.fn.self) (board_state g.D.Drive.state l.self)
+    × HasLines l.int l.drq (board_state g.D.Drive.state l.self) × (l.made ≤ l.most)
+
+abbrev pub decreases-loop-made : goal.decreases-loop-made
+decreases-loop-made g l = l.most - l.made
