@@ -109,13 +109,14 @@ parsed_ties : (old new : World) (parsed : Result (List CallLine) ℕ) (course : 
 parsed_ties old new (Ok lines) course ended serves = lines_ties old new lines course ended serves
 parsed_ties old new (Err line) course ended alone = alone_ties old new _ _ course ended alone
 
-calls_ties : (old new : World) (name : List ℕ) (course : List Taken) (ended : Status) → ServesCalls name old course new ended → Ties old course new
+-- the counts of a file of calls are tied to its course
+pub calls_ties : (old new : World) (name : List ℕ) (course : List Taken) (ended : Status) → ServesCalls name old course new ended → Ties old course new
 calls_ties old new name course ended (There p) = parsed_ties old new (calls_of p.text) course ended p.serves
 calls_ties old new name course ended (Missing absent alone) = alone_ties old new _ _ course ended alone
 calls_ties old new name course ended (TooLong longer alone) = alone_ties old new _ _ course ended alone
 calls_ties old new name course ended (Faulty nothing idle) = idle_ties old new course nothing idle.same
 calls_ties old new name course ended (Starved nothing idle) = idle_ties old new course nothing idle.same
 
--- a file of calls, with its counts
+-- a file of calls, by its course
 pub calls_run : (name : List ℕ) (old new : World) (ended : Status) → ((course : List Taken) × ServesCalls name old course new ended) → Runs (ServesCalls name) old new ended
-calls_run name old new ended p = record { course = p.0; does = p.1; ties = calls_ties old new name p.0 ended p.1 }
+calls_run name old new ended p = record { course = p.0; does = p.1 }

@@ -17,6 +17,7 @@ use Rattle.sector_model.specs.Runs.{Taken}
 use Rattle.sector_model.specs.Plays.{World, whole_status}
 use Rattle.scripts.specs.Scripts.{Script, RunsScript}
 use Rattle.scripts.specs.Leading.{Runs}
+use Rattle.scripts.proofs.Running.{script_ties}
 use Rattle.disk_commands.specs.Format.{format_script, formats_disk}
 use Rattle.disk_commands.specs.Verify.{verify_script, no_reads, one_more, tells_failure, verifies_record, verifies_track, reads_disk}
 use Rattle.disk_commands.specs.Copy.{copy_script, write_request, no_marks, reads_record, writes_record, copies_track, makes_copy, copies_disk}
@@ -63,7 +64,8 @@ format_complete rate name count old new ended least most begins runs =
     (λ new done. behind tt new (any_made 0 rate count _ new.state.station done.made)))
     (blank_made 0 rate count two.state.station is.valid alone.ready) _
     (λ none three made. eject_goes 0 made.disk _ three refl made.medium (λ new. refl)))))
-    (runs.ties.undisturbed begins.sound) runs.does (λ done faultless. format_stores rate name count old new runs.course done faultless.first)
+    ((script_ties (format_script name count rate) old runs.course new ended runs.does).undisturbed begins.sound) runs.does (λ done faultless.
+    format_stores rate name count old new runs.course done faultless.first)
 
 -- ---- Copy.
 
@@ -171,7 +173,7 @@ copy_complete from to old new ended files disk begins told image readable runs =
     goes_tracks (λ none new. IsCopying disk AnyDisk new) count disk.heads (copies_track (sectors_at rate)) tt four
     (λ c h cylinder head none mid there. copied_goes disk readable ranges.0 ranges.1 c h (cylinder, head) mid there) copying _
     (λ none five there. eject_goes 1 there.second.disk _ five refl there.second.medium (λ new. refl)))))))
-    (runs.ties.undisturbed begins.sound) runs.does (λ done faultless.
+    ((script_ties (copy_script from to) old runs.course new ended runs.does).undisturbed begins.sound) runs.does (λ done faultless.
     same_sectors disk to old.state.station.counters new.state.station.counters runs.course (Some files) new.files (readable.regular, inl faultless.first)
     (copy_stores from to old new runs.course files disk done told image (fresh_memory old.state.station begins.fresh) faultless.second))
 
@@ -222,6 +224,6 @@ verify_complete name old new ended files disk begins told image readable runs =
     verified_goes disk readable ranges.0 ranges.1 c h r now one (cylinder, head) least (omega (arith, below)) is) there)
     (record { ready = alone.ready; fine = refl }) _
     (λ tally three there. ap whole_status there.fine))))
-    (runs.ties.undisturbed begins.sound) runs.does (λ done faultless.
+    ((script_ties (verify_script name) old runs.course new ended runs.does).undisturbed begins.sound) runs.does (λ done faultless.
     verify_tells name old new runs.course status.AllOk files disk [] done tt told image empty faultless.calm (readable_unmistaken disk readable)
     (none_failing disk readable))

@@ -24,6 +24,7 @@ use Rattle.scripts.specs.Scripts.{RunsScript}
 use Rattle.scripts.specs.Leading.{Runs}
 use Rattle.scripts.specs.Records.{record_address}
 use Rattle.scripts.proofs.Reading.{last_run}
+use Rattle.scripts.proofs.Running.{script_ties}
 use Rattle.flat_commands.specs.FlatFiles.{IsFlatFile, IsFlatFound, IsNotTaken}
 use Rattle.flat_commands.specs.Import.{Imports, fills_byte, fills_record, fills_track, writes_record, writes_track, imports_track, import_script}
 use Rattle.command_laws.proofs.Prepared.{IsBlank}
@@ -187,7 +188,8 @@ pub import_complete : (flat name : List ℕ) (old new : World) (ended : Status) 
     → old.files ≡ Some files → IsFlatFile (Some files) flat bytes rate → Runs (Imports flat name) old new ended
     → EndsWellOrOutside (StoresDisk bytes name rate (Some files) new.files) ended
 import_complete flat name old new ended files bytes rate begins told is runs =
-    import_ends flat name old new runs.course ended files bytes rate begins told is (runs.ties.undisturbed begins.sound) runs.does.0 runs.does.1 runs.does.2
+    let calm = (script_ties (import_script runs.does.0 name) old runs.course new ended runs.does.2).undisturbed begins.sound in
+    import_ends flat name old new runs.course ended files bytes rate begins told is calm runs.does.0 runs.does.1 runs.does.2
 
 -- ---- Export.
 
@@ -233,7 +235,7 @@ export_complete name flat old new ended files disk begins told image whole runs 
     goes_tracks (IsReady disk whole) 80 2 (reads_track (sectors_at disk.rate)) [] two (λ c h cylinder head bytes mid there.
     goes_each (IsReady disk whole) (reads_record c h) 1 (sectors_at disk.rate) bytes mid (λ r least below now three ready.
     record_goes disk whole c h r now three cylinder head least (omega (arith, below)) ready) there) alone.ready _ (λ bytes three ready. refl))))
-    (runs.ties.undisturbed begins.sound) runs.does (λ done faultless.
+    ((script_ties (export_script name flat) old runs.course new ended runs.does).undisturbed begins.sound) runs.does (λ done faultless.
     same_flat disk files name flat old.state.station.counters new.state.station.counters runs.course new.files whole image faultless.first
     (subst (λ (f : Option Files). StoresExported name flat old.state.station.counters f runs.course new.state.station.counters new.files) told
     (export_stores name flat old new runs.course done (fresh_memory old.state.station begins.fresh))))

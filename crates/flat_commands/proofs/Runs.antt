@@ -31,7 +31,7 @@ imported : (flat name : List ℕ) (found : Result (List ℕ × Rate) Stop) (old 
     → IsFlatFound old.files flat found → Finishes (import_script found name) old new ended → Runs (Imports flat name) old new ended
 imported flat name found old new ended is goes =
     let ran = finished (import_script found name) old new ended goes in
-    record { course = ran.course; does = (found, is, ran.does); ties = ran.ties }
+    record { course = ran.course; does = (found, is, ran.does) }
 
 -- an import was run, behind the load of its flat file
 pub imported_flat : (flat name bytes : List ℕ) (rate : Rate) (state : State) (files after : Option Files)

@@ -1,5 +1,5 @@
 -- Requests that were run and told, one after the other.
-use Rattle.std.proofs.Common.{arith, ◌≡◌, ℕ, ◌+◌, ◌<◌, ◌≤◌, suc, Bool, false, List, [], ◌∷◌, ◌++◌, length, take, drop, get_or, refl, ap, ◌∙◌, sym, subst, drop-cons, Option, Some, None}
+use Rattle.std.proofs.Common.{◌≡◌, ℕ, ◌+◌, ◌<◌, ◌≤◌, suc, Bool, false, List, [], ◌∷◌, ◌++◌, length, take, drop, get_or, refl, ap, ◌∙◌, sym, subst, drop-cons, Option, Some, None}
 use Rattle.std.specs.Prelude.{◌||◌, IsSome}
 use Rattle.std.proofs.lemmas.List.{take-append-drop, take_more}
 use Rattle.flop_base.specs.declared.answers.Status.TheVariants as status
@@ -24,8 +24,6 @@ use Rattle.sector_model.specs.Texts.{reply_text, stop_text, stop_status, bad_lin
 use Rattle.sector_model.specs.Runs.{Taken, course_text, has_refusal}
 use Rattle.sector_model.specs.Plays.{World, PlaysRequests, PlaysParsed, Played, Stopped, BrokenOff, EndStopped, Prints, Tells, TellsAlone, IsText, Plays, There, Missing, TooLong, Faulty, Starved, whole_status}
 use Rattle.floppy_forms.specs.Rounds.{world, IsRound, HasRun, HasPlayed, Breaks, AtStop, AtPut, EndsAs, InWhole, AtStore, PlaysOrStarves, AsParsed, Starving}
-use Rattle.sector_model.specs.Ties.{IsJob, accesses_of_job}
-use Rattle.sector_model.proofs.PlayTies.{play_ties, alone_ties, play_accesses, ran_ties}
 use Rattle.sector_model.proofs.Runs.{run_more, requests_more, text_more, refusal_more}
 use Rattle.floppy_report.specs.LastLines.{bad_words_text}
 use Rattle.flop_base.specs.declared.answers.NoMemory.{NoMemory}
@@ -34,7 +32,7 @@ use Rattle.floppy_words.specs.declared.form.Form.{Form}
 use Rattle.floppy_words.specs.declared.form.Form.TheVariants as form
 use Rattle.scripts.specs.Leading.{Runs}
 use Rattle.scripts.specs.Texts.{MissesText}
-use Rattle.floppy_forms.specs.Programs.{DoesForm, DoesOrStarves, AsAsked, StarvesWords, Does}
+use Rattle.floppy_forms.specs.Programs.{DoesForm, AsAsked, StarvesWords, Does}
 use Rattle.std.proofs.lemmas.Bool.{true≢false}
 use Rattle.floppy_report.proofs.DumpLines.{grown-twice, grown-nothing}
 
@@ -199,7 +197,7 @@ missed_plays state told loaded report after job error ended stays loads missed =
 
 -- a play is what its form asks for
 pub play_runs : (job : List ℕ) (old new : World) (ended : Status) → ((course : List Taken) × Plays job old course new ended) → Runs (DoesForm (form.Play job)) old new ended
-play_runs job old new ended p = record { course = p.0; does = p.1; ties = play_ties old new job p.0 ended p.1 }
+play_runs job old new ended p = record { course = p.0; does = p.1 }
 
 -- a form, by what it was found to be
 pub form_runs : (asked named : Form) (old new : World) (ended : Status) → asked ≡ named → Runs (DoesForm named) old new ended → Runs (DoesForm asked) old new ended
@@ -208,7 +206,7 @@ form_runs asked named old new ended is runs = subst (λ (f : Form). Runs (DoesFo
 -- a form that was done
 pub runs_asked : (spelled : Option Form) (asked : Form) (old new : World) (ended : Status) → spelled ≡ Some asked → Runs (DoesForm asked) old new ended → Runs (Does spelled) old new ended
 runs_asked spelled asked old new ended is runs =
-    subst (λ (o : Option Form). Runs (Does o) old new ended) (sym is) (record { course = runs.course; does = AsAsked runs.does; ties = runs.ties })
+    subst (λ (o : Option Form). Runs (Does o) old new ended) (sym is) (record { course = runs.course; does = AsAsked runs.does })
 
 -- memory for the words of a form couldn't be had
 pub runs_starving : (spelled : Option Form) (old : World) → IsSome spelled → Runs (Does spelled) old old status.NoMemory
@@ -216,7 +214,6 @@ runs_starving None old some = absurd (true≢false (sym some))
 runs_starving (Some asked) old some = record {
   course = [];
   does = StarvesWords refl (record { same = refl; status = refl });
-  ties = ran_ties old.state old.state old.files old.files [] (refl, refl);
 }
 
 -- words that are no form
@@ -224,17 +221,7 @@ pub runs_none : (spelled : Option Form) (old new : World) (ended : Status) → s
 runs_none spelled old new ended none tells =
     let alone : TellsAlone bad_words_text status.BadWords old [] new ended = record { nothing = refl; tells = tells } in
     subst (λ (o : Option Form). Runs (Does o) old new ended) (sym none)
-    (record { course = []; does = alone; ties = alone_ties old new bad_words_text status.BadWords [] ended alone })
-
-play_or_starve : (job : List ℕ) (old new : World) (course : List Taken) (ended : Status) (requests : List Request) → DoesOrStarves (form.Play job) old course new ended → IsJob old.files job requests → new.state.station.counters.direct ≤ old.state.station.counters.direct + accesses_of_job requests
-play_or_starve job old new course ended requests (AsAsked plays) is = play_accesses old new job course ended requests plays is
-play_or_starve job old new course ended requests (StarvesWords nothing idle) is =
-    let same = ap (λ (w : World). w.state.station.counters.direct) idle.same in omega (arith, same)
-
--- the accesses of a play, by the requests of the job that the words name
-pub named_accesses : (spelled : Option Form) (old new : World) (ended : Status) → Runs (Does spelled) old new ended → (job : List ℕ) (requests : List Request) → spelled ≡ Some (form.Play job) → IsJob old.files job requests → new.state.station.counters.direct ≤ old.state.station.counters.direct + accesses_of_job requests
-named_accesses spelled old new ended runs job requests is spells =
-    play_or_starve job old new runs.course ended requests (subst (λ (o : Option Form). Does o old runs.course new ended) is runs.does) spells
+    (record { course = []; does = alone })
 
 -- ---- What was read of the words.
 

@@ -2,7 +2,6 @@
 use Rattle.std.proofs.Common.{[], refl}
 use Rattle.flop_base.specs.declared.answers.Status.{Status}
 use Rattle.sector_model.specs.States.{State}
-use Rattle.sector_model.proofs.PlayTies.{ran_ties}
 use Rattle.scripts.specs.Leading.{Runs}
 use Rattle.archive_commands.specs.Files.{Desk}
 use Rattle.floppy_forms.specs.Rounds.{world}
@@ -12,5 +11,4 @@ pub on_files : (Does : Desk → Desk → Status → Type 0) (state : State) (old
 on_files Does state old new ended does = record {
   course = [];
   does = record { nothing = refl; state = refl; does = does };
-  ties = ran_ties state state old.files old.files [] (refl, refl);
 }

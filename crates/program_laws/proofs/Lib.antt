@@ -1,4 +1,5 @@
 pub mod OnBoards
+mod OnCounts
 pub mod OfForms
 pub mod Archives
 mod Calls

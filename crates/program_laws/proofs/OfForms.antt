@@ -5,7 +5,6 @@ use Rattle.flop_base.specs.declared.answers.Status.TheVariants as status
 use Rattle.bay_model.specs.Counters.{DriveCounts}
 use Rattle.pc_bus.specs.Boards.{Board}
 use Rattle.sector_model.specs.Runs.{Taken}
-use Rattle.sector_model.specs.Ties.{TiesCounts}
 use Rattle.sector_model.specs.Plays.{World}
 use Rattle.scripts.specs.Leading.{Runs}
 use Rattle.archive_commands.specs.Files.{Desk}
@@ -14,17 +13,17 @@ use Rattle.floppy_forms.specs.Rounds.{world}
 use Rattle.floppy_forms.specs.Programs.{DoesForm, DoesOrStarves, AsAsked, StarvesWords}
 use Rattle.floppy_tools.specs.Machines.{RunsOver}
 
-asked_or_starved : (asked : Form) (old new : World) (course : List Taken) (ended : Status) → TiesCounts old.state.station.counters course new.state.station.counters
+asked_or_starved : (asked : Form) (old new : World) (course : List Taken) (ended : Status)
     → DoesOrStarves asked old course new ended → Runs (DoesForm asked) old new ended ⊎ (ended ≡ status.NoMemory)
-asked_or_starved asked old new course ended ties (AsAsked does) = inl (record { course = course; does = does; ties = ties })
-asked_or_starved asked old new course ended ties (StarvesWords nothing idle) = inr idle.status
+asked_or_starved asked old new course ended (AsAsked does) = inl (record { course = course; does = does })
+asked_or_starved asked old new course ended (StarvesWords nothing idle) = inr idle.status
 
 -- the form was done, or memory for its words couldn't be had
 pub form_done : (asked : Form) (old : Board) (spares : List DriveCounts) (before : Desk) (new : Board) (after : Desk) (ended : Status)
     → (over : RunsOver (Some asked) old spares before new after ended)
     → Runs (DoesForm asked) (world over.start before.files before.report) (world over.last after.files after.report) ended ⊎ (ended ≡ status.NoMemory)
 form_done asked old spares before new after ended over =
-    asked_or_starved asked (world over.start before.files before.report) (world over.last after.files after.report) over.runs.course ended over.runs.ties over.runs.does
+    asked_or_starved asked (world over.start before.files before.report) (world over.last after.files after.report) over.runs.course ended over.runs.does
 
 -- where all went well, the form was done
 pub form_well : (asked : Form) (old : Board) (spares : List DriveCounts) (before : Desk) (new : Board) (after : Desk)

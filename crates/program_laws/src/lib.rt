@@ -3,6 +3,7 @@
 
 mod archive;
 mod copy;
+mod counts;
 mod ends;
 mod fitting;
 mod flat;
@@ -16,6 +17,7 @@ mod words;
 
 pub use archive::{disk_laid_anew, disk_of_an_imd, imd_of_a_disk, survey_of_a_disk};
 pub use copy::copy_of_a_disk;
+pub use counts::{counts_are_tied, job_accesses};
 pub use ends::{
     copy_ends_well, export_ends_well, format_ends_well, formatdd_ends_well,
     further_rescue_ends_well, import_ends_well, new_rescue_ends_well, verify_ends_well,

@@ -9,7 +9,7 @@ use Rattle.sector_model.specs.Plays.{World}
 use Rattle.floppy_session.specs.declared.shape.Shape.{Shape}
 use Rattle.scripts.specs.Parts.{opens}
 use Rattle.scripts.specs.Leading.{Leads, IsRunOf, Goes, Runs}
-use Rattle.scripts.proofs.Running.{leads_itself, tied_run}
+use Rattle.scripts.proofs.Running.{leads_itself, with_course}
 use Rattle.rescue.specs.declared.line.LogLine.{LogLine}
 use Rattle.rescue_commands.specs.declared.logs.NoLog.{NoLog}
 use Rattle.rescue_commands.specs.declared.logs.NoLog.TheVariants as missing
@@ -42,8 +42,8 @@ are_found told log R250 answer is R250 = is
 by_found : (from to log : List ℕ) (found : Rate → Answer) (old new : World) (ended : Status) → AreFound old.files log found
     → IsRunOf (rescue_script from to log found) old new ended → Runs (Rescues from to log) old new ended
 by_found from to log found old new ended are run =
-    let tied = tied_run (rescue_script from to log found) old new ended run in
-    record { course = tied.course; does = (found, are, tied.does); ties = tied.ties }
+    let ran = with_course (rescue_script from to log found) old new ended run in
+    record { course = ran.course; does = (found, are, ran.does) }
 
 -- the disk couldn't be put in
 pub not_opened : (from to log : List ℕ) (old new : World) (ended : Status) → Goes {Found = Shape} (opens from) old (Err ended) new

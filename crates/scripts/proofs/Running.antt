@@ -239,10 +239,15 @@ ran_tied old course new (Through files run) = ran_ties old.state new.state old.f
 ran_tied old course new (Stopped mid files asked cause run stops) = stopped_ties old.state mid new.state old.files files new.files course asked cause run stops
 
 -- a run's counts are tied to its course
-pub tied_run : (script : Script) (old new : World) (ended : Status) → IsRunOf script old new ended → Runs (RunsScript script) old new ended
+pub script_ties : (script : Script) (old : World) (course : List Taken) (new : World) (ended : Status) → RunsScript script old course new ended
+    → TiesCounts old.state.station.counters course new.state.station.counters
+script_ties script old course new ended runs = ran_tied old course new (script_ran script old course new ended runs)
+
+-- a run by some course
+pub with_course : (script : Script) (old new : World) (ended : Status) → IsRunOf script old new ended → Runs (RunsScript script) old new ended
 unfolding IsRunOf
-tied_run script old new ended run = record { course = run.0; does = run.1; ties = ran_tied old run.0 new (script_ran script old run.0 new ended run.1) }
+with_course script old new ended run = record { course = run.0; does = run.1 }
 
 -- what ends a whole script, from its begin on, is a run of it
 pub finished : (script : Script) (old new : World) (ended : Status) → Finishes script old new ended → Runs (RunsScript script) old new ended
-finished script old new ended ends = tied_run script old new ended (ends script old (leads_itself script old))
+finished script old new ended ends = with_course script old new ended (ends script old (leads_itself script old))

@@ -7,7 +7,6 @@ use Rattle.sector_model.specs.declared.reply.Reply.{Reply}
 use Rattle.sector_model.specs.Faults.{Blames}
 use Rattle.sector_model.specs.States.{State}
 use Rattle.sector_model.specs.Runs.{Taken}
-use Rattle.sector_model.specs.Ties.{TiesCounts}
 use Rattle.sector_model.specs.Plays.{World}
 use Rattle.floppy_report.specs.Faults.{BlamesAlone}
 use Rattle.floppy_report.specs.Puts.{Printed}
@@ -85,11 +84,10 @@ pub record RanPart {T : Type 0} (Does : World → Result T Status → World → 
   pub shelf_faults : Blames (IsErrOf result status.FileFault) old.shelf_faults new.shelf_faults
   pub sink_faults : BlamesAlone (IsErrOf result status.SinkFault) old.sink_faults new.sink_faults
 
--- what is done between two worlds, by some course whose counts are tied to those that the station shows before and after
+-- what is done between two worlds, by some course
 pub record Runs (Does : World → List Taken → World → Status → Type 0) (old new : World) (ended : Status) : Type 0 where
   pub course : List Taken
   pub does : Does old course new ended
-  pub ties : TiesCounts old.state.station.counters course new.state.station.counters
 
 -- ---- Of calls that take the sink alone through.
 

@@ -5,7 +5,7 @@ use Rattle.port_commands.specs.Benches.{Names, no_names}
 use Rattle.port_commands.specs.Guards.{RunsPorts}
 use Rattle.port_commands.specs.Plays.{world_of}
 use Rattle.port_commands.proofs.Guarding.{starves}
-use Rattle.floppy_tools.proofs.Ports.{named_file, plays_none, wants_file}
+use Rattle.floppy_tools.proofs.Ports.{named_file, wants_file}
 use Rattle.floppy_tools.proofs.program.floppy.Goals as goal
 
 pub returns-in-Ok-Some : goal.returns-in-Ok-Some
@@ -24,9 +24,6 @@ returns-in-Ok-Some g c =
             c.at_ports.result.0) is c.at_ports.ensures.does;
         bad_words = search rules;
       };
-      accesses = λ job requests plays is.
-          absurd (plays_none (map string_bytes c.args.words.now) c.in-Ok-Some.field-0 c.in-Ok-Some.file job c.in-Ok-Some.field-0-is
-          c.in-Ok-Some.ensures.file plays);
       shelf_faults = search rules;
       sink_faults = search rules;
     }
@@ -39,7 +36,6 @@ returns-in-Err g c = record {
         (no_names, starves (world_of g.D.Drive.state g.S.Shelf.told g.K.Sink.told c.args.machine no_names c.args.shelf.now c.args.out.now) file);
     bad_words = search rules;
   };
-  accesses = search rules;
   shelf_faults = search rules;
   sink_faults = search rules;
 }

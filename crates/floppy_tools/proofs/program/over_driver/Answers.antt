@@ -5,7 +5,6 @@ use Rattle.floppy_words.specs.Forms.{form_of}
 use Rattle.archive_commands.specs.Files.{desk_of}
 use Rattle.machine_station.specs.Shown.{all_counts}
 use Rattle.floppy_tools.specs.Machines.{RunsOver}
-use Rattle.floppy_tools.proofs.Machines.{machine_accesses}
 use Rattle.floppy_tools.proofs.program.over_driver.Goals as goal
 
 pub returns : goal.returns
@@ -25,7 +24,6 @@ returns g c =
     } in
     record {
       runs = ran;
-      accesses = λ job requests named is. machine_accesses asked old new spares before after c.run_asked-status.result ran job requests named is;
       bad_words = search rules;
       shelf_faults = search rules;
       sink_faults = search rules;
