@@ -23,6 +23,7 @@ use Rattle.floppy_session.specs.declared.shape.Shape.{Shape}
 use Rattle.scripts.specs.Scripts.{Script}
 use Rattle.scripts.specs.Leading.{Runs}
 use Rattle.scripts.specs.Parts.{carries, may_starve, through, formats}
+use Rattle.scripts.proofs.Running.{script_ties}
 use Rattle.rescue.specs.Course.{standard_keys}
 use Rattle.rescue.specs.declared.line.LogLine.{LogLine}
 use Rattle.rescue_commands.specs.Logs.{IsLogFound, IsFound}
@@ -183,6 +184,6 @@ new_rescue_complete from to log old new ended files disk begins told image reada
     (opens_goes from files disk (λ (shape : Shape). rescue_rest to log shape (answers shape.rate)) old.state image begins.fresh (λ one put.
     by_absent files to log (shape_of disk) (λ (s : Script). GoesWell s one) absent
     (new_goes disk readable ranges.0 ranges.1 to log (Some files) one ranges.2 put) tt tt (answers disk.rate) there))
-    (runs.ties.undisturbed begins.sound) runs.does.2 (λ done faultless fine.
+    ((script_ties (rescue_script from to log answers) old runs.course new ended runs.does.2).undisturbed begins.sound) runs.does.2 (λ done faultless fine.
     let all = goes_through from to log disk files old runs.course new status.AllOk tt (unstopped runs.course fine) told (answers, are, done) image in
     new_stored from to log old new runs.course files disk begins told image readable absent differ faultless fine all.found all.there all.goes)

@@ -22,6 +22,7 @@ use Rattle.floppy_session.specs.declared.shape.Shape.{Shape}
 use Rattle.scripts.specs.Scripts.{Script, Ends}
 use Rattle.scripts.specs.Leading.{Runs}
 use Rattle.scripts.specs.Parts.{carries, may_starve, through, acknowledges}
+use Rattle.scripts.proofs.Running.{script_ties}
 use Rattle.rescue.specs.Course.{logged_keys}
 use Rattle.rescue.specs.Log.{IsLog, log_text}
 use Rattle.rescue.proofs.LawLemmas.{one_spelling}
@@ -198,7 +199,7 @@ further_rescue_complete from to log old new ended files disk target lines begins
     (sym (one_log files log (sectors_at disk.rate) lines asked (small_sectors disk.rate) there is))
     (further_goes disk target files to log lines regular ranges.0 ranges.1 there other has takes one put))
     (λ line end. absurd end) (λ any. tt) (λ any. tt) (answers disk.rate) found no_end))
-    (runs.ties.undisturbed begins.sound) runs.does.2 (λ done faultless fine.
+    ((script_ties (rescue_script from to log answers) old runs.course new ended runs.does.2).undisturbed begins.sound) runs.does.2 (λ done faultless fine.
     let all = goes_through from to log disk files old runs.course new status.AllOk tt (unstopped runs.course fine) told (answers, are, done) image in
     let same = one_log files log (sectors_at disk.rate) lines all.found (small_sectors disk.rate) there all.there in
     further_stored from to log old new runs.course files disk target lines begins image other differ regular takes faultless fine
