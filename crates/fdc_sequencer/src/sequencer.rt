@@ -89,6 +89,24 @@ impl<D: Inspect> Sequencer<D> {
     pub fn run(&mut self, most: u32) -> u32
         ensures { RunsFront most (front_state D.state self.old) result (front_state D.state self.new) }
     {
+        match self.stage {
+            Stage::Through => self.run_through(most),
+            _ => self.run_by_steps(most),
+        }
+    }
+
+    /// The same where nothing is done behind a step and the lines are the board's, which makes many steps at once.
+    fn run_through(&mut self, most: u32) -> u32
+        requires { self.old.stage ≡ Stage.Through }
+        ensures { RunsFront most (front_state D.state self.old) result (front_state D.state self.new) }
+    {
+        self.board.run(most)
+    }
+
+    /// The same, step by step.
+    fn run_by_steps(&mut self, most: u32) -> u32
+        ensures { RunsFront most (front_state D.state self.old) result (front_state D.state self.new) }
+    {
         let int = self.int();
         let drq = self.drq();
         for i in 0..most {

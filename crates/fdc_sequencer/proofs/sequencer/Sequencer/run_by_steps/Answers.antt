@@ -1,7 +1,7 @@
 use Rattle.std.proofs.Common.{◌≡◌, refl, sym, arith}
 use Rattle.fdc_sequencer.specs.Fronts.{front_state}
 use Rattle.fdc_sequencer.proofs.Runs.{runs_none, runs_more}
-use Rattle.fdc_sequencer.proofs.sequencer.Sequencer.run.Goals as goal
+use Rattle.fdc_sequencer.proofs.sequencer.Sequencer.run_by_steps.Goals as goal
 
 pub loop-i-init : goal.loop-i-init
 loop-i-init g c = (runs_none _ _ _, (sym c.int-int.ensures, sym c.drq-drq.ensures))
