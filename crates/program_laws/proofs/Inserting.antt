@@ -35,13 +35,13 @@ length-file d =
     let back : length (drop 14 (file_of d)) ≡ length (bytes_of d.words) = refl in
     omega (arith, front, back, length-take 14 (file_of d), length-drop 14 (file_of d), length-bytes_of d.words)
 
-file_text : (d : Disk) → IsDisk d → IsDiskText (file_of d) d
+pub file_text : (d : Disk) → IsDisk d → IsDiskText (file_of d) d
 file_text d valid =
     let tracks = mul-le d.cylinders d.heads 80 2 valid.cylinders.1 valid.heads.1 in
     let words = mul-le (d.cylinders * d.heads) d.words_per_track 160 16384 (omega (arith, tracks)) valid.words_per_track.1 in
     (omega (arith, length-file d, valid.count, words), (valid, inl refl))
 
-file_stored : (files : Files) (name bytes other : List ℕ)
+pub file_stored : (files : Files) (name bytes other : List ℕ)
     → file_at (fin.insert files name bytes) other ≡ cond (eq_by_cmp (slice_cmp nat_cmp) other name) (Some bytes) (file_at files other)
 file_stored files name bytes other = fin.get-insert nat_list_cmp_total files name bytes other
 

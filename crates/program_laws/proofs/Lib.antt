@@ -17,6 +17,9 @@ mod Rescues
 mod Stepping
 mod Inserting
 mod KeptSteps
+mod Protected
+mod ProtectedCalls
+mod ProtectedJobs
 mod PlayStatus
 mod CallStatus
 mod RescueAgain

@@ -46,7 +46,7 @@ no_stop_end cause ended whole is = not_stop cause (subst IsEndStatus is whole)
 pub no_end : (wanted ended : Status) → IsEndStatus ended → ended ≡ wanted → (IsEndStatus wanted → ⊥) → ⊥
 no_end wanted ended whole is bad = bad (subst IsEndStatus is whole)
 
-text_there : (files : Files) (job text : List ℕ) → IsText (Some files) job text → file_at files job ≡ Some text
+pub text_there : (files : Files) (job text : List ℕ) → IsText (Some files) job text → file_at files job ≡ Some text
 text_there files job text told = go (file_at files job) told
   where
     go : (found : Option (List ℕ)) → IsSomeAnd found (λ bytes. (bytes ≡ text) × (length bytes ≤ most_job_bytes)) → found ≡ Some text

@@ -29,7 +29,7 @@ use Rattle.sector_map.specs.Disks.{IsRegularDisk}
 
 -- ---- bays
 
-other_bay : (bays : Two Bay) (at bay : ℕ) (x : Bay) → is_same_bay at bay ≡ false → in_bay (with_bay bays at x) bay ≡ in_bay bays bay
+pub other_bay : {T : Type 0} (bays : Two T) (at bay : ℕ) (x : T) → is_same_bay at bay ≡ false → in_bay (with_bay bays at x) bay ≡ in_bay bays bay
 other_bay bays at bay x apart = go (at == 0) (bay == 0) apart
   where
     go : (s t : Bool) → (if s then t else not t) ≡ false
@@ -40,7 +40,7 @@ other_bay bays at bay x apart = go (at == 0) (bay == 0) apart
     go false true e = refl
     go false false e = absurd (true≢false e)
 
-same_bay : (bays : Two Bay) (at bay : ℕ) → is_same_bay at bay ≡ true → in_bay bays at ≡ in_bay bays bay
+pub same_bay : (bays : Two Bay) (at bay : ℕ) → is_same_bay at bay ≡ true → in_bay bays at ≡ in_bay bays bay
 same_bay bays at bay same = go (at == 0) (bay == 0) same
   where
     go : (s t : Bool) → (if s then t else not t) ≡ true → (if s then bays.first else bays.second) ≡ (if t then bays.first else bays.second)
@@ -65,10 +65,10 @@ kept_medium bays at bay x is = go (at == 0) (bay == 0) is
 medium_in : ℕ → StationState → Option Disk
 medium_in bay station = (bay_of station bay).medium
 
-becomes_medium : (target new : StationState) (bay : ℕ) → Becomes target new → (bay_of new bay).medium ≡ (bay_of target bay).medium
+pub becomes_medium : (target new : StationState) (bay : ℕ) → Becomes target new → (bay_of new bay).medium ≡ (bay_of target bay).medium
 becomes_medium target new bay becomes = ap (λ (s : StationState). (bay_of s bay).medium) becomes
 
-sorted : {P : Type 0} (b : Bool) → (b ≡ true → P) → (b ≡ false → P) → P
+pub sorted : {P : Type 0} (b : Bool) → (b ≡ true → P) → (b ≡ false → P) → P
 sorted true yes_ no_ = yes_ refl
 sorted false yes_ no_ = no_ refl
 
@@ -159,7 +159,7 @@ module _ (old : State) (bay : ℕ) (guarded : IsGuarded old.station bay) where
   read_done new at address key (Ok deleted) reads = ap (λ (s : StationState). (bay_of s bay).medium) reads.found.becomes
   read_done new at address key (Err code) reads = ap (λ (s : StationState). (bay_of s bay).medium) reads.refused.becomes
 
-  step_keeps : (asked : Request) (told : Option Files) (answer : Reply) (new : State) (after : Option Files) → Step asked old told answer new after
+  pub step_keeps : (asked : Request) (told : Option Files) (answer : Reply) (new : State) (after : Option Files) → Step asked old told answer new after
       → exchanges bay asked ≡ false → Keeps new
   step_keeps (request.Insert at name) told answer new after step apart =
       either (refusal_of old (request.Insert at name)) step (λ does. other_keeps new at _ does.2.2.exchanged.becomes apart) (λ cause refused. stays_keeps new refused.same.stays)

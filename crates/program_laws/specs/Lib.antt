@@ -6,3 +6,4 @@ pub mod Answered
 pub mod Made
 pub mod Steps
 pub mod Inserted
+pub mod Guarded

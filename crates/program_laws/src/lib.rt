@@ -8,6 +8,7 @@ mod ends;
 mod fitting;
 mod flat;
 mod format;
+mod guarded;
 mod play;
 mod rescued;
 mod status;
@@ -25,6 +26,7 @@ pub use ends::{
 pub use fitting::{fromimd_status, remaster_status, survey_status, toimd_status};
 pub use flat::{disk_of_a_flat_file, flat_file_of_a_disk};
 pub use format::{format_of_a_disk, formatdd_of_a_disk};
+pub use guarded::{protected_disk_stays, protected_disk_stays_by_job, protected_disk_stays_called};
 pub use play::{calls_are_answered, job_is_answered};
 pub use rescued::{
     further_rescue_settles_each_record, new_rescue_settles_each_record, rescue_logs_the_rest,
