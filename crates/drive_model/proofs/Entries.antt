@@ -1,5 +1,5 @@
 -- Lists of planned faults, by the place of an entry.
-use Rattle.std.proofs.Common.{◌≡◌, ℕ, zero, suc, ◌+◌, ◌<◌, true, false, List, [], ◌∷◌, length, get_or, ap, ◌∙◌, arith}
+use Rattle.std.proofs.Common.{◌≡◌, ℕ, zero, suc, ◌+◌, ◌<◌, true, false, List, [], ◌∷◌, length, take, get_or, ap, ◌∙◌, arith}
 use Rattle.std.proofs.Math.ListN.{set}
 use Rattle.std.proofs.lemmas.Bool.{cond-true, cond-false}
 use Rattle.std.proofs.lemmas.Grind.{common_steps}
@@ -7,7 +7,7 @@ use Rattle.std.proofs.lemmas.List.Sums.{sum_by-set}
 use Rattle.drive_model.specs.declared.fault.Fault.{Fault}
 use Rattle.drive_model.specs.declared.fault.Fault.TheVariants.{Dropout, Cut, Lose, Stick}
 use Rattle.drive_model.specs.declared.fault.Event.{Event}
-use Rattle.drive_model.specs.Fault.{meets, lowered, spent, count_left, total_left}
+use Rattle.drive_model.specs.Fault.{meets, lowered, comes, spent, count_left, total_left}
 
 -- the first entry that meets the event is the one that is lowered
 pub spent-at : (event : Event) (fs : List Fault) (i : ℕ) (d : Fault) → i < length fs → meets event (get_or fs i d) ≡ true → ((k : ℕ) → k < i → meets event (get_or fs k d) ≡ false) → spent fs event ≡ set fs i (lowered (get_or fs i d))
@@ -35,3 +35,7 @@ total-lowered event fs i d short here =
     let total : total_left (set fs i (lowered f)) + count_left f ≡ total_left fs + count_left (lowered f) = sum_by-set count_left fs i (lowered f) d short in
     let one : count_left (lowered f) + 1 ≡ count_left f = lowered-count f (met-some event f here) in
     omega arith
+
+-- where none of the first entries meets an event, and the next doesn't, none of one more does
+pub none-more : (event : Event) (fs : List Fault) (k : ℕ) (d : Fault) → k < length fs → comes (take k fs) event ≡ false → meets event (get_or fs k d) ≡ false → comes (take (k + 1) fs) event ≡ false
+none-more event fs k d short before here = grind (arith, common_steps)

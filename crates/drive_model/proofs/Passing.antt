@@ -1,5 +1,5 @@
 -- Word times in a row.
-use Rattle.std.proofs.Common.{◌+◌, ℕ, zero, suc, Bool, false, List, [], ◌∷◌, Option, Some, None, refl, subst, ap, ◌∙◌, add-one, arith}
+use Rattle.std.proofs.Common.{◌+◌, ℕ, zero, suc, Bool, false, List, [], ◌∷◌, take, Option, Some, None, refl, subst, ap, ◌∙◌, add-one, arith}
 use Rattle.flop_base.specs.Counts.{Spends}
 use Rattle.drive_model.specs.Ahead.{LetsPass, AreAhead}
 use Rattle.drive_model.specs.Drive.{DriveState, Becomes, passed, with_gate}
@@ -31,6 +31,14 @@ pub lets_pass_more : (count : ℕ) (old between new : DriveState) → LetsPass c
 lets_pass_more count old between new passes step = rw add-one (lets_pass_suc count old between new passes step)
 
 -- ---- words ahead
+
+-- the first of them are ahead too
+pub ahead_first : (count head : ℕ) (words : List ℕ) (s : DriveState) → AreAhead head words s → AreAhead head (take count words) s
+unfolding AreAhead
+ahead_first zero head words s ahead = tt
+ahead_first (suc count) head [] s ahead = tt
+ahead_first (suc count) head (word ∷ rest) s (same, before, ahead) =
+    (same, before, ahead_first count head rest (passed s) ahead)
 
 -- the gate, the cut and the count of faults play no part
 pub ahead_same : (head : ℕ) (words : List ℕ) (s : DriveState) (gate cut : Bool) (faults : ℕ) (left : Option ℕ)

@@ -1,6 +1,5 @@
 -- What a list of planned faults says.
 use Rattle.std.specs.Prelude.{ℕ, ◌-◌, Bool, false, not, ◌&&◌, ◌==◌, nat_lt, if◌then◌else◌, List, [], ◌∷◌, position, is_some, sum_by}
-use Rattle.std.specs.List.{list_any}
 use Rattle.drive_model.specs.declared.fault.Fault.{Fault}
 use Rattle.drive_model.specs.declared.fault.Fault.TheVariants.{Dropout, Cut, Lose, Stick}
 use Rattle.drive_model.specs.declared.fault.Event.{Event}
@@ -31,15 +30,6 @@ is_for event fault = false
 -- the fault is planned for this event, and can still come
 abbrev pub meets : Event → Fault → Bool
 meets event fault = nat_lt 0 (count_left fault) && is_for event fault
-
--- the fault is a dropout, and can still come
-abbrev pub is_dropout : Fault → Bool
-is_dropout (Dropout c h word count) = nat_lt 0 count
-is_dropout fault = false
-
--- a dropout of the list can still come
-abbrev pub has_dropout : List Fault → Bool
-has_dropout faults = list_any is_dropout faults
 
 -- some fault of the list meets the event
 abbrev pub comes : List Fault → Event → Bool

@@ -1,5 +1,5 @@
 -- What a drive with planned faults shows, and when they come.
-use Rattle.std.specs.Prelude.{◌≡◌, ℕ, ◌+◌, Bool, ◌&&◌, nat_lt, min, if◌then◌else◌, List, Option, Some, None}
+use Rattle.std.specs.Prelude.{◌≡◌, ℕ, ◌+◌, ◌<◌, Bool, false, ◌&&◌, nat_lt, min, if◌then◌else◌, List, Option, Some, None}
 use Rattle.flop_base.specs.Counts.{last_count}
 use Rattle.drive_model.specs.Drive.{DriveState, at_speed, can_write}
 use Rattle.drive_model.specs.Fault.{comes, spent, total_left}
@@ -36,6 +36,11 @@ pulse_of s inward = Pulse s.cylinder inward
 -- the word that passes drops out
 abbrev pub drops : ScriptDrive → ℕ → Bool
 drops drive head = at_speed (script_state drive) && comes (script_of drive) (read_of (script_state drive) head)
+
+-- none of the next so many words of the track under a head drops out
+abbrev pub NoneComes : ℕ → ℕ → ScriptDrive → Type 0
+NoneComes head count drive =
+    (i : ℕ) → i < count → comes (script_of drive) (Read (script_state drive).cylinder head ((script_state drive).place + i)) ≡ false
 
 -- the open gate is cut
 abbrev pub cuts : ScriptDrive → ℕ → Bool

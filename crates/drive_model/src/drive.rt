@@ -92,7 +92,7 @@ pub trait Drive: Drop {
         ensures range { InRange (state self.new) };
 
     /// Words that are certain to pass next under a head, as `read_word` would give them, the first of them first. Behind none
-    /// of them the index comes. There may be none: a drive that has planned a dropout tells none.
+    /// of them the index comes. There may be none, and a drive that has planned a dropout tells only those before it.
     #[tactic(auto, unfolding(crate::specs::Ahead::AreAhead))]
     fn ahead(&self, _head: u8) -> &[u16]
         ensures { AreAhead _head result.now (state self.now) }

@@ -1,7 +1,8 @@
 // Planned faults.
-ghost use Rattle.std.specs.Prelude.{◌≡◌, ◌+◌, position, is_some};
+ghost use Rattle.std.specs.Prelude.{◌≡◌, ◌+◌, ◌≤◌, ◌<◌, ℕ, false, position, is_some};
 ghost use Rattle.std.specs.Bool.{OnTrue, OnFalse};
-ghost use Rattle.drive_model.specs.Fault.{is_for, meets, is_dropout, has_dropout, lowered, count_left, comes, spent, total_left};
+ghost use Rattle.drive_model.specs.declared.fault.Event.TheVariants.{Read};
+ghost use Rattle.drive_model.specs.Fault.{is_for, meets, lowered, count_left, comes, spent, total_left};
 
 /// A fault that comes up to `count` times. `c` is the cylinder under the heads, 0 to 82, `h` the head and `word` the
 /// place on the track, counted from the index on, from 0.
@@ -72,13 +73,21 @@ impl Fault {
         self.count() > 0 && self.is_for(event)
     }
 
-    /// It is a dropout, and can still come.
-    fn is_dropout(self) -> bool
-        ensures { result ≡ is_dropout self }
+    /// How many of the next words under a head, `most` at most, pass before the one that this fault drops.
+    fn words_before(self, c: u8, h: u8, place: u16, most: usize) -> usize
+        ensures within { result ≤ most }
+        ensures none { (i : ℕ) → i < result → meets (Read c h (place + i)) self ≡ false }
     {
         match self {
-            Fault::Dropout { count, .. } => count > 0,
-            _ => false,
+            Fault::Dropout {
+                c: at,
+                h: on,
+                word,
+                count,
+            } if count > 0 && at == c && on == h && word >= place => {
+                most.min(usize::from(word - place))
+            }
+            _ => most,
         }
     }
 
@@ -117,11 +126,16 @@ fn first_planned(faults: &[Fault], event: Event) -> Option<usize>
     faults.iter().position(|fault| fault.meets(event))
 }
 
-/// A dropout is planned that can still come.
-pub(crate) fn has_dropout(faults: &[Fault]) -> bool
-    ensures { result ≡ has_dropout faults.now }
+/// How many of the next words under a head, `most` at most, pass before the first that drops out.
+pub(crate) fn words_before(faults: &[Fault], c: u8, h: u8, place: u16, most: usize) -> usize
+    ensures within { result ≤ most }
+    ensures none { (i : ℕ) → i < result → comes faults.now (Read c h (place + i)) ≡ false }
 {
-    faults.iter().any(|fault| fault.is_dropout())
+    let mut limit = most;
+    for fault in faults {
+        limit = limit.min(fault.words_before(c, h, place, most));
+    }
+    limit
 }
 
 /// Takes one time off the first fault that meets the event, if there is one.

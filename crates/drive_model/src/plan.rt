@@ -1,12 +1,13 @@
 // The faults that a drive still has.
-ghost use Rattle.std.specs.Prelude.{◌≡◌, ◌+◌};
+ghost use Rattle.std.specs.Prelude.{◌≡◌, ◌+◌, ◌≤◌, ◌<◌, ℕ, false};
 ghost use Rattle.std.specs.Bool.{OnTrue, OnFalse};
-ghost use Rattle.drive_model.specs.Fault.{has_dropout, comes, spent, total_left};
+ghost use Rattle.drive_model.specs.declared.fault.Event.TheVariants.{Read};
+ghost use Rattle.drive_model.specs.Fault.{comes, spent, total_left};
 
 mod saving;
 
 use crate::Fault;
-use crate::fault::{Event, has_dropout, take_fault};
+use crate::fault::{Event, take_fault, words_before};
 use std::marker::Model;
 
 /// Planned faults in their order.
@@ -31,11 +32,12 @@ impl Plan {
         Plan { faults }
     }
 
-    /// A dropout is planned that can still come.
-    pub(crate) fn has_dropout(&self) -> bool
-        ensures { result ≡ has_dropout self.now }
+    /// How many of the next words under a head, `most` at most, pass before the first that drops out.
+    pub(crate) fn words_before(&self, c: u8, h: u8, place: u16, most: usize) -> usize
+        ensures within { result ≤ most }
+        ensures none { (i : ℕ) → i < result → comes self.now (Read c h (place + i)) ≡ false }
     {
-        has_dropout(&self.faults)
+        words_before(&self.faults, c, h, place, most)
     }
 
     /// Takes one time off the first fault that meets the event, if there is one.

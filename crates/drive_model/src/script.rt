@@ -1,10 +1,10 @@
 // A drive whose faults are planned.
-ghost use Rattle.std.specs.Prelude.{◌≡◌, ◌≤◌, ◌↔◌, [], IsErr, IsSome, OnOk, IfErr};
+ghost use Rattle.std.specs.Prelude.{◌≡◌, ◌≤◌, ◌↔◌, length, IsErr, IsSome, OnOk, IfErr};
 ghost use Rattle.std.specs.Bool.{OnTrue, OnFalse};
 ghost use Rattle.flop_base.specs.Counts.{last_count, Rose};
 ghost use Rattle.drive_model.specs.Drive.{Becomes, InRange, loaded, unloaded, with_motor, with_gate, moved, passed, written, cut_off, at_index, word_under, Pulses, Reads, Writes};
 ghost use Rattle.drive_model.specs.Ahead.{LetsPass, AreAhead};
-ghost use Rattle.drive_model.specs.Fault.{comes, has_dropout};
+ghost use Rattle.drive_model.specs.Fault.{comes};
 
 mod saving;
 
@@ -111,7 +111,7 @@ impl ScriptDrive {
 }
 
 impl Drive for ScriptDrive {
-    ghost use Rattle.drive_model.specs.ScriptDrive.{script_state, script_of, Accounts, NoFault};
+    ghost use Rattle.drive_model.specs.ScriptDrive.{script_state, Accounts, NoFault, NoneComes};
     ghost use Rattle.drive_model.specs.ScriptDrive.{loses, drops, cuts, pulse_of, read_of, write_of};
 
     ghost state = { script_state };
@@ -245,12 +245,13 @@ impl Drive for ScriptDrive {
     #[tactic(auto, unfolding(crate::specs::Ahead::AreAhead))]
     fn ahead(&self, head: u8) -> &[u16]
         ensures ahead { AreAhead head result.now (script_state self.now) }
-        ensures certain { OnTrue (has_dropout (script_of self.now)) (result.now ≡ []) }
+        ensures certain { NoneComes head (length result.now) self.now }
     {
-        if self.plan.has_dropout() {
-            return &[];
-        }
-        self.mechanics.ahead(head)
+        let words = self.mechanics.ahead(head);
+        let c = self.mechanics.cylinder;
+        let place = self.mechanics.place;
+        let count = self.plan.words_before(c, head, place, words.len());
+        &words[..count]
     }
 
     fn let_pass(&mut self, count: u32)
