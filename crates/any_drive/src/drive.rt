@@ -1,7 +1,7 @@
 // A plain or a scripted drive.
 ghost use Rattle.any_drive.specs.AnyDrive.{any_state};
 
-use drive_model::{Drive, PlainDrive, ScriptDrive, Turn};
+use drive_model::{Drive, Heard, PlainDrive, ScriptDrive, Turn};
 use flop_base::Rate;
 use raw_image::Medium;
 
@@ -92,6 +92,13 @@ impl Drive for AnyDrive {
         }
     }
 
+    fn listen(&mut self, head: u8) -> Heard {
+        match self {
+            AnyDrive::Plain(drive) => drive.listen(head),
+            AnyDrive::Scripted(drive) => drive.listen(head),
+        }
+    }
+
     fn write_word(&mut self, head: u8, word: u16) -> bool {
         match self {
             AnyDrive::Plain(drive) => drive.write_word(head, word),
@@ -103,6 +110,13 @@ impl Drive for AnyDrive {
         match self {
             AnyDrive::Plain(drive) => drive.ahead(head),
             AnyDrive::Scripted(drive) => drive.ahead(head),
+        }
+    }
+
+    fn idle(&mut self) {
+        match self {
+            AnyDrive::Plain(drive) => drive.idle(),
+            AnyDrive::Scripted(drive) => drive.idle(),
         }
     }
 

@@ -1,8 +1,8 @@
 -- Word times in a row.
-use Rattle.std.proofs.Common.{◌+◌, ℕ, zero, suc, Bool, false, List, [], ◌∷◌, take, Option, Some, None, refl, subst, ap, ◌∙◌, add-one, arith}
-use Rattle.flop_base.specs.Counts.{Spends}
+use Rattle.std.proofs.Common.{◌+◌, ℕ, zero, suc, Bool, false, List, [], ◌∷◌, take, Option, Some, None, refl, subst, ap, ◌∙◌, ◌≤◌, add-one, arith, inl, inr}
+use Rattle.flop_base.specs.Counts.{Spends, Rose}
 use Rattle.drive_model.specs.Ahead.{LetsPass, AreAhead}
-use Rattle.drive_model.specs.Drive.{DriveState, Becomes, passed, with_gate}
+use Rattle.drive_model.specs.Drive.{DriveState, Becomes, Reads, passed, with_gate, word_under}
 
 pub spends_twice : (a b c : ℕ) (l m n : Option ℕ) → Spends a l b m → Spends b m c n → Spends a l c n
 spends_twice a b c None m n first second = subst (λ (o : Option ℕ). Spends b o c n) first second
@@ -17,6 +17,14 @@ shut_passes a b c shut passes = record {
   never_falls = omega (arith, shut.never_falls, passes.never_falls);
   spends = spends_twice a.faults b.faults c.faults a.left b.left c.left shut.spends passes.spends;
 }
+
+-- a word that is read with the gate closed
+rose_before : (before mid after : ℕ) → before ≤ mid → Rose mid after → Rose before after
+rose_before before mid after rises rose = omega arith
+
+pub reads_shut : (head raw : ℕ) (before mid after : DriveState) → Becomes (with_gate false before) before mid → Reads head mid raw after → Reads head before raw after
+reads_shut head raw before mid after shut (inl is) = inl (is ∙ ap (λ s. word_under s head) shut.becomes)
+reads_shut head raw before mid after shut (inr (none, rose)) = inr (none, rose_before before.faults mid.faults after.faults shut.never_falls rose)
 
 pub lets_pass_none : (s : DriveState) → LetsPass 0 s s
 unfolding LetsPass

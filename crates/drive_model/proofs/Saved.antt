@@ -1,5 +1,5 @@
 -- What was saved of a drive is what is read.
-use Rattle.std.proofs.Common.{◌≡◌, ℕ, ◌≤◌, ◌-◌, Bool, List, [], ◌∷◌, Option, Some, None, Result, Ok, Err, refl, subst, arith}
+use Rattle.std.proofs.Common.{◌≡◌, ℕ, ◌≤◌, ◌-◌, Bool, false, List, [], ◌∷◌, Option, Some, None, Result, Ok, Err, refl, subst, arith}
 use Rattle.std.specs.Prelude.{⊤, IfOk}
 use Rattle.std.specs.Coded.{le_prop}
 use Rattle.std.specs.Option.{ForSome}
@@ -46,6 +46,10 @@ IsDisk-prop disk = hlevel props
 pub disk_prop : (medium : Option Disk) → IsProp (ForSome medium IsDisk)
 disk_prop medium = hlevel (props, IsDisk-prop)
 
+-- nor how a drive was seen at rest
+rests_prop : (motor : Bool) (spin : ℕ) → IsProp (motor ≡ false → spin ≡ 0)
+rests_prop motor spin = hlevel props
+
 -- ---- the parts that move
 
 -- what a mechanism is, but for its limits
@@ -61,8 +65,8 @@ pub record Parts : Type 0 where
 
 -- the mechanism with these parts
 abbrev mechanics_of : (p : Parts) → p.cylinder ≤ 82 → p.place ≤ track_words p.medium - 1 → p.spin ≤ 6250
-    → ForSome p.medium IsDisk → Mechanics
-mechanics_of p reached on_track spun disk = record {
+    → (p.motor ≡ false → p.spin ≡ 0) → ForSome p.medium IsDisk → Mechanics
+mechanics_of p reached on_track spun rests disk = record {
   medium = p.medium;
   cylinder = p.cylinder;
   place = p.place;
@@ -74,6 +78,7 @@ mechanics_of p reached on_track spun disk = record {
   on_a_cylinder = reached;
   on_the_track = on_track;
   spun_up = spun;
+  at_rest = rests;
   a_disk = disk;
 }
 
@@ -92,23 +97,26 @@ parts_of m = record {
 
 -- it doesn't matter how its limits were seen
 same_limits : (one : Mechanics) (reached : one.cylinder ≤ 82) (on_track : one.place ≤ track_words one.medium - 1)
-    (spun : one.spin ≤ 6250) (disk : ForSome one.medium IsDisk)
-    → mechanics_of (parts_of one) reached on_track spun disk ≡ one
-same_limits one reached on_track spun disk =
+    (spun : one.spin ≤ 6250) (rests : one.motor ≡ false → one.spin ≡ 0) (disk : ForSome one.medium IsDisk)
+    → mechanics_of (parts_of one) reached on_track spun rests disk ≡ one
+same_limits one reached on_track spun rests disk =
     rw (
       le_prop reached one.on_a_cylinder,
       le_prop on_track one.on_the_track,
       le_prop spun one.spun_up,
+      rests_prop one.motor one.spin rests one.at_rest,
       disk_prop one.medium disk one.a_disk,
     ) refl
 
 pub same_mechanics : (one : Mechanics) (p : Parts) (reached : p.cylinder ≤ 82)
-    (on_track : p.place ≤ track_words p.medium - 1) (spun : p.spin ≤ 6250) (disk : ForSome p.medium IsDisk)
-    → parts_of one ≡ p → mechanics_of p reached on_track spun disk ≡ one
-same_mechanics one p reached on_track spun disk same =
+    (on_track : p.place ≤ track_words p.medium - 1) (spun : p.spin ≤ 6250) (rests : p.motor ≡ false → p.spin ≡ 0)
+    (disk : ForSome p.medium IsDisk)
+    → parts_of one ≡ p → mechanics_of p reached on_track spun rests disk ≡ one
+same_mechanics one p reached on_track spun rests disk same =
     let P : Parts → Type 0 = λ p. (reached : p.cylinder ≤ 82) (on_track : p.place ≤ track_words p.medium - 1)
-    (spun : p.spin ≤ 6250) (disk : ForSome p.medium IsDisk) → mechanics_of p reached on_track spun disk ≡ one in
-    subst P same (same_limits one) reached on_track spun disk
+    (spun : p.spin ≤ 6250) (rests : p.motor ≡ false → p.spin ≡ 0) (disk : ForSome p.medium IsDisk)
+    → mechanics_of p reached on_track spun rests disk ≡ one in
+    subst P same (same_limits one) reached on_track spun rests disk
 
 -- ---- planned faults
 

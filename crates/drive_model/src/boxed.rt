@@ -1,5 +1,5 @@
 // A drive behind a box, whatever drive it is.
-use crate::{Drive, Turn};
+use crate::{Drive, Heard, Turn};
 use flop_base::Rate;
 use raw_image::Medium;
 
@@ -50,12 +50,20 @@ impl Drive for Box<dyn Drive> {
         (**self).read_word(head)
     }
 
+    fn listen(&mut self, head: u8) -> Heard {
+        (**self).listen(head)
+    }
+
     fn write_word(&mut self, head: u8, word: u16) -> bool {
         (**self).write_word(head, word)
     }
 
     fn ahead(&self, head: u8) -> &[u16] {
         (**self).ahead(head)
+    }
+
+    fn idle(&mut self) {
+        (**self).idle();
     }
 
     fn let_pass(&mut self, count: u32) {

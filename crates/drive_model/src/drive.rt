@@ -1,5 +1,5 @@
 // What every drive does.
-ghost use Rattle.std.specs.Prelude.{◌≡◌, ◌↔◌, IsTrue, IsErr, IsSome, OnOk, IfErr, is_some};
+ghost use Rattle.std.specs.Prelude.{◌≡◌, ◌↔◌, IsTrue, IsErr, IsSome, OnOk, IfErr, is_some, false};
 ghost use Rattle.drive_model.specs.Drive.{DriveState, Becomes, InRange};
 ghost use Rattle.drive_model.specs.Drive.{loaded, unloaded, with_motor, with_gate, passed, at_index};
 ghost use Rattle.drive_model.specs.Drive.{is_protected, rate_of, Pulses, Reads, Writes};
@@ -15,6 +15,14 @@ pub struct Turn {
     pub word: u16,
     /// It was the last word of the track.
     pub index: bool,
+}
+
+/// What a controller that listens gets of a drive in one word time.
+#[derive(Clone, Copy, Debug, PartialEq, Eq)]
+pub struct Heard {
+    pub turn: Turn,
+    /// The rate of the medium, R500 where none is in.
+    pub rate: Rate,
 }
 
 /// A diskette drive with one medium at most.
@@ -83,6 +91,20 @@ pub trait Drive: Drop {
         ensures range_before { InRange (state self.old) }
         ensures range { InRange (state self.new) };
 
+    /// Closes the gate and reads a word as `read_word` does. It tells the rate of the medium too, so that a drive behind a box is
+    /// called but once in a word time.
+    fn listen(&mut self, head: u8) -> Heard
+        ensures becomes { Becomes (passed (with_gate false (state self.old))) (state self.old) (state self.new) }
+        ensures word { Reads head (state self.old) result.turn.word (state self.new) }
+        ensures index { result.turn.index ≡ at_index (state self.old) }
+        ensures rate { result.rate ≡ rate_of (state self.old).medium }
+    {
+        self.gate(false);
+        let rate = self.rate();
+        let turn = self.read_word(head);
+        Heard { turn, rate }
+    }
+
     /// Lets one word time pass, writes the word under a head where the gate is open and not cut, and tells whether the
     /// index came at its end. A protected medium stays as it is.
     fn write_word(&mut self, head: u8, word: u16) -> bool
@@ -100,13 +122,20 @@ pub trait Drive: Drop {
         &[]
     }
 
+    /// Closes the gate and lets one word time pass, as a drive does that isn't selected.
+    fn idle(&mut self)
+        ensures { Becomes (passed (with_gate false (state self.old))) (state self.old) (state self.new) }
+    {
+        self.gate(false);
+        self.pass();
+    }
+
     /// Closes the gate and lets so many word times pass.
     fn let_pass(&mut self, count: u32)
         ensures passes { LetsPass count (state self.old) (state self.new) }
     {
         for _i in 0..count {
-            self.gate(false);
-            self.pass();
+            self.idle();
         }
     }
 

@@ -16,7 +16,7 @@ mod plan;
 mod saving;
 mod script;
 
-pub use drive::{Drive, Turn};
+pub use drive::{Drive, Heard, Turn};
 pub use fault::Fault;
 pub use limits::{limited_cylinder, limited_place, limited_spin};
 pub use media::{load_medium, save_medium};

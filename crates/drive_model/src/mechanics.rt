@@ -47,6 +47,7 @@ pub(crate) struct Mechanics {
     ghost on_a_cylinder: { cylinder ≤ 82 },
     ghost on_the_track: { place ≤ track_words medium - 1 },
     ghost spun_up: { spin ≤ 6250 },
+    ghost at_rest: { motor ≡ false → spin ≡ 0 },
     ghost a_disk: { ForSome medium IsDisk },
 }
 
@@ -180,11 +181,11 @@ impl Mechanics {
         let Some(medium) = &self.medium else {
             return None;
         };
-        if !self.motor {
-            return None;
-        }
+        // Where the motor is off, it hasn't spun up.
         if self.spin < SPIN_UP {
-            self.spin += 1;
+            if self.motor {
+                self.spin += 1;
+            }
             return None;
         }
         let words = medium.words();

@@ -1,4 +1,6 @@
 // A planned fault and the parts that move as bytes.
+ghost use Rattle.std.specs.Prelude.{◌≡◌, ◌≤◌, false};
+
 use crate::Fault;
 use crate::limits::{limited_cylinder, limited_place, limited_spin};
 use crate::mechanics::Mechanics;
@@ -97,8 +99,9 @@ impl SavedWhole for Mechanics {
         let medium = load_medium(alloc, from)?;
         let cylinder = limited_cylinder(u8::load(from));
         let place = limited_place(u16::load(from), &medium);
-        let spin = limited_spin(u16::load(from));
+        let spun = u16::load(from);
         let motor = bool::load(from);
+        let spin = spin_of(motor, spun);
         let change = bool::load(from);
         let gate = bool::load(from);
         let cut = bool::load(from);
@@ -113,4 +116,13 @@ impl SavedWhole for Mechanics {
             cut,
         })
     }
+}
+
+/// A time of spinning up; 0 for any other, and where the motor is off.
+fn spin_of(motor: bool, spin: u16) -> u16
+    ensures spun_up { result ≤ 6250 }
+    ensures rests { motor ≡ false → result ≡ 0 }
+    ensures same { spin ≤ 6250 → (motor ≡ false → spin ≡ 0) → result ≡ spin }
+{
+    if motor { limited_spin(spin) } else { 0 }
 }

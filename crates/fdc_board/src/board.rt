@@ -15,7 +15,7 @@ ghost use Rattle.fdc_core.specs.declared.controller.Lines.{Lines as LinesValue};
 
 mod saving;
 
-use crate::lines::{ABSENT, follow_write, lines_of_drive, pass, work, work_alone};
+use crate::lines::{ABSENT, follow_write, lines_of_drive, work, work_alone};
 use crate::rates::word_time_after;
 use fdc_core::{Fdc, Lines};
 use flop_base::NoMemory;
@@ -93,16 +93,16 @@ impl<D: Inspect> FdcBoard<D> {
         match self.controller.selected() {
             0 => {
                 work(&mut self.controller, &mut self.first);
-                pass(&mut self.second);
+                self.second.idle();
             }
             1 => {
                 work(&mut self.controller, &mut self.second);
-                pass(&mut self.first);
+                self.first.idle();
             }
             _ => {
                 work_alone(&mut self.controller);
-                pass(&mut self.first);
-                pass(&mut self.second);
+                self.first.idle();
+                self.second.idle();
             }
         }
     }
@@ -147,10 +147,16 @@ impl<D: Inspect> FdcBoard<D> {
             (D.state self.old.first) (D.state self.old.second)
             (controller_of self.new) (D.state self.new.first) (D.state self.new.second) }
     {
-        if !self.controller.may_skim() {
+        if !self.may_leap(most) {
             return 0;
         }
         self.pass_word_times(most)
+    }
+
+    /// Whether a try to make steps at once pays. One step costs less alone.
+    #[inline(always)]
+    fn may_leap(&self, most: u32) -> bool {
+        most > 1 && self.controller.may_skim()
     }
 
     /// The same, where there may be some.

@@ -79,11 +79,3 @@ pub(crate) fn work_alone(controller: &mut Fdc)
 {
     controller.step_empty();
 }
-
-/// A word time passes at a drive that isn't selected. Its gate is closed.
-pub(crate) fn pass<D: Drive>(drive: &mut D)
-    ensures { Passes (D.state drive.old) (D.state drive.new) }
-{
-    drive.gate(false);
-    drive.pass();
-}

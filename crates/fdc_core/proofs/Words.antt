@@ -1,10 +1,10 @@
 -- Word times, put together from the calls on the drive.
-use Rattle.std.proofs.Common.{◌≡◌, ◌<◌, ◌≤◌, ℕ, zero, suc, ◌+◌, Bool, true, false, None, Some, refl, sym, ap, subst, ◌∙◌, arith, inl, inr}
+use Rattle.std.proofs.Common.{◌≡◌, ◌<◌, ℕ, zero, suc, ◌+◌, Bool, true, false, None, Some, refl, sym, ap, subst, ◌∙◌, inl}
 use Rattle.std.proofs.lemmas.Bool.{false≢true}
-use Rattle.drive_model.specs.Drive.{DriveState, Becomes, Reads, at_index, word_under, rate_of, with_gate}
+use Rattle.drive_model.specs.Drive.{DriveState, Becomes, Reads, at_index, word_under, rate_of}
 use Rattle.fdc_stages.specs.declared.ending.Ending.{Ending}
 use Rattle.fdc_stages.specs.declared.ending.Ending.TheVariants.{Overrun}
-use Rattle.flop_base.specs.Counts.{Rose}
+use Rattle.flop_base.specs.declared.answers.Rate.{Rate}
 use Rattle.flop_base.specs.declared.key.Chrn.{Chrn}
 use Rattle.fdc_writing.specs.Formats as formats_of
 use Rattle.fdc_writing.specs.declared.formatting.FormatPart.{FormatPart}
@@ -34,25 +34,14 @@ use Rattle.fdc_phases.specs.declared.rates.DataRate.{DataRate}
 use Rattle.fdc_phases.specs.declared.transfers.Formatting.{Formatting}
 use Rattle.fdc_phases.specs.declared.transfers.Writing.{Writing}
 
--- ---- the gate moves nothing else
+-- ---- the word that is seen
 
-rose_before : (before mid after : ℕ) → before ≤ mid → Rose mid after → Rose before after
-rose_before before mid after rises rose = omega arith
+pub sees : (rate : DataRate) (head raw word : ℕ) (before after : DriveState) (medium : Rate) → medium ≡ rate_of before.medium → word ≡ seen_of (rate_fits rate medium) raw → Reads head before raw after → SeesUnder rate head before word after
+sees rate head raw word before after medium is seen reads = (raw, reads, seen ∙ ap (λ (r : Rate). seen_of (rate_fits rate r) raw) is)
 
-pub reads_shut : (head raw : ℕ) (before mid after : DriveState) → Becomes (with_gate false before) before mid → Reads head mid raw after → Reads head before raw after
-reads_shut head raw before mid after shut (inl is) = inl (is ∙ ap (λ s. word_under s head) shut.becomes)
-reads_shut head raw before mid after shut (inr (none, rose)) = inr (none, rose_before before.faults mid.faults after.faults shut.never_falls rose)
-
-pub rate_kept : (on : Bool) (before mid : DriveState) → Becomes (with_gate on before) before mid → rate_of mid.medium ≡ rate_of before.medium
-rate_kept on before mid shut = ap (λ s. rate_of s.medium) shut.becomes
-
--- at another rate 0000 is seen
-pub kept_from : (rate : DataRate) (head raw : ℕ) (before mid after : DriveState) → Becomes (with_gate false before) before mid → rate_fits rate (rate_of mid.medium) ≡ false → Reads head mid raw after → SeesUnder rate head before 0 after
-kept_from rate head raw before mid after shut unfit reads = (
-  raw,
-  reads_shut head raw before mid after shut reads,
-  ap (λ b. seen_of b raw) (sym unfit ∙ ap (rate_fits rate) (rate_kept false before mid shut)),
-)
+-- a word of a medium whose rate is the controller's
+pub sees_fitting : (rate : DataRate) (head raw : ℕ) (before after : DriveState) (medium : Rate) → medium ≡ rate_of before.medium → rate_fits rate medium ≡ true → Reads head before raw after → SeesUnder rate head before raw after
+sees_fitting rate head raw before after medium is fits reads = sees rate head raw raw before after medium is (ap (λ b. seen_of b raw) (sym fits)) reads
 
 -- ---- the last step of a command that listens
 

@@ -117,14 +117,14 @@ impl Fdc {
     pub fn int(&self) -> bool
         ensures { result ≡ interrupts self.now }
     {
-        self.is_gated() && self.interrupt
+        self.interrupt && self.is_gated()
     }
 
     /// The DMA request line, as DOR lets it out.
     pub fn drq(&self) -> bool
         ensures { result ≡ asks self.now }
     {
-        self.is_gated() && self.asking
+        self.asking && self.is_gated()
     }
 
     /// The data rate that DSR or CCR chose last.

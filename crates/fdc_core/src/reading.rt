@@ -72,7 +72,7 @@ impl Fdc {
     {
         if over {
             self.end_or_ask();
-        } else {
+        } else if self.asking || !self.fifo.is_empty() {
             self.asking = self.fifo.wants(true, self.asking, false);
         }
     }

@@ -1,7 +1,9 @@
 // Device steps: one word time each, with the selected drive or with none.
-ghost use Rattle.std.specs.Prelude.{◌≡◌, ◌==◌, false};
+ghost use Rattle.std.specs.Prelude.{◌≡◌, ◌==◌, false, true};
 ghost use Rattle.drive_model.specs.Drive.{Becomes, at_index};
 ghost use Rattle.fdc_seek.specs.Seeking.{pulse_due};
+ghost use Rattle.fdc_phases.specs.Rates.{rate_fits, seen_of};
+ghost use Rattle.fdc_stages.specs.Readings.{PassesBy};
 ghost use Rattle.fdc_core.specs.Listening.{Listens, ListensToNone, SeesUnder, HearsIn, HasStepsLeft};
 ghost use Rattle.fdc_core.specs.State.{finished};
 ghost use Rattle.fdc_core.specs.Steps.{polled, seek_stepped, let_pass, Rests, Moves, MovesDrive, Ends, Stays, Flows};
@@ -10,9 +12,9 @@ ghost use Rattle.fdc_core.specs.Waiting.{LastsOn, Feeds};
 ghost use Rattle.fdc_core.specs.Writes.{WritesOn};
 
 use crate::controller::Fdc;
-use drive_model::{Drive, Turn};
+use drive_model::{Drive, Heard, Turn};
 use fdc_phases::{DataRate, Execution, LAST_STEP, Phase, Task, head_of, is_last};
-use fdc_stages::{Ending, ReadHeard};
+use fdc_stages::{Ending, ReadHeard, ReadStage};
 use flop_base::Chrn;
 
 /// What passes where no drive is selected.
@@ -91,7 +93,19 @@ impl Fdc {
         ensures state { self.new ≡ polled self.old }
         ensures phase { self.new.phase ≡ self.old.phase }
     {
-        if self.poll_due && !self.is_held() {
+        if self.poll_due {
+            self.poll_drives();
+        }
+    }
+
+    /// The same where it is to come, which it does once the reset is over.
+    #[inline(always)]
+    fn poll_drives(&mut self)
+        requires { self.old.poll_due ≡ true }
+        ensures state { self.new ≡ polled self.old }
+        ensures phase { self.new.phase ≡ self.old.phase }
+    {
+        if !self.is_held() {
             self.poll_due = false;
             self.interrupt = true;
             self.seeks.poll();
@@ -107,7 +121,7 @@ impl Fdc {
         if self.seeks.is_seeking() {
             self.go_seeking(drive);
         } else {
-            let_pass(drive);
+            drive.idle();
         }
     }
 
@@ -121,9 +135,9 @@ impl Fdc {
         match self.step_seek(track0) {
             Some(inward) => {
                 drive.pulse(inward);
-                let_pass(drive);
+                drive.idle();
             }
-            None => let_pass(drive),
+            None => drive.idle(),
         }
     }
 
@@ -141,8 +155,8 @@ impl Fdc {
     }
 
     /// A device step of a data command. The usual one, in which a word passes by a READ DATA that searches, is made in place; each
-    /// other is a call at the end, so that nothing is copied here.
-    #[inline(never)]
+    /// other is a call, so that nothing is copied here.
+    #[inline(always)]
     fn execute<D: Drive>(&mut self, drive: &mut D)
         ensures { ExecutionSteps self.old.phase self.old (D.state drive.old) (D.state drive.new) self.new }
     {
@@ -150,19 +164,18 @@ impl Fdc {
             Phase::Execute { execution } => match &mut execution.task {
                 Task::Read { reading } => {
                     let head_drive = execution.head_drive;
-                    let steps = execution.steps;
-                    if is_last(steps) {
+                    if is_last(execution.steps) {
                         self.execute_any(drive);
                     } else {
-                        let passing = listen(self.rate, head_of(head_drive), drive);
-                        if reading.stage.pass_by(passing.word, passing.index) {
-                            execution.steps = steps + 1;
+                        let heard = drive.listen(head_of(head_drive));
+                        if pass_by(&mut reading.stage, self.rate, heard) {
+                            execution.steps += 1;
                             let key = reading.wanted.key;
                             let counted = reading.counted;
                             let over = reading.is_over();
                             self.follow(head_drive, key, counted, ReadHeard::On, over);
                         } else {
-                            self.hear_seen(passing);
+                            self.hear_seen(seen(self.rate, heard));
                         }
                     }
                 }
@@ -343,7 +356,7 @@ impl Fdc {
         ensures state { self.new ≡ finished ending head_drive key self.old }
         ensures drive { Becomes (let_pass (D.state drive.old)) (D.state drive.old) (D.state drive.new) }
     {
-        let_pass(drive);
+        drive.idle();
         self.finish(ending, head_drive, key);
     }
 }
@@ -355,22 +368,31 @@ pub(crate) fn listen<D: Drive>(rate: DataRate, head: u8, drive: &mut D) -> Turn
     ensures index { result.index ≡ at_index (D.state drive.old) }
     ensures drive { Becomes (let_pass (D.state drive.old)) (D.state drive.old) (D.state drive.new) }
 {
-    drive.gate(false);
-    let fits = rate.fits(drive.rate());
-    let passing = drive.read_word(head);
-    if fits {
-        return passing;
+    let heard = drive.listen(head);
+    seen(rate, heard)
+}
+
+/// What a drive gives, as a controller of this rate sees it.
+#[inline(always)]
+fn seen(rate: DataRate, heard: Heard) -> Turn
+    ensures word { result.word ≡ seen_of (rate_fits rate heard.rate) heard.turn.word }
+    ensures index { result.index ≡ heard.turn.index }
+{
+    if rate.fits(heard.rate) {
+        return heard.turn;
     }
     Turn {
         word: 0,
-        index: passing.index,
+        index: heard.turn.index,
     }
 }
 
-/// A word time in which no word is read or written, with the gate closed.
-fn let_pass<D: Drive>(drive: &mut D)
-    ensures { Becomes (let_pass (D.state drive.old)) (D.state drive.old) (D.state drive.new) }
+/// Lets what a drive of the controller's rate gives pass by a READ DATA, and tells whether it does: else nothing changes.
+#[inline(always)]
+fn pass_by(stage: &mut ReadStage, rate: DataRate, heard: Heard) -> bool
+    ensures passed { result ≡ true → (rate_fits rate heard.rate ≡ true) × (heard.turn.index ≡ false)
+        × PassesBy heard.turn.word stage.old stage.new }
+    ensures others { result ≡ false → stage.new ≡ stage.old }
 {
-    drive.gate(false);
-    drive.pass();
+    rate.fits(heard.rate) && stage.pass_by(heard.turn.word, heard.turn.index)
 }

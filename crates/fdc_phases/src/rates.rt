@@ -4,15 +4,15 @@ ghost use Rattle.fdc_phases.specs.Rates.{rate_fits, rate_chosen};
 
 use flop_base::Rate;
 
-/// A data rate, as bits 1 and 0 of DSR and CCR choose it.
+/// A data rate, as bits 1 and 0 of DSR and CCR choose it. The two that a medium has come first, in the order of `Rate`.
 #[derive(Clone, Copy, PartialEq, Eq, Debug)]
 pub enum DataRate {
     /// 00: 500 kbit/s.
     Kbit500,
-    /// 01: 300 kbit/s.
-    Kbit300,
     /// 10: 250 kbit/s, the rate at power-up.
     Kbit250,
+    /// 01: 300 kbit/s.
+    Kbit300,
     /// 11: 1 Mbit/s.
     Mbit1,
 }

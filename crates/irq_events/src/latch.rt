@@ -42,8 +42,20 @@ impl IrqLatch {
         ensures history { (past : List Event) → IsAfter past self.old
             → IsAfter (shows level ∷ past) self.new }
     {
-        self.set |= level && !self.level;
-        self.level = level;
+        if level {
+            self.show_high();
+        } else {
+            self.level = false;
+        }
+    }
+
+    /// The line is high: it has risen where it was low before.
+    #[inline(never)]
+    fn show_high(&mut self)
+        ensures { self.new ≡ record { is_set = self.old.is_set || not self.old.level; level = true } }
+    {
+        self.set |= !self.level;
+        self.level = true;
     }
 
     /// Sets the latch with no edge of the line.

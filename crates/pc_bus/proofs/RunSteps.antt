@@ -78,15 +78,26 @@ unfolding RunsUnset
 unset_front zero old between new unset step runs = (old, refl, unset, subst (Step old) (sym runs) step)
 unset_front (suc n) old between new unset step runs = (runs.0, unset_front n old between runs.0 unset step runs.1, runs.2, runs.3)
 
--- a step where none was made before
-pub runs_one : (none : ℕ) (old between new : Board) → none ≡ 0 → Runs none old between → Step between new → Runs 1 old new
-runs_one none old between new is runs step =
-    runs_more 0 old between new (subst (λ (n : ℕ). Runs n old between) is runs) step
+-- a step alone
+pub runs_once : (old new : Board) → Step old new → Runs 1 old new
+runs_once old new step = runs_more 0 old old new (runs_none old) step
 
-pub unset_one : (none : ℕ) (old between new : Board) → none ≡ 0 → RunsUnset none old between → latch_of between ≡ latch_of old
-    → (latch_of old).is_set ≡ false → Step between new → RunsUnset 1 old new
-unset_one none old between new is runs latch unset step =
-    unset_more 0 old between new (subst (λ (n : ℕ). RunsUnset n old between) is runs) (ap (λ latch. latch.is_set) latch ∙ unset) step
+pub unset_once : (old new : Board) → (latch_of old).is_set ≡ false → Step old new → RunsUnset 1 old new
+unset_once old new unset step = unset_more 0 old old new (unset_none old) unset step
+
+pub steps_once : (old new : Board) → Step old new → new.bus.steps ≡ min (old.bus.steps + 1) last_count
+steps_once old new step = ap (λ bus. bus.steps) step.bus
+
+-- a run where no step was made before
+pub runs_behind : (none n : ℕ) (old between new : Board) → none ≡ 0 → Runs none old between → Runs n between new → Runs n old new
+runs_behind none n old between new is runs more =
+    let all : 0 + n ≡ n = omega arith in
+    subst (λ (count : ℕ). Runs count old new) all (runs_plus 0 n old between new (subst (λ (count : ℕ). Runs count old between) is runs) more)
+
+pub unset_behind : (none n : ℕ) (old between new : Board) → none ≡ 0 → RunsUnset none old between → RunsUnset n between new → RunsUnset n old new
+unset_behind none n old between new is runs more =
+    let all : 0 + n ≡ n = omega arith in
+    subst (λ (count : ℕ). RunsUnset count old new) all (unset_plus 0 n old between new (subst (λ (count : ℕ). RunsUnset count old between) is runs) more)
 
 -- a count that rises twice
 pub steps_plus : (n m before between now : ℕ) → between ≡ min (before + n) last_count → now ≡ min (between + m) last_count

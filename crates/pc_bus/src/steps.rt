@@ -11,6 +11,10 @@ use crate::machine::MachineOf;
 use drive_model::Drive;
 use fdc_core::Fdc;
 
+/// How many device steps are made alone where a try to make many found none, since such a try costs as much as one step or
+/// two. In so many a data mark passes, and in twice as many an address field.
+const STEPS_ALONE: u32 = 4;
+
 impl<D: Drive> MachineOf<D> {
     /// One device step.
     fn step(&mut self)
@@ -31,20 +35,28 @@ impl<D: Drive> MachineOf<D> {
         } }
     {
         match self.bus.chips.controller.selected() {
-            0 => {
-                work(&mut self.bus.chips.controller, &mut self.first);
-                pass(&mut self.second);
-            }
-            1 => {
-                work(&mut self.bus.chips.controller, &mut self.second);
-                pass(&mut self.first);
-            }
+            0 => work(
+                &mut self.bus.chips.controller,
+                &mut self.first,
+                &mut self.second,
+            ),
+            1 => work(
+                &mut self.bus.chips.controller,
+                &mut self.second,
+                &mut self.first,
+            ),
             _ => {
                 work_alone(&mut self.bus.chips.controller);
-                pass(&mut self.first);
-                pass(&mut self.second);
+                self.first.idle();
+                self.second.idle();
             }
         }
+    }
+
+    /// Whether a try to make steps at once pays. One step costs less alone.
+    #[inline(always)]
+    fn may_leap(&self, most: u32) -> bool {
+        most > 1 && self.bus.chips.controller.may_skim()
     }
 
     /// Makes device steps at once in which nothing comes of the pace, no line changes and no byte is moved, and tells how many,
@@ -58,9 +70,6 @@ impl<D: Drive> MachineOf<D> {
         ensures steps { self.new.bus.steps ≡ min (self.old.bus.steps + result) last_count }
     {
         let _from = self.bus.steps;
-        if !self.bus.chips.controller.may_skim() {
-            return 0;
-        }
         let count = self.bus.quiet_for(most);
         if count == 0 {
             return 0;
@@ -111,12 +120,40 @@ impl<D: Drive> MachineOf<D> {
             → RunsUnset result (board D.state self.old) (board D.state self.new) }
         ensures steps { self.new.bus.steps ≡ min (self.old.bus.steps + result) last_count }
     {
+        let _from = self.bus.steps;
+        if !self.may_leap(most) {
+            self.step();
+            return 1;
+        }
         let made = self.leap(most);
         if made != 0 {
             return made;
         }
+        self.step_alone(most.min(STEPS_ALONE))
+    }
+
+    /// Device steps made alone: one, and others until the latch is set, `most` at most; tells how many.
+    #[inline(never)]
+    fn step_alone(&mut self, most: u32) -> u32
+        requires { 1 ≤ most }
+        ensures some { 1 ≤ result }
+        ensures few { result ≤ most }
+        ensures runs { Runs result (board D.state self.old) (board D.state self.new) }
+        ensures unset { (latch_of (board D.state self.old)).is_set ≡ false
+            → RunsUnset result (board D.state self.old) (board D.state self.new) }
+        ensures steps { self.new.bus.steps ≡ min (self.old.bus.steps + result) last_count }
+    {
+        let _from = self.bus.steps;
         self.step();
-        1
+        let mut made = 1;
+        while made < most {
+            if self.bus.latch.is_set() {
+                return made;
+            }
+            self.step();
+            made += 1;
+        }
+        made
     }
 
     /// Device steps, so many.
@@ -171,11 +208,14 @@ impl<D: Drive> MachineOf<D> {
     }
 }
 
-/// The controller's device step with the selected drive.
-fn work<D: Drive>(controller: &mut Fdc, drive: &mut D)
-    ensures { Works controller.old (D.state drive.old) controller.new (D.state drive.new) }
+/// The controller's device step with the selected drive, and the word time of the other one.
+#[inline(always)]
+fn work<D: Drive>(controller: &mut Fdc, drive: &mut D, other: &mut D)
+    ensures works { Works controller.old (D.state drive.old) controller.new (D.state drive.new) }
+    ensures passes { Passes (D.state other.old) (D.state other.new) }
 {
     controller.step(drive);
+    other.idle();
 }
 
 /// The controller's device step where no drive is selected.
@@ -200,12 +240,4 @@ pub fn skim<D: Drive>(controller: &mut Fdc, drive: &mut D, other: &mut D, most: 
     }
     other.let_pass(made);
     made
-}
-
-/// A word time passes at a drive that isn't selected. Its gate is closed.
-fn pass<D: Drive>(drive: &mut D)
-    ensures { Passes (D.state drive.old) (D.state drive.new) }
-{
-    drive.gate(false);
-    drive.pass();
 }

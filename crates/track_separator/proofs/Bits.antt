@@ -125,24 +125,22 @@ pub recent_run : (cells b : ℕ) → b < 16 → HasRunBits cells b → HasRunBit
 recent_run cells b h run = sym (and_mask (bit_and cells 18446744073709551615 / 2 ^ b) 48) ∙ run_bits cells b h ∙ run
 
 -- the ones of a mark, as the code finds them
-pub mark_ones : (recent b : ℕ) → b < 16 → HasRunBits recent b → bit_and (bit_and (bit_and (bit_and (bit_and recent (recent / 8)) (recent / 128)) (recent / 1024)) (recent / 16384)) 65535 ≡ 0 → ⊥
+pub mark_ones : (recent b : ℕ) → b < 16 → HasRunBits recent b → bit_and (bit_and (bit_and (bit_and recent (recent / 8)) (bit_and recent (recent / 8) / 128)) (recent / 16384)) 65535 ≡ 0 → ⊥
 mark_ones recent b h run none =
     let one = λ (k : ℕ) (l : k < 48). run_bit recent b k run l in
-    let shifted = λ (k : ℕ). bit_at-div recent k b in
     let first : bit_at recent b ≡ 1 = (let e : b + 0 ≡ b = omega arith in ap (bit_at recent) (sym e) ∙ one 0 (lit< tt)) in
-    let by_3 : bit_at (recent / 8) b ≡ 1 = (let e : 3 + b ≡ b + 3 = omega arith in shifted 3 ∙ ap (bit_at recent) e ∙ one 3 (lit< tt)) in
-    let by_7 : bit_at (recent / 128) b ≡ 1 = (let e : 7 + b ≡ b + 7 = omega arith in shifted 7 ∙ ap (bit_at recent) e ∙ one 7 (lit< tt)) in
-    let by_10 : bit_at (recent / 1024) b ≡ 1 = (let e : 10 + b ≡ b + 10 = omega arith in shifted 10 ∙ ap (bit_at recent) e ∙ one 10 (lit< tt)) in
-    let by_14 : bit_at (recent / 16384) b ≡ 1 = (let e : 14 + b ≡ b + 14 = omega arith in shifted 14 ∙ ap (bit_at recent) e ∙ one 14 (lit< tt)) in
-    let a = bit_and recent (recent / 8) in
-    let c = bit_and a (recent / 128) in
-    let d = bit_and c (recent / 1024) in
-    let e = bit_and d (recent / 16384) in
-    let has_a : bit_at a b ≡ 1 = both recent (recent / 8) b first by_3 in
-    let has_c : bit_at c b ≡ 1 = both a (recent / 128) b has_a by_7 in
-    let has_d : bit_at d b ≡ 1 = both c (recent / 1024) b has_c by_10 in
-    let has_e : bit_at e b ≡ 1 = both d (recent / 16384) b has_d by_14 in
-    let all : bit_at (bit_and e 65535) b ≡ 1 = both e 65535 b has_e (bit_at_ones 16 b h) in
+    let by_3 : bit_at (recent / 8) b ≡ 1 = (let e : 3 + b ≡ b + 3 = omega arith in bit_at-div recent 3 b ∙ ap (bit_at recent) e ∙ one 3 (lit< tt)) in
+    let seventh : bit_at recent (7 + b) ≡ 1 = (let e : 7 + b ≡ b + 7 = omega arith in ap (bit_at recent) e ∙ one 7 (lit< tt)) in
+    let tenth : bit_at (recent / 8) (7 + b) ≡ 1 = (let e : 3 + (7 + b) ≡ b + 10 = omega arith in bit_at-div recent 3 (7 + b) ∙ ap (bit_at recent) e ∙ one 10 (lit< tt)) in
+    let by_14 : bit_at (recent / 16384) b ≡ 1 = (let e : 14 + b ≡ b + 14 = omega arith in bit_at-div recent 14 b ∙ ap (bit_at recent) e ∙ one 14 (lit< tt)) in
+    let pairs = bit_and recent (recent / 8) in
+    let fours = bit_and pairs (pairs / 128) in
+    let fives = bit_and fours (recent / 16384) in
+    let has_pair : bit_at pairs b ≡ 1 = both recent (recent / 8) b first by_3 in
+    let next_pair : bit_at (pairs / 128) b ≡ 1 = bit_at-div pairs 7 b ∙ both recent (recent / 8) (7 + b) seventh tenth in
+    let has_four : bit_at fours b ≡ 1 = both pairs (pairs / 128) b has_pair next_pair in
+    let has_five : bit_at fives b ≡ 1 = both fours (recent / 16384) b has_four by_14 in
+    let all : bit_at (bit_and fives 65535) b ≡ 1 = both fives 65535 b has_five (bit_at_ones 16 b h) in
     let nothing : bit_at 0 b ≡ 1 = ap (λ n. bit_at n b) (sym none) ∙ all in
     omega (arith, nothing, bit_at-zero b)
   where

@@ -38,8 +38,10 @@ pub(crate) fn next_cells(cells: u128, word: u16) -> u128
 fn has_no_mark_ones(recent: u64) -> bool
     ensures { result ≡ true → (back : ℕ) → back < 16 → HasRunBits recent back → ⊥ }
 {
-    let ones = recent & recent >> 3 & recent >> 7 & recent >> 10 & recent >> 14;
-    ones & 0xFFFF == 0
+    // They stand 3, 4, 3 and 4 cells apart: a pair, another one seven cells further, and the last.
+    let pairs = recent & recent >> 3;
+    let fours = pairs & pairs >> 7;
+    fours & recent >> 14 & 0xFFFF == 0
 }
 
 /// Whether the last word has none of the cells by which a run ends. Then none ends in it.

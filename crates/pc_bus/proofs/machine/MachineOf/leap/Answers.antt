@@ -5,12 +5,6 @@ use Rattle.pc_bus.proofs.Leaping.{leap_runs, leap_unset}
 use Rattle.pc_bus.proofs.RunSteps.{runs_none, unset_none}
 use Rattle.pc_bus.proofs.machine.MachineOf.leap.Goals as goal
 
-pub returns-then-not-may_skim-clause-runs : goal.returns-then-not-may_skim-clause-runs
-returns-then-not-may_skim-clause-runs g c = runs_none _
-
-pub returns-then-not-may_skim-clause-unset : goal.returns-then-not-may_skim-clause-unset
-returns-then-not-may_skim-clause-unset g c = λ _. unset_none _
-
 pub returns-then-count-eq0-clause-runs : goal.returns-then-count-eq0-clause-runs
 returns-then-count-eq0-clause-runs g c = runs_none _
 
