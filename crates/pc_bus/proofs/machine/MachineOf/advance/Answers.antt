@@ -1,5 +1,5 @@
-use Rattle.std.proofs.Common.{sym, ap, ◌∙◌, arith}
-use Rattle.pc_bus.specs.Boards.{board, latch_of}
+use Rattle.std.proofs.Common.{ap, ◌∙◌, arith}
+use Rattle.pc_bus.specs.Boards.{board}
 use Rattle.pc_bus.proofs.RunSteps.{runs_once, unset_once, runs_behind, unset_behind}
 use Rattle.pc_bus.proofs.machine.MachineOf.advance.Goals as goal
 
