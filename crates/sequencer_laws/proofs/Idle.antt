@@ -239,3 +239,4 @@ call_waits (call.Reads port) old new does waits = reads_waits (port == 0x3F5) ol
 call_waits (call.Writes port value) old new does waits = writes_waits port value old new does waits
 call_waits call.Changes old new does waits =
     at_stage old.stage new does.stage (subst (WaitsAt old.stage) (sym does.controller) waits)
+call_waits (call.Straps on) old new does waits = subst Waits (sym does) waits

@@ -6,4 +6,6 @@ mod Served
 mod Outcome
 mod Called
 mod Whole
+mod Medium
+mod Silent
 mod Idle

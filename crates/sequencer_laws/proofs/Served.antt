@@ -10,7 +10,8 @@ use Rattle.fdc_commands.specs.Table.{kept}
 use Rattle.fdc_commands.specs.declared.bytes.Accepted.TheVariants.{Ready}
 use Rattle.fdc_commands.specs.declared.results.Results.{Results}
 use Rattle.fdc_core.specs.Dma.{byte_out, taken_in, taken_out, to_memory_of, told_count}
-use Rattle.fdc_phases.specs.Heard.{MayReadIn, Sent, results_sent, told_in}
+use Rattle.fdc_phases.specs.Heard.{MayReadIn, Sent, gave, results_sent, told_in}
+use Rattle.fdc_core.specs.Times.{Stopped, after_time}
 use Rattle.fdc_core.specs.Listening.{is_executing}
 use Rattle.fdc_core.specs.Meaning.{AreOfField, ReadMeans, ReadMeansIn, bytes_held}
 use Rattle.fdc_core.specs.Ports.{resets}
@@ -18,7 +19,7 @@ use Rattle.fdc_core.specs.State.{asks}
 use Rattle.fdc_core.specs.Tellings.{WriteMeans, WriteMeansIn}
 use Rattle.fdc_core.specs.Whole.{ending_told, given_up, is_idle, mark_of, without_seek}
 use Rattle.fdc_phases.specs.Phases.{ending_of_phase}
-use Rattle.fdc_phases.specs.Written.{MayWriteIn}
+use Rattle.fdc_phases.specs.Written.{MayWriteIn, took}
 use Rattle.fdc_phases.specs.declared.answers.Answer.TheVariants.{Short, Long}
 use Rattle.fdc_core.specs.declared.controller.Fdc.{Fdc}
 use Rattle.fdc_phases.specs.declared.phases.Phase.{Phase}
@@ -29,7 +30,7 @@ use Rattle.fdc_core.proofs.Tellings.{write_tells, writes_window}
 use Rattle.fdc_board.specs.Boards.{BoardState, StepsBoard, WritesBoard, lines_at}
 use Rattle.fdc_sequencer.specs.Fronts.{BeginsSector, CollectsAs, Front, GivesAt, GivesFront, GivesMoving, SeeksFirst, Starts, StartsIf, TakesAt, TakesByte, TakesFront, TakesMoving, WritesFront, after_reading, begun_if, byte_given, count_told, moving_of, passed_one, reset_if, told_front, told_if, with_controller}
 use Rattle.fdc_sequencer.specs.Moves.{EndsIf, EndsSector, FollowsStep, MovesOn, SeeksOn, StepsFront, goes_on, has_met_other, is_unwanted, passed_over_if}
-use Rattle.sequencer_laws.specs.Serving.{Accounts, AreLeft, AreMoved, BeginsAt, BeginsWith, Carries, GoesOn, History, IsLastOne, IsLeft, IsMarkOf, IsOfOther, IsOfSector, IsRefused, KeepsServing, MayMove, Means, Part, Serves, ServesAt, ServesCounted, ServesOn, ServesOrLeaves, bytes_moved, has_other, hears_count, nothing_moved, passed_in, passed_out, results_ended, sector_after, sent_of}
+use Rattle.sequencer_laws.specs.Serving.{Accounts, AreLeft, AreMoved, BeginsAt, BeginsWith, Carries, GoesOn, History, IsLastOne, IsLeft, IsMarkOf, IsOfOther, IsOfSector, IsRefused, IsTimeOf, KeepsServing, MayMove, Means, Part, Passes, Serves, ServesAt, ServesCounted, ServesOrLeaves, ServesStep, StepsTo, bytes_moved, has_other, hears_count, history_counted, history_ended, history_given, history_moved, history_passed, history_sought, history_stepped, history_taken, nothing_moved, passed_in, passed_out, results_ended, sector_after, sent_of}
 use Rattle.fdc_sequencer.specs.Transfers.{is_other, is_skipping, next_of, size_of}
 use Rattle.fdc_sequencer.specs.declared.opcode.Opcode.{Opcode}
 use Rattle.fdc_sequencer.specs.declared.opcode.Operation.{Operation}
@@ -50,26 +51,25 @@ none_told true = refl
 none_told false = refl
 
 -- all of the front
-pub same_front : (first : Transfer) (history : History) (old new : Front) → new ≡ old → Serves first history old → GoesOn [] false first history new
-same_front first history old new is serves = (history, none_more first.opcode.operation history, none_told history.counted, subst (Serves first history) (sym is) serves)
+pub same_front : (first : Transfer) (history : History) (old new : Front) → new ≡ old → Serves first history old → GoesOn [] false first history history new
+same_front first history old new is serves = (none_more first.opcode.operation history, none_told history.counted, subst (Serves first history) (sym is) serves)
 
 -- what is done in front
 pub same_stage : (first : Transfer) (history : History) (stage : Stage) (new : Front) → new.stage ≡ stage → AreMoved first.opcode.operation first history.parts
-    → ServesAt stage first history new.board.controller → GoesOn [] false first history new
+    → ServesAt stage first history new.board.controller → GoesOn [] false first history history new
 same_stage first history stage new is parts now =
-    (history, none_more first.opcode.operation history, none_told history.counted, record { parts = parts; now = subst (λ s. ServesAt s first history new.board.controller) (sym is) now })
+    (none_more first.opcode.operation history, none_told history.counted, record { parts = parts; now = subst (λ s. ServesAt s first history new.board.controller) (sym is) now })
 
 -- the sector goes on, and these bytes of it passed
-pub same_sector : (first : Transfer) (parts : List Part) (past now : Past) (counted told : Bool) (passed : List ℕ) (moving : MovingSector) (new : Front) → new.stage ≡ Moving moving
-    → AreMoved first.opcode.operation first parts → moving.transfer ≡ sector_after (length parts) first → moving.counted ≡ (counted || told)
+pub same_sector : (first : Transfer) (parts : List Part) (past now : Past) (counted told then_counted : Bool) (passed : List ℕ) (moving : MovingSector) (new : Front) → new.stage ≡ Moving moving
+    → AreMoved first.opcode.operation first parts → moving.transfer ≡ sector_after (length parts) first → moving.counted ≡ then_counted → then_counted ≡ (counted || told)
     → bytes_moved first.opcode.operation now ≡ bytes_moved first.opcode.operation past ++ passed
     → Carries first.opcode.operation (has_other first.opcode.operation parts) moving now new.board.controller
-    → GoesOn passed told first (record { parts = parts; past = past; counted = counted }) new
-same_sector first parts past now counted told passed moving new is were here counts bytes carries = (
-  record { parts = parts; past = now; counted = counted || told },
-  bytes_more first.opcode.operation parts past now counted (counted || told) passed bytes,
-  refl,
-  record { parts = were; now = subst (λ s. ServesAt s first (record { parts = parts; past = now; counted = counted || told }) new.board.controller) (sym is) (here, counts, carries) },
+    → GoesOn passed told first (record { parts = parts; past = past; counted = counted }) (record { parts = parts; past = now; counted = then_counted }) new
+same_sector first parts past now counted told then_counted passed moving new is were here counts told_is bytes carries = (
+  bytes_more first.opcode.operation parts past now counted then_counted passed bytes,
+  told_is,
+  record { parts = were; now = subst (λ s. ServesAt s first (record { parts = parts; past = now; counted = then_counted }) new.board.controller) (sym is) (here, counts, carries) },
 )
 
 -- ---- a sector begins
@@ -168,9 +168,8 @@ module _ (first : Transfer) (parts : List Part) (past : Past) (counted : Bool) (
   -- the results are told
   tells_on : (now : Past) (mark : Option Bool) (ending : Ending) (new : Front) → bytes_moved operation now ≡ bytes_moved operation past → Accounts operation met moving now mark
       → IsOfSector operation now (sent_of moving.transfer) → Means operation now (sent_of moving.transfer) ending → IsLastOne moving ending → IsMarkOf ending mark
-      → new.stage ≡ Telling (results_ended moving ending) 0 → GoesOn [] false first so_far new
+      → new.stage ≡ Telling (results_ended moving ending) 0 → GoesOn [] false first so_far (record so_far { past = now }) new
   tells_on now mark ending new bytes accounts of_sector means last marked is = (
-    record { parts = parts; past = now; counted = counted },
     bytes_more operation parts past now counted counted [] (bytes ∙ sym (append-nil (bytes_moved operation past))),
     none_told counted,
     record {
@@ -194,7 +193,8 @@ module _ (first : Transfer) (parts : List Part) (past : Past) (counted : Bool) (
   -- the next sector begins
   next_on : (now : Past) (mark : Option Bool) (marked : Bool) (old new : Front) → bytes_moved operation now ≡ bytes_moved operation past → Accounts operation met moving now mark
       → Means operation now (sent_of moving.transfer) (Done marked) → mark ≡ Some marked → goes_on moving marked ≡ true
-      → BeginsSector (next_of moving.transfer) false (has_met_other moving marked) old new → GoesOn [] false first so_far new ⊎ IsRefused new
+      → BeginsSector (next_of moving.transfer) false (has_met_other moving marked) old new
+      → GoesOn [] false first so_far (history_ended true moving.transfer marked now so_far) new ⊎ IsRefused new
   next_on now mark marked old new bytes accounts means mark_is goes begins =
       let part : Part = record { at = moving.transfer; past = now; marked = marked } in
       let would = goes_would moving marked goes in
@@ -203,18 +203,20 @@ module _ (first : Transfer) (parts : List Part) (past : Past) (counted : Bool) (
       let other = met_then operation met moving now mark marked same_operation mark_is accounts ∙ sym (other_more operation parts part) in
       let uncounted = sym (would_uncounted moving marked would) ∙ (counts ∙ none_told counted) in
       elim (begins_serve first (parts ++ part ∷ []) (next_of moving.transfer) false (has_met_other moving marked) old new more behind other begins) [
-        | inl serves ↦ inl (record { parts = parts ++ part ∷ []; past = new_past; counted = false }, bytes_next operation parts part past counted false bytes, uncounted, serves)
+        | inl serves ↦ inl (bytes_next operation parts part past counted false bytes, uncounted, serves)
         | inr refused ↦ inr refused
       ]
 
   ends_if : (b : Bool) (now : Past) (mark : Option Bool) (marked : Bool) (old new : Front) → goes_on moving marked ≡ b → bytes_moved operation now ≡ bytes_moved operation past
-      → Accounts operation met moving now mark → IsOfSector operation now (sent_of moving.transfer) → Means operation now (sent_of moving.transfer) (Done marked) → mark ≡ Some marked → EndsIf b moving marked old new → GoesOn [] false first so_far new ⊎ IsRefused new
+      → Accounts operation met moving now mark → IsOfSector operation now (sent_of moving.transfer) → Means operation now (sent_of moving.transfer) (Done marked) → mark ≡ Some marked → EndsIf b moving marked old new
+      → GoesOn [] false first so_far (history_ended b moving.transfer marked now so_far) new ⊎ IsRefused new
   ends_if true now mark marked old new goes bytes accounts of_sector means mark_is ends = next_on now mark marked old new bytes accounts means mark_is goes ends
   ends_if false now mark marked old new goes bytes accounts of_sector means mark_is ends =
       inl (tells_on now mark (Done marked) new bytes accounts of_sector means goes mark_is (ap (λ front. front.stage) ends))
 
   ends_on : (ending : Ending) (now : Past) (mark : Option Bool) (old new : Front) → bytes_moved operation now ≡ bytes_moved operation past → Accounts operation met moving now mark
-      → IsOfSector operation now (sent_of moving.transfer) → Means operation now (sent_of moving.transfer) ending → IsMarkOf ending mark → EndsSector moving ending old new → GoesOn [] false first so_far new ⊎ IsRefused new
+      → IsOfSector operation now (sent_of moving.transfer) → Means operation now (sent_of moving.transfer) ending → IsMarkOf ending mark → EndsSector moving ending old new
+      → GoesOn [] false first so_far (history_moved (Some ending) moving mark now so_far) new ⊎ IsRefused new
   ends_on (Done marked) now mark old new bytes accounts of_sector means mark_is ends = ends_if (goes_on moving marked) now mark marked old new refl bytes accounts of_sector means mark_is ends
   ends_on NoMark now mark old new bytes accounts of_sector means mark_is ends = inl (tells_on now mark NoMark new bytes accounts of_sector means tt tt (ap (λ front. front.stage) ends))
   ends_on NoSector now mark old new bytes accounts of_sector means mark_is ends = inl (tells_on now mark NoSector new bytes accounts of_sector means tt tt (ap (λ front. front.stage) ends))
@@ -258,16 +260,16 @@ module _ (first : Transfer) (parts : List Part) (past : Past) (counted : Bool) (
 
   passes_over : (b : Bool) (now : Past) (old new : Front) → old.stage ≡ Moving moving → is_unwanted moving (mark_of old.board.controller) ≡ b → bytes_moved operation now ≡ bytes_moved operation past
       → MayMove operation now (sent_of moving.transfer) old.board.controller → is_executing old.board.controller.phase ≡ true → Accounts operation met moving now (mark_of old.board.controller)
-      → new ≡ passed_over_if b moving old → GoesOn [] false first so_far new
+      → new ≡ passed_over_if b moving old → GoesOn [] false first so_far (record so_far { past = told_in b now }) new
   passes_over false now old new stage_is wanted bytes moves busy accounts is =
-      same_sector first parts past now counted false [] moving new (ap (λ front. front.stage) is ∙ stage_is) were here (counts ∙ none_told counted) (bytes ∙ sym (append-nil (bytes_moved operation past)))
+      same_sector first parts past now counted false counted [] moving new (ap (λ front. front.stage) is ∙ stage_is) were here counts (none_told counted) (bytes ∙ sym (append-nil (bytes_moved operation past)))
       (subst (λ front. Carries operation met moving now front.board.controller) (sym is)
       (record { moves = moves; busy = busy; accounts = accounts; passes = wanted_passes now (mark_of old.board.controller) wanted accounts }))
   passes_over true now old new stage_is unwanted bytes moves busy accounts is =
       let (skips, other, full) = unwanted_is (mark_of old.board.controller) unwanted in
       let empty = accounts.clean skips other in
       let over : MovingSector = record moving { left = 0; passed_over = true } in
-      same_sector first parts past (told_in true now) counted false [] over new (ap (λ front. front.stage) is) were here (counts ∙ none_told counted)
+      same_sector first parts past (told_in true now) counted false counted [] over new (ap (λ front. front.stage) is) were here counts (none_told counted)
       (bytes_told operation true now ∙ (bytes ∙ sym (append-nil (bytes_moved operation past))))
       (subst (λ front. Carries operation met over (told_in true now) front.board.controller) (sym is)
       (told_carries operation met over now old.board.controller moves busy (record {
@@ -290,77 +292,102 @@ module _ (first : Transfer) (parts : List Part) (past : Past) (counted : Bool) (
   done_mark Protected was phase is = tt
   done_mark Late was phase is = tt
 
+  any_mark : (ending : Ending) (mark other : Option Bool) (now : Past) → history_moved (Some ending) moving mark now so_far ≡ history_moved (Some ending) moving other now so_far
+  any_mark (Done marked) mark other now = refl
+  any_mark NoMark mark other now = refl
+  any_mark NoSector mark other now = refl
+  any_mark NoField mark other now = refl
+  any_mark BadCheck mark other now = refl
+  any_mark Overrun mark other now = refl
+  any_mark NoCount mark other now = refl
+  any_mark Protected mark other now = refl
+  any_mark Late mark other now = refl
+
   moves_on : (ending : Option Ending) (now : Past) (was : Option Bool) (old new : Front) → old.stage ≡ Moving moving → ending_told old.board.controller ≡ ending
       → bytes_moved operation now ≡ bytes_moved operation past → Accounts operation met moving now (mark_then was old.board.controller.phase)
-      → MayMove operation now (sent_of moving.transfer) old.board.controller → MovesOn ending moving old new → GoesOn [] false first so_far new ⊎ IsRefused new
+      → MayMove operation now (sent_of moving.transfer) old.board.controller → MovesOn ending moving old new
+      → GoesOn [] false first so_far (history_moved ending moving (mark_of old.board.controller) now so_far) new ⊎ IsRefused new
   moves_on None now was old new stage_is none bytes accounts moves does =
       let busy = still_busy operation now (sent_of moving.transfer) old.board.controller moves none in
       inl (passes_over (is_unwanted moving (mark_of old.board.controller)) now old new stage_is refl bytes moves busy
       (subst (Accounts operation met moving now) (then_busy was old.board.controller.phase busy) accounts) does)
   moves_on (Some ending) now was old new stage_is some bytes accounts moves does =
-      ends_on ending now (mark_then was old.board.controller.phase) (record old { board = with_controller (given_up old.board.controller) old.board }) new bytes accounts
+      subst (λ h. GoesOn [] false first so_far h new ⊎ IsRefused new) (any_mark ending (mark_then was old.board.controller.phase) (mark_of old.board.controller) now)
+      (ends_on ending now (mark_then was old.board.controller.phase) (record old { board = with_controller (given_up old.board.controller) old.board }) new bytes accounts
       (of_sector operation now (sent_of moving.transfer) old.board.controller moves)
-      (ended_means operation now (sent_of moving.transfer) old.board.controller ending accounts.sized moves some) (done_mark ending was old.board.controller.phase some) does
+      (ended_means operation now (sent_of moving.transfer) old.board.controller ending accounts.sized moves some) (done_mark ending was old.board.controller.phase some) does)
 
   step_moves : (old : Front) (between : BoardState) (new : Front) → old.stage ≡ Moving moving → Carries operation met moving past old.board.controller → StepsBoard old.board between
-      → MovesOn (ending_told between.controller) moving (record old { board = between }) new → GoesOn [] false first so_far new ⊎ IsRefused new
+      → MovesOn (ending_told between.controller) moving (record old { board = between }) new → StepsTo first so_far old between new ⊎ IsRefused new
   step_moves old between new stage_is carries steps does =
       let was = mark_of old.board.controller in
       let known = steps_on operation past (sent_of moving.transfer) old.board between steps carries.busy carries.moves in
-      moves_on (ending_told between.controller) known.now was (record old { board = between }) new stage_is refl known.bytes
-      (accounts_on operation met moving past known.now was (mark_then was between.controller.phase) known.marks known.bytes known.counted carries.accounts) known.moves does
+      let now = after_time known.time past in
+      elim (moves_on (ending_told between.controller) now was (record old { board = between }) new stage_is refl known.bytes
+      (accounts_on operation met moving past now was (mark_then was between.controller.phase) known.marks known.bytes known.counted carries.accounts) known.moves does) [
+        | inl goes ↦ inl (record {
+          time = known.time;
+          passes = subst (λ stage. Passes stage known.time old.board between) (sym stage_is) (subst (λ o. IsTimeOf o known.time) (sym same_operation) known.is.0, known.is.1);
+          goes = subst (λ stage. GoesOn [] false first so_far (history_stepped stage known.time between.controller so_far) new) (sym stage_is) goes;
+        })
+        | inr refused ↦ inr refused
+      ]
 
   -- ---- bytes
 
   -- one passed, and behind the last the controller is told the count
-  passes_one : (byte : ℕ) (fdc : Fdc) (old new : Front) → nat_lt 0 moving.left ≡ true → MovedOn operation past (sent_of moving.transfer) byte fdc → is_executing fdc.phase ≡ true
-      → Accounts operation met moving past (mark_of fdc) → (is_skipping operation ≡ true → IsOfOther operation (mark_of fdc) → moving.left ≡ 0) → new ≡ passed_one moving fdc old → GoesOn (byte ∷ []) false first so_far new
-  passes_one byte fdc old new some moved busy accounts passes is = by_last (moving.left - 1 == 0) refl
+  passes_one : (byte : ℕ) (now : Past) (fdc : Fdc) (old new : Front) → nat_lt 0 moving.left ≡ true → MovedOn operation past (sent_of moving.transfer) byte now fdc → is_executing fdc.phase ≡ true
+      → Accounts operation met moving past (mark_of fdc) → (is_skipping operation ≡ true → IsOfOther operation (mark_of fdc) → moving.left ≡ 0) → new ≡ passed_one moving fdc old
+      → GoesOn (byte ∷ []) false first so_far (history_passed moving now so_far) new
+  passes_one byte now fdc old new some moved busy accounts passes is = by_last (moving.left - 1 == 0) refl
     where
-      after : (b : Bool) → (moving.left - 1 == 0) ≡ b → Accounts operation met (record moving { left = moving.left - 1 }) (told_in b moved.now) (mark_of fdc)
+      after : (b : Bool) → (moving.left - 1 == 0) ≡ b → Accounts operation met (record moving { left = moving.left - 1 }) (told_in b now) (mark_of fdc)
       after b last = record {
         sized = accounts.sized;
-        bytes = subst (AreLeft operation met (record moving { left = moving.left - 1 }) (mark_of fdc)) (sym (bytes_told operation b moved.now ∙ moved.bytes))
+        bytes = subst (AreLeft operation met (record moving { left = moving.left - 1 }) (mark_of fdc)) (sym (bytes_told operation b now ∙ moved.bytes))
             (one_passed operation met moving (mark_of fdc) (bytes_moved operation past) byte some accounts.bytes);
         clean = λ skips other. not_over moving.left some (passes skips other);
-        told = one_told moving.counted moving.left past moved.now some moved.counted accounts.told b last;
+        told = one_told moving.counted moving.left past now some moved.counted accounts.told b last;
       }
 
-      by_count : (b : Bool) → (moving.left - 1 == 0) ≡ b → Carries operation met (record moving { left = moving.left - 1 }) (told_in b moved.now) (if b then told_count fdc else fdc)
+      by_count : (b : Bool) → (moving.left - 1 == 0) ≡ b → Carries operation met (record moving { left = moving.left - 1 }) (told_in b now) (if b then told_count fdc else fdc)
       by_count true last =
-          told_carries operation met (record moving { left = moving.left - 1 }) moved.now fdc moved.moves busy (after true last) (λ skips other. not_over moving.left some (passes skips other))
+          told_carries operation met (record moving { left = moving.left - 1 }) now fdc moved.moves busy (after true last) (λ skips other. not_over moving.left some (passes skips other))
       by_count false last =
           record { moves = moved.moves; busy = busy; accounts = after false last; passes = λ skips other. not_over moving.left some (passes skips other) }
 
-      by_last : (b : Bool) → (moving.left - 1 == 0) ≡ b → GoesOn (byte ∷ []) false first so_far new
-      by_last b last = same_sector first parts past (told_in b moved.now) counted false (byte ∷ []) (record moving { left = moving.left - 1 }) new (ap (λ front. front.stage) is) were here
-          (counts ∙ none_told counted)
-          (bytes_told operation b moved.now ∙ moved.bytes)
-          (subst (λ front. Carries operation met (record moving { left = moving.left - 1 }) (told_in b moved.now) front.board.controller) (sym is)
-          (subst (λ c. Carries operation met (record moving { left = moving.left - 1 }) (told_in b moved.now) (if c then told_count fdc else fdc)) (sym last) (by_count b last)))
+      by_last : (b : Bool) → (moving.left - 1 == 0) ≡ b → GoesOn (byte ∷ []) false first so_far (record so_far { past = told_in (moving.left - 1 == 0) now }) new
+      by_last b last = subst (λ c. GoesOn (byte ∷ []) false first so_far (record so_far { past = told_in c now }) new) (sym last) (same_sector first parts past (told_in b now) counted false counted (byte ∷ []) (record moving { left = moving.left - 1 }) new (ap (λ front. front.stage) is) were here
+          counts (none_told counted)
+          (bytes_told operation b now ∙ moved.bytes)
+          (subst (λ front. Carries operation met (record moving { left = moving.left - 1 }) (told_in b now) front.board.controller) (sym is)
+          (subst (λ c. Carries operation met (record moving { left = moving.left - 1 }) (told_in b now) (if c then told_count fdc else fdc)) (sym last) (by_count b last))))
 
-  takes_one : (byte : Option ℕ) (old new : Front) → Serves first so_far old → Carries operation met moving past old.board.controller → TakesMoving moving old byte new → GoesOn (passed_out byte) false first so_far new
+  takes_one : (byte : Option ℕ) (old new : Front) → Serves first so_far old → Carries operation met moving past old.board.controller → TakesMoving moving old byte new
+      → GoesOn (passed_out byte) false first so_far (history_taken (Moving moving) byte so_far) new
   takes_one None old new serves carries (quiet, is) = same_front first so_far old new is serves
   takes_one (Some byte) old new serves carries (up, byte_is, is) =
       let fdc = old.board.controller in
       let (some, asked) = and_parts (nat_lt 0 moving.left) (asks fdc && to_memory_of fdc) up in
-      subst (λ b. GoesOn (b ∷ []) false first so_far new) (sym byte_is)
-      (passes_one (byte_out fdc) (taken_out fdc) old new some (out_on operation past (sent_of moving.transfer) fdc asked carries.moves) carries.busy carries.accounts carries.passes is)
+      subst (λ b. GoesOn (b ∷ []) false first so_far (history_passed moving (gave b past) so_far) new) (sym byte_is)
+      (passes_one (byte_out fdc) (gave (byte_out fdc) past) (taken_out fdc) old new some (out_on operation past (sent_of moving.transfer) fdc asked carries.moves) carries.busy carries.accounts carries.passes is)
 
-  gives_one : (byte : ℕ) (was : Bool) (old new : Front) → Serves first so_far old → Carries operation met moving past old.board.controller → GivesMoving moving byte old was new → GoesOn (passed_in was byte) false first so_far new
+  gives_one : (byte : ℕ) (was : Bool) (old new : Front) → Serves first so_far old → Carries operation met moving past old.board.controller → GivesMoving moving byte old was new
+      → GoesOn (passed_in was byte) false first so_far (history_given (Moving moving) byte was so_far) new
   gives_one byte false old new serves carries (quiet, is) = same_front first so_far old new is serves
   gives_one byte true old new serves carries (up, is) =
       let fdc = old.board.controller in
       let (some, asked) = and_parts (nat_lt 0 moving.left) (asks fdc && not (to_memory_of fdc)) up in
-      passes_one byte (taken_in byte fdc) old new some (in_on operation past (sent_of moving.transfer) byte fdc carries.busy asked carries.moves) carries.busy carries.accounts carries.passes is
+      passes_one byte (took byte past) (taken_in byte fdc) old new some (in_on operation past (sent_of moving.transfer) byte fdc carries.busy asked carries.moves) carries.busy carries.accounts carries.passes is
 
   -- ---- the terminal count
 
-  counts_one : (old new : Front) → Carries operation met moving past old.board.controller → new ≡ record old { board = told_if true old.board; stage = Moving (record moving { counted = true }) } → GoesOn [] true first so_far new
+  counts_one : (old new : Front) → Carries operation met moving past old.board.controller → new ≡ record old { board = told_if true old.board; stage = Moving (record moving { counted = true }) }
+      → GoesOn [] true first so_far (history_counted (Moving moving) so_far) new
   counts_one old new carries is =
       let told : MovingSector = record moving { counted = true } in
       let accounts = carries.accounts in
-      same_sector first parts past (told_in true past) counted true [] told new (ap (λ front. front.stage) is) were here (over_told counted) (bytes_told operation true past ∙ sym (append-nil (bytes_moved operation past)))
+      same_sector first parts past (told_in true past) counted true true [] told new (ap (λ front. front.stage) is) were here refl (over_told counted) (bytes_told operation true past ∙ sym (append-nil (bytes_moved operation past)))
       (subst (λ front. Carries operation met told (told_in true past) front.board.controller) (sym is)
       (told_carries operation met told past old.board.controller carries.moves carries.busy (record {
         sized = accounts.sized;
@@ -372,10 +399,10 @@ module _ (first : Transfer) (parts : List Part) (past : Past) (counted : Bool) (
   -- ---- a write of another port
 
   writes_one : (old new : Front) (port value : ℕ) → old.stage ≡ Moving moving → Carries operation met moving past old.board.controller → (port == 0x3F5) ≡ false → resets port value ≡ false
-      → WritesBoard port value old.board new.board → new.stage ≡ old.stage → GoesOn [] false first so_far new
+      → WritesBoard port value old.board new.board → new.stage ≡ old.stage → GoesOn [] false first so_far so_far new
   writes_one old new port value stage_is carries no_byte no_reset writes same =
       let mark = port_mark port value (lines_at old.board) old.board.controller new.board.controller writes.writes no_byte no_reset in
-      same_sector first parts past past counted false [] moving new (same ∙ stage_is) were here (counts ∙ none_told counted) (sym (append-nil (bytes_moved operation past))) (record {
+      same_sector first parts past past counted false counted [] moving new (same ∙ stage_is) were here counts (none_told counted) (sym (append-nil (bytes_moved operation past))) (record {
         moves = port_on operation past (sent_of moving.transfer) port value (lines_at old.board) old.board.controller new.board.controller writes.writes no_byte no_reset carries.moves;
         busy = port_busy port value (lines_at old.board) old.board.controller new.board.controller writes.writes no_byte no_reset carries.busy;
         accounts = subst (Accounts operation met moving past) (sym mark) carries.accounts;
@@ -386,65 +413,76 @@ module _ (first : Transfer) (parts : List Part) (past : Past) (counted : Bool) (
 
 -- the heads have come to the command's cylinder, or not
 seeks_on : (b : Bool) (first : Transfer) (history : History) (at : Transfer) (counted : Bool) (old new : Front) → old.stage ≡ Seeking at counted → at ≡ first → history ≡ nothing_moved counted
-    → SeeksOn b at counted old new → GoesOn [] false first history new ⊎ IsRefused new
+    → SeeksOn b at counted old new → GoesOn [] false first history (history_sought b counted history) new ⊎ IsRefused new
 seeks_on true first history at counted old new stage_is here none does =
     elim (begins_serve first [] at counted false (record old { board = with_controller (without_seek old.board.controller) old.board }) new tt here refl does) [
-      | inl serves ↦ inl (subst (λ h. GoesOn [] false first h new) (sym none)
-          (record { parts = []; past = told_in counted new_past; counted = counted }, bytes_told first.opcode.operation counted new_past ∙ none_more first.opcode.operation (nothing_moved counted), none_told counted, serves))
+      | inl serves ↦ inl (subst (λ h. GoesOn [] false first h (history_sought true counted h) new) (sym none)
+          (bytes_told first.opcode.operation counted new_past ∙ none_more first.opcode.operation (nothing_moved counted), none_told counted, serves))
       | inr refused ↦ inr refused
     ]
 seeks_on false first history at counted old new stage_is here none does =
     inl (same_stage first history (Seeking at counted) new (ap (λ front. front.stage) does ∙ stage_is) (subst (λ h. AreMoved first.opcode.operation first h.parts) (sym none) tt) (here, none))
 
 step_at : (stage : Stage) (first : Transfer) (history : History) (old : Front) (between : BoardState) (new : Front) → old.stage ≡ stage → AreMoved first.opcode.operation first history.parts
-    → ServesAt stage first history old.board.controller → StepsBoard old.board between → FollowsStep stage (record old { board = between }) new → GoesOn [] false first history new ⊎ IsRefused new
+    → ServesAt stage first history old.board.controller → StepsBoard old.board between → FollowsStep stage (record old { board = between }) new → StepsTo first history old between new ⊎ IsRefused new
 step_at Through first history old between new stage_is parts now steps follows = absurd now
 step_at (Collecting opcode) first history old between new stage_is parts now steps follows = absurd now
 step_at (Seeking at counted) first history old between new stage_is parts (here, none) steps follows =
-    seeks_on (has_ended_seek between.controller.seeks) first history at counted (record old { board = between }) new stage_is here none follows
+    elim (seeks_on (has_ended_seek between.controller.seeks) first history at counted (record old { board = between }) new stage_is here none follows) [
+      | inl goes ↦ inl (record {
+        time = Stopped;
+        passes = subst (λ stage. Passes stage Stopped old.board between) (sym stage_is) tt;
+        goes = subst (λ stage. GoesOn [] false first history (history_stepped stage Stopped between.controller history) new) (sym stage_is) goes;
+      })
+      | inr refused ↦ inr refused
+    ]
 step_at (Moving moving) first history old between new stage_is parts (here, counts, carries) steps follows =
     step_moves first history.parts history.past history.counted moving parts here counts old between new stage_is carries steps follows
 step_at (Telling results read) first history old between new stage_is parts now steps follows =
-    inl (same_stage first history (Telling results read) new (ap (λ front. front.stage) follows ∙ stage_is) parts now)
+    inl (record {
+      time = Stopped;
+      passes = subst (λ stage. Passes stage Stopped old.board between) (sym stage_is) tt;
+      goes = subst (λ stage. GoesOn [] false first history (history_stepped stage Stopped between.controller history) new) (sym stage_is)
+          (same_stage first history (Telling results read) new (ap (λ front. front.stage) follows ∙ stage_is) parts now);
+    })
 
-pub steps_serve : (old new : Front) → StepsFront old new → ServesOn old new
+pub steps_serve : (old new : Front) (step : StepsFront old new) → ServesStep old new step
 steps_serve old new step first history serves = step_at old.stage first history old step.between new refl serves.parts serves.now step.steps step.follows
 
 -- ---- the channel
 
 take_at : (stage : Stage) (byte : Option ℕ) (first : Transfer) (history : History) (old new : Front) → ServesAt stage first history old.board.controller → Serves first history old → TakesAt stage old byte new
-    → GoesOn (passed_out byte) false first history new
+    → GoesOn (passed_out byte) false first history (history_taken stage byte history) new
 take_at Through byte first history old new now serves takes = absurd now
 take_at (Collecting opcode) byte first history old new now serves takes = absurd now
-take_at (Seeking at counted) byte first history old new now serves (none, is) = subst (λ b. GoesOn (passed_out b) false first history new) (sym none) (same_front first history old new is serves)
+take_at (Seeking at counted) byte first history old new now serves (none, is) = subst (λ b. GoesOn (passed_out b) false first history history new) (sym none) (same_front first history old new is serves)
 take_at (Moving moving) byte first history old new (here, counts, carries) serves takes = takes_one first history.parts history.past history.counted moving serves.parts here counts byte old new serves carries takes
-take_at (Telling results read) byte first history old new now serves (none, is) = subst (λ b. GoesOn (passed_out b) false first history new) (sym none) (same_front first history old new is serves)
+take_at (Telling results read) byte first history old new now serves (none, is) = subst (λ b. GoesOn (passed_out b) false first history history new) (sym none) (same_front first history old new is serves)
 
-pub takes_serve : (old : Front) (byte : Option ℕ) (new : Front) → TakesFront old byte new → KeepsServing (passed_out byte) old new
+pub takes_serve : (old : Front) (byte : Option ℕ) (new : Front) → TakesFront old byte new → KeepsServing (passed_out byte) (history_taken old.stage byte) old new
 takes_serve old byte new takes first history serves = take_at old.stage byte first history old new serves.now serves takes
 
 give_at : (stage : Stage) (byte : ℕ) (was : Bool) (first : Transfer) (history : History) (old new : Front) → ServesAt stage first history old.board.controller → Serves first history old → GivesAt stage byte old was new
-    → GoesOn (passed_in was byte) false first history new
+    → GoesOn (passed_in was byte) false first history (history_given stage byte was history) new
 give_at Through byte was first history old new now serves gives = absurd now
 give_at (Collecting opcode) byte was first history old new now serves gives = absurd now
-give_at (Seeking at counted) byte was first history old new now serves (none, is) = subst (λ w. GoesOn (passed_in w byte) false first history new) (sym none) (same_front first history old new is serves)
+give_at (Seeking at counted) byte was first history old new now serves (none, is) = subst (λ w. GoesOn (passed_in w byte) false first history history new) (sym none) (same_front first history old new is serves)
 give_at (Moving moving) byte was first history old new (here, counts, carries) serves gives = gives_one first history.parts history.past history.counted moving serves.parts here counts byte was old new serves carries gives
-give_at (Telling results read) byte was first history old new now serves (none, is) = subst (λ w. GoesOn (passed_in w byte) false first history new) (sym none) (same_front first history old new is serves)
+give_at (Telling results read) byte was first history old new now serves (none, is) = subst (λ w. GoesOn (passed_in w byte) false first history history new) (sym none) (same_front first history old new is serves)
 
-pub gives_serve : (byte : ℕ) (old : Front) (was : Bool) (new : Front) → GivesFront byte old was new → KeepsServing (passed_in was byte) old new
+pub gives_serve : (byte : ℕ) (old : Front) (was : Bool) (new : Front) → GivesFront byte old was new → KeepsServing (passed_in was byte) (history_given old.stage byte was) old new
 gives_serve byte old was new gives first history serves = give_at old.stage byte was first history old new serves.now serves gives
 
 -- while the heads seek
-seek_counted : (first : Transfer) (history : History) (at : Transfer) (counted : Bool) (new : Front) → at ≡ first → history ≡ nothing_moved counted → new.stage ≡ Seeking at true → GoesOn [] true first history new
-seek_counted first history at counted new here none is = subst (λ h. GoesOn [] true first h new) (sym none) (
-  nothing_moved true,
+seek_counted : (first : Transfer) (history : History) (at : Transfer) (counted : Bool) (new : Front) → at ≡ first → history ≡ nothing_moved counted → new.stage ≡ Seeking at true → GoesOn [] true first history (record history { counted = true }) new
+seek_counted first history at counted new here none is = subst (λ h. GoesOn [] true first h (record h { counted = true }) new) (sym none) (
   none_more first.opcode.operation (nothing_moved counted),
   over_told counted,
   record { parts = tt; now = subst (λ s. ServesAt s first (nothing_moved true) new.board.controller) (sym is) (here, refl) },
 )
 
 count_at : (stage : Stage) (first : Transfer) (history : History) (old new : Front) → ServesAt stage first history old.board.controller → Serves first history old → new ≡ count_told stage old
-    → GoesOn [] (hears_count stage) first history new
+    → GoesOn [] (hears_count stage) first history (history_counted stage history) new
 count_at Through first history old new now serves is = absurd now
 count_at (Collecting opcode) first history old new now serves is = absurd now
 count_at (Seeking at counted) first history old new (here, none) serves is = seek_counted first history at counted new here none (ap (λ front. front.stage) is)
@@ -457,12 +495,12 @@ counts_serve old new is first history serves = count_at old.stage first history 
 -- ---- reads of a port
 
 result_read : (last : Bool) (results : Results) (read : ℕ) (first : Transfer) (history : History) (old new : Front) → AreMoved first.opcode.operation first history.parts
-    → ServesAt (Telling results read) first history old.board.controller → new ≡ record old { stage = if last then Through else Telling results (read + 1) } → GoesOn [] false first history new ⊎ (new.stage ≡ Through)
+    → ServesAt (Telling results read) first history old.board.controller → new ≡ record old { stage = if last then Through else Telling results (read + 1) } → GoesOn [] false first history history new ⊎ (new.stage ≡ Through)
 result_read true results read first history old new parts now is = inr (ap (λ front. front.stage) is)
 result_read false results read first history old new parts now is = inl (same_stage first history (Telling results (read + 1)) new (ap (λ front. front.stage) is) parts now)
 
 byte_at_stage : (stage : Stage) (first : Transfer) (history : History) (old new : Front) → ServesAt stage first history old.board.controller → Serves first history old → new ≡ byte_given stage old
-    → GoesOn [] false first history new ⊎ (new.stage ≡ Through)
+    → GoesOn [] false first history history new ⊎ (new.stage ≡ Through)
 byte_at_stage Through first history old new now serves is = absurd now
 byte_at_stage (Collecting opcode) first history old new now serves is = absurd now
 byte_at_stage (Seeking at counted) first history old new now serves is = inl (same_front first history old new is serves)
@@ -472,7 +510,7 @@ byte_at_stage (Telling results read) first history old new now serves is = resul
 pub reads_serve : (port : ℕ) (old new : Front) → new ≡ after_reading port old → ServesOrLeaves old new
 reads_serve port old new is first history serves = by_port (port == 0x3F5) is
   where
-    by_port : (b : Bool) → new ≡ (if b then byte_given old.stage old else old) → GoesOn [] false first history new ⊎ (new.stage ≡ Through)
+    by_port : (b : Bool) → new ≡ (if b then byte_given old.stage old else old) → GoesOn [] false first history history new ⊎ (new.stage ≡ Through)
     by_port true is = byte_at_stage old.stage first history old new serves.now serves is
     by_port false is = inl (same_front first history old new is serves)
 
@@ -486,7 +524,7 @@ byte_ignored (Moving moving) byte first history old new now takes = takes
 byte_ignored (Telling results read) byte first history old new now takes = takes
 
 other_port : (stage : Stage) (port value : ℕ) (first : Transfer) (history : History) (old new : Front) → old.stage ≡ stage → AreMoved first.opcode.operation first history.parts
-    → ServesAt stage first history old.board.controller → (port == 0x3F5) ≡ false → resets port value ≡ false → WritesBoard port value old.board new.board → new.stage ≡ old.stage → GoesOn [] false first history new
+    → ServesAt stage first history old.board.controller → (port == 0x3F5) ≡ false → resets port value ≡ false → WritesBoard port value old.board new.board → new.stage ≡ old.stage → GoesOn [] false first history history new
 other_port Through port value first history old new stage_is parts now no_byte no_reset writes same = absurd now
 other_port (Collecting opcode) port value first history old new stage_is parts now no_byte no_reset writes same = absurd now
 other_port (Seeking at counted) port value first history old new stage_is parts now no_byte no_reset writes same = same_stage first history (Seeking at counted) new (same ∙ stage_is) parts now
@@ -497,11 +535,11 @@ other_port (Telling results read) port value first history old new stage_is part
 pub writes_serve : (port value : ℕ) (old new : Front) → WritesFront port value old new → ServesOrLeaves old new
 writes_serve port value old new writes first history serves = by_port (port == 0x3F5) refl
   where
-    by_reset : (b : Bool) → (port == 0x3F5) ≡ false → resets port value ≡ b → WritesBoard port value old.board new.board → new ≡ record (reset_if b old) { board = new.board } → GoesOn [] false first history new ⊎ (new.stage ≡ Through)
+    by_reset : (b : Bool) → (port == 0x3F5) ≡ false → resets port value ≡ b → WritesBoard port value old.board new.board → new ≡ record (reset_if b old) { board = new.board } → GoesOn [] false first history history new ⊎ (new.stage ≡ Through)
     by_reset true no_byte reset wrote is = inr (ap (λ front. front.stage) is)
     by_reset false no_byte no_reset wrote is = inl (other_port old.stage port value first history old new refl serves.parts serves.now no_byte no_reset wrote (ap (λ front. front.stage) is))
 
-    by_port : (b : Bool) → (port == 0x3F5) ≡ b → GoesOn [] false first history new ⊎ (new.stage ≡ Through)
+    by_port : (b : Bool) → (port == 0x3F5) ≡ b → GoesOn [] false first history history new ⊎ (new.stage ≡ Through)
     by_port true is = inl (same_front first history old new (byte_ignored old.stage value first history old new serves.now (writes.bytes (eqb-true port 0x3F5 is))) serves)
     by_port false is = let (wrote, after) = writes.others is in by_reset (resets port value) is refl wrote after
 

@@ -17,7 +17,7 @@ no_bytes (Read wanted skip) bytes = refl
 no_bytes (Write deleted) bytes = refl
 
 -- it is served from its last byte on
-begins_served : (byte : ℕ) (first : Transfer) (start begun : Front) → IsLastByte byte first start → WritesFront 0x3F5 byte start begun → (begun.stage ≡ Through → ⊥) → Serves first (nothing_moved false) begun
+pub begins_served : (byte : ℕ) (first : Transfer) (start begun : Front) → IsLastByte byte first start → WritesFront 0x3F5 byte start begun → (begun.stage ≡ Through → ⊥) → Serves first (nothing_moved false) begun
 begins_served byte first start begun last writes within =
     let begins = subst (λ stage. BeginsAt stage byte start begun) last.collects (begins_at start.stage 0x3F5 byte start begun refl writes refl) in
     elim (begins last.command first last.whole last.transfer) [
@@ -26,11 +26,12 @@ begins_served byte first start begun last writes within =
     ]
 
 pub command_served : (byte : ℕ) (first : Transfer) (start begun end : Front) (calls : List Call) (results : Results) (read : ℕ) → IsLastByte byte first start → WritesFront 0x3F5 byte start begun
-    → (begun.stage ≡ Through → ⊥) → AreWithin calls begun end → end.stage ≡ Telling results read → Served first calls results
-command_served byte first start begun end calls results read last writes within are tells =
-    let behind = calls_serve calls first (nothing_moved false) begun end are (begins_served byte first start begun last writes within) in
+    → (begun.stage ≡ Through → ⊥) → (within : AreWithin calls begun end) → end.stage ≡ Telling results read → Served first calls begun end within results
+command_served byte first start begun end calls results read last writes stays are tells =
+    let behind = calls_serve calls first (nothing_moved false) begun end are (begins_served byte first start begun last writes stays) in
     record {
       history = behind.history;
+      gather = behind.gather;
       bytes = sym (behind.bytes ∙ no_bytes first.opcode.operation _);
       moved = behind.serves.parts;
       say = results_say first behind.history end results read behind.serves tells;

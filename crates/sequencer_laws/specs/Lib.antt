@@ -1,3 +1,4 @@
 pub mod Serving
 pub mod Outcomes
 pub mod Calls
+pub mod Media

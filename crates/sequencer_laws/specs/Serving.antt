@@ -1,6 +1,6 @@
 -- What a command of several sectors means: the bytes that pass are, in order, those of its sectors, each found in the words of
 -- its own search.
-use Rattle.std.specs.Prelude.{◌≡◌, ◌⊎◌, ℕ, zero, suc, ◌+◌, Bool, true, false, ◌||◌, ◌==◌, Option, None, Some, List, [], ◌∷◌, ◌++◌, length, flat_map}
+use Rattle.std.specs.Prelude.{◌≡◌, ◌≤◌, ◌⊎◌, ℕ, zero, suc, ◌+◌, ◌-◌, Bool, true, false, ◌||◌, ◌==◌, Option, None, Some, List, [], ◌∷◌, ◌++◌, length, flat_map}
 use Rattle.std.specs.List.{list_any}
 use Rattle.flop_base.specs.declared.key.Chrn.{Chrn}
 use Rattle.track_model.specs.Fields.{IsSizeCode, content_size}
@@ -14,17 +14,22 @@ use Rattle.fdc_commands.specs.declared.bytes.Accepted.TheVariants.{Ready}
 use Rattle.fdc_commands.specs.declared.command.Command.{Command}
 use Rattle.fdc_commands.specs.declared.results.Results.{Results}
 use Rattle.fdc_core.specs.Heard.{MayRead}
-use Rattle.fdc_phases.specs.Heard.{Sent, results_sent}
+use Rattle.fdc_phases.specs.Heard.{Sent, gave, results_sent, told_in}
+use Rattle.fdc_phases.specs.Phases.{head_of}
+use Rattle.fdc_phases.specs.Written.{took}
+use Rattle.fdc_core.specs.Times.{WordTime, Saw, KeptOut, Wrote, Stopped, IsTime, after_time}
+use Rattle.fdc_seek.specs.Seeking.{has_ended_seek}
+use Rattle.fdc_board.specs.Boards.{BoardState, selected_at}
 use Rattle.fdc_core.specs.Listening.{is_executing}
 use Rattle.fdc_core.specs.Meaning.{AreOfField, ReadMeans}
 use Rattle.fdc_core.specs.Tellings.{WriteMeans, WritesWindow}
-use Rattle.fdc_core.specs.Whole.{is_idle, mark_of}
+use Rattle.fdc_core.specs.Whole.{ending_told, is_idle, mark_of}
 use Rattle.fdc_core.specs.Written.{MayWrite}
 use Rattle.fdc_phases.specs.declared.answers.Answer.TheVariants.{Short}
 use Rattle.fdc_core.specs.declared.controller.Fdc.{Fdc}
 use Rattle.fdc_phases.specs.declared.phases.Phase.TheVariants.{Result}
 use Rattle.fdc_sequencer.specs.Fronts.{Front}
-use Rattle.fdc_sequencer.specs.Moves.{goes_on, results_behind, results_failed}
+use Rattle.fdc_sequencer.specs.Moves.{StepsFront, goes_on, is_unwanted, results_behind, results_failed}
 use Rattle.fdc_sequencer.specs.Transfers.{next_of, is_other, is_skipping, transfer_of}
 use Rattle.fdc_sequencer.specs.declared.opcode.Opcode.{Opcode}
 use Rattle.fdc_sequencer.specs.declared.opcode.Operation.{Operation}
@@ -194,17 +199,92 @@ pub record Serves (first : Transfer) (history : History) (front : Front) : Type 
   pub parts : AreMoved first.opcode.operation first history.parts
   pub now : ServesAt front.stage first history front.board.controller
 
+-- ---- what a call adds
+
+-- where no drive is selected words 0000 are heard, and no index; and none is written
+abbrev pub IsNowhere : WordTime → Type 0
+IsNowhere (Saw index word) = (index ≡ false) × (word ≡ 0)
+IsNowhere (KeptOut index word) = (index ≡ false) × (word ≡ 0)
+IsNowhere (Wrote opened closed index word) = ⊥
+IsNowhere Stopped = Unit {0}
+
+-- no word is heard or written only where the controller's own command ended
+abbrev pub StopsAtEnd : WordTime → Fdc → Type 0
+StopsAtEnd Stopped fdc = (ending : Ending) × (ending_told fdc ≡ Some ending)
+StopsAtEnd _ fdc = Unit {0}
+
+-- what the selected drive did in a device step, at the controller's rate and under this head: the word that it gave, or took
+pub record PassesAt (selected head : ℕ) (time : WordTime) (old new : BoardState) : Type 0 where
+  pub at_first : selected ≡ 0 → IsTime time old.controller.rate head old.first new.first × StopsAtEnd time new.controller
+  pub at_second : selected ≡ 1 → IsTime time old.controller.rate head old.second new.second × StopsAtEnd time new.controller
+  pub at_none : 2 ≤ selected → IsNowhere time
+
+-- a read hears a word in each step
+abbrev pub IsTimeOf : Operation → WordTime → Type 0
+IsTimeOf (Read _ _) (Saw index word) = Unit {0}
+IsTimeOf (Read _ _) time = ⊥
+IsTimeOf (Write _) time = Unit {0}
+
+-- while a sector is moved it is under the sector's head
+abbrev pub Passes : Stage → WordTime → BoardState → BoardState → Type 0
+Passes (Moving moving) time old new =
+    IsTimeOf moving.transfer.opcode.operation time × PassesAt (selected_at old) (head_of moving.transfer.head_drive) time old new
+Passes _ time old new = Unit {0}
+
+-- the sector was moved with this mark, and the next begins or none does
+abbrev pub history_ended : Bool → Transfer → Bool → Past → History → History
+history_ended true at marked past old =
+    record { parts = old.parts ++ record { at = at; past = past; marked = marked } ∷ []; past = new_past; counted = false }
+history_ended false at marked past old = record old { past = past }
+
+-- behind a device step of a sector: the controller's own command ended so, or a field that isn't wanted is passed over, or it goes on
+abbrev pub history_moved : Option Ending → MovingSector → Option Bool → Past → History → History
+history_moved (Some (Done marked)) moving mark past old = history_ended (goes_on moving marked) moving.transfer marked past old
+history_moved (Some _) moving mark past old = record old { past = past }
+history_moved None moving mark past old = record old { past = told_in (is_unwanted moving mark) past }
+
+-- the heads came to the command's cylinder, and the first sector begins, or not
+abbrev pub history_sought : Bool → Bool → History → History
+history_sought true counted old = record old { past = told_in counted new_past }
+history_sought false counted old = old
+
+-- behind a device step in which this passed, once the controller made this of it
+abbrev pub history_stepped : Stage → WordTime → Fdc → History → History
+history_stepped (Seeking at counted) time fdc old = history_sought (has_ended_seek fdc.seeks) counted old
+history_stepped (Moving moving) time fdc old = history_moved (ending_told fdc) moving (mark_of fdc) (after_time time old.past) old
+history_stepped _ time fdc old = old
+
+-- behind a byte, and with the last of a sector the controller was told the count
+abbrev pub history_passed : MovingSector → Past → History → History
+history_passed moving past old = record old { past = told_in (moving.left - 1 == 0) past }
+
+abbrev pub history_taken : Stage → Option ℕ → History → History
+history_taken (Moving moving) (Some byte) old = history_passed moving (gave byte old.past) old
+history_taken _ _ old = old
+
+abbrev pub history_given : Stage → ℕ → Bool → History → History
+history_given (Moving moving) byte true old = history_passed moving (took byte old.past) old
+history_given _ _ _ old = old
+
+-- behind the terminal count, where it is heard
+abbrev pub history_counted : Stage → History → History
+history_counted (Seeking _ _) old = record old { counted = true }
+history_counted (Moving _) old = record old { past = told_in true old.past; counted = true }
+history_counted _ old = old
+
 -- ---- what a call leaves of it
 
--- it is still served; behind the bytes that had passed these did, and the terminal count came, where it came before or with this
-abbrev pub GoesOn : List ℕ → Bool → Transfer → History → Front → Type 0
-GoesOn passed told first old front =
-    (history : History) × (all_bytes first.opcode.operation history ≡ all_bytes first.opcode.operation old ++ passed)
+-- it is still served, and this is then what it heard and moved; behind the bytes that had passed these did, and the terminal count
+-- came, where it came before or with this
+abbrev pub GoesOn : List ℕ → Bool → Transfer → History → History → Front → Type 0
+GoesOn passed told first old history front =
+    (all_bytes first.opcode.operation history ≡ all_bytes first.opcode.operation old ++ passed)
     × (history.counted ≡ (old.counted || told)) × Serves first history front
 
--- whatever command was served still is, and these bytes passed
-abbrev pub KeepsServing : List ℕ → Front → Front → Type 0
-KeepsServing passed old new = (first : Transfer) (history : History) → Serves first history old → GoesOn passed false first history new
+-- whatever command was served still is: these bytes passed, and this is what it then heard and moved
+abbrev pub KeepsServing : List ℕ → (History → History) → Front → Front → Type 0
+KeepsServing passed grown old new =
+    (first : Transfer) (history : History) → Serves first history old → GoesOn passed false first history (grown history) new
 
 -- the terminal count is heard until the results are told
 abbrev pub hears_count : Stage → Bool
@@ -214,20 +294,28 @@ hears_count _ = false
 
 -- whatever command was served still is, and the terminal count came
 abbrev pub ServesCounted : Front → Front → Type 0
-ServesCounted old new = (first : Transfer) (history : History) → Serves first history old → GoesOn [] (hears_count old.stage) first history new
+ServesCounted old new =
+    (first : Transfer) (history : History) → Serves first history old
+    → GoesOn [] (hears_count old.stage) first history (history_counted old.stage history) new
 
 -- the controller answers 80 in place of a command for the sector
 pub record IsRefused (front : Front) : Type 0 where
   pub through : front.stage ≡ Through
   pub answer_is : front.board.controller.phase ≡ Result (Short 0x80 None)
 
--- whatever command was served still is, and no byte passed; or the next sector is refused
-abbrev pub ServesOn : Front → Front → Type 0
-ServesOn old new = (first : Transfer) (history : History) → Serves first history old → GoesOn [] false first history new ⊎ IsRefused new
+-- this passed under the head in a device step, and it is added to what was heard and moved; no byte passed
+pub record StepsTo (first : Transfer) (history : History) (old : Front) (between : BoardState) (new : Front) : Type 0 where
+  pub time : WordTime
+  pub passes : Passes old.stage time old.board between
+  pub goes : GoesOn [] false first history (history_stepped old.stage time between.controller history) new
+
+-- whatever command was served still is, with what passed in this step; or the next sector is refused
+abbrev pub ServesStep : (old new : Front) → StepsFront old new → Type 0
+ServesStep old new step = (first : Transfer) (history : History) → Serves first history old → StepsTo first history old step.between new ⊎ IsRefused new
 
 -- whatever command was served still is, and no byte passed; or each access is the controller's again
 abbrev pub ServesOrLeaves : Front → Front → Type 0
-ServesOrLeaves old new = (first : Transfer) (history : History) → Serves first history old → GoesOn [] false first history new ⊎ (new.stage ≡ Through)
+ServesOrLeaves old new = (first : Transfer) (history : History) → Serves first history old → GoesOn [] false first history history new ⊎ (new.stage ≡ Through)
 
 -- the byte that passed, if one did
 abbrev pub passed_out : Option ℕ → List ℕ

@@ -1,5 +1,5 @@
 use Rattle.std.proofs.Common.{refl}
-use Rattle.sequencer_laws.proofs.Called.{media_serve, runs_serve}
+use Rattle.sequencer_laws.proofs.Called.{media_serve}
 use Rattle.sequencer_laws.proofs.Served.{begins_at, counts_serve, gives_serve, reads_serve, steps_serve, takes_serve, writes_serve}
 use Rattle.sequencer_laws.proofs.laws.a_served_command_goes_on.Goals as goal
 
@@ -23,9 +23,6 @@ returns-clause-writes c = writes_serve
 
 pub returns-clause-changes : goal.returns-clause-changes
 returns-clause-changes c = media_serve
-
-pub returns-clause-runs : goal.returns-clause-runs
-returns-clause-runs c = runs_serve
 
 pub returns-clause-begins : goal.returns-clause-begins
 returns-clause-begins c = λ port byte old new writes here. begins_at old.stage port byte old new refl writes here
