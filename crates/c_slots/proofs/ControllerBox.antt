@@ -6,9 +6,9 @@ use Rattle.std.proofs.BoxSteps.Form.{Bx}
 use Rattle.std.specs.contracts.alloc.Global as Heap
 use Rattle.std.specs.contracts.prelude.GlobalAllocator.TheImpl.{ghosts, dict}
 use Rattle.std.proofs.alloc.Global.TheLaws as heap
-use Rattle.inspected_drive.specs.contracts.drive.InspectedDrive as drive_of
+use Rattle.drive_model.specs.contracts.script.ScriptDrive as drive_of
 use Rattle.fdc_sequencer.proofs.sequencer.Sequencer.TheLaws as sequencer_laws
-use Rattle.inspected_drive.proofs.drive.InspectedDrive.TheLaws as drive_laws
+use Rattle.drive_model.proofs.script.ScriptDrive.TheLaws as drive_laws
 use Rattle.loose_box.specs.contracts.Loose as loose
 use Rattle.c_slots.specs.Controllers.{controller_row}
 use Rattle.c_slots.specs.contracts.controller.held.Held as held

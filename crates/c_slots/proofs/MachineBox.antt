@@ -6,9 +6,9 @@ use Rattle.std.proofs.BoxSteps.Form.{Bx}
 use Rattle.std.specs.contracts.alloc.Global as Heap
 use Rattle.std.specs.contracts.prelude.GlobalAllocator.TheImpl.{ghosts, dict}
 use Rattle.std.proofs.alloc.Global.TheLaws as heap
-use Rattle.any_drive.specs.contracts.drive.AnyDrive as drive_of
+use Rattle.drive_model.specs.contracts.script.ScriptDrive as drive_of
 use Rattle.pc_bus.proofs.machine.MachineOf.TheLaws as machine_laws
-use Rattle.any_drive.proofs.drive.AnyDrive.TheLaws as drive_laws
+use Rattle.drive_model.proofs.script.ScriptDrive.TheLaws as drive_laws
 use Rattle.loose_box.specs.contracts.Loose as loose
 use Rattle.c_slots.specs.Machines.{machine_row}
 use Rattle.c_slots.specs.contracts.machine.held.Held as held

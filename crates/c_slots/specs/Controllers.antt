@@ -9,7 +9,7 @@ use Rattle.std.specs.Global.{Global, Box}
 use Rattle.std.specs.contracts.prelude.GlobalAllocator.TheImpl.{ghosts}
 use Rattle.std.specs.Coded.{coded_option}
 use Rattle.fdc_sequencer.specs.contracts.sequencer.Sequencer as sequencer_of
-use Rattle.inspected_drive.specs.contracts.drive.InspectedDrive as drive_of
+use Rattle.drive_model.specs.contracts.script.ScriptDrive as drive_of
 
 abbrev pub controller_row : RattleType
 controller_row = sequencer_of.the_row drive_of.the_row

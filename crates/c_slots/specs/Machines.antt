@@ -9,7 +9,7 @@ use Rattle.std.specs.Global.{Global, Box}
 use Rattle.std.specs.contracts.prelude.GlobalAllocator.TheImpl.{ghosts}
 use Rattle.std.specs.Coded.{coded_option}
 use Rattle.pc_bus.specs.contracts.machine.MachineOf as machine_of
-use Rattle.any_drive.specs.contracts.drive.AnyDrive as drive_of
+use Rattle.drive_model.specs.contracts.script.ScriptDrive as drive_of
 
 abbrev pub machine_row : RattleType
 machine_row = machine_of.the_row drive_of.the_row

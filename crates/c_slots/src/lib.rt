@@ -7,22 +7,21 @@ mod machine;
 mod shelf;
 mod tray;
 
-use any_drive::AnyDrive;
 pub use controller::ControllerSlot;
 pub use disk::DiskSlot;
+use drive_model::ScriptDrive;
 use fdc_sequencer::Sequencer;
-use inspected_drive::InspectedDrive;
 pub use machine::MachineSlot;
 use pc_bus::MachineOf;
 use raw_image::Medium;
 pub use shelf::ShelfSlot;
 pub use tray::TraySlot;
 
-/// The machine with drives that have no faults, or planned ones.
-pub type BenchMachine = MachineOf<AnyDrive>;
+/// The machine with drives that have the faults of a list, which may be empty.
+pub type BenchMachine = MachineOf<ScriptDrive>;
 
-/// The controller that takes several sectors a command, with drives that have no faults and can be looked into.
-pub type SequencedBoard = Sequencer<InspectedDrive>;
+/// The controller that takes several sectors a command, with such drives.
+pub type SequencedBoard = Sequencer<ScriptDrive>;
 
 /// What a medium lies in outside a drive.
 #[derive(Drop)]

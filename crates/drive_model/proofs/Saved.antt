@@ -62,6 +62,7 @@ pub record Parts : Type 0 where
   pub change : Bool
   pub gate : Bool
   pub cut : Bool
+  pub replaced : Bool
 
 -- the mechanism with these parts
 abbrev mechanics_of : (p : Parts) → p.cylinder ≤ 82 → p.place ≤ track_words p.medium - 1 → p.spin ≤ 6250
@@ -75,6 +76,7 @@ mechanics_of p reached on_track spun rests disk = record {
   change = p.change;
   gate = p.gate;
   cut = p.cut;
+  replaced = p.replaced;
   on_a_cylinder = reached;
   on_the_track = on_track;
   spun_up = spun;
@@ -93,6 +95,7 @@ parts_of m = record {
   change = m.change;
   gate = m.gate;
   cut = m.cut;
+  replaced = m.replaced;
 }
 
 -- it doesn't matter how its limits were seen

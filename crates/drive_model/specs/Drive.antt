@@ -1,13 +1,14 @@
 -- A drive as contracts see it, and what each of its calls may do.
-use Rattle.std.specs.Prelude.{◌≡◌, ◌⊎◌, ℕ, ◌+◌, ◌-◌, ◌≤◌, min, Bool, true, false, not, ◌&&◌, ◌==◌, nat_lt, nat_le, if◌then◌else◌, List, [], slice_index, Option, Some, None, is_some, IsTrue, IfSome}
+use Rattle.std.specs.Prelude.{◌≡◌, ◌⊎◌, ℕ, ◌+◌, ◌-◌, ◌≤◌, min, Bool, true, false, not, ◌&&◌, ◌||◌, ◌==◌, nat_lt, nat_le, if◌then◌else◌, List, [], slice_index, Option, Some, None, is_some, IsTrue, IfSome}
 use Rattle.flop_base.specs.declared.answers.Rate.{Rate}
 use Rattle.flop_base.specs.declared.answers.Rate.TheVariants.{R500}
 use Rattle.flop_base.specs.Counts.{last_count, Rose, CanTell, Spends}
 use Rattle.raw_image.specs.Disk.{Disk, IsDisk, track_of, with_word}
 
 -- a drive: the medium in it or none, the cylinder under its heads, the place that passes them next, its motor, for how many
--- word times the medium has spun up, its change line, its write gate, whether the gate was cut, its count of faults, and the
--- most by which that count can still rise, where the drive tells it
+-- word times the medium has spun up, its change line, its write gate, whether the gate was cut, whether a word of the medium was
+-- replaced since it was put in or since that was last forgotten, its count of faults, and the most by which that count can still
+-- rise, where the drive tells it
 pub record DriveState : Type 0 where
   pub medium : Option Disk
   pub cylinder : ℕ
@@ -17,6 +18,7 @@ pub record DriveState : Type 0 where
   pub change : Bool
   pub gate : Bool
   pub cut : Bool
+  pub replaced : Bool
   pub faults : ℕ
   pub left : Option ℕ
 
@@ -44,6 +46,10 @@ has_track (Some d) c h = nat_lt c d.cylinders && nat_lt h d.heads
 abbrev pub words_on : Option Disk → ℕ → ℕ → List ℕ
 words_on None c h = []
 words_on (Some d) c h = if has_track (Some d) c h then track_of d c h else []
+
+-- a word of that track can be replaced: the medium has it, and isn't protected
+abbrev pub can_replace : Option Disk → ℕ → ℕ → Bool
+can_replace medium c h = not (is_protected medium) && has_track medium c h
 
 -- the medium with one word of a track replaced, unless it is protected or lacks the track
 abbrev pub rewritten : Option Disk → ℕ → ℕ → ℕ → ℕ → Option Disk
@@ -74,11 +80,11 @@ passed s = record s {
 abbrev pub word_under : DriveState → ℕ → ℕ
 word_under s head = if at_speed s then slice_index (words_on s.medium s.cylinder head) s.place else 0
 
--- with this medium in
+-- with this medium in, of which no word was replaced yet
 abbrev pub loaded : Disk → DriveState → DriveState
-loaded d s = record s { medium = Some d; spin = 0; place = 0; change = true }
+loaded d s = record s { medium = Some d; spin = 0; place = 0; change = true; replaced = false }
 
--- with the medium taken out; with none in, as before
+-- with the medium taken out; with none in, as before. It is still told whether a word of it was replaced
 abbrev pub unloaded : DriveState → DriveState
 unloaded s = record s {
   medium = None;
@@ -106,11 +112,20 @@ moved inward s = record s {
 abbrev pub can_write : DriveState → Bool
 can_write s = at_speed s && (s.gate && not s.cut)
 
+-- a write under a head replaces a word of the medium
+abbrev pub replaces : DriveState → ℕ → Bool
+replaces s head = can_write s && can_replace s.medium s.cylinder head
+
 -- one word time later, with the word under a head replaced where it can be
 abbrev pub written : ℕ → ℕ → DriveState → DriveState
 written head word s = record (passed s) {
   medium = if can_write s then rewritten s.medium s.cylinder head s.place word else s.medium;
+  replaced = s.replaced || replaces s head;
 }
+
+-- it is forgotten that a word of the medium was replaced
+abbrev pub forgotten : DriveState → DriveState
+forgotten s = record s { replaced = false }
 
 -- one word time later, with the gate cut
 abbrev pub cut_off : DriveState → DriveState

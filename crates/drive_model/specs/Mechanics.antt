@@ -14,6 +14,7 @@ state_of m faults left = record {
   change = m.change;
   gate = m.gate;
   cut = m.cut;
+  replaced = m.replaced;
   faults = faults;
   left = left;
 }
@@ -33,6 +34,7 @@ at_rest left = record {
   change = true;
   gate = false;
   cut = false;
+  replaced = false;
   faults = 0;
   left = left;
 }

@@ -31,7 +31,7 @@ spelled_plan faults rest = spelled_list spelled_fault faults rest
 abbrev pub spelled_mechanics : Mechanics → List ℕ → List ℕ
 spelled_mechanics m rest =
     spelled_medium m.medium (spelled_byte m.cylinder (spelled_word m.place (spelled_word m.spin
-    (spelled_flag m.motor (spelled_flag m.change (spelled_flag m.gate (spelled_flag m.cut rest)))))))
+    (spelled_flag m.motor (spelled_flag m.change (spelled_flag m.gate (spelled_flag m.cut (spelled_flag m.replaced rest))))))))
 
 -- a drive without faults, and one with planned faults
 abbrev pub spelled_plain_drive : PlainDrive → List ℕ → List ℕ

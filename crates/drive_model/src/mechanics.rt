@@ -1,10 +1,10 @@
 // A drive without its faults: the parts that move, and the lines.
-ghost use Rattle.std.specs.Prelude.{◌≡◌, ◌↔◌, ◌≤◌, ◌<◌, ◌-◌, ℕ, Option, Some, is_some, IsErr, IsSome, OnOk, IfErr, IfSome, MatchOption, slice_index, false, if◌then◌else◌};
+ghost use Rattle.std.specs.Prelude.{◌≡◌, ◌↔◌, ◌≤◌, ◌<◌, ◌-◌, ◌||◌, ℕ, Option, Some, is_some, IsErr, IsSome, OnOk, IfErr, IfSome, MatchOption, slice_index, false, if◌then◌else◌};
 ghost use Rattle.std.specs.Option.{ForSome};
 ghost use Rattle.raw_image.specs.Disk.{IsDisk};
-ghost use Rattle.drive_model.specs.Drive.{track_words, rewritten};
+ghost use Rattle.drive_model.specs.Drive.{track_words, can_replace, rewritten};
 
-use crate::Turn;
+use crate::{Heard, Turn};
 use flop_base::Rate;
 use raw_image::Medium;
 
@@ -14,17 +14,20 @@ const LAST_CYLINDER: u8 = 82;
 /// The word times that a medium takes to spin up.
 const SPIN_UP: u16 = 6250;
 
-/// Replaces a word of a medium that has the track and is not protected.
-fn replace_word(medium: &mut Medium, cylinder: u8, head: u8, place: u16, word: u16)
+/// Replaces a word of a medium that has the track and is not protected, and tells whether it did.
+fn replace_word(medium: &mut Medium, cylinder: u8, head: u8, place: u16, word: u16) -> bool
     requires { place < medium.old.words_per_track }
     ensures becomes { Some medium.new ≡ rewritten (Some medium.old) cylinder head place word }
+    ensures replaced { result ≡ can_replace (Some medium.old) cylinder head }
     ensures words { medium.new.words_per_track ≡ medium.old.words_per_track }
     ensures valid { IsDisk medium.new }
 {
     let cylinders = medium.cylinders();
     if !medium.protected() && cylinder < cylinders && head < medium.heads() {
         medium.set_word(cylinder, head, place, word);
+        return true;
     }
+    false
 }
 
 /// A word that passes under the heads.
@@ -44,6 +47,8 @@ pub(crate) struct Mechanics {
     pub(crate) change: bool,
     pub(crate) gate: bool,
     pub(crate) cut: bool,
+    /// A word of the medium was replaced since it was put in, or since that was last forgotten.
+    pub(crate) replaced: bool,
     ghost on_a_cylinder: { cylinder ≤ 82 },
     ghost on_the_track: { place ≤ track_words medium - 1 },
     ghost spun_up: { spin ≤ 6250 },
@@ -70,6 +75,7 @@ impl Mechanics {
             change: true,
             gate: false,
             cut: false,
+            replaced: false,
         }
     }
 
@@ -90,6 +96,7 @@ impl Mechanics {
         self.spin = 0;
         self.place = 0;
         self.change = true;
+        self.replaced = false;
         Ok(())
     }
 
@@ -276,16 +283,39 @@ impl Mechanics {
         }
     }
 
+    /// Closes the gate, lets a word time pass, and reads the word that passes under a head.
+    pub(crate) fn listen(&mut self, head: u8) -> Heard
+        ensures state { faultless self.new ≡ passed (with_gate false (faultless self.old)) }
+        ensures word { result.turn.word ≡ word_under (faultless self.old) head }
+        ensures index { result.turn.index ≡ at_index (faultless self.old) }
+        ensures rate { result.rate ≡ rate_of self.old.medium }
+    {
+        self.gate = false;
+        let rate = self.rate();
+        let turn = self.read(head);
+        Heard { turn, rate }
+    }
+
+    /// Closes the gate and lets a word time pass.
+    pub(crate) fn idle(&mut self)
+        ensures { faultless self.new ≡ passed (with_gate false (faultless self.old)) }
+    {
+        self.gate = false;
+        self.pass();
+    }
+
     /// Replaces the word at a place under a head, where it can be.
     fn replace(&mut self, head: u8, place: u16, word: u16)
         requires { place < track_words self.old.medium }
         ensures { faultless self.new ≡ record (faultless self.old) {
           medium = rewritten self.old.medium self.old.cylinder head place word;
+          replaced = self.old.replaced || can_replace self.old.medium self.old.cylinder head;
         } }
     {
         let cylinder = self.cylinder;
         if let Some(medium) = &mut self.medium {
-            replace_word(medium, cylinder, head, place, word);
+            let replaced = replace_word(medium, cylinder, head, place, word);
+            self.replaced = self.replaced || replaced;
         }
     }
 

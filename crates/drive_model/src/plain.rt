@@ -4,7 +4,7 @@ ghost use Rattle.std.specs.Prelude.{◌≡◌, Some};
 mod saving;
 
 use crate::mechanics::Mechanics;
-use crate::{Drive, Turn};
+use crate::{Drive, Heard, Inspect, Turn};
 use flop_base::Rate;
 use raw_image::Medium;
 
@@ -77,6 +77,10 @@ impl Drive for PlainDrive {
         self.mechanics.read(head)
     }
 
+    fn listen(&mut self, head: u8) -> Heard {
+        self.mechanics.listen(head)
+    }
+
     fn write_word(&mut self, head: u8, word: u16) -> bool {
         self.mechanics.write(head, word)
     }
@@ -85,11 +89,37 @@ impl Drive for PlainDrive {
         self.mechanics.ahead(head)
     }
 
+    fn idle(&mut self) {
+        self.mechanics.idle();
+    }
+
     fn let_pass(&mut self, count: u32) {
         self.mechanics.let_pass(count);
     }
 
     fn faults(&self) -> u64 {
         0
+    }
+}
+
+impl Inspect for PlainDrive {
+    fn medium(&self) -> Option<&Medium> {
+        self.mechanics.medium.as_ref()
+    }
+
+    fn cylinder(&self) -> u8 {
+        self.mechanics.cylinder
+    }
+
+    fn is_gate_open(&self) -> bool {
+        self.mechanics.gate
+    }
+
+    fn is_written(&self) -> bool {
+        self.mechanics.replaced
+    }
+
+    fn forget_written(&mut self) {
+        self.mechanics.replaced = false;
     }
 }

@@ -93,6 +93,7 @@ impl SavedWhole for Mechanics {
         self.change.save(to);
         self.gate.save(to);
         self.cut.save(to);
+        self.replaced.save(to);
     }
 
     fn load(alloc: Global, from: &mut Source<'_>) -> Result<Mechanics, NoMemory> {
@@ -105,6 +106,7 @@ impl SavedWhole for Mechanics {
         let change = bool::load(from);
         let gate = bool::load(from);
         let cut = bool::load(from);
+        let replaced = bool::load(from);
         Ok(Mechanics {
             medium,
             cylinder,
@@ -114,6 +116,7 @@ impl SavedWhole for Mechanics {
             change,
             gate,
             cut,
+            replaced,
         })
     }
 }

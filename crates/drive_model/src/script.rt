@@ -2,7 +2,7 @@
 ghost use Rattle.std.specs.Prelude.{◌≡◌, ◌≤◌, ◌↔◌, length, IsErr, IsSome, OnOk, IfErr};
 ghost use Rattle.std.specs.Bool.{OnTrue, OnFalse};
 ghost use Rattle.flop_base.specs.Counts.{last_count, Rose};
-ghost use Rattle.drive_model.specs.Drive.{Becomes, InRange, loaded, unloaded, with_motor, with_gate, moved, passed, written, cut_off, at_index, word_under, Pulses, Reads, Writes};
+ghost use Rattle.drive_model.specs.Drive.{Becomes, InRange, loaded, unloaded, with_motor, with_gate, moved, passed, written, forgotten, cut_off, at_index, word_under, rate_of, Pulses, Reads, Writes};
 ghost use Rattle.drive_model.specs.Ahead.{LetsPass, AreAhead};
 ghost use Rattle.drive_model.specs.Fault.{comes};
 
@@ -11,7 +11,7 @@ mod saving;
 use crate::fault::Event;
 use crate::mechanics::Mechanics;
 use crate::plan::Plan;
-use crate::{Drive, Fault, Turn};
+use crate::{Drive, Fault, Heard, Inspect, Turn};
 use flop_base::Rate;
 use raw_image::Medium;
 
@@ -220,6 +220,34 @@ impl Drive for ScriptDrive {
         }
     }
 
+    fn listen(&mut self, head: u8) -> Heard
+        ensures becomes { Becomes (passed (with_gate false (script_state self.old)))
+            (script_state self.old) (script_state self.new) }
+        ensures word { Reads head (script_state self.old) result.turn.word (script_state self.new) }
+        ensures index { result.turn.index ≡ at_index (script_state self.old) }
+        ensures rate { result.rate ≡ rate_of (script_state self.old).medium }
+
+        ensures dropped { OnTrue (drops self.old head) (result.turn.word ≡ 0) }
+        ensures read { OnFalse (drops self.old head)
+            (result.turn.word ≡ word_under (script_state self.old) head) }
+        ensures accounts { Accounts (drops self.old head)
+            (read_of (script_state self.old) head) self.old self.new }
+    {
+        let dropped = self.drops(head);
+        let heard = self.mechanics.listen(head);
+        if dropped {
+            Heard {
+                turn: Turn {
+                    word: 0,
+                    ..heard.turn
+                },
+                ..heard
+            }
+        } else {
+            heard
+        }
+    }
+
     fn write_word(&mut self, head: u8, word: u16) -> bool
         ensures writes { Writes head word (script_state self.old) (script_state self.new) }
         ensures index { result ≡ at_index (script_state self.old) }
@@ -254,6 +282,14 @@ impl Drive for ScriptDrive {
         &words[..count]
     }
 
+    fn idle(&mut self)
+        ensures becomes { Becomes (passed (with_gate false (script_state self.old)))
+            (script_state self.old) (script_state self.new) }
+        ensures no_fault { NoFault self.old self.new }
+    {
+        self.mechanics.idle();
+    }
+
     fn let_pass(&mut self, count: u32)
         ensures passes { LetsPass count (script_state self.old) (script_state self.new) }
         ensures no_fault { NoFault self.old self.new }
@@ -263,5 +299,32 @@ impl Drive for ScriptDrive {
 
     fn faults(&self) -> u64 {
         self.faults
+    }
+}
+
+impl Inspect for ScriptDrive {
+    ghost use Rattle.drive_model.specs.ScriptDrive.{script_state, NoFault};
+
+    fn medium(&self) -> Option<&Medium> {
+        self.mechanics.medium.as_ref()
+    }
+
+    fn cylinder(&self) -> u8 {
+        self.mechanics.cylinder
+    }
+
+    fn is_gate_open(&self) -> bool {
+        self.mechanics.gate
+    }
+
+    fn is_written(&self) -> bool {
+        self.mechanics.replaced
+    }
+
+    fn forget_written(&mut self)
+        ensures state { script_state self.new ≡ forgotten (script_state self.old) }
+        ensures no_fault { NoFault self.old self.new }
+    {
+        self.mechanics.replaced = false;
     }
 }

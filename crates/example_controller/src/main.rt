@@ -3,12 +3,12 @@
 
 use std::alloc::Global;
 use std::io;
-use telwyddus::controller::{FdcBoard, InspectedDrive};
+use telwyddus::controller::{FdcBoard, PlainDrive};
 use telwyddus::disk::Medium;
 use telwyddus::track::fill_layout;
 use telwyddus::{Chrn, NoMemory};
 
-type Board = FdcBoard<InspectedDrive>;
+type Board = FdcBoard<PlainDrive>;
 
 /// A disk of one track at 500 kbit/s, with one sector of 256 bytes: cylinder 0, head 0, record 5.
 fn disk(alloc: Global) -> Result<Medium, NoMemory> {
@@ -27,7 +27,7 @@ fn disk(alloc: Global) -> Result<Medium, NoMemory> {
 
 /// The controller, still in reset, with the disk in its first drive.
 fn board(alloc: Global) -> Result<Board, NoMemory> {
-    let mut board = FdcBoard::new(alloc, InspectedDrive::new(), InspectedDrive::new())?;
+    let mut board = FdcBoard::new(alloc, PlainDrive::new(), PlainDrive::new())?;
     // An empty bay takes it.
     let _refused = board.insert(0, disk(alloc)?);
     Ok(board)

@@ -32,10 +32,6 @@ pub record SameDrives {D : Type 0} (old new : FdcBoard D) : Type 0 where
 abbrev pub drive_at : BoardState → ℕ → DriveState
 drive_at board bay = if bay == 0 then board.first else board.second
 
--- a word of the medium in a bay was replaced since it was put in, or since that was last forgotten
-abbrev pub written_at : {D : Type 0} → (D → Bool) → FdcBoard D → ℕ → Bool
-written_at written board bay = if bay == 0 then written board.first else written board.second
-
 -- the drive that DOR selects: those of bays 2 and 3 are absent
 abbrev pub selected_at : BoardState → ℕ
 selected_at board = dor_of board.controller % 4

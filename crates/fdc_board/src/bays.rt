@@ -1,15 +1,15 @@
 // The bays: media in and out, and what a front end shows of the drives.
-ghost use Rattle.std.specs.Prelude.{◌≡◌, ◌≤◌, ◌+◌, ◌-◌, ◌↔◌, IfErr, OnOk, OnErr, IsErr, IsSome, IsTrue, IsBitSet, false};
+ghost use Rattle.std.specs.Prelude.{◌≡◌, ◌≤◌, ◌+◌, ◌-◌, ◌↔◌, IfErr, OnOk, IsErr, IsSome, IsTrue, IsBitSet};
 ghost use Rattle.std.specs.Option.{option_copied};
-ghost use Rattle.drive_model.specs.Drive.{Becomes, loaded, unloaded};
+ghost use Rattle.drive_model.specs.Drive.{Becomes, loaded, unloaded, forgotten};
 ghost use Rattle.fdc_core.specs.State.{dor_of};
 
 use crate::board::FdcBoard;
-use inspected_drive::Inspect;
+use drive_model::Inspect;
 use raw_image::Medium;
 
 impl<D: Inspect> FdcBoard<D> {
-    ghost use Rattle.fdc_board.specs.Boards.{board_state, controller_of, drive_at, written_at};
+    ghost use Rattle.fdc_board.specs.Boards.{board_state, controller_of, drive_at};
 
     /// Puts a medium into a bay, of which no word was replaced yet. Where one is in already, the new one is given back.
     pub fn insert(&mut self, bay: u8, medium: Medium) -> Result<(), Medium>
@@ -21,14 +21,11 @@ impl<D: Inspect> FdcBoard<D> {
             (drive_at (board_state D.state self.old) bay) (drive_at (board_state D.state self.new) bay)) }
         ensures err { IfErr result (λ back. (back ≡ medium)
             × Becomes (drive_at (board_state D.state self.old) bay) (drive_at (board_state D.state self.old) bay) (drive_at (board_state D.state self.new) bay)) }
-        ensures fresh { OnOk result (written_at D.written self.new bay ≡ false) }
-        ensures kept { OnErr result (written_at D.written self.new bay ≡ written_at D.written self.old bay) }
-        ensures other_kept { written_at D.written self.new (1 - bay) ≡ written_at D.written self.old (1 - bay) }
     {
         if bay == 0 {
-            self.first.put_in(medium)
+            self.first.insert(medium)
         } else {
-            self.second.put_in(medium)
+            self.second.insert(medium)
         }
     }
 
@@ -40,13 +37,11 @@ impl<D: Inspect> FdcBoard<D> {
         ensures medium { result ≡ (drive_at (board_state D.state self.old) bay).medium }
         ensures becomes { Becomes (unloaded (drive_at (board_state D.state self.old) bay))
             (drive_at (board_state D.state self.old) bay) (drive_at (board_state D.state self.new) bay) }
-        ensures kept { written_at D.written self.new bay ≡ written_at D.written self.old bay }
-        ensures other_kept { written_at D.written self.new (1 - bay) ≡ written_at D.written self.old (1 - bay) }
     {
         if bay == 0 {
-            self.first.take_out()
+            self.first.eject()
         } else {
-            self.second.take_out()
+            self.second.eject()
         }
     }
 
@@ -62,19 +57,44 @@ impl<D: Inspect> FdcBoard<D> {
         }
     }
 
-    /// Whether a word of the medium in a bay was replaced since it was put in, or since this was asked last.
-    pub fn take_written(&mut self, bay: u8) -> bool
+    /// Whether a word of the medium in a bay was replaced since it was put in, or since that was last forgotten. Of a medium
+    /// that was taken out it is still told.
+    pub fn is_written(&self, bay: u8) -> bool
         requires { bay ≤ 1 }
-        ensures was { result ≡ written_at D.written self.old bay }
-        ensures forgotten { written_at D.written self.new bay ≡ false }
-        ensures state { board_state D.state self.new ≡ board_state D.state self.old }
-        ensures other { written_at D.written self.new (1 - bay) ≡ written_at D.written self.old (1 - bay) }
+        ensures { result ≡ (drive_at (board_state D.state self.now) bay).replaced }
     {
         if bay == 0 {
-            take_from(&mut self.first)
+            self.first.is_written()
         } else {
-            take_from(&mut self.second)
+            self.second.is_written()
         }
+    }
+
+    /// Forgets that a word of the medium in a bay was replaced, as a front end does once it has stored the medium.
+    pub fn forget_written(&mut self, bay: u8)
+        requires { bay ≤ 1 }
+        ensures controller { controller_of self.new ≡ controller_of self.old }
+        ensures other { drive_at (board_state D.state self.new) (1 - bay) ≡ drive_at (board_state D.state self.old) (1 - bay) }
+        ensures forgotten { drive_at (board_state D.state self.new) bay ≡ forgotten (drive_at (board_state D.state self.old) bay) }
+    {
+        if bay == 0 {
+            self.first.forget_written();
+        } else {
+            self.second.forget_written();
+        }
+    }
+
+    /// Tells what `is_written` does, and forgets it.
+    pub fn take_written(&mut self, bay: u8) -> bool
+        requires { bay ≤ 1 }
+        ensures was { result ≡ (drive_at (board_state D.state self.old) bay).replaced }
+        ensures controller { controller_of self.new ≡ controller_of self.old }
+        ensures other { drive_at (board_state D.state self.new) (1 - bay) ≡ drive_at (board_state D.state self.old) (1 - bay) }
+        ensures forgotten { drive_at (board_state D.state self.new) bay ≡ forgotten (drive_at (board_state D.state self.old) bay) }
+    {
+        let written = self.is_written(bay);
+        self.forget_written(bay);
+        written
     }
 
     /// The cylinder under the heads of the drive in a bay, 0 to 82.
@@ -108,15 +128,4 @@ impl<D: Inspect> FdcBoard<D> {
     {
         self.controller.motor(bay)
     }
-}
-
-/// Whether a word of a drive's medium was replaced, and that is forgotten.
-fn take_from<D: Inspect>(drive: &mut D) -> bool
-    ensures was { result ≡ D.written drive.old }
-    ensures forgotten { D.written drive.new ≡ false }
-    ensures state { D.state drive.new ≡ D.state drive.old }
-{
-    let written = drive.is_written();
-    drive.forget_written();
-    written
 }

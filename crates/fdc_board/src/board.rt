@@ -19,7 +19,7 @@ use crate::lines::{ABSENT, follow_write, lines_of_drive, work, work_alone};
 use crate::rates::word_time_after;
 use fdc_core::{Fdc, Lines};
 use flop_base::NoMemory;
-use inspected_drive::Inspect;
+use drive_model::Inspect;
 use pc_bus::skim;
 use std::alloc::Global;
 

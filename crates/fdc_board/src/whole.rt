@@ -8,7 +8,7 @@ ghost use Rattle.fdc_seek.specs.Seeking.{has_ended_seek};
 use crate::board::FdcBoard;
 use fdc_commands::Accepted;
 use fdc_stages::Ending;
-use inspected_drive::Inspect;
+use drive_model::Inspect;
 
 impl<D: Inspect> FdcBoard<D> {
     ghost use Rattle.fdc_board.specs.Boards.{board_state, controller_of, lines_at, SameDrives};

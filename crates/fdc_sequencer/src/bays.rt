@@ -1,14 +1,14 @@
 // The bays, and what a front end shows: the board's.
-ghost use Rattle.std.specs.Prelude.{◌≡◌, ◌≤◌, ◌-◌, ◌+◌, ◌%◌, ◌↔◌, IfErr, OnOk, OnErr, IsErr, IsSome, IsTrue, IsBitSet, false};
+ghost use Rattle.std.specs.Prelude.{◌≡◌, ◌≤◌, ◌-◌, ◌+◌, ◌%◌, ◌↔◌, IfErr, OnOk, IsErr, IsSome, IsTrue, IsBitSet};
 ghost use Rattle.std.specs.Option.{option_copied};
-ghost use Rattle.drive_model.specs.Drive.{Becomes, loaded, unloaded};
-ghost use Rattle.fdc_board.specs.Boards.{controller_of, drive_at, written_at};
+ghost use Rattle.drive_model.specs.Drive.{Becomes, loaded, unloaded, forgotten};
+ghost use Rattle.fdc_board.specs.Boards.{controller_of, drive_at};
 ghost use Rattle.fdc_board.specs.WordTimes.{nanoseconds};
 ghost use Rattle.fdc_core.specs.State.{dor_of, data_rate};
 ghost use Rattle.fdc_sequencer.specs.Fronts.{front_state, board_of, KeepsFront};
 
 use crate::sequencer::Sequencer;
-use inspected_drive::Inspect;
+use drive_model::Inspect;
 use raw_image::Medium;
 
 impl<D: Inspect> Sequencer<D> {
@@ -22,9 +22,6 @@ impl<D: Inspect> Sequencer<D> {
             (drive_at (front_state D.state self.old).board bay) (drive_at (front_state D.state self.new).board bay)) }
         ensures err { IfErr result (λ back. (back ≡ medium)
             × Becomes (drive_at (front_state D.state self.old).board bay) (drive_at (front_state D.state self.old).board bay) (drive_at (front_state D.state self.new).board bay)) }
-        ensures fresh { OnOk result (written_at D.written (board_of self.new) bay ≡ false) }
-        ensures kept { OnErr result (written_at D.written (board_of self.new) bay ≡ written_at D.written (board_of self.old) bay) }
-        ensures other_kept { written_at D.written (board_of self.new) (1 - bay) ≡ written_at D.written (board_of self.old) (1 - bay) }
     {
         self.board.insert(bay, medium)
     }
@@ -37,8 +34,6 @@ impl<D: Inspect> Sequencer<D> {
         ensures medium { result ≡ (drive_at (front_state D.state self.old).board bay).medium }
         ensures becomes { Becomes (unloaded (drive_at (front_state D.state self.old).board bay))
             (drive_at (front_state D.state self.old).board bay) (drive_at (front_state D.state self.new).board bay) }
-        ensures kept { written_at D.written (board_of self.new) bay ≡ written_at D.written (board_of self.old) bay }
-        ensures other_kept { written_at D.written (board_of self.new) (1 - bay) ≡ written_at D.written (board_of self.old) (1 - bay) }
     {
         self.board.eject(bay)
     }
@@ -51,13 +46,32 @@ impl<D: Inspect> Sequencer<D> {
         self.board.medium(bay)
     }
 
-    /// Whether a word of the medium in a bay was replaced since it was put in, or since this was asked last.
+    /// Whether a word of the medium in a bay was replaced since it was put in, or since that was last forgotten. Of a medium
+    /// that was taken out it is still told.
+    pub fn is_written(&self, bay: u8) -> bool
+        requires { bay ≤ 1 }
+        ensures { result ≡ (drive_at (front_state D.state self.now).board bay).replaced }
+    {
+        self.board.is_written(bay)
+    }
+
+    /// Forgets that a word of the medium in a bay was replaced, as a front end does once it has stored the medium.
+    pub fn forget_written(&mut self, bay: u8)
+        requires { bay ≤ 1 }
+        ensures keeps { KeepsFront (front_state D.state self.old) (front_state D.state self.new) }
+        ensures other { drive_at (front_state D.state self.new).board (1 - bay) ≡ drive_at (front_state D.state self.old).board (1 - bay) }
+        ensures forgotten { drive_at (front_state D.state self.new).board bay ≡ forgotten (drive_at (front_state D.state self.old).board bay) }
+    {
+        self.board.forget_written(bay);
+    }
+
+    /// Tells what `is_written` does, and forgets it.
     pub fn take_written(&mut self, bay: u8) -> bool
         requires { bay ≤ 1 }
-        ensures was { result ≡ written_at D.written (board_of self.old) bay }
-        ensures forgotten { written_at D.written (board_of self.new) bay ≡ false }
-        ensures state { front_state D.state self.new ≡ front_state D.state self.old }
-        ensures other { written_at D.written (board_of self.new) (1 - bay) ≡ written_at D.written (board_of self.old) (1 - bay) }
+        ensures was { result ≡ (drive_at (front_state D.state self.old).board bay).replaced }
+        ensures keeps { KeepsFront (front_state D.state self.old) (front_state D.state self.new) }
+        ensures other { drive_at (front_state D.state self.new).board (1 - bay) ≡ drive_at (front_state D.state self.old).board (1 - bay) }
+        ensures forgotten { drive_at (front_state D.state self.new).board bay ≡ forgotten (drive_at (front_state D.state self.old).board bay) }
     {
         self.board.take_written(bay)
     }

@@ -5,7 +5,7 @@ ghost use Rattle.fdc_sequencer.specs.Fronts.{front_state, board_of, TakesFront, 
 
 use crate::sequencer::Sequencer;
 use crate::stage::{Moving, Stage};
-use inspected_drive::Inspect;
+use drive_model::Inspect;
 
 impl<D: Inspect> Sequencer<D> {
     /// The channel takes a byte, where one is asked for.

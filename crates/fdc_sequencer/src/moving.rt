@@ -12,7 +12,7 @@ use crate::stage::{Moving, Stage};
 use crate::transfer::Transfer;
 use fdc_commands::{Accepted, Results};
 use fdc_stages::Ending;
-use inspected_drive::Inspect;
+use drive_model::Inspect;
 
 impl<D: Inspect> Sequencer<D> {
     /// One device step: the board's, and where a sector ended in it, the next begins or there are results.

@@ -11,7 +11,7 @@ use crate::transfer::Transfer;
 use fdc_commands::{Accepted, Command, CommandBytes, Results};
 use fdc_core::Fdc;
 use fdc_registers::{Flags, Msr};
-use inspected_drive::Inspect;
+use drive_model::Inspect;
 
 /// MSR where it is read, DSR where it is written.
 const STATUS: u16 = 0x3F4;

@@ -9,7 +9,7 @@ use crate::stage::Stage;
 use fdc_board::FdcBoard;
 use fdc_commands::CommandBytes;
 use flop_base::NoMemory;
-use inspected_drive::Inspect;
+use drive_model::Inspect;
 use std::alloc::Global;
 
 /// A controller with its drives that takes commands of several sectors.

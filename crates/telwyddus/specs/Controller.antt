@@ -6,4 +6,3 @@ pub use Rattle.fdc_core.specs.Written
 pub use Rattle.fdc_board.specs.Boards
 pub use Rattle.fdc_board.specs.History
 pub use Rattle.fdc_sequencer.specs.Fronts
-pub use Rattle.inspected_drive.specs.InspectedDrive

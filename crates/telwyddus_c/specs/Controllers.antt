@@ -2,18 +2,18 @@
 use Rattle.std.specs.Prelude.{◌≤◌, ◌≡◌, ◌↔◌, ◌+◌, ◌-◌, ◌==◌, ℕ, Bool, true, false, Option, Some, None, is_some, IsTrue, IsBitSet, MatchBool, if◌then◌else◌}
 use Rattle.c_slots.specs.Controllers.{ControllerValue}
 use Rattle.c_slots.specs.Trays.{TrayValue}
-use Rattle.drive_model.specs.Drive.{DriveState}
-use Rattle.fdc_board.specs.Boards.{SameDrives, drive_at, selected_at, written_at}
+use Rattle.drive_model.specs.Drive.{DriveState, forgotten}
+use Rattle.drive_model.specs.ScriptDrive.{script_state}
+use Rattle.fdc_board.specs.Boards.{SameDrives, drive_at, selected_at}
 use Rattle.fdc_core.specs.Dma.{to_memory_of}
 use Rattle.fdc_core.specs.State.{dor_of}
 use Rattle.fdc_sequencer.specs.Fronts.{Front, front_state, board_of, KeepsFront, interrupts_outside, asks_outside, TakesFront, GivesFront}
-use Rattle.inspected_drive.specs.InspectedDrive.{inspected_state, is_written}
 use Rattle.telwyddus_c.specs.Media.{Inserts, Ejects}
 use Rattle.telwyddus_c.specs.Slots.{DoneOr}
 
 -- the controller, the states of both drives, and what is done with a command of several sectors
 abbrev pub state_of : ControllerValue → Front
-state_of controller = front_state inspected_state controller
+state_of controller = front_state script_state controller
 
 -- the drive in a bay
 abbrev pub drive_of : ControllerValue → ℕ → DriveState
@@ -42,35 +42,26 @@ pub record KeepsBeside (bay : ℕ) (old new : Front) : Type 0 where
   pub front : KeepsFront old new
   pub other : drive_at new.board (1 - bay) ≡ drive_at old.board (1 - bay)
 
--- it is told as before whether a word of the medium in a bay was replaced
-abbrev pub KeepsWritten : ℕ → ControllerValue → ControllerValue → Type 0
-KeepsWritten bay old new = written_at is_written (board_of new) bay ≡ written_at is_written (board_of old) bay
-
--- no word of a medium that was put in was replaced yet; where none was, that is told as before
-abbrev pub BeginsUnwritten : (bay code : ℕ) → ControllerValue → ControllerValue → Type 0
-BeginsUnwritten bay code old new = MatchBool (code == 0) (written_at is_written (board_of new) bay ≡ false) (KeepsWritten bay old new)
-
 -- the medium of a tray goes into a bay
 pub record InsertsAt (bay code : ℕ) (tray left : Option TrayValue) (old new : ControllerValue) : Type 0 where
   pub drive : Inserts code tray left (drive_of old bay) (drive_of new bay)
   pub beside : KeepsBeside bay (state_of old) (state_of new)
-  pub fresh : BeginsUnwritten bay code old new
-  pub other_kept : KeepsWritten (1 - bay) old new
 
 -- the medium of a bay goes into a tray
 pub record EjectsAt (bay code : ℕ) (tray left : Option TrayValue) (old new : ControllerValue) : Type 0 where
   pub drive : Ejects code tray left (drive_of old bay) (drive_of new bay)
   pub beside : KeepsBeside bay (state_of old) (state_of new)
-  pub kept : KeepsWritten bay old new
-  pub other_kept : KeepsWritten (1 - bay) old new
 
--- it is told by 1 or 0 whether a word of the medium in a bay was replaced, and that is forgotten
-pub record TellsWritten (bay : ℕ) (old : ControllerValue) (told : ℕ) (new : ControllerValue) : Type 0 where
-  pub was : (told == 1) ≡ written_at is_written (board_of old) bay
+-- it is told by 1 or 0 whether a word of the medium in a bay was replaced since it was put in, or since that was last forgotten
+pub record ShowsWritten (bay : ℕ) (controller : ControllerValue) (told : ℕ) : Type 0 where
+  pub is : (told == 1) ≡ (drive_of controller bay).replaced
   pub bit : told ≤ 1
-  pub forgotten : written_at is_written (board_of new) bay ≡ false
-  pub state : state_of new ≡ state_of old
-  pub other : KeepsWritten (1 - bay) old new
+
+-- so it is told, and that is forgotten: all else stays
+pub record TellsWritten (bay : ℕ) (old : ControllerValue) (told : ℕ) (new : ControllerValue) : Type 0 where
+  pub was : ShowsWritten bay old told
+  pub forgets : drive_of new bay ≡ forgotten (drive_of old bay)
+  pub beside : KeepsBeside bay (state_of old) (state_of new)
 
 -- what a front end shows of a bay: the cylinder under the heads, and in a byte 1 the motor, 2 the selection, 4 the write gate and
 -- 8 a medium

@@ -1,11 +1,10 @@
 -- Calls on the machine.
 use Rattle.std.specs.Prelude.{◌≡◌, ◌≤◌, ◌<◌, ◌+◌, ◌==◌, ◌⊎◌, ℕ, List, [], length, slice_index, Option, Some, Ok, Err, MatchBool}
-use Rattle.any_drive.specs.AnyDrive.{any_state}
 use Rattle.c_slots.specs.Machines.{MachineValue}
 use Rattle.c_slots.specs.Trays.{TrayValue}
 use Rattle.drive_model.specs.Fault.{total_left}
 use Rattle.drive_model.specs.Mechanics.{at_rest}
-use Rattle.drive_model.specs.ScriptDrive.{told}
+use Rattle.drive_model.specs.ScriptDrive.{script_state, told}
 use Rattle.fault_plan.specs.Plan.{Plan, plan_spelled}
 use Rattle.irq_events.specs.declared.pace.Pace.{Pace}
 use Rattle.pc_bus.specs.Boards.{Board, board, drive_in, latch_of, memory_of, IsNew}
@@ -16,7 +15,7 @@ use Rattle.telwyddus_c.specs.Slots.{Fills}
 
 -- the chips and the states of both drives
 abbrev pub board_of : MachineValue → Board
-board_of machine = board any_state machine
+board_of machine = board script_state machine
 
 -- ---- new ones
 

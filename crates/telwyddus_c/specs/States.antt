@@ -1,11 +1,10 @@
 -- Saved states in buffers of C.
 use Rattle.std.specs.Prelude.{◌≡◌, ℕ, ◌==◌, List, [], Option, Some, Result, Ok, Err, MatchBool, ⊤}
 use Rattle.std.specs.Global.{Box}
-use Rattle.any_drive.specs.Saving.{spelled_any_drive}
 use Rattle.c_slots.specs.Controllers.{ControllerValue}
 use Rattle.c_slots.specs.Machines.{MachineValue}
+use Rattle.drive_model.specs.Saving.{spelled_script_drive}
 use Rattle.fdc_sequencer.specs.Saving.{spelled_sequencer, SequencerFits}
-use Rattle.inspected_drive.specs.Saving.{spelled_inspected_drive}
 use Rattle.pc_bus.specs.Saving.{spelled_machine, MachineFits}
 use Rattle.saved_state.specs.declared.whole.RestoreError.{RestoreError}
 use Rattle.saved_state.specs.declared.whole.RestoreError.TheVariants.{NoState, NoMemory}
@@ -13,14 +12,14 @@ use Rattle.telwyddus_c.specs.Buffers.{WritesOr}
 
 -- the bytes of a controller with its drives and their media, and what is so of each that code holds
 abbrev pub spelled_controller : ControllerValue → List ℕ → List ℕ
-spelled_controller = spelled_sequencer spelled_inspected_drive
+spelled_controller = spelled_sequencer spelled_script_drive
 
 abbrev pub ControllerFits : ControllerValue → Type 0
 ControllerFits = SequencerFits (λ _. ⊤)
 
 -- the same of a machine with its memory, what its plan has still to come, its drives and their media
 abbrev pub spelled_bench : MachineValue → List ℕ → List ℕ
-spelled_bench = spelled_machine spelled_any_drive
+spelled_bench = spelled_machine spelled_script_drive
 
 abbrev pub BenchFits : MachineValue → Type 0
 BenchFits = MachineFits (λ _. ⊤)

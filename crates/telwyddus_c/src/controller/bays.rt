@@ -1,9 +1,9 @@
 // The bays of the controller: media in and out, and what a front end shows.
 ghost use Rattle.std.specs.Prelude.{◌≡◌, ◌≤◌, ◌-◌, ⊤};
-ghost use Rattle.telwyddus_c.specs.Controllers.{drive_of, InsertsAt, EjectsAt, TellsWritten, Shows};
+ghost use Rattle.telwyddus_c.specs.Controllers.{drive_of, InsertsAt, EjectsAt, ShowsWritten, TellsWritten, Shows};
 ghost use Rattle.telwyddus_c.specs.Images.{WritesImage};
 ghost use Rattle.telwyddus_c.specs.Media.{PutsIn};
-ghost use Rattle.telwyddus_c.specs.Controllers.{state_of, BeginsUnwritten, KeepsBeside, KeepsWritten};
+ghost use Rattle.telwyddus_c.specs.Controllers.{state_of, KeepsBeside};
 ghost use Rattle.telwyddus_c.specs.Slots.{Serves, InBay};
 
 use crate::code::{DONE, EMPTY, FULL, HAS_MEDIUM, NO_MEDIUM, NO_MEMORY, OUT_OF_RANGE};
@@ -68,8 +68,6 @@ fn insert(board: &mut SequencedBoard, bay: u8, tray: &mut MediumTray) -> u32
     requires { bay ≤ 1 }
     ensures drive { PutsIn result tray.old tray.new (drive_of board.old bay) (drive_of board.new bay) }
     ensures beside { KeepsBeside bay (state_of board.old) (state_of board.new) }
-    ensures fresh { BeginsUnwritten bay result board.old board.new }
-    ensures other_kept { KeepsWritten (1 - bay) board.old board.new }
 {
     match tray.medium.take() {
         None => NO_MEDIUM,
@@ -169,7 +167,41 @@ fn image_of(
     write_medium(alloc, board.medium(bay as u8), out, length)
 }
 
-/// Tells whether a word of the medium in a bay was replaced since it was put in, or since this was asked last.
+/// Tells whether a word of the medium in a bay was replaced since it was put in, or since that was last forgotten. Nothing
+/// changes.
+#[unsafe(no_mangle)]
+pub extern "C" fn telwyddus_controller_is_written(
+    alloc: Global,
+    slot: &mut ControllerSlot,
+    bay: u32,
+    written: &mut u8,
+) -> u32
+    ensures { Serves (λ code old new. (new ≡ old) × InBay bay code (written.new ≡ written.old)
+        ((code ≡ 0) × ShowsWritten bay old written.new)) (written.new ≡ written.old)
+        result slot.old.held.controller slot.new.held.controller }
+{
+    match slot.take(alloc) {
+        None => EMPTY,
+        Some(board) => {
+            let code = show_written(&board, bay, written);
+            slot.put(board);
+            code
+        }
+    }
+}
+
+/// The same of a controller.
+fn show_written(board: &SequencedBoard, bay: u32, written: &mut u8) -> u32
+    ensures { InBay bay result (written.new ≡ written.old) ((result ≡ 0) × ShowsWritten bay board.now written.new) }
+{
+    if bay > 1 {
+        return OUT_OF_RANGE;
+    }
+    *written = u8::from(board.is_written(bay as u8));
+    DONE
+}
+
+/// Tells what `is_written` does, and forgets it.
 #[unsafe(no_mangle)]
 pub extern "C" fn telwyddus_controller_written(
     alloc: Global,

@@ -11,8 +11,8 @@ ghost use Rattle.telwyddus_c.specs.Slots.{Fills, Frees, Serves};
 
 use crate::code::{DONE, EMPTY, FULL, NO_MEMORY};
 use c_slots::{ControllerSlot, SequencedBoard};
+use drive_model::ScriptDrive;
 use fdc_sequencer::Sequencer;
-use inspected_drive::InspectedDrive;
 use std::alloc::Global;
 
 /// The interrupt line is up.
@@ -33,7 +33,9 @@ pub extern "C" fn telwyddus_controller_new(alloc: Global, slot: &mut ControllerS
     if slot.is_full() {
         return FULL;
     }
-    match Sequencer::new(alloc, InspectedDrive::new(), InspectedDrive::new()) {
+    let first = ScriptDrive::new(Vec::new(alloc));
+    let second = ScriptDrive::new(Vec::new(alloc));
+    match Sequencer::new(alloc, first, second) {
         Ok(board) => match Box::new(alloc, board) {
             Ok(board) => {
                 slot.put(board);

@@ -4,9 +4,8 @@ ghost use Rattle.telwyddus_c.specs.Machines.{IsPlain, FillsPlanned};
 ghost use Rattle.telwyddus_c.specs.Slots.{Fills, Frees};
 
 use crate::code::{BAD_PLAN, DONE, EMPTY, FULL, NO_MEMORY};
-use any_drive::AnyDrive;
 use c_slots::MachineSlot;
-use drive_model::{PlainDrive, ScriptDrive};
+use drive_model::ScriptDrive;
 use fault_plan::{PlanError, plan_of};
 use irq_events::Pace;
 use pc_bus::MachineOf;
@@ -25,8 +24,8 @@ pub extern "C" fn telwyddus_machine_new(alloc: Global, slot: &mut MachineSlot) -
         holds: Vec::new(alloc),
         strays: Vec::new(alloc),
     };
-    let first = AnyDrive::Plain(PlainDrive::new());
-    let second = AnyDrive::Plain(PlainDrive::new());
+    let first = ScriptDrive::new(Vec::new(alloc));
+    let second = ScriptDrive::new(Vec::new(alloc));
     match MachineOf::new(alloc, first, second, pace) {
         Ok(machine) => match Box::new(alloc, machine) {
             Ok(machine) => {
@@ -60,8 +59,8 @@ pub extern "C" fn telwyddus_machine_new_planned(
             BAD_PLAN
         }
         Ok(plan) => {
-            let first = AnyDrive::Scripted(ScriptDrive::new(plan.bay0));
-            let second = AnyDrive::Scripted(ScriptDrive::new(plan.bay1));
+            let first = ScriptDrive::new(plan.bay0);
+            let second = ScriptDrive::new(plan.bay1);
             match MachineOf::new(alloc, first, second, plan.pace) {
                 Ok(machine) => match Box::new(alloc, machine) {
                     Ok(machine) => {

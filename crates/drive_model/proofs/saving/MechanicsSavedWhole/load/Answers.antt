@@ -14,7 +14,8 @@ returns c = record {
       let motor = c.load-motor.ensures.gives value.motor _ fits spin.1 in
       let change = c.load-change.ensures.gives value.change _ fits motor.1 in
       let gate = c.load-gate.ensures.gives value.gate _ fits change.1 in
-      let cut = c.load-cut.ensures.gives value.cut rest fits gate.1 in
+      let cut = c.load-cut.ensures.gives value.cut _ fits gate.1 in
+      let replaced = c.load-replaced.ensures.gives value.replaced rest fits cut.1 in
       let reached : c.load.result ≤ 82 = omega (arith, cylinder.0, value.on_a_cylinder) in
       let there : c.load-2.result ≤ track_words value.medium - 1 = omega (arith, place.0, value.on_the_track) in
       let on_track : c.load-2.result ≤ track_words c.in_ok-medium.medium - 1 =
@@ -30,6 +31,7 @@ returns c = record {
         change = c.load-change.result;
         gate = c.load-gate.result;
         cut = c.load-cut.result;
+        replaced = c.load-replaced.result;
       } in
       let same : parts_of value ≡ parts =
       rw (
@@ -44,6 +46,7 @@ returns c = record {
         change.0,
         gate.0,
         cut.0,
+        replaced.0,
       ) refl in
-      (same_mechanics value parts _ _ _ _ _ same, cut.1);
+      (same_mechanics value parts _ _ _ _ _ same, replaced.1);
 }

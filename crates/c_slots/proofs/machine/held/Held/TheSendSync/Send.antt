@@ -10,8 +10,8 @@ use Rattle.std.proofs.Crossing as heap
 use Rattle.std.proofs.alloc.Global.TheSendSync as handle
 use Rattle.std.specs.Global.{Global}
 use Rattle.pc_bus.proofs.machine.MachineOf.TheSendSync.{the_send as whole_send}
-use Rattle.any_drive.proofs.drive.AnyDrive.TheSendSync.{the_send as drive_send}
-use Rattle.any_drive.specs.contracts.drive.AnyDrive.{the_row as drive_row}
+use Rattle.drive_model.proofs.script.ScriptDrive.TheSendSync.{the_send as drive_send}
+use Rattle.drive_model.specs.contracts.script.ScriptDrive.{the_row as drive_row}
 use Rattle.c_slots.proofs.Crossing.{quiet, lies}
 use Rattle.c_slots.specs.Machines.{MachineValue, machine_row, held_owns}
 use Rattle.c_slots.specs.contracts.machine.held.Held.{the_row, the_type}

@@ -1,2 +1,0 @@
-pub mod AnyDrive
-pub mod Saving

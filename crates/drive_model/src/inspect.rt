@@ -1,0 +1,31 @@
+// What can be looked at in a drive.
+ghost use Rattle.std.specs.Prelude.{◌≡◌};
+ghost use Rattle.std.specs.Option.{option_copied};
+ghost use Rattle.drive_model.specs.Drive.{forgotten};
+
+use crate::Drive;
+use raw_image::Medium;
+
+/// A drive that can be looked into.
+pub trait Inspect: Drive {
+    /// The medium that is in.
+    fn medium(&self) -> Option<&Medium>
+        ensures { option_copied result ≡ (Self.state self.now).medium };
+
+    /// The cylinder under the heads, 0 to 82.
+    fn cylinder(&self) -> u8
+        ensures { result ≡ (Self.state self.now).cylinder };
+
+    /// The write gate is open.
+    fn is_gate_open(&self) -> bool
+        ensures { result ≡ (Self.state self.now).gate };
+
+    /// A word of the medium was replaced since it was put in, or since that was last forgotten. A medium that was taken out is
+    /// still told of.
+    fn is_written(&self) -> bool
+        ensures { result ≡ (Self.state self.now).replaced };
+
+    /// Forgets that a word of the medium was replaced.
+    fn forget_written(&mut self)
+        ensures { Self.state self.new ≡ forgotten (Self.state self.old) };
+}

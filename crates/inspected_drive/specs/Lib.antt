@@ -1,2 +1,0 @@
-pub mod InspectedDrive
-pub mod Saving
