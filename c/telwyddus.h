@@ -131,6 +131,12 @@ enum telwyddus_lines { TELWYDDUS_INT = 1, TELWYDDUS_DRQ = 2, TELWYDDUS_TO_MEMORY
 /* Makes a controller, held in reset, with two drives that have no medium in. DONE, FULL, NO_MEMORY. */
 TELWYDDUS_CALL uint32_t telwyddus_controller_new(telwyddus_controller *controller);
 
+/* Makes one whose drives have the faults that a plan has for bays 0 and 1: the text that FLOPPY_PLAN names for the program `floppy`.
+ * Its gaps, holds and strays aren't used, since bus and DMA are yours. Where a line isn't understood, *line is its number, counted
+ * from 1; 0 where the text is too long. DONE, FULL, NO_MEMORY, BAD_PLAN. */
+TELWYDDUS_CALL uint32_t telwyddus_controller_new_planned(telwyddus_controller *controller, const uint8_t *plan, size_t length,
+    size_t *line);
+
 /* Frees it with its drives and media. DONE, EMPTY. */
 TELWYDDUS_CALL uint32_t telwyddus_controller_free(telwyddus_controller *controller);
 
@@ -173,7 +179,10 @@ TELWYDDUS_CALL uint32_t telwyddus_controller_eject(telwyddus_controller *control
 TELWYDDUS_CALL uint32_t telwyddus_controller_image(telwyddus_controller *controller, uint32_t bay, uint8_t *out, size_t room,
     size_t *length);
 
-/* 1 where a word of a bay's medium was replaced since it was put in, or since this was asked last. DONE, EMPTY, OUT_OF_RANGE. */
+/* 1 where a word of a bay's medium was replaced since it was put in, or since that was last forgotten; else 0. An eject keeps what is
+ * told. is_written looks, and written forgets it too. So look first, store the medium's image, and let written forget once it is
+ * stored: where the image can't be had, as for want of memory, nothing is forgotten. DONE, EMPTY, OUT_OF_RANGE. */
+TELWYDDUS_CALL uint32_t telwyddus_controller_is_written(telwyddus_controller *controller, uint32_t bay, uint8_t *written);
 TELWYDDUS_CALL uint32_t telwyddus_controller_written(telwyddus_controller *controller, uint32_t bay, uint8_t *written);
 
 /* For lights and sounds: the cylinder under a bay's heads, and its signs. DONE, EMPTY, OUT_OF_RANGE. */
@@ -185,7 +194,7 @@ TELWYDDUS_CALL uint32_t telwyddus_controller_bay(telwyddus_controller *controlle
 TELWYDDUS_CALL uint32_t telwyddus_controller_selected(telwyddus_controller *controller, uint8_t *bay);
 
 /* A SAVE STATE: the whole controller as bytes, between any two calls, also in the middle of a command, with its drives, the media
- * in them, and what written tells. The form of the bytes is this version's own: another one needn't take them. */
+ * in them, what written tells, and the faults that a plan has still to bring. The form of the bytes is this version's own: another one needn't take them. */
 
 /* Writes the state to the beginning of a buffer; the controller goes on. *length is the state's, told where the buffer is too short
  * too. DONE, EMPTY, NO_MEMORY, TOO_SHORT. */

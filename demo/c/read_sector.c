@@ -69,14 +69,42 @@ static void begin(uint8_t code, int bay, const uint8_t *key, uint8_t *bytes) {
     for (int i = 0; i < 9; i++) put(command[i]);
 }
 
-static void transfer(uint8_t code, int bay, const uint8_t *key, uint8_t *bytes) {
+static void transfer_ends(uint8_t code, int bay, const uint8_t *key, uint8_t *bytes, const uint8_t *status) {
     begin(code, bay, key, bytes);
     check(run(65536) != 0, "the command ends");
     check(left == 0, "all bytes were moved");
     for (int i = 0; i < 7; i++) {
         uint8_t byte = get();
-        if (i < 3) check(byte == (i == 0 ? (key[1] << 2 | bay) : 0), "ST0, ST1, ST2");
+        if (i < 3) check(byte == status[i], "ST0, ST1, ST2");
     }
+}
+
+static void transfer(uint8_t code, int bay, const uint8_t *key, uint8_t *bytes) {
+    const uint8_t done[3] = {(uint8_t)(key[1] << 2 | bay), 0, 0};
+    transfer_ends(code, bay, key, bytes, done);
+}
+
+/* A controller with a plan for its drive: the hundredth word of the window of a standard sector of 1.44 MB is lost once. */
+static void new_planned(int bay, const uint8_t *key) {
+    char plan[64];
+    size_t line = 0;
+    check(telwyddus_controller_new_planned(&controller, (const uint8_t *)"gap 1 1\ndrop 0 0\n", 17, &line) == TELWYDDUS_BAD_PLAN && line == 2,
+        "a plan whose second line is bad is refused");
+    snprintf(plan, sizeof plan, "drop %d %d %d %d 1\n", bay, key[0], key[1], 146 + 682 * (key[2] - 1) + 44 + 100);
+    MUST(telwyddus_controller_new_planned(&controller, (const uint8_t *)plan, strlen(plan), &line));
+}
+
+/* Whether a word of the medium was replaced is told again and again, until it is told and forgotten. */
+static void check_written(int bay, uint8_t wanted) {
+    uint8_t written;
+    for (int i = 0; i < 2; i++) {
+        MUST(telwyddus_controller_is_written(&controller, (uint32_t)bay, &written));
+        check(written == wanted, "is_written tells whether words were replaced, and forgets nothing");
+    }
+    MUST(telwyddus_controller_written(&controller, (uint32_t)bay, &written));
+    check(written == wanted, "written tells it too");
+    MUST(telwyddus_controller_is_written(&controller, (uint32_t)bay, &written));
+    check(!written, "and forgets it");
 }
 
 static int is_gate_open(int bay) {
@@ -101,7 +129,7 @@ static void interrupt_write(int bay, const uint8_t *key, uint8_t *bytes) {
 int main(int count, char **words) {
     if (count != 10) return 2;
     int bay = atoi(words[2]);
-    uint8_t rate = atoi(words[3]) == 500 ? 0 : 2, written;
+    uint8_t rate = atoi(words[3]) == 500 ? 0 : 2;
     uint8_t key[3] = {(uint8_t)atoi(words[4]), (uint8_t)atoi(words[5]), (uint8_t)atoi(words[6])}, bytes[512];
     size_t length, wanted_length, content_length, after_length, told;
     uint8_t *image = file_of(words[1], &length), *wanted = file_of(words[7], &wanted_length);
@@ -111,7 +139,8 @@ int main(int count, char **words) {
     uint32_t nanoseconds;
 
     check(wanted_length == 512 && content_length == 512, "sectors have 512 bytes");
-    MUST(telwyddus_controller_new(&controller));
+    if (rate == 0) new_planned(bay, key);
+    else MUST(telwyddus_controller_new(&controller));
     MUST(telwyddus_tray_read(&tray, image, length));
     MUST(telwyddus_controller_insert(&controller, (uint32_t)bay, &tray));
     MUST(telwyddus_tray_free(&tray));
@@ -126,16 +155,16 @@ int main(int count, char **words) {
     check(run(1000000) != 0, "the seek ends");
     sense((uint8_t)(0x20 | bay), key[0]);
 
+    const uint8_t damaged[3] = {(uint8_t)(0x40 | key[1] << 2 | bay), 0x20, 0x20};
+    if (rate == 0) transfer_ends(0x46, bay, key, bytes, damaged);
     transfer(0x46, bay, key, bytes);
     check(memcmp(bytes, wanted, 512) == 0, "the sector is the one that was wanted");
-    MUST(telwyddus_controller_written(&controller, (uint32_t)bay, &written));
-    check(!written, "no word was replaced");
+    check_written(bay, 0);
 
     transfer(0x45, bay, key, content);
     MUST(telwyddus_controller_image(&controller, (uint32_t)bay, now, length, &told));
     check(told == after_length && told == length && memcmp(now, after, told) == 0, "the image is the one that was wanted");
-    MUST(telwyddus_controller_written(&controller, (uint32_t)bay, &written));
-    check(written, "words were replaced");
+    check_written(bay, 1);
     transfer(0x46, bay, key, bytes);
     check(memcmp(bytes, content, 512) == 0, "the sector is the one that was written");
 

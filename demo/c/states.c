@@ -514,15 +514,17 @@ static void run_commands(const Kind *with, unsigned long commands) {
 /* The bytes of a controller that was just made, field by field: it is held in reset at 250 kbit/s, with polling on and its poll due, and
  * its FIFO off with a threshold of one byte; the change lines of both empty drives are up. Counts have eight bytes, the low one first. */
 static void made_as_written(void) {
-    static const uint8_t wanted[75] = {
+    static const uint8_t wanted[95] = {
         'C',
         0, 2, 0, 1, 1, 0, 0, 0,             /* DOR, the rate, non-DMA, polling, poll due, INT, DRQ, the command phase */
         0, 0, 0, 0, 0, 0, 0, 0, 0,          /* the cylinders, no seek, no results */
         0, 0, 0, 0, 0, 0, 0, 0,             /* no command bytes */
         0, 1, 0, 0, 0, 0, 0, 0, 0, 0,       /* the FIFO off, its threshold, no bytes in it */
         0, 0, 0, 0, 0, 0, 0, 0,             /* no data command yet */
-        0, 0, 0, 0, 0, 0, 0, 1, 0, 0,       /* a drive: no medium, cylinder, place, spin, motor, change, gate, written */
-        0, 0, 0, 0, 0, 0, 0, 1, 0, 0,
+        0, 0, 0, 0, 0, 0, 0, 1, 0, 0, 0,    /* a drive: no medium, cylinder, place, spin, motor, change, gate, cut, written */
+        0, 0, 0, 0, 0, 0, 0, 0, 0,          /* no planned faults, and none counted */
+        0, 0, 0, 0, 0, 0, 0, 1, 0, 0, 0,
+        0, 0, 0, 0, 0, 0, 0, 0, 0,
         0, 0, 0, 0, 0, 0, 0, 0, 0, 0, 0,    /* nothing in front, no bytes, no strap, no EIS */
     };
     telwyddus_controller controller = {0};

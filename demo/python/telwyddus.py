@@ -205,40 +205,8 @@ class Saved(Drives):
         self._call("restore", *given(state))
 
 
-class Controller(Saved):
-    """The bare controller with two drives, for a bus of your own."""
-
-    kind = "controller"
-
-    def __init__(self):
-        super().__init__()
-        self._call("new")
-
-    def strap_seeks(self, on): self._call("strap_seeks", byte(bool(on)))
-    def read(self, at): return self._told(ctypes.c_uint8, "read", port(at))
-    def write(self, at, value): self._call("write", port(at), byte(value))
-    def step(self): self._call("step")
-    def run(self, most): return self._told(ctypes.c_uint32, "run", count(most))
-    def lines(self): return Lines(self._told(ctypes.c_uint8, "lines"))
-    def dack_read(self): return self._told(ctypes.c_uint8, "dack_read")
-    def dack_write(self, value): self._call("dack_write", byte(value))
-    def tc(self): self._call("tc")
-    def word_time(self): return self._told(ctypes.c_uint32, "word_time")
-    def image(self, bay): return self._bytes("image", count(bay))
-    def written(self, bay): return bool(self._told(ctypes.c_uint8, "written", count(bay)))
-    def selected(self): return self._told(ctypes.c_uint8, "selected")
-
-    def bay(self, bay):
-        """The cylinder under its heads, and its signs."""
-        cylinder = ctypes.c_uint8()
-        signs = self._told(ctypes.c_uint8, "bay", count(bay), ctypes.byref(cylinder))
-        return cylinder.value, Signs(signs)
-
-
-class Machine(Saved):
-    """The whole machine: controller, channel 2, memory, and the latch of IRQ 6; with the faults and delays of a plan, if any."""
-
-    kind = "machine"
+class Planned(Saved):
+    """What may be made with the faults of a plan's text. BadPlan has the number of a line that isn't understood as `line`."""
 
     def __init__(self, plan=None):
         super().__init__()
@@ -251,6 +219,39 @@ class Machine(Saved):
         except BadPlan as refused:
             refused.line = line.value
             raise
+
+
+class Controller(Planned):
+    """The bare controller with two drives, for a bus of your own; its drives with the faults of a plan, if any."""
+
+    kind = "controller"
+
+    def strap_seeks(self, on): self._call("strap_seeks", byte(bool(on)))
+    def read(self, at): return self._told(ctypes.c_uint8, "read", port(at))
+    def write(self, at, value): self._call("write", port(at), byte(value))
+    def step(self): self._call("step")
+    def run(self, most): return self._told(ctypes.c_uint32, "run", count(most))
+    def lines(self): return Lines(self._told(ctypes.c_uint8, "lines"))
+    def dack_read(self): return self._told(ctypes.c_uint8, "dack_read")
+    def dack_write(self, value): self._call("dack_write", byte(value))
+    def tc(self): self._call("tc")
+    def word_time(self): return self._told(ctypes.c_uint32, "word_time")
+    def image(self, bay): return self._bytes("image", count(bay))
+    def is_written(self, bay): return bool(self._told(ctypes.c_uint8, "is_written", count(bay)))
+    def written(self, bay): return bool(self._told(ctypes.c_uint8, "written", count(bay)))
+    def selected(self): return self._told(ctypes.c_uint8, "selected")
+
+    def bay(self, bay):
+        """The cylinder under its heads, and its signs."""
+        cylinder = ctypes.c_uint8()
+        signs = self._told(ctypes.c_uint8, "bay", count(bay), ctypes.byref(cylinder))
+        return cylinder.value, Signs(signs)
+
+
+class Machine(Planned):
+    """The whole machine: controller, channel 2, memory, and the latch of IRQ 6; with the faults and delays of a plan, if any."""
+
+    kind = "machine"
 
     def inb(self, at): return self._told(ctypes.c_uint8, "inb", port(at))
     def outb(self, at, value): self._call("outb", port(at), byte(value))

@@ -3,17 +3,29 @@ use Rattle.std.specs.Prelude.{◌≤◌, ◌≡◌, ◌↔◌, ◌+◌, ◌-◌,
 use Rattle.c_slots.specs.Controllers.{ControllerValue}
 use Rattle.c_slots.specs.Trays.{TrayValue}
 use Rattle.drive_model.specs.Drive.{DriveState, forgotten}
-use Rattle.drive_model.specs.ScriptDrive.{script_state}
+use Rattle.drive_model.specs.Fault.{total_left}
+use Rattle.drive_model.specs.Mechanics.{at_rest}
+use Rattle.drive_model.specs.ScriptDrive.{script_state, told}
+use Rattle.fault_plan.specs.Plan.{Plan}
 use Rattle.fdc_board.specs.Boards.{SameDrives, drive_at, selected_at}
 use Rattle.fdc_core.specs.Dma.{to_memory_of}
 use Rattle.fdc_core.specs.State.{dor_of}
-use Rattle.fdc_sequencer.specs.Fronts.{Front, front_state, board_of, KeepsFront, interrupts_outside, asks_outside, TakesFront, GivesFront}
+use Rattle.fdc_sequencer.specs.Fronts.{Front, front_state, board_of, KeepsFront, interrupts_outside, asks_outside, TakesFront, GivesFront, IsNewFront}
 use Rattle.telwyddus_c.specs.Media.{Inserts, Ejects}
 use Rattle.telwyddus_c.specs.Slots.{DoneOr}
 
 -- the controller, the states of both drives, and what is done with a command of several sectors
 abbrev pub state_of : ControllerValue → Front
 state_of controller = front_state script_state controller
+
+-- a new one whose drives have no faults
+abbrev pub IsPlain : ControllerValue → Type 0
+IsPlain controller = IsNewFront (at_rest (Some 0)) (at_rest (Some 0)) (state_of controller)
+
+-- a new one whose drives have as many faults to come as the plan has for them
+abbrev pub IsPlanned : Plan → ControllerValue → Type 0
+IsPlanned plan controller =
+    IsNewFront (at_rest (told 0 (total_left plan.bay0))) (at_rest (told 0 (total_left plan.bay1))) (state_of controller)
 
 -- the drive in a bay
 abbrev pub drive_of : ControllerValue → ℕ → DriveState

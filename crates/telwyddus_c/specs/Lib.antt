@@ -7,6 +7,7 @@ pub mod Images
 pub mod Imds
 pub mod Machines
 pub mod Media
+pub mod Plans
 pub mod Rates
 pub mod Shelves
 pub mod Slots

@@ -1,17 +1,16 @@
 -- Calls on the machine.
-use Rattle.std.specs.Prelude.{◌≡◌, ◌≤◌, ◌<◌, ◌+◌, ◌==◌, ◌⊎◌, ℕ, List, [], length, slice_index, Option, Some, Ok, Err, MatchBool}
+use Rattle.std.specs.Prelude.{◌≡◌, ◌≤◌, ◌<◌, ◌+◌, ◌==◌, ◌⊎◌, ℕ, List, [], length, slice_index, Option, MatchBool}
 use Rattle.c_slots.specs.Machines.{MachineValue}
 use Rattle.c_slots.specs.Trays.{TrayValue}
 use Rattle.drive_model.specs.Fault.{total_left}
 use Rattle.drive_model.specs.Mechanics.{at_rest}
 use Rattle.drive_model.specs.ScriptDrive.{script_state, told}
-use Rattle.fault_plan.specs.Plan.{Plan, plan_spelled}
+use Rattle.fault_plan.specs.Plan.{Plan}
 use Rattle.irq_events.specs.declared.pace.Pace.{Pace}
 use Rattle.pc_bus.specs.Boards.{Board, board, drive_in, latch_of, memory_of, IsNew}
 use Rattle.pc_bus.specs.Handling.{Touches}
 use Rattle.pc_bus.specs.Steps.{RunsToIrq}
 use Rattle.telwyddus_c.specs.Media.{Inserts, Ejects}
-use Rattle.telwyddus_c.specs.Slots.{Fills}
 
 -- the chips and the states of both drives
 abbrev pub board_of : MachineValue → Board
@@ -34,16 +33,6 @@ pub record IsPlanned (plan : Plan) (machine : MachineValue) : Type 0 where
   pub holds : pace.holds.items ≡ plan.holds
   pub strays : pace.strays.items ≡ plan.strays
   pub new : IsNew pace (at_rest (told 0 (total_left plan.bay0))) (at_rest (told 0 (total_left plan.bay1))) (board_of machine)
-
--- the machine of the plan that a text spells
-abbrev pub IsPlannedBy : List ℕ → MachineValue → Type 0
-IsPlannedBy text machine = (plan : Plan) × (plan_spelled text ≡ Ok plan) × IsPlanned plan machine
-
--- a slot is filled with the machine of a plan: 0, 2 and 3 as for any. The text is no plan, 9: its first bad line is told, and the slot
--- stays
-abbrev pub FillsPlanned : List ℕ → ℕ → (was line : ℕ) → Option MachineValue → Option MachineValue → Type 0
-FillsPlanned text code was line old new =
-    MatchBool (code == 9) ((plan_spelled text ≡ Err line) × (new ≡ old)) (Fills (IsPlannedBy text) code old new × (line ≡ was))
 
 -- ---- device steps
 

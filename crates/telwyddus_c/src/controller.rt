@@ -1,5 +1,6 @@
 // The controller with its drives, for a bus of C's own.
 mod bays;
 mod dack;
+mod making;
 mod ports;
 mod saving;

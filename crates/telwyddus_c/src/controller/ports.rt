@@ -1,18 +1,15 @@
-// The controller's making, its strap, its ports, its device steps and its lines.
-ghost use Rattle.std.specs.Prelude.{◌≡◌, ◌==◌, not, ⊤, Some};
-ghost use Rattle.drive_model.specs.Mechanics.{at_rest};
+// The controller's strap, its ports, its device steps and its lines.
+ghost use Rattle.std.specs.Prelude.{◌≡◌, ◌==◌, not, ⊤};
 ghost use Rattle.fdc_board.specs.Boards.{controller_of, selected_at, SameDrives};
 ghost use Rattle.fdc_board.specs.WordTimes.{nanoseconds};
 ghost use Rattle.fdc_core.specs.State.{data_rate};
-ghost use Rattle.fdc_sequencer.specs.Fronts.{board_of, value_outside, after_reading, IsNewFront, WritesFront};
+ghost use Rattle.fdc_sequencer.specs.Fronts.{board_of, value_outside, after_reading, WritesFront};
 ghost use Rattle.fdc_sequencer.specs.Moves.{StepsFront, RunsFront};
 ghost use Rattle.telwyddus_c.specs.Controllers.{state_of, lines_byte, StrapsSeeks};
-ghost use Rattle.telwyddus_c.specs.Slots.{Fills, Frees, Serves};
+ghost use Rattle.telwyddus_c.specs.Slots.{Serves};
 
-use crate::code::{DONE, EMPTY, FULL, NO_MEMORY};
+use crate::code::{DONE, EMPTY};
 use c_slots::{ControllerSlot, SequencedBoard};
-use drive_model::ScriptDrive;
-use fdc_sequencer::Sequencer;
 use std::alloc::Global;
 
 /// The interrupt line is up.
@@ -23,40 +20,6 @@ const DRQ: u8 = 2;
 
 /// Bytes go to memory.
 const TO_MEMORY: u8 = 4;
-
-/// Makes a controller with two empty drives.
-#[unsafe(no_mangle)]
-pub extern "C" fn telwyddus_controller_new(alloc: Global, slot: &mut ControllerSlot) -> u32
-    ensures { Fills (λ controller. IsNewFront (at_rest (Some 0)) (at_rest (Some 0)) (state_of controller))
-        result slot.old.held.controller slot.new.held.controller }
-{
-    if slot.is_full() {
-        return FULL;
-    }
-    let first = ScriptDrive::new(Vec::new(alloc));
-    let second = ScriptDrive::new(Vec::new(alloc));
-    match Sequencer::new(alloc, first, second) {
-        Ok(board) => match Box::new(alloc, board) {
-            Ok(board) => {
-                slot.put(board);
-                DONE
-            }
-            Err(_) => NO_MEMORY,
-        },
-        Err(_) => NO_MEMORY,
-    }
-}
-
-/// Frees the controller with its drives and media.
-#[unsafe(no_mangle)]
-pub extern "C" fn telwyddus_controller_free(alloc: Global, slot: &mut ControllerSlot) -> u32
-    ensures { Frees result slot.old.held.controller slot.new.held.controller }
-{
-    match slot.take(alloc) {
-        None => EMPTY,
-        Some(_board) => DONE,
-    }
-}
 
 /// Lets each command of several sectors seek its cylinder first, whatever CONFIGURE sets, as a strap of a board would; or,
 /// where `on` is 0, leaves that to CONFIGURE.

@@ -1,6 +1,7 @@
 // The machine's making.
 ghost use Rattle.std.specs.Prelude.{◌≡◌};
-ghost use Rattle.telwyddus_c.specs.Machines.{IsPlain, FillsPlanned};
+ghost use Rattle.telwyddus_c.specs.Machines.{IsPlain, IsPlanned};
+ghost use Rattle.telwyddus_c.specs.Plans.{FillsPlanned};
 ghost use Rattle.telwyddus_c.specs.Slots.{Fills, Frees};
 
 use crate::code::{BAD_PLAN, DONE, EMPTY, FULL, NO_MEMORY};
@@ -47,7 +48,7 @@ pub extern "C" fn telwyddus_machine_new_planned(
     plan: &[u8],
     line: &mut usize,
 ) -> u32
-    ensures { FillsPlanned plan.now result line.old line.new slot.old.held.machine slot.new.held.machine }
+    ensures { FillsPlanned IsPlanned plan.now result line.old line.new slot.old.held.machine slot.new.held.machine }
 {
     if slot.is_full() {
         return FULL;

@@ -1,0 +1,81 @@
+// The controller's making.
+ghost use Rattle.telwyddus_c.specs.Controllers.{IsPlain, IsPlanned};
+ghost use Rattle.telwyddus_c.specs.Plans.{FillsPlanned};
+ghost use Rattle.telwyddus_c.specs.Slots.{Fills, Frees};
+
+use crate::code::{BAD_PLAN, DONE, EMPTY, FULL, NO_MEMORY};
+use c_slots::ControllerSlot;
+use drive_model::ScriptDrive;
+use fault_plan::{PlanError, plan_of};
+use fdc_sequencer::Sequencer;
+use std::alloc::Global;
+
+/// Makes a controller with two empty drives that have no faults.
+#[unsafe(no_mangle)]
+pub extern "C" fn telwyddus_controller_new(alloc: Global, slot: &mut ControllerSlot) -> u32
+    ensures { Fills IsPlain result slot.old.held.controller slot.new.held.controller }
+{
+    if slot.is_full() {
+        return FULL;
+    }
+    let first = ScriptDrive::new(Vec::new(alloc));
+    let second = ScriptDrive::new(Vec::new(alloc));
+    match Sequencer::new(alloc, first, second) {
+        Ok(board) => match Box::new(alloc, board) {
+            Ok(board) => {
+                slot.put(board);
+                DONE
+            }
+            Err(_) => NO_MEMORY,
+        },
+        Err(_) => NO_MEMORY,
+    }
+}
+
+/// Makes a controller with two empty drives that have the faults of a plan's text; its gaps, holds and strays aren't used. Where
+/// a line isn't understood, its number is told, counted from 1; 0 where the text is too long.
+#[unsafe(no_mangle)]
+pub extern "C" fn telwyddus_controller_new_planned(
+    alloc: Global,
+    slot: &mut ControllerSlot,
+    plan: &[u8],
+    line: &mut usize,
+) -> u32
+    ensures { FillsPlanned IsPlanned plan.now result line.old line.new slot.old.held.controller slot.new.held.controller }
+{
+    if slot.is_full() {
+        return FULL;
+    }
+    match plan_of(alloc, plan) {
+        Err(PlanError::NoMemory) => NO_MEMORY,
+        Err(PlanError::BadLine { line: bad }) => {
+            *line = bad;
+            BAD_PLAN
+        }
+        Ok(plan) => {
+            let first = ScriptDrive::new(plan.bay0);
+            let second = ScriptDrive::new(plan.bay1);
+            match Sequencer::new(alloc, first, second) {
+                Ok(board) => match Box::new(alloc, board) {
+                    Ok(board) => {
+                        slot.put(board);
+                        DONE
+                    }
+                    Err(_) => NO_MEMORY,
+                },
+                Err(_) => NO_MEMORY,
+            }
+        }
+    }
+}
+
+/// Frees the controller with its drives and media.
+#[unsafe(no_mangle)]
+pub extern "C" fn telwyddus_controller_free(alloc: Global, slot: &mut ControllerSlot) -> u32
+    ensures { Frees result slot.old.held.controller slot.new.held.controller }
+{
+    match slot.take(alloc) {
+        None => EMPTY,
+        Some(_board) => DONE,
+    }
+}
