@@ -1,0 +1,2 @@
+pub mod FollowedWrites
+pub mod PassedTimes
