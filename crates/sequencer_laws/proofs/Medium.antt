@@ -24,7 +24,7 @@ use Rattle.fdc_core.specs.Whole.{ending_told, given_up, mark_of, without_seek}
 use Rattle.fdc_core.specs.declared.controller.Fdc.{Fdc}
 use Rattle.fdc_seek.specs.Seeking.{has_ended_seek}
 use Rattle.fdc_board.specs.Boards.{BoardState, WritesBoard, drive_at, selected_at}
-use Rattle.pc_bus.specs.Ports.{FollowsDor, FollowsWrite}
+use Rattle.fdc_drives.specs.Following.{FollowsDor, FollowsWrite}
 use Rattle.machine_laws.specs.OnHeard.Heard.{IsHeardFrom, IsWholeFrom, place_in}
 use Rattle.machine_laws.specs.OnReads.Scenes.{Scene, track_met}
 use Rattle.machine_laws.specs.OnReads.Underway.{IsHearing}
