@@ -54,7 +54,8 @@ pub use Rattle.machine_laws.specs.OnCounts.Counts.{counts_of}
 pub use Rattle.machine_laws.specs.OnOrders.Orders.{Order, Track, Window, Write}
 pub use Rattle.machine_laws.specs.OnReads.Begins.{scene_of}
 pub use Rattle.machine_laws.specs.OnReads.Scenes.{Scene, data_rate, head_sent, track_met}
-pub use Rattle.machine_laws.specs.OnReads.Underway.{HasBytes, IsCalm}
+pub use Rattle.machine_laws.specs.OnReads.Underway.{HasBytes}
+pub use Rattle.fdc_drives.specs.Hearing.{IsCalm}
 pub use Rattle.machine_laws.specs.OnSteps.Stalls.{Stalled}
 pub use Rattle.machine_laws.specs.OnSteps.Steady.{Marching, Steady, regapped}
 pub use Rattle.machine_laws.specs.OnWrites.Results.{IsUnchanged}
