@@ -2,11 +2,10 @@
 use Rattle.std.proofs.Common.{◌≡◌, ℕ, zero, suc, ◌+◌, ◌%◌, Bool, refl, sym, ap, ◌∙◌, subst, add-suc, arith}
 use Rattle.drive_model.specs.Drive.{DriveState}
 use Rattle.fdc_board.specs.Boards.{BoardState, HasLines, StepsBoard, RunsWith, selected_at}
-use Rattle.fdc_core.specs.State.{asks, interrupts, data_rate}
-use Rattle.fdc_core.specs.Courses.{Courses}
+use Rattle.fdc_core.specs.State.{asks, interrupts}
 use Rattle.fdc_core.specs.declared.controller.Fdc.{Fdc}
-use Rattle.pc_bus.specs.Leaps.{WordTimes}
-use Rattle.pc_bus.proofs.Leaping.{dor_stays}
+use Rattle.fdc_drives.specs.WordTimes.{WordTimes}
+use Rattle.fdc_drives.proofs.PassedTimes.{dor_stays}
 
 pub runs_none : (int drq : Bool) (board : BoardState) → RunsWith int drq 0 board board
 unfolding RunsWith
@@ -74,13 +73,3 @@ runs_one none old between new is times step =
     let same = leap_runs 0 old between
     (subst (λ (n : ℕ). WordTimes n (selected_at old) old.controller old.first old.second between.controller between.first between.second) is times) in
     (old, refl, (refl, refl), subst (λ (board : BoardState). StepsBoard board new) same step)
-
--- ---- the rate
-
--- no device step changes the rate
-pub courses_rate : (count : ℕ) (old : Fdc) (before : DriveState) (new : Fdc) (after : DriveState) → Courses count old before new after
-    → data_rate new ≡ data_rate old
-unfolding Courses
-courses_rate zero old before new after courses = ap data_rate courses.0
-courses_rate (suc count) old before new after courses =
-    courses_rate count courses.0 courses.1 new after courses.4 ∙ courses.2.stays.rate

@@ -1,14 +1,14 @@
 -- A controller with two drives, as contracts see it.
-use Rattle.std.specs.Prelude.{◌≡◌, ◌≤◌, zero, suc, ℕ, ◌%◌, ◌==◌, if◌then◌else◌, false, not, ◌&&◌, Bool, true, Option, Some, None}
+use Rattle.std.specs.Prelude.{◌≡◌, ◌≤◌, zero, suc, ℕ, ◌==◌, if◌then◌else◌, false, not, ◌&&◌, Bool, true, Option, Some, None}
 use Rattle.drive_model.specs.Drive.{DriveState, Becomes, with_motor}
 use Rattle.fdc_core.specs.Dma.{byte_out, taken_out, taken_in, to_memory_of}
 use Rattle.fdc_core.specs.Ports.{Writes}
-use Rattle.fdc_core.specs.State.{at_power_up, asks, interrupts, dor_of}
+use Rattle.fdc_core.specs.State.{at_power_up, asks, interrupts}
 use Rattle.fdc_core.specs.declared.controller.Fdc.{Fdc}
 use Rattle.fdc_core.specs.declared.controller.Lines.{Lines}
-use Rattle.pc_bus.specs.Boards.{lines_of_drive, absent_lines}
-use Rattle.pc_bus.specs.Ports.{FollowsWrite}
-use Rattle.pc_bus.specs.Steps.{PassesWordTime}
+use Rattle.fdc_drives.specs.Following.{FollowsWrite}
+use Rattle.fdc_drives.specs.Lines.{lines_of_selected, selected_by}
+use Rattle.fdc_drives.specs.WordTimes.{PassesWordTime}
 use Rattle.fdc_board.specs.declared.board.FdcBoard.{FdcBoard}
 
 -- the controller and the states of both drives
@@ -34,14 +34,11 @@ drive_at board bay = if bay == 0 then board.first else board.second
 
 -- the drive that DOR selects: those of bays 2 and 3 are absent
 abbrev pub selected_at : BoardState → ℕ
-selected_at board = dor_of board.controller % 4
+selected_at board = selected_by board.controller
 
 -- the lines of the selected drive
 abbrev pub lines_at : BoardState → Lines
-lines_at board =
-    if selected_at board == 0 then lines_of_drive board.first else (
-    if selected_at board == 1 then lines_of_drive board.second else
-    absent_lines)
+lines_at board = lines_of_selected (selected_at board) board.first board.second
 
 -- a new one with these drives
 pub record IsNewBoard (bay0 bay1 : DriveState) (new : BoardState) : Type 0 where

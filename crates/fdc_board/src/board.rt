@@ -10,17 +10,16 @@ ghost use Rattle.fdc_core.specs.Ports.{value_read, after_read, Writes};
 ghost use Rattle.fdc_core.specs.State.{asks, interrupts, dor_of, data_rate};
 ghost use Rattle.fdc_core.specs.Written.{KeepsKnown, MayWrite};
 ghost use Rattle.fdc_stages.specs.History.{Past};
-ghost use Rattle.pc_bus.specs.Leaps.{WordTimes};
+ghost use Rattle.fdc_drives.specs.WordTimes.{WordTimes};
 ghost use Rattle.fdc_core.specs.declared.controller.Lines.{Lines as LinesValue};
 
 mod saving;
 
-use crate::lines::{ABSENT, follow_write, lines_of_drive, work, work_alone};
 use crate::rates::word_time_after;
-use fdc_core::{Fdc, Lines};
-use flop_base::NoMemory;
 use drive_model::Inspect;
-use pc_bus::skim;
+use fdc_core::{Fdc, Lines};
+use fdc_drives::{follow_write, lines, may_leap, pass_word_time, pass_word_times};
+use flop_base::NoMemory;
 use std::alloc::Global;
 
 /// A controller with a drive in each of its two bays.
@@ -61,7 +60,7 @@ impl<D: Inspect> FdcBoard<D> {
         ensures keeps { KeepsKnown (controller_of self.old) (controller_of self.new) }
         ensures drives { SameDrives self.old self.new }
     {
-        let lines = self.lines();
+        let lines = lines(&self.controller, &self.first, &self.second);
         self.controller.read(port, lines)
     }
 
@@ -70,10 +69,15 @@ impl<D: Inspect> FdcBoard<D> {
         ensures writes { WritesBoard port value (board_state D.state self.old) (board_state D.state self.new) }
         ensures keeps { KeepsKnown (controller_of self.old) (controller_of self.new) }
     {
-        let lines = self.lines();
+        let lines = lines(&self.controller, &self.first, &self.second);
         self.write_controller(port, value, lines);
-        follow_write(&self.controller, port, value, 0, &mut self.first);
-        follow_write(&self.controller, port, value, 1, &mut self.second);
+        follow_write(
+            &self.controller,
+            port,
+            value,
+            &mut self.first,
+            &mut self.second,
+        );
     }
 
     /// Writes a port of the controller.
@@ -90,21 +94,7 @@ impl<D: Inspect> FdcBoard<D> {
     pub fn step(&mut self)
         ensures { StepsBoard (board_state D.state self.old) (board_state D.state self.new) }
     {
-        match self.controller.selected() {
-            0 => {
-                work(&mut self.controller, &mut self.first);
-                self.second.idle();
-            }
-            1 => {
-                work(&mut self.controller, &mut self.second);
-                self.first.idle();
-            }
-            _ => {
-                work_alone(&mut self.controller);
-                self.first.idle();
-                self.second.idle();
-            }
-        }
+        pass_word_time(&mut self.controller, &mut self.first, &mut self.second);
     }
 
     /// Device steps until the interrupt line or the request line changes, at most `most`, and how many were made.
@@ -147,46 +137,15 @@ impl<D: Inspect> FdcBoard<D> {
             (D.state self.old.first) (D.state self.old.second)
             (controller_of self.new) (D.state self.new.first) (D.state self.new.second) }
     {
-        if !self.may_leap(most) {
+        if !may_leap(&self.controller, most) {
             return 0;
         }
-        self.pass_word_times(most)
-    }
-
-    /// Whether a try to make steps at once pays. One step costs less alone.
-    #[inline(always)]
-    fn may_leap(&self, most: u32) -> bool {
-        most > 1 && self.controller.may_skim()
-    }
-
-    /// The same, where there may be some.
-    #[inline(never)]
-    fn pass_word_times(&mut self, most: u32) -> u32
-        ensures few { result ≤ most }
-        ensures passes { WordTimes result (selected_at (board_state D.state self.old)) (controller_of self.old)
-            (D.state self.old.first) (D.state self.old.second)
-            (controller_of self.new) (D.state self.new.first) (D.state self.new.second) }
-    {
-        if self.controller.is_still() {
-            self.first.let_pass(most);
-            self.second.let_pass(most);
-            return most;
-        }
-        match self.controller.selected() {
-            0 => skim(
-                &mut self.controller,
-                &mut self.first,
-                &mut self.second,
-                most,
-            ),
-            1 => skim(
-                &mut self.controller,
-                &mut self.second,
-                &mut self.first,
-                most,
-            ),
-            _ => 0,
-        }
+        pass_word_times(
+            &mut self.controller,
+            &mut self.first,
+            &mut self.second,
+            most,
+        )
     }
 
     /// Whether the lines are these.
@@ -272,16 +231,5 @@ impl<D: Inspect> FdcBoard<D> {
         ensures { result ≡ nanoseconds (data_rate (controller_of self.now)) }
     {
         self.word_time
-    }
-
-    /// The lines of the selected drive.
-    pub(crate) fn lines(&self) -> Lines
-        ensures { result ≡ lines_at (board_state D.state self.now) }
-    {
-        match self.controller.selected() {
-            0 => lines_of_drive(&self.first),
-            1 => lines_of_drive(&self.second),
-            _ => ABSENT,
-        }
     }
 }

@@ -6,7 +6,6 @@
 
 mod bays;
 mod board;
-mod lines;
 mod rates;
 mod whole;
 

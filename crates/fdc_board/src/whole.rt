@@ -7,6 +7,7 @@ ghost use Rattle.fdc_seek.specs.Seeking.{has_ended_seek};
 
 use crate::board::FdcBoard;
 use fdc_commands::Accepted;
+use fdc_drives::lines;
 use fdc_stages::Ending;
 use drive_model::Inspect;
 
@@ -46,7 +47,7 @@ impl<D: Inspect> FdcBoard<D> {
         ensures takes { TakesWhole accepted (lines_at (board_state D.state self.old)) (controller_of self.old) (controller_of self.new) }
         ensures drives { SameDrives self.old self.new }
     {
-        let lines = self.lines();
+        let lines = lines(&self.controller, &self.first, &self.second);
         self.controller.take_accepted(accepted, lines);
     }
 

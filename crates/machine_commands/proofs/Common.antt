@@ -54,17 +54,20 @@ pub use Rattle.machine_laws.specs.OnCounts.Counts.{counts_of}
 pub use Rattle.machine_laws.specs.OnOrders.Orders.{Order, Track, Window, Write}
 pub use Rattle.machine_laws.specs.OnReads.Begins.{scene_of}
 pub use Rattle.machine_laws.specs.OnReads.Scenes.{Scene, data_rate, head_sent, track_met}
-pub use Rattle.machine_laws.specs.OnReads.Underway.{HasBytes, IsCalm}
+pub use Rattle.machine_laws.specs.OnReads.Underway.{HasBytes}
+pub use Rattle.fdc_drives.specs.Hearing.{IsCalm}
 pub use Rattle.machine_laws.specs.OnSteps.Stalls.{Stalled}
 pub use Rattle.machine_laws.specs.OnSteps.Steady.{Marching, Steady, regapped}
 pub use Rattle.machine_laws.specs.OnWrites.Results.{IsUnchanged}
 pub use Rattle.machine_pace.specs.Entries.{next_entry}
 pub use Rattle.machine_pace.specs.Holds.{Holds, counted, shown}
 pub use Rattle.machine_pace.specs.declared.holding.Request.TheVariants.{Low}
-pub use Rattle.pc_bus.proofs.Lines.{drive_stays}
-pub use Rattle.pc_bus.specs.Boards.{Board, channel_of, controller_of, drive_in, holds_of, lines_of, lines_of_drive, memory_of}
+pub use Rattle.fdc_drives.proofs.FollowedWrites.{drive_stays}
+pub use Rattle.pc_bus.specs.Boards.{Board, channel_of, controller_of, drive_in, holds_of, lines_of, memory_of}
+pub use Rattle.fdc_drives.specs.Lines.{lines_of_drive}
 pub use Rattle.pc_bus.specs.Handling.{byte_set}
-pub use Rattle.pc_bus.specs.Ports.{Inputs, Outputs, RunsGap, is_controllers, sets_lines}
+pub use Rattle.pc_bus.specs.Ports.{Inputs, Outputs, RunsGap, is_controllers}
+pub use Rattle.fdc_drives.specs.Following.{sets_lines}
 pub use Rattle.pc_bus.specs.Steps.{Step, stirred}
 pub use Rattle.pc_bus.specs.Transfers.{shown_again}
 pub use Rattle.pc_bus.specs.declared.bus.Bus.{Bus}

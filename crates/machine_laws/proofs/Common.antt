@@ -67,7 +67,7 @@ pub use Rattle.flop_base.specs.declared.key.Chrn.{Chrn}
 pub use Rattle.machine_laws.specs.OnAwaits.Awaits.{HoldsSet, IsAwaited, IsLetOut, TurnsOn, is_unread}
 pub use Rattle.machine_laws.specs.OnCounts.Counts.{CountsGoOn, counts_of}
 pub use Rattle.machine_laws.specs.OnFormats.Results.{AreKeysOf}
-pub use Rattle.machine_laws.specs.OnHeard.Heard.{AreHeard, IsHeard, IsHeardFrom, IsHeardWhole, IsWholeFrom, place_in, start_of}
+pub use Rattle.fdc_drives.specs.Heard.{AreHeard, IsHeard, IsHeardFrom, IsHeardWhole, IsWholeFrom, place_in, start_of}
 pub use Rattle.machine_laws.specs.OnLead.Leads.{IsGuarded, IsLed, IsSpinning, IsTurningIn, IsUnheard, WarmsUp, led, turn_led, turns_led, unheard}
 pub use Rattle.machine_laws.specs.OnOrders.Orders.{AtDrive, CanBegin, GoesOn, Identify, IsDoneBy, IsLast, IsSetFor, Laid, LaysOn, Leaves, May, MayIn, MayLay, MayLayIn, Order, Read, Shows, Track, Underway, Window, Write}
 pub use Rattle.machine_laws.specs.OnOrders.Results.{IsFor, Only}
@@ -99,11 +99,13 @@ pub use Rattle.machine_pace.specs.Entries.{is_stray_due, next_entry, rest_of}
 pub use Rattle.machine_pace.specs.Holds.{AreShort, Holds, IsInTime, IsReady, IsShort, counted, is_due, looked, shown, waited}
 pub use Rattle.machine_pace.specs.declared.holding.Request.{Request}
 pub use Rattle.machine_pace.specs.declared.holding.Request.TheVariants.{High, Low}
-pub use Rattle.pc_bus.proofs.Lines.{drive_stays, write_leaves}
+pub use Rattle.fdc_drives.proofs.FollowedWrites.{drive_stays, write_leaves}
 pub use Rattle.pc_bus.specs.Boards.{Board, channel_of, controller_of, drive_in, holds_of, latch_of, lines_of, memory_of, selected_of}
 pub use Rattle.pc_bus.specs.Handling.{irq_taken}
-pub use Rattle.pc_bus.specs.Ports.{FollowsWrite, Inputs, Outputs, RunsGap, WritesPort, is_controllers, port_read, sets_lines}
-pub use Rattle.pc_bus.specs.Steps.{Step, Waits, Works, WorksAlone, lined, stirred, strayed_if}
+pub use Rattle.fdc_drives.specs.Following.{FollowsWrite, sets_lines}
+pub use Rattle.pc_bus.specs.Ports.{Inputs, Outputs, RunsGap, WritesPort, is_controllers, port_read}
+pub use Rattle.pc_bus.specs.Steps.{Step, Waits, lined, stirred, strayed_if}
+pub use Rattle.fdc_core.specs.Courses.{Works, WorksAlone}
 pub use Rattle.pc_bus.specs.Transfers.{byte_read, can_move, looked_at, moved_from_memory, moved_to_memory, shown_again, told_if}
 pub use Rattle.pc_bus.specs.declared.chips.Chips.{Chips}
 pub use Rattle.raw_image.specs.Disk.{Disk, HasTrack, IsDisk, IsWithTrack, track_of}

@@ -4,11 +4,8 @@ use Rattle.fdc_phases.specs.declared.phases.Task.TheVariants.{Read}
 use Rattle.irq_events.specs.Latch.{Latch}
 use Rattle.std.proofs.Common.{◌∙◌, Option, ◌⊎◌, inl, inr, ◌≡◌, ◌+◌, ◌≤◌, ◌<◌, ◌==◌, ◌||◌, ◌&&◌, ◌∷◌, ◌++◌, if◌then◌else◌, Bool, true, false, refl, ℕ, nat_le, arith, List, [], length, length-append, Some, None, not, nat_lt}
 use Rattle.std.proofs.lemmas.Bool.Decides.{nat_tests}
+pub use Rattle.fdc_drives.proofs.Facts.{if_both, different, le_true, length_more}
 use Rattle.machine_laws.proofs.Common.{Channel, after_transfer, answer, after_byte, IsReadingData, fifo_told, phase_told, task_asks, Sent, is_executing, is_held, polled, Short, Long, Answer, Fdc, Command, Execute, Result, Phase, Task, Fifo, with_polls, Holds, shown, strayed_if, lined, phase_after, Ending, Results}
-
-pub if_both : {A : Type 0} (b : Bool) (x y : A) (P : A → Type 0) → P x → P y → P (if b then x else y)
-if_both true x y P px py = px
-if_both false x y P px py = py
 
 pub either_is : (b : Bool) → (b ≡ true) ⊎ (b ≡ false)
 either_is true = inl refl
@@ -22,17 +19,8 @@ pub same_grants : (channel : Channel) → (channel.count == 0) ≡ false → gra
 unfolding grants
 same_grants channel more = rw (more, or_false channel.masked) refl
 
-pub le_true : (a b : ℕ) → a ≤ b → nat_le a b ≡ true
-le_true a b h = grind (arith, nat_tests)
-
-pub different : (a b : ℕ) → (a == b) ≡ false → a ≡ b → ⊥
-different a b h same = grind (arith, nat_tests)
-
 pub number_is : (a b : ℕ) → (a == b) ≡ true → a ≡ b
 number_is a b h = grind (arith, nat_tests)
-
-pub length_more : (bytes : List ℕ) (byte : ℕ) → length (bytes ++ byte ∷ []) ≡ length bytes + 1
-length_more bytes byte = length-append bytes (byte ∷ [])
 
 pub or_true : (b : Bool) → b || true ≡ true
 or_true true = refl

@@ -1,11 +1,12 @@
 -- Device steps made at once are as many made one by one.
 use Rattle.std.proofs.Common.{◌≡◌, ◌≤◌, ◌+◌, ℕ, zero, suc, min, Bool, true, false, ◌||◌, ◌&&◌, not, refl, sym, ap, ◌∙◌, subst, arith, ◌%◌}
 use Rattle.flop_base.specs.Counts.{last_count}
-use Rattle.drive_model.specs.Ahead.{LetsPass}
 use Rattle.drive_model.specs.Drive.{DriveState}
-use Rattle.fdc_core.specs.Courses.{Courses, HoldsLines, IsStill}
+use Rattle.fdc_core.specs.Courses.{HoldsLines}
 use Rattle.fdc_core.specs.State.{asks, interrupts}
 use Rattle.fdc_core.specs.declared.controller.Fdc.{Fdc}
+use Rattle.fdc_drives.specs.WordTimes.{WordTimes}
+use Rattle.fdc_drives.proofs.PassedTimes.{dor_stays}
 use Rattle.irq_events.specs.Latch.{Latch}
 use Rattle.machine_pace.specs.Entries.{is_stray_due, strays_after, strays_later, AreQuiet}
 use Rattle.machine_pace.specs.Holds.{is_low, counted}
@@ -13,87 +14,11 @@ use Rattle.machine_pace.specs.declared.holding.Request.{Request}
 use Rattle.machine_pace.specs.declared.holding.Request.TheVariants.{Low, High}
 use Rattle.pc_bus.proofs.RunSteps.{runs_front, unset_front}
 use Rattle.pc_bus.specs.Boards.{Board, controller_of, selected_of, latch_of}
-use Rattle.pc_bus.specs.Leaps.{WordTimes, IsCalm, skipped}
-use Rattle.pc_bus.specs.Steps.{PassesWordTime, Step, Runs, RunsUnset, strayed_if, step_begun, step_ended, with_controller, lined}
+use Rattle.pc_bus.specs.Leaps.{IsCalm, skipped}
+use Rattle.pc_bus.specs.Steps.{Step, Runs, RunsUnset, strayed_if, step_begun, step_ended, with_controller, lined}
 use Rattle.pc_bus.specs.Transfers.{dma_stepped}
 use Rattle.pc_bus.specs.declared.bus.Bus.{Bus}
 use Rattle.pc_bus.specs.declared.chips.Chips.{Chips}
-
--- ---- word times in a row
-
-pub times_none : (selected : ℕ) (fdc : Fdc) (first second : DriveState) → WordTimes 0 selected fdc first second fdc first second
-unfolding WordTimes
-times_none selected fdc first second = (refl, refl, refl)
-
--- of the first drive
-times_first : (count : ℕ) (old : Fdc) (first second : DriveState) (new : Fdc) (first_after second_after : DriveState)
-    → Courses count old first new first_after → LetsPass count second second_after
-    → WordTimes count 0 old first second new first_after second_after
-unfolding WordTimes Courses LetsPass
-times_first zero old first second new first_after second_after courses passes = (courses.0, courses.1, passes)
-times_first (suc count) old first second new first_after second_after courses passes =
-    let passes_one : PassesWordTime 0 old first second courses.0 courses.1 passes.0 = record {
-      at_first = λ _. (courses.2, passes.1);
-      at_second = λ is. absurd cc;
-      at_none = λ more. absurd (omega arith);
-    } in (
-      courses.0,
-      courses.1,
-      passes.0,
-      passes_one,
-      courses.3,
-      times_first count courses.0 courses.1 passes.0 new first_after second_after courses.4 passes.2,
-    )
-
--- of the second
-times_second : (count : ℕ) (old : Fdc) (first second : DriveState) (new : Fdc) (first_after second_after : DriveState)
-    → Courses count old second new second_after → LetsPass count first first_after
-    → WordTimes count 1 old first second new first_after second_after
-unfolding WordTimes Courses LetsPass
-times_second zero old first second new first_after second_after courses passes = (courses.0, passes, courses.1)
-times_second (suc count) old first second new first_after second_after courses passes =
-    let passes_one : PassesWordTime 1 old first second courses.0 passes.0 courses.1 = record {
-      at_first = λ is. absurd cc;
-      at_second = λ _. (courses.2, passes.1);
-      at_none = λ more. absurd (omega arith);
-    } in (
-      courses.0,
-      passes.0,
-      courses.1,
-      passes_one,
-      courses.3,
-      times_second count courses.0 passes.0 courses.1 new first_after second_after courses.4 passes.2,
-    )
-
--- the drive whose number is selected
-pub times_zero : (count selected : ℕ) (old : Fdc) (first second : DriveState) (new : Fdc) (first_after second_after : DriveState)
-    → selected ≡ 0 → Courses count old first new first_after → LetsPass count second second_after
-    → WordTimes count selected old first second new first_after second_after
-times_zero count selected old first second new first_after second_after is courses passes =
-    subst (λ (n : ℕ). WordTimes count n old first second new first_after second_after) (sym is)
-    (times_first count old first second new first_after second_after courses passes)
-
-pub times_one : (count selected : ℕ) (old : Fdc) (first second : DriveState) (new : Fdc) (first_after second_after : DriveState)
-    → selected ≡ 1 → Courses count old second new second_after → LetsPass count first first_after
-    → WordTimes count selected old first second new first_after second_after
-times_one count selected old first second new first_after second_after is courses passes =
-    subst (λ (n : ℕ). WordTimes count n old first second new first_after second_after) (sym is)
-    (times_second count old first second new first_after second_after courses passes)
-
--- of both, where the controller is still
-pub times_still : (count selected : ℕ) (fdc : Fdc) (first second first_after second_after : DriveState)
-    → IsStill fdc → LetsPass count first first_after → LetsPass count second second_after
-    → WordTimes count selected fdc first second fdc first_after second_after
-unfolding WordTimes LetsPass
-times_still zero selected fdc first second first_after second_after still ones twos = (refl, ones, twos)
-times_still (suc count) selected fdc first second first_after second_after still ones twos =
-    let passes_one : PassesWordTime selected fdc first second fdc ones.0 twos.0 = record {
-      at_first = λ _. (still.works first ones.0 ones.1, twos.1);
-      at_second = λ _. (still.works second twos.0 twos.1, ones.1);
-      at_none = λ _. (still.alone, ones.1, twos.1);
-    } in
-    let holds : HoldsLines fdc fdc = record { request = refl; interrupt = refl } in
-    (fdc, ones.0, twos.0, passes_one, holds, times_still count selected fdc ones.0 twos.0 first_after second_after still ones.2 twos.2)
 
 -- ---- a device step of a calm bus
 
@@ -152,13 +77,6 @@ calm_stepped old controller calm holds = record {
   seen = calm.seen ∙ sym holds.interrupt;
   stirred = calm.stirred;
 }
-
--- DOR, and so which drive is selected, stays
-pub dor_stays : (selected : ℕ) (old : Fdc) (first second : DriveState) (new : Fdc) (first_after second_after : DriveState)
-    → PassesWordTime selected old first second new first_after second_after → new.dor ≡ old.dor
-dor_stays zero old first second new first_after second_after passes = (passes.at_first refl).0.stays.dor
-dor_stays (suc zero) old first second new first_after second_after passes = (passes.at_second refl).0.stays.dor
-dor_stays (suc (suc n)) old first second new first_after second_after passes = (passes.at_none (omega arith)).0.stays.dor
 
 -- ---- so many
 
@@ -224,26 +142,20 @@ times_unset (suc count) old fdc first second times calm quiet range unset =
     (subst (λ (bus : Bus). RunsUnset count mid (record { bus = bus; first = first; second = second })) (leapt_more count old.bus times.0 fdc) rest)
 
 -- as the bus counts them
-bus_leapt : (count : ℕ) (old between new : Bus) → between ≡ with_controller between.chips.controller old → new ≡ skipped count between
-    → new ≡ leapt count between.chips.controller old
-bus_leapt count old between new passes skips = skips ∙ ap (skipped count) passes
-
-pub leap_runs : (count : ℕ) (old : Board) (between new : Bus) (first second : DriveState)
-    → WordTimes count (selected_of old) (controller_of old) old.first old.second between.chips.controller first second
-    → between ≡ with_controller between.chips.controller old.bus → new ≡ skipped count between
+pub leap_runs : (count : ℕ) (old : Board) (controller : Fdc) (new : Bus) (first second : DriveState)
+    → WordTimes count (selected_of old) (controller_of old) old.first old.second controller first second
+    → new ≡ skipped count (with_controller controller old.bus)
     → IsCalm old.bus → AreQuiet count old.bus.strays → old.bus.steps ≤ last_count
     → Runs count old (record { bus = new; first = first; second = second })
-leap_runs count old between new first second times passes skips calm quiet range =
-    subst (λ (bus : Bus). Runs count old (record { bus = bus; first = first; second = second }))
-    (sym (bus_leapt count old.bus between new passes skips))
-    (times_run count old between.chips.controller first second times calm quiet range)
+leap_runs count old controller new first second times skips calm quiet range =
+    subst (λ (bus : Bus). Runs count old (record { bus = bus; first = first; second = second })) (sym skips)
+    (times_run count old controller first second times calm quiet range)
 
-pub leap_unset : (count : ℕ) (old : Board) (between new : Bus) (first second : DriveState)
-    → WordTimes count (selected_of old) (controller_of old) old.first old.second between.chips.controller first second
-    → between ≡ with_controller between.chips.controller old.bus → new ≡ skipped count between
+pub leap_unset : (count : ℕ) (old : Board) (controller : Fdc) (new : Bus) (first second : DriveState)
+    → WordTimes count (selected_of old) (controller_of old) old.first old.second controller first second
+    → new ≡ skipped count (with_controller controller old.bus)
     → IsCalm old.bus → AreQuiet count old.bus.strays → old.bus.steps ≤ last_count → (latch_of old).is_set ≡ false
     → RunsUnset count old (record { bus = new; first = first; second = second })
-leap_unset count old between new first second times passes skips calm quiet range unset =
-    subst (λ (bus : Bus). RunsUnset count old (record { bus = bus; first = first; second = second }))
-    (sym (bus_leapt count old.bus between new passes skips))
-    (times_unset count old between.chips.controller first second times calm quiet range unset)
+leap_unset count old controller new first second times skips calm quiet range unset =
+    subst (λ (bus : Bus). RunsUnset count old (record { bus = bus; first = first; second = second })) (sym skips)
+    (times_unset count old controller first second times calm quiet range unset)

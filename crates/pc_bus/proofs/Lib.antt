@@ -1,4 +1,3 @@
-pub mod Lines
 mod Moves
 pub mod RunSteps
 pub mod Leaping

@@ -1,16 +1,17 @@
 -- The machine as contracts see it: a board of chips, with a drive in each bay.
-use Rattle.std.specs.Prelude.{◌≡◌, ℕ, ◌%◌, true, false, ◌==◌, if◌then◌else◌, List, None}
+use Rattle.std.specs.Prelude.{◌≡◌, ℕ, true, false, ◌==◌, if◌then◌else◌, List, None}
 use Rattle.bay_model.specs.Memory.{zeroes}
-use Rattle.drive_model.specs.Drive.{DriveState, Becomes, InRange, is_protected, with_motor}
+use Rattle.drive_model.specs.Drive.{DriveState, Becomes, InRange, with_motor}
 use Rattle.dma_8237.specs.Channel.{Channel, power_up}
 use Rattle.irq_events.specs.Latch.{Latch}
 use Rattle.irq_events.specs.declared.pace.Pace.{Pace}
 use Rattle.machine_pace.specs.Holds.{AreShort, Holds}
 use Rattle.machine_pace.specs.declared.holding.Request.TheVariants.{Low}
 use Rattle.fdc_core.specs.Ranges.{IsInRange as IsFdcInRange}
-use Rattle.fdc_core.specs.State.{at_power_up, dor_of}
+use Rattle.fdc_core.specs.State.{at_power_up}
 use Rattle.fdc_core.specs.declared.controller.Fdc.{Fdc}
 use Rattle.fdc_core.specs.declared.controller.Lines.{Lines}
+use Rattle.fdc_drives.specs.Lines.{lines_of_selected, selected_by}
 use Rattle.pc_bus.specs.declared.bus.Bus.{Bus}
 use Rattle.pc_bus.specs.declared.machine.MachineOf.{MachineOf}
 
@@ -48,7 +49,7 @@ drive_in board bay = if bay == 0 then board.first else board.second
 
 -- the drive that DOR selects: those of bays 2 and 3 are absent
 abbrev pub selected_of : Board → ℕ
-selected_of board = dor_of (controller_of board) % 4
+selected_of board = selected_by (controller_of board)
 
 -- a drive with no medium in and its change line set
 pub record IsEmpty (drive : DriveState) : Type 0 where
@@ -95,19 +96,6 @@ pub record IsInRange (board : Board) : Type 0 where
   pub controller : IsFdcInRange (controller_of board)
   pub holds : AreShort (holds_of board)
 
--- ---- the lines of the selected drive
-
--- those of a drive
-abbrev pub lines_of_drive : DriveState → Lines
-lines_of_drive drive =
-    record { track0 = drive.cylinder == 0; protected = is_protected drive.medium; changed = drive.change }
-
--- an absent drive's are all low
-abbrev pub absent_lines : Lines
-absent_lines = record { track0 = false; protected = false; changed = false }
-
+-- the lines of the selected drive
 abbrev pub lines_of : Board → Lines
-lines_of board =
-    if selected_of board == 0 then lines_of_drive board.first else (
-    if selected_of board == 1 then lines_of_drive board.second else
-    absent_lines)
+lines_of board = lines_of_selected (selected_of board) board.first board.second

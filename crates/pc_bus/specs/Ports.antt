@@ -1,12 +1,10 @@
 -- Port accesses of the machine.
-use Rattle.std.specs.Prelude.{◌≡◌, ◌↔◌, ◌+◌, ℕ, Bool, true, false, ◌&&◌, ◌||◌, ◌==◌, nat_le, if◌then◌else◌, IsTrue, IsBitSet}
-use Rattle.drive_model.specs.Drive.{DriveState, Becomes, with_motor}
+use Rattle.std.specs.Prelude.{◌≡◌, ℕ, Bool, true, false, ◌&&◌, nat_le, if◌then◌else◌}
 use Rattle.dma_8237.specs.Channel.{after_write, after_read, value_read}
-use Rattle.fdc_core.specs.Ports.{Writes, resets, value_read as controller_value, after_read as controller_after}
-use Rattle.fdc_core.specs.State.{dor_of}
-use Rattle.fdc_core.specs.Times.{Closes}
+use Rattle.fdc_core.specs.Ports.{Writes, value_read as controller_value, after_read as controller_after}
 use Rattle.fdc_core.specs.declared.controller.Fdc.{Fdc}
 use Rattle.fdc_core.specs.declared.controller.Lines.{Lines}
+use Rattle.fdc_drives.specs.Following.{FollowsWrite}
 use Rattle.machine_pace.specs.Entries.{next_entry, rest_of}
 use Rattle.pc_bus.specs.Boards.{Board, lines_of}
 use Rattle.pc_bus.specs.Steps.{Runs}
@@ -39,30 +37,10 @@ pub record WritesChips (port value : ℕ) (lines : Lines) (old new : Chips) : Ty
       × (new ≡ shown_again (record old { controller = controller }))
   pub channels : is_controllers port ≡ false → new ≡ record old { channel = after_write port value old.channel }
 
--- a drive's motor line is the bit of DOR
-abbrev pub FollowsMotor : ℕ → Fdc → DriveState → DriveState → Type 0
-FollowsMotor bay controller before after =
-    (on : Bool) × (IsTrue on ↔ IsBitSet (dor_of controller) (4 + bay)) × Becomes (with_motor on before) before after
-
--- where DOR was written the motor follows it; else the drive is as it was
-abbrev pub FollowsDor : Bool → ℕ → Fdc → DriveState → DriveState → Type 0
-FollowsDor true bay controller before after = FollowsMotor bay controller before after
-FollowsDor false bay controller before after = after ≡ before
-
--- a drive at a write of a port, with no device step: the motor follows a write of DOR, and then a reset closes the gate
-pub record FollowsWrite (port value bay : ℕ) (controller : Fdc) (before after : DriveState) : Type 0 where
-  pub between : DriveState
-  pub motor : FollowsDor (port == 0x3F2) bay controller before between
-  pub gate : Closes (resets port value) between after
-
 -- both drives follow the write, whichever DOR selects
 pub record SetsLines (port value : ℕ) (controller : Fdc) (old new : Board) : Type 0 where
   pub first : FollowsWrite port value 0 controller old.first new.first
   pub second : FollowsWrite port value 1 controller old.second new.second
-
--- DOR is written, or the controller is reset: another write leaves the drives
-abbrev pub sets_lines : ℕ → ℕ → Bool
-sets_lines port value = port == 0x3F2 || resets port value
 
 -- a byte is written to a port of the machine
 pub record WritesPort (port value : ℕ) (old new : Board) : Type 0 where

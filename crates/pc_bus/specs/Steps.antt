@@ -1,28 +1,14 @@
 -- Device steps of the machine.
 use Rattle.std.specs.Prelude.{◌≡◌, ◌≤◌, ℕ, zero, suc, Bool, true, false, not, ◌&&◌, ◌||◌}
-use Rattle.drive_model.specs.Drive.{DriveState, Becomes}
 use Rattle.irq_events.specs.Latch.{Latch}
 use Rattle.machine_pace.specs.Entries.{is_stray_due, strays_after}
 use Rattle.machine_pace.specs.Holds.{counted}
 use Rattle.fdc_core.specs.State.{interrupts}
-pub use Rattle.fdc_core.specs.Courses.{Works, WorksAlone}
-use Rattle.fdc_core.specs.Steps.{let_pass}
 use Rattle.fdc_core.specs.declared.controller.Fdc.{Fdc}
+use Rattle.fdc_drives.specs.WordTimes.{PassesWordTime}
 use Rattle.pc_bus.specs.Boards.{Board, controller_of, selected_of, latch_of}
 use Rattle.pc_bus.specs.Transfers.{dma_stepped}
 use Rattle.pc_bus.specs.declared.bus.Bus.{Bus}
-
--- ---- the word time of the drives
-
--- a word time passes at a drive that isn't selected, with its gate closed
-abbrev pub Passes : DriveState → DriveState → Type 0
-Passes before after = Becomes (let_pass before) before after
-
--- the controller makes its device step with the selected drive, and the word time passes at the others
-pub record PassesWordTime (selected : ℕ) (old : Fdc) (first second : DriveState) (new : Fdc) (first_after second_after : DriveState) : Type 0 where
-  pub at_first : selected ≡ 0 → Works old first new first_after × Passes second second_after
-  pub at_second : selected ≡ 1 → Works old second new second_after × Passes first first_after
-  pub at_none : 2 ≤ selected → WorksAlone old new × Passes first first_after × Passes second second_after
 
 -- ---- the chips beside
 

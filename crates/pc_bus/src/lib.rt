@@ -15,4 +15,3 @@ mod saving;
 mod steps;
 
 pub use machine::{Machine, MachineOf};
-pub use steps::skim;

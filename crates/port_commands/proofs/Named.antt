@@ -8,7 +8,7 @@ use Rattle.machine_laws.proofs.OnWrites.Guards.{step_guards}
 use Rattle.pc_bus.specs.Boards.{Board}
 use Rattle.pc_bus.specs.Ports.{WritesPort, Inputs, Outputs}
 use Rattle.pc_bus.specs.Steps.{Runs, stirred}
-use Rattle.pc_bus.proofs.Lines.{write_leaves}
+use Rattle.fdc_drives.proofs.FollowedWrites.{write_leaves}
 use Rattle.port_commands.specs.Benches.{Names, AreNamed}
 use Rattle.port_commands.specs.Guards.{SameMedia}
 

@@ -24,16 +24,15 @@ use Rattle.fdc_core.specs.Whole.{ending_told, given_up, mark_of, without_seek}
 use Rattle.fdc_core.specs.declared.controller.Fdc.{Fdc}
 use Rattle.fdc_seek.specs.Seeking.{has_ended_seek}
 use Rattle.fdc_board.specs.Boards.{BoardState, WritesBoard, drive_at, selected_at}
-use Rattle.pc_bus.specs.Ports.{FollowsDor, FollowsWrite}
-use Rattle.machine_laws.specs.OnHeard.Heard.{IsHeardFrom, IsWholeFrom, place_in}
-use Rattle.machine_laws.specs.OnReads.Scenes.{Scene, track_met}
-use Rattle.machine_laws.specs.OnReads.Underway.{IsHearing}
-use Rattle.machine_laws.proofs.OnHeard.Fields.{address_heard, data_mark_heard, field_heard, whole_shifted}
-use Rattle.machine_laws.proofs.OnHeard.Shifted.{shifted_bytes_at}
+use Rattle.fdc_drives.specs.Following.{FollowsDor, FollowsWrite}
+use Rattle.fdc_drives.specs.Heard.{IsHeardFrom, IsWholeFrom, place_in}
+use Rattle.fdc_drives.specs.Hearing.{IsHearing, Outset, track_heard}
+use Rattle.fdc_drives.proofs.Fields.{address_heard, data_mark_heard, field_heard, whole_shifted}
+use Rattle.fdc_drives.proofs.Shifted.{shifted_bytes_at}
 use Rattle.fdc_core.specs.Meaning.{AreOfField}
 use Rattle.sequencer_laws.specs.Outcomes.{PassesOfSector}
-use Rattle.machine_laws.proofs.OnReads.Results.{between_is, turn_heard}
-use Rattle.machine_laws.proofs.OnReads.Words.{hearing_on, length-met}
+use Rattle.fdc_drives.proofs.Turns.{between_is, turn_heard}
+use Rattle.fdc_drives.proofs.Passing.{hearing_on, length_heard}
 use Rattle.fdc_sequencer.specs.Fronts.{Front, GivesAt, TakesAt, TakesByte, WritesFront, begun_if, byte_given, count_told, moving_of, passed_one, reset_if, with_controller}
 use Rattle.fdc_sequencer.specs.Moves.{EndsIf, EndsSector, FollowsStep, MovesOn, SeeksOn, goes_on, has_met_other, is_unwanted, passed_over_if, results_behind, results_failed}
 use Rattle.fdc_sequencer.specs.Transfers.{next_of}
@@ -94,20 +93,15 @@ told_on_track track from past key given heard whole (told, inr (turn, among, (p,
 
 -- ---- what is known of what was heard
 
--- a scene of the machine's laws, of which memory plays no part
-abbrev scene_of : Place → Transfer → ℕ → ℕ → Scene
-scene_of place at from since = record {
-  sent = record { head_drive = at.head_drive; key = at.key; last_sector = at.last_sector };
-  dor = 0;
+-- how the drive stood when the search for a sector began, at this word and with so many faults
+abbrev outset_at : Place → Transfer → ℕ → ℕ → Outset
+outset_at place at from since = record {
+  head = head_of at.head_drive;
   rate = place.rate;
-  bay = place.bay;
   disk = place.disk;
   cylinder = place.cylinder;
   from = from;
   faults = since;
-  memory = [];
-  address = 0;
-  size = 0;
 }
 
 -- the words that a sector's own search heard are those of the track under its head
@@ -122,7 +116,7 @@ AreHeardAt place (part ∷ parts) = IsHeardAt place part.at part.past × AreHear
 -- and of the sector under way, which is where the drive is
 abbrev IsHearingAt : Place → Transfer → Past → DriveState → Type 0
 IsHearingAt place at past drive =
-    (from : ℕ) × (since : ℕ) × IsHearing (scene_of place at from since) past true drive × (place.clean ≡ true → since ≡ place.faults)
+    (from : ℕ) × (since : ℕ) × IsHearing (outset_at place at from since) past true drive × (place.clean ≡ true → since ≡ place.faults)
 
 -- the search is over
 hearing_over : (place : Place) (at : Transfer) (past : Past) (drive : DriveState) → (place.clean ≡ true → (drive.faults ≡ place.faults) × (place.faults < last_count)) → IsHearingAt place at past drive
@@ -150,20 +144,20 @@ heard_more place [] part were is = (is, tt)
 heard_more place (other ∷ parts) part (one, were) is = (one, heard_more place parts part were is)
 
 -- the same words, with whatever else
-same_hearing : (scene : Scene) (past other : Past) (drive : DriveState) → other.turns ≡ past.turns → other.seen ≡ past.seen → IsHearing scene past true drive → IsHearing scene other true drive
-same_hearing scene past other drive turns seen was =
+same_hearing : (outset : Outset) (past other : Past) (drive : DriveState) → other.turns ≡ past.turns → other.seen ≡ past.seen → IsHearing outset past true drive → IsHearing outset other true drive
+same_hearing outset past other drive turns seen was =
     let under = was.under refl in
-    let place = scene.from in
+    let place = outset.from in
     record {
-      heard = subst (λ t. IsHeardFrom (track_met scene) scene.from t other.seen) (sym turns) (subst (λ s. IsHeardFrom (track_met scene) scene.from past.turns s) (sym seen) was.heard);
+      heard = subst (λ t. IsHeardFrom (track_heard outset) outset.from t other.seen) (sym turns) (subst (λ s. IsHeardFrom (track_heard outset) outset.from past.turns s) (sym seen) was.heard);
       never_falls = was.never_falls;
-      whole = λ calm. subst (λ t. IsWholeFrom (track_met scene) scene.from t other.seen) (sym turns) (subst (λ s. IsWholeFrom (track_met scene) scene.from past.turns s) (sym seen) (was.whole calm));
+      whole = λ calm. subst (λ t. IsWholeFrom (track_heard outset) outset.from t other.seen) (sym turns) (subst (λ s. IsWholeFrom (track_heard outset) outset.from past.turns s) (sym seen) (was.whole calm));
       under = λ _. record {
         medium = under.medium;
         cylinder = under.cylinder;
         motor = under.motor;
         speed = under.speed;
-        place = under.place ∙ (ap (λ t. place_in scene.from t past.seen) (sym turns) ∙ ap (λ s. place_in scene.from other.turns s) (sym seen));
+        place = under.place ∙ (ap (λ t. place_in outset.from t past.seen) (sym turns) ∙ ap (λ s. place_in outset.from other.turns s) (sym seen));
         inside = under.inside;
       };
     }
@@ -172,12 +166,12 @@ same_hearing scene past other drive turns seen was =
 fresh_hearing : (place : Place) (front : Front) (at : Transfer) (past : Past) → IsAt place front → past.turns ≡ [] → past.seen ≡ [] → IsHearingAt place at past (drive_at front.board place.bay)
 fresh_hearing place front at past is turns seen =
     let drive = drive_at front.board place.bay in
-    let scene = scene_of place at drive.place drive.faults in
-    let long = length-met scene is.disk in
+    let outset = outset_at place at drive.place drive.faults in
+    let long = length_heard outset is.disk in
     let inside = is.inside in (
       drive.place,
       drive.faults,
-      same_hearing scene new_past past drive turns seen (record {
+      same_hearing outset new_past past drive turns seen (record {
         heard = record { over = tt; now = record { inside = omega arith; each = λ i below. absurd (omega arith) } };
         never_falls = omega arith;
         whole = λ calm. record { over = tt; now = record { each = λ i below. absurd (omega arith) } };
@@ -204,7 +198,7 @@ kept_hearing place front at past drive is same falls (from, since, was, began) =
     )
 
 other_past : (place : Place) (at : Transfer) (past other : Past) (drive : DriveState) → other.turns ≡ past.turns → other.seen ≡ past.seen → IsHearingAt place at past drive → IsHearingAt place at other drive
-other_past place at past other drive turns seen (from, since, was, began) = (from, since, same_hearing (scene_of place at from since) past other drive turns seen was, began)
+other_past place at past other drive turns seen (from, since, was, began) = (from, since, same_hearing (outset_at place at from since) past other drive turns seen was, began)
 
 told_turns : (b : Bool) (past : Past) → (told_in b past).turns ≡ past.turns
 told_turns true past = refl
@@ -228,10 +222,10 @@ is_time (suc (suc bay)) head time old new few at passes = absurd (omega (arith, 
 time_hears : (wanted skip : Bool) (place : Place) (at : Transfer) (past : Past) (time : WordTime) (before after : DriveState) → IsDisk place.disk → IsTimeOf (Read wanted skip) time
     → IsTime time place.rate (head_of at.head_drive) before after → IsHearingAt place at past before → IsHearingAt place at (after_time time past) after
 time_hears wanted skip place at past (Saw index word) before after valid reads is (from, since, was, began) =
-    let scene = scene_of place at from since in (
+    let outset = outset_at place at from since in (
       from,
       since,
-      subst (λ i. IsHearing scene (heard i word (stepped past)) true after) (sym is.index_is) (hearing_on scene past before after word true valid was is.sees is.passes),
+      subst (λ i. IsHearing outset (heard i word (stepped past)) true after) (sym is.index_is) (hearing_on outset past before after word true valid was is.sees is.passes),
       began,
     )
 time_hears wanted skip place at past (KeptOut index word) before after valid reads is was = absurd reads

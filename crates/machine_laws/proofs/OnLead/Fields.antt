@@ -4,8 +4,8 @@ use Rattle.std.proofs.Math.ListN.{get_or-append}
 use Rattle.std.proofs.lemmas.Bool.{cases_lt}
 use Rattle.std.proofs.lemmas.List.{get_or-append_right, get_or-replicate, length-replicate}
 use Rattle.machine_laws.proofs.Common.{Chrn, Found, IsSound, IsAddressAt, content_size, content_at, data_cells, HasDataField, IsIntact, LookAt, IsFoundAt, HasAddress, FindsSector, Past, IsTurnIn, IsHeardWhole, turn_led, led}
-use Rattle.machine_laws.proofs.OnHeard.Fields.{whole_back, data_mark_on, data_mark_back, intact_back}
-use Rattle.machine_laws.proofs.OnHeard.Shifted.{shifted_address_at, shifted_bytes_at}
+use Rattle.fdc_drives.proofs.Fields.{whole_back, data_mark_on, data_mark_back, intact_back}
+use Rattle.fdc_drives.proofs.Shifted.{shifted_address_at, shifted_bytes_at}
 use Rattle.machine_laws.proofs.OnLead.Late.{length_front, turn_of_led}
 
 -- ---- words behind others

@@ -17,12 +17,12 @@ use Rattle.fdc_writing.specs.Writings.{HasBegun, HasNoWindow, HasWritten}
 use Rattle.fdc_writing.specs.declared.writing.WriteStage.TheVariants as stage
 use Rattle.fdc_phases.specs.Phases.{overran}
 use Rattle.fdc_phases.specs.declared.phases.Task.TheVariants.{Write}
-use Rattle.machine_laws.proofs.OnHeard.Fields.{address_heard, mark_heard}
+use Rattle.fdc_drives.proofs.Fields.{address_heard, mark_heard}
 use Rattle.machine_laws.proofs.OnReads.Words.{length-met}
 use Rattle.machine_laws.specs.OnWrites.Results.{ChangesTo, ChangesWhole, EndedIn, EndsAs, HasChanged, IsUnchanged, WritesWell, window_in, written_in}
 use Rattle.machine_laws.proofs.OnWrites.Content.{handed_all, handed_rest, not_all}
 use Rattle.machine_laws.proofs.OnWrites.Words.{heard_met}
-use Rattle.machine_laws.proofs.OnReads.Results.{between_is}
+use Rattle.fdc_drives.proofs.Turns.{between_is}
 
 -- ---- the words
 

@@ -13,24 +13,23 @@ returns-then-count-eq0-clause-unset g c = λ _. unset_none _
 
 pub skip-requires : goal.skip-requires
 skip-requires g c =
-    rw c.pass_word_times-made.ensures.bus
-    (quiet_fewer c.pass_word_times-made.result c.quiet_for-count.result c.args.self.now.bus.strays c.pass_word_times-made.ensures.few
-    c.quiet_for-count.ensures.quiet)
+    quiet_fewer c.pass_word_times-made.result c.quiet_for-count.result c.args.self.now.bus.strays c.pass_word_times-made.ensures.few
+    c.quiet_for-count.ensures.quiet
 
 pub returns-clause-runs : goal.returns-clause-runs
 returns-clause-runs g c =
-    leap_runs c.pass_word_times-made.result (board g.D.Drive.state c.args.self.now) c.pass_word_times-made.new.self.bus c.skip.new.self
-    (g.D.Drive.state c.pass_word_times-made.new.self.first) (g.D.Drive.state c.pass_word_times-made.new.self.second)
-    c.pass_word_times-made.ensures.passes c.pass_word_times-made.ensures.bus c.skip.ensures (c.quiet_for-count.ensures.calm (omega arith))
+    leap_runs c.pass_word_times-made.result (board g.D.Drive.state c.args.self.now) c.pass_word_times-made.new.controller c.skip.new.self
+    (g.D.Drive.state c.pass_word_times-made.new.first) (g.D.Drive.state c.pass_word_times-made.new.second)
+    c.pass_word_times-made.ensures.passes c.skip.ensures (c.quiet_for-count.ensures.calm (omega arith))
     (quiet_fewer c.pass_word_times-made.result c.quiet_for-count.result c.args.self.now.bus.strays c.pass_word_times-made.ensures.few
     c.quiet_for-count.ensures.quiet)
     (omega arith)
 
 pub returns-clause-unset : goal.returns-clause-unset
 returns-clause-unset g c = λ unset.
-    leap_unset c.pass_word_times-made.result (board g.D.Drive.state c.args.self.now) c.pass_word_times-made.new.self.bus c.skip.new.self
-    (g.D.Drive.state c.pass_word_times-made.new.self.first) (g.D.Drive.state c.pass_word_times-made.new.self.second)
-    c.pass_word_times-made.ensures.passes c.pass_word_times-made.ensures.bus c.skip.ensures (c.quiet_for-count.ensures.calm (omega arith))
+    leap_unset c.pass_word_times-made.result (board g.D.Drive.state c.args.self.now) c.pass_word_times-made.new.controller c.skip.new.self
+    (g.D.Drive.state c.pass_word_times-made.new.first) (g.D.Drive.state c.pass_word_times-made.new.second)
+    c.pass_word_times-made.ensures.passes c.skip.ensures (c.quiet_for-count.ensures.calm (omega arith))
     (quiet_fewer c.pass_word_times-made.result c.quiet_for-count.result c.args.self.now.bus.strays c.pass_word_times-made.ensures.few
     c.quiet_for-count.ensures.quiet)
     (omega arith) unset

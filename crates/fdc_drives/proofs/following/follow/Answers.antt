@@ -1,6 +1,6 @@
 use Rattle.std.proofs.Common.{subst}
 use Rattle.fdc_core.specs.Times.{Closes}
-use Rattle.pc_bus.proofs.ports.follow_write.Goals as goal
+use Rattle.fdc_drives.proofs.following.follow.Goals as goal
 
 pub returns : goal.returns
 returns g c =

@@ -4,7 +4,7 @@ use Rattle.drive_model.specs.Drive.{DriveState}
 use Rattle.fdc_core.specs.Ports.{resets}
 use Rattle.fdc_core.specs.Times.{Closes}
 use Rattle.fdc_core.specs.declared.controller.Fdc.{Fdc}
-use Rattle.pc_bus.specs.Ports.{FollowsDor, FollowsWrite, sets_lines}
+use Rattle.fdc_drives.specs.Following.{FollowsDor, FollowsWrite, sets_lines}
 
 -- a write that sets no line leaves the drive
 pub drive_stays : {port value bay : ℕ} {controller : Fdc} {before after : DriveState} → FollowsWrite port value bay controller before after → sets_lines port value ≡ false

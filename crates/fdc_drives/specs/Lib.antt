@@ -1,0 +1,5 @@
+pub mod Lines
+pub mod Following
+pub mod WordTimes
+pub mod Heard
+pub mod Hearing
