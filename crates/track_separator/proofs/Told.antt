@@ -1,15 +1,17 @@
 -- Any calls: what the separator keeps is of the words fed, and each event stands for something in them.
-use Rattle.std.proofs.Common.{◌≡◌, ℕ, ◌+◌, ◌<◌, Bool, false, List, refl, sym, subst, inl, inr}
+use Rattle.std.proofs.Common.{◌≡◌, ℕ, ◌+◌, ◌<◌, Bool, false, List, [], ◌∷◌, ◌++◌, take, refl, sym, subst, append_assoc, inl, inr}
+use Rattle.std.proofs.lemmas.List.{append-nil}
 use Rattle.track_model.specs.Fields.{IsAddress}
 use Rattle.track_separator.specs.declared.state.Seen.{Seen}
 use Rattle.track_separator.specs.declared.state.Seen.TheVariants.{Nothing, Mark, Address, Mode, Byte, End, NoData}
 use Rattle.track_separator.specs.declared.state.Stage.{Stage}
-use Rattle.track_separator.specs.declared.state.Stage.TheVariants.{Addressed, TurnEnded, Waiting}
+use Rattle.track_separator.specs.declared.state.Stage.TheVariants.{Hunting, Reading, Addressed, TurnEnded, Waiting, Content}
 use Rattle.track_separator.specs.declared.state.Separator.{Separator}
 use Rattle.track_separator.specs.Parts.{with_word}
-use Rattle.track_separator.specs.Hunts.{SHunts, HuntSeenIn}
-use Rattle.track_separator.specs.Waits.{SWaits, SReads, WaitSeenIn, SWaitSeen, ReadSeenIn, SReadSeen}
-use Rattle.track_separator.specs.Turns.{IsHunted, STurnEnded, FedIn, SFed, IsTold}
+use Rattle.track_separator.specs.Hunts.{HuntsIn, SHunts, HuntSeenIn}
+use Rattle.track_separator.specs.Waits.{SWaits, ReadsIn, SReads, WaitSeenIn, SWaitSeen, ReadSeenIn, SReadSeen}
+use Rattle.track_separator.specs.Turns.{IsHuntedIn, IsHunted, STurnEnded, BeginsIn, SBegins, AwaitsByteIn, SAwaitsByte, FedIn, SFed, IsTold}
+use Rattle.track_separator.specs.Past.{HuntsPast}
 use Rattle.track_separator.proofs.Staged.{reads_first}
 use Rattle.track_separator.proofs.Lawful.{part_with_word, some_address_stays}
 use Rattle.track_separator.proofs.Ended.{right_behind}
@@ -73,3 +75,54 @@ asked_behind fed cells back size old new small was is h =
 
 pub asked_late : (fed : List ℕ) (cells back : ℕ) (new : Stage) → new ≡ TurnEnded → FedIn fed cells back new
 asked_late fed cells back new is = let At : Stage → Type 0 = λ stage. FedIn fed cells back stage in subst At (sym is) (inr (inr (inr tt)))
+
+-- ---- words that are taken at one stage alone
+
+-- a run of marks is hunted for
+hunts_of : (fed : List ℕ) (cells back : ℕ) (stage : Stage) → BeginsIn stage → FedIn fed cells back stage → HuntsIn fed cells back stage
+hunts_of fed cells back Hunting begins (inl h) = h
+hunts_of fed cells back Hunting begins (inr (inl h)) = absurd h.3
+hunts_of fed cells back Hunting begins (inr (inr (inl h))) = absurd h.6
+hunts_of fed cells back Hunting begins (inr (inr (inr h))) = absurd h
+hunts_of fed cells back (Reading bytes) begins h = absurd begins
+hunts_of fed cells back Addressed begins h = absurd begins
+hunts_of fed cells back TurnEnded begins h = absurd begins
+hunts_of fed cells back (Waiting size since marked) begins h = absurd begins
+hunts_of fed cells back (Content size taken check touched) begins h = absurd begins
+
+pub fed_hunt : (fed : List ℕ) (cells back : ℕ) (stage : Stage) (word after behind : ℕ) (next : Stage) (seen : Seen) → BeginsIn stage → IsHuntedIn cells back stage word after behind next seen → FedIn fed cells back stage → FedIn (with_word fed word) after behind next
+fed_hunt fed cells back stage word after behind next seen begins hunted h = inl (hunted.keeps fed (hunts_of fed cells back stage begins h))
+
+hunts_past : (words : List ℕ) (old new : Separator) (fed : List ℕ) → HuntsPast words old new → SHunts old fed → SHunts new (fed ++ words)
+unfolding HuntsPast
+hunts_past [] old new fed same h =
+    let Now : List ℕ → Type 0 = λ whole. SHunts new whole in
+    subst Now (sym (append-nil fed)) (subst (λ s. SHunts s fed) (sym same) h)
+hunts_past (word ∷ rest) old new fed (mid, first, past) h =
+    let Now : List ℕ → Type 0 = λ whole. SHunts new whole in
+    subst Now (append_assoc fed (word ∷ []) rest) (hunts_past rest mid new (with_word fed word) past (first.keeps fed h))
+
+pub fed_past : (words : List ℕ) (old new : Separator) → SBegins old → HuntsPast words old new → (fed : List ℕ) → SFed old fed → SFed new (fed ++ words)
+fed_past words old new begins past fed h = inl (hunts_past words old new fed past (hunts_of fed old.cells old.back old.stage begins h))
+
+-- no word was taken
+pub fed_none : (words : List ℕ) (old : Separator) (fed : List ℕ) → SFed old fed → SFed old (fed ++ take 0 words)
+fed_none words old fed h = let Now : List ℕ → Type 0 = λ whole. SFed old whole in subst Now (sym (append-nil fed)) h
+
+-- a content is read
+reads_of : (fed : List ℕ) (cells back : ℕ) (stage : Stage) → AwaitsByteIn stage → FedIn fed cells back stage
+    → (p : ℕ) × (q : ℕ) × (deleted : Bool) × (size : ℕ) × (taken : ℕ) × IsAddress fed p × ReadsIn fed cells back p q deleted size taken stage
+reads_of fed cells back (Content size taken check touched) awaits (inl h) = absurd h
+reads_of fed cells back (Content size taken check touched) awaits (inr (inl h)) = absurd h.3
+reads_of fed cells back (Content size taken check touched) awaits (inr (inr (inl h))) = h
+reads_of fed cells back (Content size taken check touched) awaits (inr (inr (inr h))) = absurd h
+reads_of fed cells back Hunting awaits h = absurd awaits
+reads_of fed cells back (Reading bytes) awaits h = absurd awaits
+reads_of fed cells back Addressed awaits h = absurd awaits
+reads_of fed cells back TurnEnded awaits h = absurd awaits
+reads_of fed cells back (Waiting size since marked) awaits h = absurd awaits
+
+pub fed_byte : (old new : Separator) (word value : ℕ) → SAwaitsByte old → ((fed : List ℕ) (p q : ℕ) (deleted : Bool) (size taken : ℕ) → SReads old fed p q deleted size taken → SReadSeen (with_word fed word) p q deleted size taken new (Byte value)) → (fed : List ℕ) → SFed old fed → SFed new (with_word fed word) × IsTold (with_word fed word) (Byte value)
+fed_byte old new word value awaits reads fed h =
+    let (p, q, deleted, size, taken, address, reading) = reads_of fed old.cells old.back old.stage awaits h in
+    of_read (with_word fed word) p q deleted size taken new.cells new.back new.stage (Byte value) (some_address_stays fed (with_word fed word) (part_with_word fed word) p address) (reads fed p q deleted size taken reading)

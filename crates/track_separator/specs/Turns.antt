@@ -1,5 +1,5 @@
 -- What a word gives at any time, also as the last of its turn.
-use Rattle.std.specs.Prelude.{◌≡◌, ◌⊎◌, ℕ, ◌+◌, ◌*◌, Bool, true, false, List}
+use Rattle.std.specs.Prelude.{◌≡◌, ◌⊎◌, ℕ, ◌+◌, ◌*◌, ◌<◌, Bool, true, false, List}
 use Rattle.track_model.specs.Bytes.{byte_at}
 use Rattle.track_model.specs.Fields.{IsAddress}
 use Rattle.track_model.specs.Looks.{IsFirstDataMark}
@@ -59,6 +59,14 @@ BeginsIn _ = ⊥
 
 abbrev pub SBegins : Separator → Type 0
 SBegins separator = BeginsIn separator.stage
+
+-- the next word is a byte of the content that is read
+abbrev pub AwaitsByteIn : Stage → Type 0
+AwaitsByteIn (Content size taken check touched) = taken < size
+AwaitsByteIn _ = ⊥
+
+abbrev pub SAwaitsByte : Separator → Type 0
+SAwaitsByte separator = AwaitsByteIn separator.stage
 
 -- a data field is asked for
 abbrev pub WantsIn : Stage → Type 0

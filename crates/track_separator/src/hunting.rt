@@ -1,5 +1,5 @@
 // The hunt for address marks and address fields.
-ghost use Rattle.std.specs.Prelude.{◌≡◌, ◌≤◌, ℕ, List, length, take, true, false};
+ghost use Rattle.std.specs.Prelude.{◌≡◌, ◌≤◌, ◌++◌, ℕ, List, length, take, true, false};
 
 use crate::passing::{cells_behind, count_passing};
 use crate::register::{byte_before, ends_no_run, key_before, next_cells, run_end};
@@ -14,7 +14,8 @@ const BYTES_BEFORE_LAST: u8 = 6;
 impl Separator {
     ghost use Rattle.track_separator.specs.Hunts.{IsAtByte, IsByteTaken};
     ghost use Rattle.track_separator.specs.Past.{HuntsPast};
-    ghost use Rattle.track_separator.specs.Turns.{IsHunted};
+    ghost use Rattle.track_separator.specs.Parts.{with_word};
+    ghost use Rattle.track_separator.specs.Turns.{IsHunted, SBegins, SFed};
 
     /// Takes one word while a run of marks is hunted for.
     #[inline(always)]
@@ -36,6 +37,8 @@ impl Separator {
     pub fn pass_by(&mut self, word: u16) -> bool
         ensures passed { result ≡ true → IsHunted self.old word self.new Seen.Nothing }
         ensures others { result ≡ false → self.new ≡ self.old }
+        ensures hunts { result ≡ true → SBegins self.old }
+        ensures any { (fed : List ℕ) → result ≡ true → SFed self.old fed → SFed self.new (with_word fed word) }
     {
         match self.stage {
             Stage::Hunting => {
@@ -57,6 +60,8 @@ impl Separator {
     pub fn hunt_many(&mut self, words: &[u16]) -> usize
         ensures within { result ≤ length words.now }
         ensures past { HuntsPast (take result words.now) self.old self.new }
+        ensures hunts { 1 ≤ result → SBegins self.old }
+        ensures any { (fed : List ℕ) → SFed self.old fed → SFed self.new (fed ++ take result words.now) }
     {
         match self.stage {
             Stage::Hunting => {

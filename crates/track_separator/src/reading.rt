@@ -23,6 +23,7 @@ fn is_good(touched: bool, stored: u16, check: u16) -> bool
 impl Separator {
     ghost use Rattle.track_separator.specs.Parts.{with_word};
     ghost use Rattle.track_separator.specs.Waits.{IsReading, ReadSeenIn, SReads, SReadSeen};
+    ghost use Rattle.track_separator.specs.Turns.{SAwaitsByte, SFed, IsTold};
 
     /// Takes one word of a data field, after `taken` bytes behind its mark.
     #[inline(always)]
@@ -54,6 +55,9 @@ impl Separator {
             → SReads self.old fed p q deleted size taken
             → SReadSeen (with_word fed word) p q deleted size taken self.new (Seen.Byte value)) }
         ensures others { IsNone result → self.new ≡ self.old }
+        ensures awaited { IfSome result (λ _. SAwaitsByte self.old) }
+        ensures any { IfSome result (λ _. (fed : List ℕ) → SFed self.old fed → SFed self.new (with_word fed word)) }
+        ensures told { IfSome result (λ value. (fed : List ℕ) → SFed self.old fed → IsTold (with_word fed word) (Seen.Byte value)) }
     {
         match self.stage {
             Stage::Content {
