@@ -9,7 +9,7 @@ use Rattle.std.proofs.alloc.Global.TheLaws as heap
 use Rattle.drive_model.specs.contracts.script.ScriptDrive as drive_of
 use Rattle.fdc_sequencer.proofs.sequencer.Sequencer.TheLaws as sequencer_laws
 use Rattle.drive_model.proofs.script.ScriptDrive.TheLaws as drive_laws
-use Rattle.loose_box.specs.contracts.Loose as loose
+use Rattle.c_slots.specs.contracts.loose.Loose as loose
 use Rattle.c_slots.specs.Controllers.{controller_row}
 use Rattle.c_slots.specs.contracts.controller.held.Held as held
 

@@ -9,7 +9,7 @@ use Rattle.std.proofs.alloc.Global.TheLaws as heap
 use Rattle.drive_model.specs.contracts.script.ScriptDrive as drive_of
 use Rattle.pc_bus.proofs.machine.MachineOf.TheLaws as machine_laws
 use Rattle.drive_model.proofs.script.ScriptDrive.TheLaws as drive_laws
-use Rattle.loose_box.specs.contracts.Loose as loose
+use Rattle.c_slots.specs.contracts.loose.Loose as loose
 use Rattle.c_slots.specs.Machines.{machine_row}
 use Rattle.c_slots.specs.contracts.machine.held.Held as held
 

@@ -1,8 +1,10 @@
 //! What C keeps of a controller, of a machine, of a desk for sectors, of a medium and of a shelf: slots that hold one or none.
+//! A slot owns what it holds by a pointer, for which a box is taken apart and made again.
 #![tactic(auto)]
 
 mod controller;
 mod disk;
+mod loose;
 mod machine;
 mod shelf;
 mod tray;

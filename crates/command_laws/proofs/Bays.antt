@@ -10,8 +10,8 @@ use Rattle.flop_base.specs.declared.answers.Rate.TheVariants.{R500, R250}
 use Rattle.raw_image.specs.Disk.{Disk}
 use Rattle.raw_image.specs.Image.{image_of}
 use Rattle.raw_image.specs.declared.error.ImageError.{ImageError}
-use Rattle.bay_model.specs.Bays.{Two, in_bay}
-use Rattle.bay_model.specs.Counters.{IsUndisturbed}
+use Rattle.flop_base.specs.Bays.{Two, in_bay}
+use Rattle.flop_base.specs.Counters.{IsUndisturbed}
 use Rattle.floppy_requests.specs.declared.request.Request.{Request}
 use Rattle.floppy_requests.specs.declared.request.Request.TheVariants as request
 use Rattle.sector_model.specs.declared.reply.Reply.{Reply}

@@ -7,9 +7,9 @@ use Rattle.flop_base.specs.declared.answers.Status.{Status}
 use Rattle.flop_base.specs.declared.answers.Status.TheVariants as status
 use Rattle.flop_base.specs.declared.key.Chrn.{Chrn}
 use Rattle.raw_image.specs.Disk.{Disk, HasTrack}
-use Rattle.bay_model.specs.Bays.{Two, in_bay}
-use Rattle.bay_model.specs.Counters.{Counters}
-use Rattle.bay_model.specs.Memory.{user_bytes, zeroes}
+use Rattle.flop_base.specs.Bays.{Two, in_bay}
+use Rattle.flop_base.specs.Counters.{Counters}
+use Rattle.flop_base.specs.Memory.{user_bytes, zeroes}
 use Rattle.sector_map.specs.Standard.{key_of}
 use Rattle.sector_model.specs.Stations.{StationState, Bay, IsFresh, bay_of}
 use Rattle.sector_model.specs.Steps.{IsImageOf, blank_of}

@@ -8,7 +8,7 @@ use Rattle.flop_base.specs.Shelf.{Files}
 use Rattle.flop_base.specs.Standard.{sectors_at}
 use Rattle.flop_base.specs.declared.answers.Rate.{Rate}
 use Rattle.raw_image.specs.Disk.{Disk, HasTrack, track_of}
-use Rattle.bay_model.specs.Counters.{IsFaultless}
+use Rattle.flop_base.specs.Counters.{IsFaultless}
 use Rattle.track_model.specs.Laid.{IsLaid}
 use Rattle.floppy_requests.specs.declared.request.Request.{Request}
 use Rattle.sector_map.specs.KeptDisks.{AreAlike, KeepsTracks}

@@ -7,9 +7,9 @@ use Rattle.flop_base.specs.declared.answers.Rate.{Rate}
 use Rattle.flop_base.specs.declared.answers.Rate.TheVariants.{R500, R250}
 use Rattle.raw_image.specs.Disk.{Disk, IsDisk, HasTrack}
 use Rattle.raw_image.specs.Image.{file_of}
-use Rattle.bay_model.specs.Bays.{Two, in_bay}
-use Rattle.bay_model.specs.Memory.{user_bytes}
-use Rattle.bay_model.specs.Counters.{IsFaultless}
+use Rattle.flop_base.specs.Bays.{Two, in_bay}
+use Rattle.flop_base.specs.Memory.{user_bytes}
+use Rattle.flop_base.specs.Counters.{IsFaultless}
 use Rattle.sector_map.specs.Standard.{key_of}
 use Rattle.floppy_requests.specs.declared.request.Request.{Request}
 use Rattle.floppy_requests.specs.declared.request.Request.TheVariants as request

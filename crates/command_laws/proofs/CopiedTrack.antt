@@ -7,9 +7,9 @@ use Rattle.flop_base.specs.Standard.{words_at, gap_at, standard_fill, sectors_at
 use Rattle.flop_base.specs.declared.key.Chrn.{Chrn}
 use Rattle.flop_base.specs.declared.answers.Rate.{Rate}
 use Rattle.raw_image.specs.Disk.{Disk, IsDisk, HasTrack, track_of}
-use Rattle.bay_model.specs.Memory.{user_bytes}
-use Rattle.bay_model.specs.Counters.{Counters, IsFaultless}
-use Rattle.bay_model.specs.Bays.{Two, in_bay}
+use Rattle.flop_base.specs.Memory.{user_bytes}
+use Rattle.flop_base.specs.Counters.{Counters, IsFaultless}
+use Rattle.flop_base.specs.Bays.{Two, in_bay}
 use Rattle.track_model.specs.Laid.{IsLaid}
 use Rattle.track_model.specs.Regular.{IsRegular}
 use Rattle.floppy_requests.specs.declared.request.Request.TheVariants as request

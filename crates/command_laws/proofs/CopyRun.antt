@@ -8,8 +8,8 @@ use Rattle.flop_base.specs.declared.key.Chrn.{Chrn}
 use Rattle.flop_base.specs.declared.answers.Rate.{Rate}
 use Rattle.flop_base.specs.declared.answers.Status.TheVariants as status
 use Rattle.raw_image.specs.Disk.{Disk}
-use Rattle.bay_model.specs.Counters.{IsFaultless}
-use Rattle.bay_model.specs.Memory.{user_bytes}
+use Rattle.flop_base.specs.Counters.{IsFaultless}
+use Rattle.flop_base.specs.Memory.{user_bytes}
 use Rattle.track_format.proofs.Laid.{laid_tidy}
 use Rattle.floppy_requests.specs.declared.request.Request.{Request}
 use Rattle.floppy_requests.specs.declared.request.Request.TheVariants as request

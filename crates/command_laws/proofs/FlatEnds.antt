@@ -7,7 +7,7 @@ use Rattle.flop_base.specs.declared.answers.Rate.{Rate}
 use Rattle.flop_base.specs.declared.answers.Rate.TheVariants.{R500, R250}
 use Rattle.flop_base.specs.declared.answers.Status.{Status}
 use Rattle.raw_image.specs.declared.error.ImageError.{ImageError}
-use Rattle.bay_model.specs.Memory.{user_bytes, bytes_from}
+use Rattle.flop_base.specs.Memory.{user_bytes, bytes_from}
 use Rattle.flat_image.specs.Flat.{sector_place, sectors_told}
 use Rattle.floppy_requests.specs.declared.request.Request.TheVariants as request
 use Rattle.sector_map.specs.Standard.{key_of}
@@ -35,7 +35,7 @@ use Rattle.command_laws.proofs.CommandEnds.{fresh_memory}
 use Rattle.command_laws.proofs.Going.{Stage, at, IsDone, GoesWell, PartGoes, goes_carries, goes_each, goes_tracks, prints_outside, stop_outside, completes, goes_needs}
 use Rattle.command_laws.proofs.SectorRequests.{IsMaking, AnyDisk, HasRecords, MakesAlone, any_made, blank_made, made_still, format_done, write_done, ReadsAlone, read_done}
 use Rattle.raw_image.specs.Disk.{Disk, HasTrack}
-use Rattle.bay_model.specs.Counters.{Counters, IsFaultless}
+use Rattle.flop_base.specs.Counters.{Counters, IsFaultless}
 use Rattle.scripts.specs.Parts.{may_starve}
 use Rattle.flat_commands.specs.Export.{reads_record, reads_track, export_script}
 use Rattle.command_laws.proofs.Verified.{one_image}

@@ -8,7 +8,7 @@ use Rattle.flop_base.specs.Standard.{gap_at, standard_fill}
 use Rattle.flop_base.specs.declared.answers.Rate.{Rate}
 use Rattle.flop_base.specs.declared.answers.Code.{Code}
 use Rattle.raw_image.specs.Disk.{Disk, IsDisk, HasTrack, track_of}
-use Rattle.bay_model.specs.Counters.{IsFaultless}
+use Rattle.flop_base.specs.Counters.{IsFaultless}
 use Rattle.floppy_requests.specs.declared.request.Request.TheVariants as request
 use Rattle.sector_map.specs.Layings.{Format, Laying, formatted}
 use Rattle.sector_map.specs.LaidDisks.{format_at}

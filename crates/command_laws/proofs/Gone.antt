@@ -7,7 +7,7 @@ use Rattle.flop_base.specs.declared.answers.Code.TheVariants as code
 use Rattle.flop_base.specs.declared.answers.Status.{Status}
 use Rattle.flop_base.specs.declared.answers.Status.TheVariants as status
 use Rattle.raw_image.specs.Disk.{track_of}
-use Rattle.bay_model.specs.Memory.{user_bytes, bytes_from}
+use Rattle.flop_base.specs.Memory.{user_bytes, bytes_from}
 use Rattle.track_model.specs.Fields.{content_size}
 use Rattle.track_model.proofs.Splices.{length-with_items}
 use Rattle.floppy_requests.specs.declared.request.Request.{Request}

@@ -6,8 +6,8 @@ use Rattle.std.proofs.lemmas.List.{ext_get_or, length-replicate}
 use Rattle.flop_base.specs.Lists.{with_items}
 use Rattle.flop_base.specs.Shelf.{Files, stored}
 use Rattle.flop_base.specs.declared.answers.Status.TheVariants as status
-use Rattle.bay_model.specs.Bays.{Two, in_bay}
-use Rattle.bay_model.specs.Memory.{user_bytes, bytes_from}
+use Rattle.flop_base.specs.Bays.{Two, in_bay}
+use Rattle.flop_base.specs.Memory.{user_bytes, bytes_from}
 use Rattle.floppy_requests.specs.declared.request.Request.TheVariants as request
 use Rattle.flat_image.specs.Flat.{sector_place, IsSector, flat_length, sectors_told}
 use Rattle.sector_model.specs.Stations.{StationState, Bay, bay_of}
@@ -25,7 +25,7 @@ use Rattle.std.specs.List.{flat_map, range_with_len}
 use Rattle.flop_base.specs.Standard.{gap_at, standard_fill, sectors_at}
 use Rattle.flop_base.specs.declared.answers.Rate.{Rate}
 use Rattle.raw_image.specs.Disk.{Disk, HasTrack, track_of}
-use Rattle.bay_model.specs.Counters.{Counters, IsFaultless}
+use Rattle.flop_base.specs.Counters.{Counters, IsFaultless}
 use Rattle.track_model.specs.Laid.{IsLaid}
 use Rattle.track_model.specs.Regular.{IsRegular}
 use Rattle.track_format.proofs.Laid.{laid_tidy}

@@ -10,7 +10,7 @@ use Rattle.track_model.specs.Fields.{IsAddressAt}
 use Rattle.track_model.specs.Looks.{LookFor, IsFirstAddress, HasAddressMark}
 use Rattle.track_model.specs.Sectors.{IsPlain, IsSector}
 use Rattle.track_model.proofs.Sectored.{plain_clear}
-use Rattle.bay_model.specs.Counters.{IsUndisturbed, faults_of}
+use Rattle.flop_base.specs.Counters.{IsUndisturbed, faults_of}
 use Rattle.sector_map.specs.Met.{HasNoClearMark, HasClearAddress}
 use Rattle.sector_model.specs.Stations.{StationState}
 use Rattle.sector_model.specs.Reads.{IsReadCause}

@@ -10,8 +10,8 @@ use Rattle.flop_base.specs.Standard.{words_at}
 use Rattle.flop_base.specs.declared.answers.Rate.{Rate}
 use Rattle.flop_base.specs.declared.answers.Rate.TheVariants.{R500, R250}
 use Rattle.raw_image.specs.Disk.{Disk, IsDisk}
-use Rattle.bay_model.specs.Bays.{Two, in_bay, with_bay}
-use Rattle.bay_model.specs.Counters.{faults_of}
+use Rattle.flop_base.specs.Bays.{Two, in_bay, with_bay}
+use Rattle.flop_base.specs.Counters.{faults_of}
 use Rattle.floppy_requests.specs.declared.request.Request.{Request}
 use Rattle.floppy_requests.specs.declared.request.Request.TheVariants as request
 use Rattle.sector_model.specs.declared.reply.Reply.{Reply}

@@ -14,7 +14,7 @@ use Rattle.track_model.specs.Fields.{IsAddressAt}
 use Rattle.track_model.specs.Looks.{LookFor}
 use Rattle.track_model.specs.Sectors.{IsSector, IsPlain}
 use Rattle.track_model.proofs.Unique.{one_look_for}
-use Rattle.bay_model.specs.Counters.{Counters, IsUndisturbed, faults_of}
+use Rattle.flop_base.specs.Counters.{Counters, IsUndisturbed, faults_of}
 use Rattle.sector_map.specs.Failing.{unless_found, AreFailing}
 use Rattle.sector_map.specs.Standard.{key_of}
 use Rattle.sector_map.proofs.MetTracks.{met_track}

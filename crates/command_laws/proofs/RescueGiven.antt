@@ -5,8 +5,8 @@ use Rattle.flop_base.specs.Shelf.{Files}
 use Rattle.flop_base.specs.declared.key.Chrn.{Chrn}
 use Rattle.flop_base.specs.declared.answers.Code.{Code}
 use Rattle.raw_image.specs.Disk.{Disk, track_of}
-use Rattle.bay_model.specs.Bays.{Two, in_bay}
-use Rattle.bay_model.specs.Memory.{user_bytes, bytes_from}
+use Rattle.flop_base.specs.Bays.{Two, in_bay}
+use Rattle.flop_base.specs.Memory.{user_bytes, bytes_from}
 use Rattle.track_model.specs.Fields.{content_size}
 use Rattle.track_model.specs.Sectors.{IsSector}
 use Rattle.sector_model.specs.Stations.{StationState, Bay, bay_of}

@@ -9,9 +9,9 @@ use Rattle.flop_base.specs.Standard.{sectors_at}
 use Rattle.flop_base.specs.declared.key.Chrn.{Chrn}
 use Rattle.flop_base.specs.declared.answers.Code.{Code}
 use Rattle.raw_image.specs.Disk.{Disk, HasTrack, track_of}
-use Rattle.bay_model.specs.Memory.{user_bytes, bytes_from}
-use Rattle.bay_model.specs.Counters.{IsFaultless}
-use Rattle.bay_model.specs.Bays.{Two, in_bay}
+use Rattle.flop_base.specs.Memory.{user_bytes, bytes_from}
+use Rattle.flop_base.specs.Counters.{IsFaultless}
+use Rattle.flop_base.specs.Bays.{Two, in_bay}
 use Rattle.track_model.specs.Fields.{IsAddressAt, content_size}
 use Rattle.track_model.specs.Laid.{IsLaid}
 use Rattle.track_model.specs.Windows.{HasFieldFor, IsTidy}

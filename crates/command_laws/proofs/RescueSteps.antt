@@ -8,7 +8,7 @@ use Rattle.flop_base.specs.Standard.{sectors_at, standard_code}
 use Rattle.flop_base.specs.declared.key.Chrn.{Chrn}
 use Rattle.flop_base.specs.declared.answers.Status.TheVariants as status
 use Rattle.raw_image.specs.Disk.{Disk, HasTrack, track_of}
-use Rattle.bay_model.specs.Bays.{Two, in_bay}
+use Rattle.flop_base.specs.Bays.{Two, in_bay}
 use Rattle.track_model.specs.Fields.{IsAddressAt, content_at}
 use Rattle.track_model.specs.Looks.{LookAt}
 use Rattle.track_model.specs.declared.Look.TheVariants.{Found}

@@ -6,9 +6,9 @@ use Rattle.flop_base.specs.declared.key.Chrn.{Chrn}
 use Rattle.flop_base.specs.declared.answers.Code.{Code}
 use Rattle.flop_base.specs.declared.answers.Code.TheVariants.{BadRequest, Page, Changed, Protected}
 use Rattle.raw_image.specs.Disk.{Disk, HasTrack, track_of, IsDisk}
-use Rattle.bay_model.specs.Bays.{Two, in_bay}
-use Rattle.bay_model.specs.Counters.{Counters, IsUndisturbed, DisturbedLess, FaultsRoseLess}
-use Rattle.bay_model.specs.Memory.{user_bytes}
+use Rattle.flop_base.specs.Bays.{Two, in_bay}
+use Rattle.flop_base.specs.Counters.{Counters, IsUndisturbed, DisturbedLess, FaultsRoseLess}
+use Rattle.flop_base.specs.Memory.{user_bytes}
 use Rattle.track_model.specs.Fields.{IsAddressAt, content_size}
 use Rattle.track_model.specs.Looks.{LookAt}
 use Rattle.track_model.specs.declared.Look.TheVariants as look

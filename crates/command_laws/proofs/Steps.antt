@@ -4,7 +4,7 @@ use Rattle.std.specs.Prelude.{◌||◌, MatchOption}
 use Rattle.std.specs.List.{list_all}
 use Rattle.flop_base.specs.Shelf.{Files}
 use Rattle.flop_base.specs.declared.answers.Code.{Code}
-use Rattle.bay_model.specs.Counters.{Counters, GoesOn}
+use Rattle.flop_base.specs.Counters.{Counters, GoesOn}
 use Rattle.floppy_requests.specs.declared.request.Request.{Request}
 use Rattle.floppy_requests.specs.declared.request.Request.TheVariants as request
 use Rattle.sector_model.specs.declared.reply.Reply.{Reply}

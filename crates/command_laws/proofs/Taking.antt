@@ -7,7 +7,7 @@ use Rattle.flat_image.specs.Flat.{IsSector, sector_place, flat_length}
 use Rattle.std.specs.List.{list_all}
 use Rattle.flop_base.specs.Shelf.{Files}
 use Rattle.flop_base.specs.declared.answers.Status.TheVariants as status
-use Rattle.bay_model.specs.Counters.{Counters, IsFaultless}
+use Rattle.flop_base.specs.Counters.{Counters, IsFaultless}
 use Rattle.floppy_requests.specs.declared.request.Request.{Request}
 use Rattle.sector_model.specs.declared.reply.Reply.{Reply}
 use Rattle.sector_model.specs.States.{State}

@@ -8,7 +8,7 @@ use Rattle.flop_base.specs.declared.key.Chrn.{Chrn}
 use Rattle.flop_base.specs.declared.answers.Code.{Code}
 use Rattle.flop_base.specs.declared.answers.Code.TheVariants as code
 use Rattle.raw_image.specs.Disk.{Disk, HasTrack, track_of}
-use Rattle.bay_model.specs.Counters.{IsUndisturbed, faults_of}
+use Rattle.flop_base.specs.Counters.{IsUndisturbed, faults_of}
 use Rattle.track_model.specs.declared.Look.{Look}
 use Rattle.track_model.specs.declared.Look.TheVariants.{NoMark}
 use Rattle.track_model.proofs.Unique.{one_look_for}

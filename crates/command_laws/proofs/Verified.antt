@@ -15,7 +15,7 @@ use Rattle.raw_image.specs.Disk.{Disk}
 use Rattle.raw_image.specs.Image.{image_of}
 use Rattle.raw_image.specs.declared.error.ImageError.{ImageError}
 use Rattle.track_model.specs.declared.Look.{Look}
-use Rattle.bay_model.specs.Counters.{Counters, IsUndisturbed, faults_of}
+use Rattle.flop_base.specs.Counters.{Counters, IsUndisturbed, faults_of}
 use Rattle.sector_map.specs.Failing.{AreFailing}
 use Rattle.sector_map.specs.Standard.{standard_keys, cylinder_keys, track_keys}
 use Rattle.sector_map.proofs.Laid.{all_track_keys}

@@ -14,7 +14,7 @@ use Rattle.flop_base.specs.declared.answers.Code.{Code}
 use Rattle.flop_base.specs.declared.answers.Status.{Status}
 use Rattle.flop_base.specs.declared.answers.Status.TheVariants as status
 use Rattle.raw_image.specs.Disk.{Disk}
-use Rattle.bay_model.specs.Counters.{IsUndisturbed}
+use Rattle.flop_base.specs.Counters.{IsUndisturbed}
 use Rattle.track_model.specs.declared.Look.{Look}
 use Rattle.sector_map.specs.Standard.{track_keys, cylinder_keys, standard_keys}
 use Rattle.sector_map.specs.Failing.{AreFailing}

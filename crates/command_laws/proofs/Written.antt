@@ -6,9 +6,9 @@ use Rattle.flop_base.specs.Shelf.{Files}
 use Rattle.flop_base.specs.declared.key.Chrn.{Chrn}
 use Rattle.flop_base.specs.declared.answers.Code.{Code}
 use Rattle.raw_image.specs.Disk.{Disk, IsDisk, HasTrack, track_of}
-use Rattle.bay_model.specs.Bays.{Two, with_bay, in_bay}
-use Rattle.bay_model.specs.Memory.{user_bytes, bytes_from}
-use Rattle.bay_model.specs.Counters.{Counters, IsFaultless, faults_of}
+use Rattle.flop_base.specs.Bays.{Two, with_bay, in_bay}
+use Rattle.flop_base.specs.Memory.{user_bytes, bytes_from}
+use Rattle.flop_base.specs.Counters.{Counters, IsFaultless, faults_of}
 use Rattle.track_model.specs.Fields.{IsAddressAt}
 use Rattle.track_model.specs.Laid.{IsLaid}
 use Rattle.track_model.specs.Windows.{HasFieldFor, IsTidy}

@@ -3,8 +3,8 @@ use Rattle.std.proofs.Common.{arith, ◌≡◌, ◌≢◌, ◌↔◌, ◌+◌, �
 use Rattle.flop_base.specs.declared.key.Chrn.{Chrn}
 use Rattle.flop_base.specs.declared.answers.Code.{Code}
 use Rattle.raw_image.specs.Disk.{Disk, HasTrack, track_of}
-use Rattle.bay_model.specs.Memory.{bytes_from}
-use Rattle.bay_model.specs.Counters.{IsFaultless}
+use Rattle.flop_base.specs.Memory.{bytes_from}
+use Rattle.flop_base.specs.Counters.{IsFaultless}
 use Rattle.track_model.specs.Fields.{IsAddressAt, content_size}
 use Rattle.track_model.specs.Laid.{with_window}
 use Rattle.track_model.specs.Windows.{window_word, cut_of, IsTidy}

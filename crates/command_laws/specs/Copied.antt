@@ -7,9 +7,9 @@ use Rattle.raw_image.specs.Disk.{Disk, IsDisk, HasTrack, track_of}
 use Rattle.raw_image.specs.Image.{file_of}
 use Rattle.track_model.specs.Fields.{IsAddressAt, content_size}
 use Rattle.track_model.specs.Sectors.{IsSector, IsUnder, IsLone}
-use Rattle.bay_model.specs.Counters.{Counters, IsFaultless}
+use Rattle.flop_base.specs.Counters.{Counters, IsFaultless}
 use Rattle.track_model.specs.Laid.{IsLaid}
-use Rattle.bay_model.specs.Memory.{bytes_from}
+use Rattle.flop_base.specs.Memory.{bytes_from}
 use Rattle.floppy_requests.specs.declared.request.Request.TheVariants as request
 use Rattle.sector_map.specs.Disks.{Entry, IsOnMap, IsRegularDisk}
 use Rattle.sector_map.specs.Standard.{key_of}

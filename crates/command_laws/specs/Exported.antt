@@ -4,7 +4,7 @@ use Rattle.flop_base.specs.Shelf.{Files, stored}
 use Rattle.flop_base.specs.Standard.{sectors_at}
 use Rattle.raw_image.specs.Disk.{Disk, track_of}
 use Rattle.track_model.specs.Sectors as track
-use Rattle.bay_model.specs.Counters.{Counters}
+use Rattle.flop_base.specs.Counters.{Counters}
 use Rattle.sector_map.specs.Standard.{key_of}
 use Rattle.flat_image.specs.Flat.{IsSector, flat_length}
 use Rattle.sector_model.specs.Runs.{Taken}

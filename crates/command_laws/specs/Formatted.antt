@@ -6,7 +6,7 @@ use Rattle.flop_base.specs.declared.answers.Rate.{Rate}
 use Rattle.raw_image.specs.Disk.{Disk, IsDisk, HasTrack, track_of}
 use Rattle.raw_image.specs.Image.{file_of}
 use Rattle.track_model.specs.Fields.{content_size}
-use Rattle.bay_model.specs.Bays.{in_bay}
+use Rattle.flop_base.specs.Bays.{in_bay}
 use Rattle.sector_map.specs.Disks.{Entry}
 use Rattle.sector_map.specs.Standard.{key_of}
 use Rattle.sector_map.specs.Layings.{formatted}

@@ -5,7 +5,7 @@ use Rattle.flop_base.specs.Standard.{words_at, sectors_at}
 use Rattle.flop_base.specs.declared.answers.Rate.{Rate}
 use Rattle.raw_image.specs.Disk.{Disk, IsDisk}
 use Rattle.raw_image.specs.Image.{file_of}
-use Rattle.bay_model.specs.Memory.{bytes_from}
+use Rattle.flop_base.specs.Memory.{bytes_from}
 use Rattle.sector_map.specs.Disks.{IsOnMap, IsRegularDisk}
 use Rattle.flat_image.specs.Flat.{IsSector, sector_place}
 use Rattle.flat_commands.specs.FlatFiles.{IsFlatFile}

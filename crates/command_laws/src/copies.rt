@@ -2,8 +2,8 @@
 ghost use Rattle.std.specs.Prelude.{◌≡◌, List, Option, Some, length};
 ghost use Rattle.flop_base.specs.Shelf.{Files};
 ghost use Rattle.raw_image.specs.Disk.{Disk};
-ghost use Rattle.bay_model.specs.Memory.{user_bytes};
-ghost use Rattle.bay_model.specs.Counters.{IsFaultless};
+ghost use Rattle.flop_base.specs.Memory.{user_bytes};
+ghost use Rattle.flop_base.specs.Counters.{IsFaultless};
 ghost use Rattle.sector_model.specs.States.{State};
 ghost use Rattle.sector_model.specs.Runs.{Taken};
 ghost use Rattle.command_laws.specs.Copied.{CopiesDisk, StoresCopy};

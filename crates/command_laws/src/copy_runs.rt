@@ -2,8 +2,8 @@
 ghost use Rattle.std.specs.Prelude.{◌≡◌, List, Some, length};
 ghost use Rattle.flop_base.specs.Shelf.{Files};
 ghost use Rattle.raw_image.specs.Disk.{Disk};
-ghost use Rattle.bay_model.specs.Counters.{IsFaultless};
-ghost use Rattle.bay_model.specs.Memory.{user_bytes};
+ghost use Rattle.flop_base.specs.Counters.{IsFaultless};
+ghost use Rattle.flop_base.specs.Memory.{user_bytes};
 ghost use Rattle.sector_model.specs.Steps.{IsImageOf};
 ghost use Rattle.sector_model.specs.Runs.{Taken};
 ghost use Rattle.sector_model.specs.Plays.{World};

@@ -1,6 +1,6 @@
 // The command that exports.
 ghost use Rattle.std.specs.Prelude.{◌≡◌, List, length};
-ghost use Rattle.bay_model.specs.Memory.{user_bytes};
+ghost use Rattle.flop_base.specs.Memory.{user_bytes};
 ghost use Rattle.sector_model.specs.Runs.{Taken};
 ghost use Rattle.sector_model.specs.Plays.{World};
 ghost use Rattle.scripts.specs.Scripts.{RunsScript};

@@ -1,6 +1,6 @@
 // The command that formats a disk.
 ghost use Rattle.std.specs.Prelude.{List};
-ghost use Rattle.bay_model.specs.Counters.{IsFaultless};
+ghost use Rattle.flop_base.specs.Counters.{IsFaultless};
 ghost use Rattle.sector_model.specs.Runs.{Taken};
 ghost use Rattle.sector_model.specs.Plays.{World};
 ghost use Rattle.scripts.specs.Scripts.{RunsScript};

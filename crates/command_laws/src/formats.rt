@@ -3,7 +3,7 @@ ghost use Rattle.std.specs.Prelude.{◌≡◌, ◌≤◌, ℕ, List, Option};
 ghost use Rattle.flop_base.specs.Shelf.{Files};
 ghost use Rattle.flop_base.specs.Standard.{sectors_at};
 ghost use Rattle.raw_image.specs.Disk.{Disk, HasTrack};
-ghost use Rattle.bay_model.specs.Counters.{IsFaultless};
+ghost use Rattle.flop_base.specs.Counters.{IsFaultless};
 ghost use Rattle.sector_map.specs.Disks.{Entry, IsOnMap, IsRegularDisk};
 ghost use Rattle.sector_model.specs.States.{State};
 ghost use Rattle.sector_model.specs.Runs.{Taken};

@@ -1,7 +1,7 @@
 // The command that imports.
 ghost use Rattle.std.specs.Prelude.{◌≡◌, List, length};
-ghost use Rattle.bay_model.specs.Counters.{IsFaultless};
-ghost use Rattle.bay_model.specs.Memory.{user_bytes};
+ghost use Rattle.flop_base.specs.Counters.{IsFaultless};
+ghost use Rattle.flop_base.specs.Memory.{user_bytes};
 ghost use Rattle.sector_model.specs.Runs.{Taken};
 ghost use Rattle.sector_model.specs.Plays.{World};
 ghost use Rattle.flat_commands.specs.Import.{Imports};

@@ -4,7 +4,7 @@ ghost use Rattle.flop_base.specs.Shelf.{Files};
 ghost use Rattle.flop_base.specs.declared.key.Chrn.{Chrn};
 ghost use Rattle.raw_image.specs.Disk.{Disk};
 ghost use Rattle.track_model.specs.declared.Look.{Look};
-ghost use Rattle.bay_model.specs.Counters.{IsUndisturbed};
+ghost use Rattle.flop_base.specs.Counters.{IsUndisturbed};
 ghost use Rattle.sector_map.specs.Failing.{AreFailing};
 ghost use Rattle.sector_map.specs.Standard.{standard_keys};
 ghost use Rattle.sector_model.specs.States.{State};

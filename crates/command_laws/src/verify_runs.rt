@@ -5,7 +5,7 @@ ghost use Rattle.flop_base.specs.declared.key.Chrn.{Chrn};
 ghost use Rattle.flop_base.specs.declared.answers.Status.{Status};
 ghost use Rattle.raw_image.specs.Disk.{Disk};
 ghost use Rattle.track_model.specs.declared.Look.{Look};
-ghost use Rattle.bay_model.specs.Counters.{IsUndisturbed};
+ghost use Rattle.flop_base.specs.Counters.{IsUndisturbed};
 ghost use Rattle.sector_map.specs.Failing.{AreFailing};
 ghost use Rattle.sector_map.specs.Standard.{standard_keys};
 ghost use Rattle.sector_model.specs.Stations.{bay_of};

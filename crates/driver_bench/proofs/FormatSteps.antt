@@ -8,7 +8,7 @@ use Rattle.flop_base.specs.Standard.{standard_code, sectors_at}
 use Rattle.raw_image.specs.Disk.{Disk, HasTrack, IsWithTrack, track_of}
 use Rattle.track_model.specs.Layouts.{Fits, lay, laid_words}
 use Rattle.flop_base.specs.Lists.{with_items}
-use Rattle.bay_model.specs.Bays.{in_bay}
+use Rattle.flop_base.specs.Bays.{in_bay}
 use Rattle.sector_map.specs.Standard.{track_keys}
 use Rattle.sector_map.specs.Layings.{Format, formatted, Laying, IsLaying, format_keys}
 use Rattle.sector_map.specs.LaidDisks.{laying_at}

@@ -14,11 +14,11 @@ use Rattle.track_model.specs.Fields.{IsAddressAt, content_size, content_at}
 use Rattle.track_model.specs.Looks.{LookFor}
 use Rattle.track_model.specs.Sectors.{IsSector}
 use Rattle.track_model.proofs.Sectored.{found_sector, sector_under}
-use Rattle.bay_model.specs.Bays.{in_bay}
-use Rattle.bay_model.specs.Counters.{Counters}
+use Rattle.flop_base.specs.Bays.{in_bay}
+use Rattle.flop_base.specs.Counters.{Counters}
 use Rattle.flop_base.specs.Lists.{with_items}
-use Rattle.bay_model.specs.Memory.{SameOutside}
-use Rattle.bay_model.proofs.Counted.{drive_same}
+use Rattle.flop_base.specs.Memory.{SameOutside}
+use Rattle.flop_base.proofs.Counted.{drive_same}
 use Rattle.sector_map.specs.Met.{met_in}
 use Rattle.sector_map.proofs.MetTracks.{nothing_from}
 use Rattle.single_commands.specs.Rigs.{Rig, track_under}

@@ -8,10 +8,10 @@ use Rattle.flop_base.specs.declared.answers.Code.TheVariants.{NoMark}
 use Rattle.raw_image.specs.Disk.{Disk, IsDisk, track_of}
 use Rattle.track_model.specs.Fields.{IsAddressAt}
 use Rattle.track_model.specs.Windows.{window_word, window_words}
-use Rattle.bay_model.specs.Bays.{in_bay}
-use Rattle.bay_model.specs.Counters.{GoesOn, IsDriven}
-use Rattle.bay_model.specs.Memory.{bytes_from}
-use Rattle.bay_model.proofs.Counted.{drive_same}
+use Rattle.flop_base.specs.Bays.{in_bay}
+use Rattle.flop_base.specs.Counters.{GoesOn, IsDriven}
+use Rattle.flop_base.specs.Memory.{bytes_from}
+use Rattle.flop_base.proofs.Counted.{drive_same}
 use Rattle.sector_map.specs.Met.{met_in}
 use Rattle.sector_map.specs.MetTracks.{MeetsTrack}
 use Rattle.sector_map.specs.Changes.{Change, Written, window_of, IsChange}

@@ -3,7 +3,7 @@ use Rattle.std.specs.Prelude.{◌≡◌, ℕ}
 use Rattle.flop_base.specs.Counts.{RoseBy}
 use Rattle.flop_base.specs.declared.answers.Code.{Code}
 use Rattle.flop_base.specs.declared.answers.Code.TheVariants.{Overrun}
-use Rattle.bay_model.specs.Counters.{IsFaultless, IsUndisturbed, FaultsRoseBy}
+use Rattle.flop_base.specs.Counters.{IsFaultless, IsUndisturbed, FaultsRoseBy}
 use Rattle.single_commands.specs.Rigs.{Rig}
 use Rattle.single_commands.specs.Reading.{SendsRead}
 

@@ -1,7 +1,7 @@
 -- What a bench shows of itself.
 use Rattle.std.specs.Prelude.{ℕ, ◌-◌, ◌==◌, [], List, None, if◌then◌else◌}
 use Rattle.flop_base.specs.Counts.{last_count}
-use Rattle.bay_model.specs.Counters.{DriveCounts, Counters}
+use Rattle.flop_base.specs.Counters.{DriveCounts, Counters}
 use Rattle.single_commands.specs.Rigs.{Rig}
 use Rattle.driver_bench.specs.declared.counts.Counts.{Counts}
 use Rattle.driver_bench.specs.declared.drive.Drive.{Drive}

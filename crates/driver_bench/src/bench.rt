@@ -1,7 +1,7 @@
 // A bench: a machine in memory, and what is done to it.
 ghost use Rattle.std.specs.Prelude.{◌≡◌, ◌≤◌, ◌<◌, ◌^◌, ℕ, length, slice_index, IfOk};
 ghost use Rattle.flop_base.specs.declared.answers.Code.{Code};
-ghost use Rattle.bay_model.specs.Memory.{user_bytes};
+ghost use Rattle.flop_base.specs.Memory.{user_bytes};
 ghost use Rattle.single_commands.specs.Rigs.{IsSound};
 ghost use Rattle.single_commands.specs.Reading.{IsReadCode};
 ghost use Rattle.single_commands.specs.Writing.{IsWriteCode, IsFormatCode};
@@ -13,8 +13,7 @@ use crate::counts::Counts;
 use crate::drive::Drive;
 use crate::drives::Drives;
 use crate::script::{Call, Script, Trouble};
-use bay_model::USER_BYTES;
-use flop_base::{Code, NoMemory};
+use flop_base::{Code, NoMemory, USER_BYTES};
 use floppy_driver::Driver;
 use raw_image::Medium;
 use std::alloc::{AllocError, Global};

@@ -1,6 +1,6 @@
 // A driver on its bench: calls of the driver, and what the bench then shows.
 ghost use Rattle.std.specs.Prelude.{◌≤◌, ◌<◌};
-ghost use Rattle.bay_model.specs.Memory.{user_bytes};
+ghost use Rattle.flop_base.specs.Memory.{user_bytes};
 ghost use Rattle.floppy_driver.specs.Attached.{IsAttached};
 ghost use Rattle.driver_bench.specs.Shown.{rig_shown};
 

@@ -1,6 +1,6 @@
 // Reads of a bench.
 ghost use Rattle.std.specs.Prelude.{◌≡◌, ◌≤◌, ◌+◌};
-ghost use Rattle.bay_model.specs.Memory.{user_bytes};
+ghost use Rattle.flop_base.specs.Memory.{user_bytes};
 ghost use Rattle.track_model.specs.Fields.{IsSizeCode, content_size};
 ghost use Rattle.single_commands.specs.Reading.{ReadsId, ReadsData, ReadsBack};
 

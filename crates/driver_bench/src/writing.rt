@@ -2,7 +2,7 @@
 ghost use Rattle.std.specs.Prelude.{◌≡◌, ◌+◌, ◌≤◌, length, Option, MatchResult};
 ghost use Rattle.raw_image.specs.Disk.{IsDisk, HasTrack, track_of};
 ghost use Rattle.track_model.specs.Fields.{IsAddressAt, IsSizeCode, content_size};
-ghost use Rattle.bay_model.specs.Memory.{user_bytes, bytes_from};
+ghost use Rattle.flop_base.specs.Memory.{user_bytes, bytes_from};
 ghost use Rattle.sector_map.specs.Met.{met_in};
 ghost use Rattle.sector_map.specs.Changes.{Change};
 ghost use Rattle.single_commands.specs.Writing.{WritesData};

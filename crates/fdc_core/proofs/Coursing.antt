@@ -13,8 +13,8 @@ use Rattle.fdc_phases.specs.declared.rates.DataRate.{DataRate}
 use Rattle.fdc_phases.specs.declared.phases.Task.TheVariants.{ReadId, Read, Write}
 use Rattle.fdc_phases.specs.declared.transfers.Writing.{Writing}
 use Rattle.fdc_phases.specs.Writing.{StageHearsWord}
-use Rattle.fdc_writing.specs.declared.writing.WriteStage.TheVariants as write_stages
-use Rattle.fdc_writing.specs.declared.writing.WriteNext.TheVariants as write_next
+use Rattle.fdc_stages.specs.declared.writing.WriteStage.TheVariants as write_stages
+use Rattle.fdc_stages.specs.declared.writing.WriteNext.TheVariants as write_next
 use Rattle.fdc_stages.specs.Searches as searched
 use Rattle.fdc_core.specs.Dma.{gone_on}
 use Rattle.fdc_core.specs.Writing.{after_next}

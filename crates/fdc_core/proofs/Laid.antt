@@ -4,14 +4,14 @@ use Rattle.std.proofs.lemmas.Bool.{false≢true}
 use Rattle.drive_model.specs.Drive.{DriveState, Writes, InRange, at_index}
 use Rattle.fdc_fifo.specs.Fifo.{Fifo}
 use Rattle.fdc_stages.specs.History.{Past, wrote}
-use Rattle.fdc_writing.specs.Formats.{Numbers, is_laying, is_first, is_next, is_open, is_due, opens, Takes, IsFormatting, IsNextLaid, HasNext, EndsWell, format_next}
-use Rattle.fdc_writing.specs.Leads.{HasLead, LeadsOn}
-use Rattle.fdc_writing.specs.Writings.{handed_with}
-use Rattle.fdc_writing.specs.declared.formatting.FormatEnd.{FormatEnd}
-use Rattle.fdc_writing.specs.declared.formatting.FormatPart.{FormatPart}
-use Rattle.fdc_writing.specs.declared.formatting.FormatPart.TheVariants.{Await, Due, Lay, Barred}
-use Rattle.fdc_writing.specs.declared.formatting.FormatStage.{FormatStage}
-use Rattle.fdc_writing.specs.declared.formatting.FormatWord.{FormatWord}
+use Rattle.fdc_stages.specs.Formats.{Numbers, is_laying, is_first, is_next, is_open, is_due, opens, Takes, IsFormatting, IsNextLaid, HasNext, EndsWell, format_next}
+use Rattle.fdc_stages.specs.Leads.{HasLead, LeadsOn}
+use Rattle.fdc_stages.specs.Writings.{handed_with}
+use Rattle.fdc_stages.specs.declared.formatting.FormatEnd.{FormatEnd}
+use Rattle.fdc_stages.specs.declared.formatting.FormatPart.{FormatPart}
+use Rattle.fdc_stages.specs.declared.formatting.FormatPart.TheVariants.{Await, Due, Lay, Barred}
+use Rattle.fdc_stages.specs.declared.formatting.FormatStage.{FormatStage}
+use Rattle.fdc_stages.specs.declared.formatting.FormatWord.{FormatWord}
 use Rattle.fdc_phases.specs.Formatting.{StageLaysWord, is_ended}
 use Rattle.fdc_phases.specs.Phases.{head_of, format_at}
 use Rattle.fdc_phases.specs.declared.phases.Phase.TheVariants.{Execute}

@@ -8,18 +8,18 @@ use Rattle.fdc_fifo.specs.Fifo.{Fifo, room_of}
 use Rattle.fdc_stages.specs.History.{Past, heard, kept_out, wrote}
 use Rattle.fdc_stages.specs.declared.ending.Ending.{Ending}
 use Rattle.fdc_stages.specs.declared.ending.Ending.TheVariants.{Done, NoMark, NoSector, NoField, BadCheck, Overrun, NoCount, Protected, Late}
-use Rattle.fdc_writing.specs.Formats as formats
-use Rattle.fdc_writing.specs.Formats.{Numbers, IsFormatting}
-use Rattle.fdc_writing.specs.Writings.{is_open, opens, is_due, needs_byte, handed_with, heard_where, IsWriting, HasNext, IsStopped}
-use Rattle.fdc_writing.specs.declared.formatting.FormatNext.{FormatNext}
-use Rattle.fdc_writing.specs.declared.formatting.FormatNext.TheVariants as format_next
-use Rattle.fdc_writing.specs.declared.formatting.FormatPart.{FormatPart}
-use Rattle.fdc_writing.specs.declared.formatting.FormatPart.TheVariants.{Await, Due, Lay, Barred}
-use Rattle.fdc_writing.specs.declared.writing.WriteNext.{WriteNext}
-use Rattle.fdc_writing.specs.declared.writing.WriteNext.TheVariants as write_next
-use Rattle.fdc_writing.specs.declared.writing.WriteStage.{WriteStage}
-use Rattle.fdc_writing.specs.declared.writing.WriteStage.TheVariants as stages
-use Rattle.fdc_writing.proofs.Ended.{stopped_written, stopped_formatted}
+use Rattle.fdc_stages.specs.Formats as formats
+use Rattle.fdc_stages.specs.Formats.{Numbers, IsFormatting}
+use Rattle.fdc_stages.specs.Writings.{is_open, opens, is_due, needs_byte, handed_with, heard_where, IsWriting, HasNext, IsStopped}
+use Rattle.fdc_stages.specs.declared.formatting.FormatNext.{FormatNext}
+use Rattle.fdc_stages.specs.declared.formatting.FormatNext.TheVariants as format_next
+use Rattle.fdc_stages.specs.declared.formatting.FormatPart.{FormatPart}
+use Rattle.fdc_stages.specs.declared.formatting.FormatPart.TheVariants.{Await, Due, Lay, Barred}
+use Rattle.fdc_stages.specs.declared.writing.WriteNext.{WriteNext}
+use Rattle.fdc_stages.specs.declared.writing.WriteNext.TheVariants as write_next
+use Rattle.fdc_stages.specs.declared.writing.WriteStage.{WriteStage}
+use Rattle.fdc_stages.specs.declared.writing.WriteStage.TheVariants as stages
+use Rattle.fdc_stages.proofs.Ended.{stopped_written, stopped_formatted}
 use Rattle.fdc_phases.proofs.AtFirst.{rule_room}
 use Rattle.fdc_phases.specs.Answers.{key_after, results_of, no_key}
 use Rattle.fdc_core.specs.Dma.{asking_told, fifo_told, with_byte}

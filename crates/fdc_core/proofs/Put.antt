@@ -5,11 +5,11 @@ use Rattle.drive_model.specs.Drive.{DriveState}
 use Rattle.flop_base.specs.declared.key.Chrn.{Chrn}
 use Rattle.fdc_fifo.specs.Fifo.{Fifo}
 use Rattle.fdc_stages.specs.History.{Past}
-use Rattle.fdc_writing.specs.Windows.{lead_behind}
-use Rattle.fdc_writing.specs.Writings.{is_open, is_due, opens, needs_byte, is_last, lead_of, rest_behind, handed_with, IsWriting, IsNextWord}
-use Rattle.fdc_writing.specs.declared.writing.WriteStage.{WriteStage}
-use Rattle.fdc_writing.specs.declared.writing.WriteStage.TheVariants as stages
-use Rattle.fdc_writing.specs.declared.writing.WriteWord.{WriteWord}
+use Rattle.fdc_stages.specs.Windows.{lead_behind}
+use Rattle.fdc_stages.specs.Writings.{is_open, is_due, opens, needs_byte, is_last, lead_of, rest_behind, handed_with, IsWriting, IsNextWord}
+use Rattle.fdc_stages.specs.declared.writing.WriteStage.{WriteStage}
+use Rattle.fdc_stages.specs.declared.writing.WriteStage.TheVariants as stages
+use Rattle.fdc_stages.specs.declared.writing.WriteWord.{WriteWord}
 use Rattle.fdc_phases.specs.Phases.{head_of, write_at}
 use Rattle.fdc_phases.specs.Writing.{StageWritesWord, EndsWord, is_ended, write_over, write_end}
 use Rattle.fdc_phases.specs.declared.phases.End.{End}

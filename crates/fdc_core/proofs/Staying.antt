@@ -26,11 +26,11 @@ use Rattle.fdc_phases.specs.declared.phases.Phase.{Phase}
 use Rattle.fdc_phases.specs.declared.phases.Phase.TheVariants.{Execute}
 use Rattle.fdc_phases.specs.declared.transfers.Formatting.{Formatting}
 use Rattle.fdc_phases.specs.declared.transfers.Writing.{Writing}
-use Rattle.fdc_writing.specs.Writings.{needs_byte}
-use Rattle.fdc_writing.specs.declared.formatting.FormatNext.{FormatNext}
-use Rattle.fdc_writing.specs.declared.formatting.FormatNext.TheVariants as format_next
-use Rattle.fdc_writing.specs.declared.writing.WriteNext.{WriteNext}
-use Rattle.fdc_writing.specs.declared.writing.WriteNext.TheVariants as write_next
+use Rattle.fdc_stages.specs.Writings.{needs_byte}
+use Rattle.fdc_stages.specs.declared.formatting.FormatNext.{FormatNext}
+use Rattle.fdc_stages.specs.declared.formatting.FormatNext.TheVariants as format_next
+use Rattle.fdc_stages.specs.declared.writing.WriteNext.{WriteNext}
+use Rattle.fdc_stages.specs.declared.writing.WriteNext.TheVariants as write_next
 use Rattle.fdc_core.specs.Waiting.{Feeds}
 use Rattle.fdc_core.proofs.Feeding.{step_feeds}
 use Rattle.std.proofs.lemmas.Bool.{false≢true}

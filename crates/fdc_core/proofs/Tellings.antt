@@ -5,12 +5,12 @@ use Rattle.fdc_fifo.specs.Fifo.{Fifo}
 use Rattle.fdc_stages.specs.History.{Past}
 use Rattle.fdc_stages.specs.declared.ending.Ending.{Ending}
 use Rattle.fdc_stages.specs.declared.ending.Ending.TheVariants.{Done, NoMark, NoSector, NoField, BadCheck, Overrun, NoCount, Protected, Late}
-use Rattle.fdc_writing.specs.Formats.{Numbers, HasFormatted, IsFormatting, LaysFirst}
-use Rattle.fdc_writing.specs.Writings.{IsWriting, HasWritten, WritesFirst}
-use Rattle.fdc_writing.specs.declared.writing.WriteStage.{WriteStage}
-use Rattle.fdc_writing.specs.declared.writing.WriteStage.TheVariants as stages
-use Rattle.fdc_writing.specs.declared.formatting.FormatStage.{FormatStage}
-use Rattle.fdc_writing.proofs.Ended.{stopped_written, stopped_formatted, first_written, whole_written, whole_laid}
+use Rattle.fdc_stages.specs.Formats.{Numbers, HasFormatted, IsFormatting, LaysFirst}
+use Rattle.fdc_stages.specs.Writings.{IsWriting, HasWritten, WritesFirst}
+use Rattle.fdc_stages.specs.declared.writing.WriteStage.{WriteStage}
+use Rattle.fdc_stages.specs.declared.writing.WriteStage.TheVariants as stages
+use Rattle.fdc_stages.specs.declared.formatting.FormatStage.{FormatStage}
+use Rattle.fdc_stages.proofs.Ended.{stopped_written, stopped_formatted, first_written, whole_written, whole_laid}
 use Rattle.fdc_phases.specs.Heard.{Sent}
 use Rattle.fdc_core.specs.Tellings.{WritesWindow, WholeIfDone, WriteMeansIn, LaysTrack, LaidIfDone, FormatMeansIn}
 use Rattle.fdc_core.specs.Written.{MayWrite, MayFormat}

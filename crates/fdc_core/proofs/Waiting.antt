@@ -11,19 +11,19 @@ use Rattle.fdc_stages.specs.Readings as heard
 use Rattle.fdc_stages.specs.declared.searching.Search.{Search}
 use Rattle.fdc_stages.specs.Searches.{SearchOutcome}
 use Rattle.fdc_stages.specs.Searches as searched
-use Rattle.fdc_writing.specs.declared.window.Part.{Part}
-use Rattle.fdc_writing.specs.declared.window.Part.TheVariants as parts
-use Rattle.fdc_writing.specs.Windows.{is_content, lead_from}
-use Rattle.fdc_writing.specs.Leads as format_leads
-use Rattle.fdc_writing.specs.Writings as writings
-use Rattle.fdc_writing.specs.Writings.{lead_of, needs_byte}
-use Rattle.fdc_writing.specs.Formats as formats
-use Rattle.fdc_writing.specs.declared.formatting.FormatNext.{FormatNext}
-use Rattle.fdc_writing.specs.declared.formatting.FormatNext.TheVariants as format_next
-use Rattle.fdc_writing.specs.declared.writing.WriteNext.{WriteNext}
-use Rattle.fdc_writing.specs.declared.writing.WriteNext.TheVariants as write_next
-use Rattle.fdc_writing.specs.declared.writing.WriteStage.{WriteStage}
-use Rattle.fdc_writing.specs.declared.writing.WriteStage.TheVariants as stages
+use Rattle.fdc_stages.specs.declared.window.Part.{Part}
+use Rattle.fdc_stages.specs.declared.window.Part.TheVariants as parts
+use Rattle.fdc_stages.specs.Windows.{is_content, lead_from}
+use Rattle.fdc_stages.specs.Leads as format_leads
+use Rattle.fdc_stages.specs.Writings as writings
+use Rattle.fdc_stages.specs.Writings.{lead_of, needs_byte}
+use Rattle.fdc_stages.specs.Formats as formats
+use Rattle.fdc_stages.specs.declared.formatting.FormatNext.{FormatNext}
+use Rattle.fdc_stages.specs.declared.formatting.FormatNext.TheVariants as format_next
+use Rattle.fdc_stages.specs.declared.writing.WriteNext.{WriteNext}
+use Rattle.fdc_stages.specs.declared.writing.WriteNext.TheVariants as write_next
+use Rattle.fdc_stages.specs.declared.writing.WriteStage.{WriteStage}
+use Rattle.fdc_stages.specs.declared.writing.WriteStage.TheVariants as stages
 use Rattle.flop_base.specs.declared.key.Chrn.{Chrn}
 use Rattle.fdc_phases.specs.Answers.{key_after, no_key}
 use Rattle.fdc_core.specs.Formatting.{FormatDoes, after_laid}

@@ -6,13 +6,13 @@ use Rattle.fdc_stages.specs.declared.ending.Ending.{Ending}
 use Rattle.fdc_stages.specs.declared.ending.Ending.TheVariants.{Overrun}
 use Rattle.flop_base.specs.declared.answers.Rate.{Rate}
 use Rattle.flop_base.specs.declared.key.Chrn.{Chrn}
-use Rattle.fdc_writing.specs.Formats as formats_of
-use Rattle.fdc_writing.specs.declared.formatting.FormatPart.{FormatPart}
-use Rattle.fdc_writing.specs.declared.formatting.FormatPart.TheVariants.{Await, Due, Lay, Barred}
-use Rattle.fdc_writing.specs.Leads.{HasLead}
-use Rattle.fdc_writing.specs.Writings.{opens, is_due, needs_byte}
-use Rattle.fdc_writing.specs.declared.writing.WriteStage.{WriteStage}
-use Rattle.fdc_writing.specs.declared.writing.WriteStage.TheVariants as stages
+use Rattle.fdc_stages.specs.Formats as formats_of
+use Rattle.fdc_stages.specs.declared.formatting.FormatPart.{FormatPart}
+use Rattle.fdc_stages.specs.declared.formatting.FormatPart.TheVariants.{Await, Due, Lay, Barred}
+use Rattle.fdc_stages.specs.Leads.{HasLead}
+use Rattle.fdc_stages.specs.Writings.{opens, is_due, needs_byte}
+use Rattle.fdc_stages.specs.declared.writing.WriteStage.{WriteStage}
+use Rattle.fdc_stages.specs.declared.writing.WriteStage.TheVariants as stages
 use Rattle.fdc_phases.specs.Answers.{no_key}
 use Rattle.fdc_core.specs.Formatting as formats
 use Rattle.fdc_phases.specs.Formatting.{is_ended as is_format_ended}

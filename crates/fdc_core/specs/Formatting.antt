@@ -3,12 +3,12 @@ use Rattle.std.specs.Prelude.{◌≡◌, ◌<◌, ℕ, ◌+◌, Bool, true, fals
 use Rattle.drive_model.specs.Drive.{DriveState, is_protected, at_index, Writes, InRange}
 use Rattle.fdc_fifo.specs.Fifo.{wants}
 use Rattle.fdc_stages.specs.declared.ending.Ending.{Ending}
-use Rattle.fdc_writing.specs.Formats.{opens, is_due, Takes}
-use Rattle.fdc_writing.specs.Leads.{HasLead}
-use Rattle.fdc_writing.specs.declared.formatting.FormatEnd.{FormatEnd}
-use Rattle.fdc_writing.specs.declared.formatting.FormatNext.{FormatNext}
-use Rattle.fdc_writing.specs.declared.formatting.FormatNext.TheVariants.{On, Ended}
-use Rattle.fdc_writing.specs.declared.formatting.FormatWord.{FormatWord}
+use Rattle.fdc_stages.specs.Formats.{opens, is_due, Takes}
+use Rattle.fdc_stages.specs.Leads.{HasLead}
+use Rattle.fdc_stages.specs.declared.formatting.FormatEnd.{FormatEnd}
+use Rattle.fdc_stages.specs.declared.formatting.FormatNext.{FormatNext}
+use Rattle.fdc_stages.specs.declared.formatting.FormatNext.TheVariants.{On, Ended}
+use Rattle.fdc_stages.specs.declared.formatting.FormatWord.{FormatWord}
 use Rattle.fdc_phases.specs.Answers.{no_key}
 use Rattle.fdc_core.specs.Dma.{gone_on}
 use Rattle.fdc_phases.specs.Phases.{head_of, format_at}

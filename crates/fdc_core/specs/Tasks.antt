@@ -1,8 +1,8 @@
 -- A device step of a data command, by its task.
 use Rattle.std.specs.Prelude.{◌≡◌, ◌⊎◌, ◌<◌, ℕ, ◌+◌, false, None}
 use Rattle.drive_model.specs.Drive.{DriveState, at_index}
-use Rattle.fdc_writing.specs.declared.formatting.FormatNext.{FormatNext}
-use Rattle.fdc_writing.specs.declared.writing.WriteNext.{WriteNext}
+use Rattle.fdc_stages.specs.declared.formatting.FormatNext.{FormatNext}
+use Rattle.fdc_stages.specs.declared.writing.WriteNext.{WriteNext}
 use Rattle.fdc_phases.specs.Answers.{no_key}
 use Rattle.fdc_core.specs.Formatting.{IsFormatStep, after_laid}
 use Rattle.fdc_phases.specs.Formatting.{StageHearsIndex}

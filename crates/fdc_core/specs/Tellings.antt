@@ -5,9 +5,9 @@ use Rattle.flop_base.specs.declared.key.Chrn.{Chrn}
 use Rattle.fdc_stages.specs.History.{Past}
 use Rattle.fdc_stages.specs.declared.ending.Ending.{Ending}
 use Rattle.fdc_stages.specs.declared.ending.Ending.TheVariants.{Done}
-use Rattle.fdc_writing.specs.Formats as formats
-use Rattle.fdc_writing.specs.Formats.{Numbers, LaysFirst, LaysWhole, IsResultKey}
-use Rattle.fdc_writing.specs.Writings.{WritesFirst, WritesWhole, HasCause}
+use Rattle.fdc_stages.specs.Formats as formats
+use Rattle.fdc_stages.specs.Formats.{Numbers, LaysFirst, LaysWhole, IsResultKey}
+use Rattle.fdc_stages.specs.Writings.{WritesFirst, WritesWhole, HasCause}
 use Rattle.fdc_phases.specs.Answers.{results_of}
 use Rattle.fdc_phases.specs.Heard.{Sent, results_sent}
 use Rattle.fdc_phases.specs.Written.{IsContent}

@@ -1,7 +1,7 @@
 -- What a word that is heard makes of a command that writes.
 use Rattle.std.specs.Prelude.{◌≡◌, ℕ, ◌+◌, Bool}
-use Rattle.fdc_writing.specs.declared.formatting.FormatNext.{FormatNext}
-use Rattle.fdc_writing.specs.declared.writing.WriteNext.{WriteNext}
+use Rattle.fdc_stages.specs.declared.formatting.FormatNext.{FormatNext}
+use Rattle.fdc_stages.specs.declared.writing.WriteNext.{WriteNext}
 use Rattle.fdc_phases.specs.Formatting.{StageHearsIndex}
 use Rattle.fdc_phases.specs.Writing.{StageHearsWord}
 use Rattle.fdc_phases.specs.declared.phases.Phase.{Phase}

@@ -3,7 +3,7 @@ use Rattle.std.specs.Prelude.{ℕ, Bool}
 use Rattle.drive_model.specs.Drive.{DriveState}
 use Rattle.fdc_fifo.specs.Fifo.{Fifo}
 use Rattle.fdc_stages.specs.History.{Past}
-use Rattle.fdc_writing.specs.Formats.{Numbers}
+use Rattle.fdc_stages.specs.Formats.{Numbers}
 use Rattle.fdc_core.specs.Formatting.{IsFormatStep}
 use Rattle.fdc_phases.specs.Heard.{Sent}
 use Rattle.fdc_core.specs.Times.{after_time}

@@ -4,10 +4,10 @@ use Rattle.drive_model.specs.Drive.{DriveState, is_protected, at_index, Writes, 
 use Rattle.fdc_fifo.specs.Fifo.{Fifo, wants}
 use Rattle.fdc_stages.specs.declared.ending.Ending.{Ending}
 use Rattle.fdc_stages.specs.declared.ending.Ending.TheVariants.{Protected, Overrun, Late}
-use Rattle.fdc_writing.specs.Writings.{opens, is_due, needs_byte}
-use Rattle.fdc_writing.specs.declared.writing.WriteNext.{WriteNext}
-use Rattle.fdc_writing.specs.declared.writing.WriteNext.TheVariants.{On, Ended}
-use Rattle.fdc_writing.specs.declared.writing.WriteWord.{WriteWord}
+use Rattle.fdc_stages.specs.Writings.{opens, is_due, needs_byte}
+use Rattle.fdc_stages.specs.declared.writing.WriteNext.{WriteNext}
+use Rattle.fdc_stages.specs.declared.writing.WriteNext.TheVariants.{On, Ended}
+use Rattle.fdc_stages.specs.declared.writing.WriteWord.{WriteWord}
 use Rattle.fdc_phases.specs.Answers.{key_after}
 use Rattle.fdc_core.specs.Dma.{gone_on}
 use Rattle.fdc_phases.specs.Phases.{head_of, write_at}

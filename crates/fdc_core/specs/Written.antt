@@ -2,7 +2,7 @@
 -- what port accesses leave of what is known of a command.
 use Rattle.std.specs.Prelude.{◌≡◌, ◌⊎◌, ℕ, Bool}
 use Rattle.fdc_stages.specs.History.{Past}
-use Rattle.fdc_writing.specs.Formats.{Numbers}
+use Rattle.fdc_stages.specs.Formats.{Numbers}
 use Rattle.fdc_core.specs.Heard.{MayRead, MayReadId}
 use Rattle.fdc_phases.specs.Heard.{Sent}
 use Rattle.fdc_core.specs.declared.controller.Fdc.{Fdc}

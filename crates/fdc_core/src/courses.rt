@@ -8,8 +8,7 @@ ghost use Rattle.fdc_core.specs.Courses.{Courses, IsStill, IsQuiet, PassesMany};
 use crate::controller::Fdc;
 use drive_model::Drive;
 use fdc_phases::{LAST_STEP, Phase, Task, head_of};
-use fdc_stages::{ReadStage, Search};
-use fdc_writing::WriteStage;
+use fdc_stages::{ReadStage, Search, WriteStage};
 
 impl Fdc {
     /// Whether a device step changes nothing but the places of the disks, and so each further one.

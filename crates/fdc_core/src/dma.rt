@@ -8,7 +8,7 @@ ghost use Rattle.fdc_core.specs.State.{asks};
 ghost use Rattle.fdc_core.specs.Waiting.{CanWait, Feeds};
 ghost use Rattle.fdc_core.specs.Written.{MayWrite, MayFormat};
 ghost use Rattle.fdc_phases.specs.Written.{took};
-ghost use Rattle.fdc_writing.specs.Formats.{Numbers};
+ghost use Rattle.fdc_stages.specs.Formats.{Numbers};
 ghost use Rattle.fdc_core.specs.Dma.{asked, byte_out, taken_out, taken_in, with_byte, told_count, told_to, to_memory_of};
 ghost use Rattle.fdc_phases.specs.Dma.{task_asks};
 

@@ -1,7 +1,7 @@
 // FORMAT TRACK, word by word.
 ghost use Rattle.std.specs.Prelude.{◌≡◌, ◌<◌, ◌+◌, ℕ, Bool, true};
 ghost use Rattle.drive_model.specs.Drive.{rate_of};
-ghost use Rattle.fdc_writing.specs.Formats.{opens, is_due};
+ghost use Rattle.fdc_stages.specs.Formats.{opens, is_due};
 ghost use Rattle.fdc_phases.specs.Rates.{rate_fits};
 ghost use Rattle.fdc_core.specs.Formatting.{IsFormatStep, IsFormatTime, AwaitsIndex, LaysByte, after_laid};
 ghost use Rattle.fdc_core.specs.Listening.{HasStepsLeft};
@@ -12,8 +12,7 @@ use crate::steps::listen;
 use crate::writing::{close_behind, open_before};
 use drive_model::Drive;
 use fdc_phases::{Formatting, LAST_STEP, NO_KEY, Task, head_of, is_format_over};
-use fdc_stages::Ending;
-use fdc_writing::FormatNext;
+use fdc_stages::{Ending, FormatNext};
 
 impl Fdc {
     /// A device step of a FORMAT, behind `steps` others. A protected medium is met in the first.

@@ -6,7 +6,7 @@ ghost use Rattle.fdc_stages.specs.History.{Past};
 ghost use Rattle.fdc_core.specs.Heard.{MayRead, MayReadId};
 ghost use Rattle.fdc_phases.specs.Heard.{Sent};
 ghost use Rattle.fdc_core.specs.Meaning.{ReadTells, ReadGives, IdTells, Paced};
-ghost use Rattle.fdc_writing.specs.Formats.{Numbers};
+ghost use Rattle.fdc_stages.specs.Formats.{Numbers};
 ghost use Rattle.fdc_core.specs.Ports.{Gives, value_read, after_read};
 ghost use Rattle.fdc_core.specs.declared.controller.Lines.{Lines};
 ghost use Rattle.fdc_core.specs.State.{asks};

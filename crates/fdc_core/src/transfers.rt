@@ -12,8 +12,7 @@ use crate::controller::Fdc;
 use crate::writing::take_byte;
 use drive_model::{Drive, Turn};
 use fdc_phases::{End, NO_KEY, Phase, Task, head_of};
-use fdc_stages::Ending;
-use fdc_writing::FormatEnd;
+use fdc_stages::{Ending, FormatEnd};
 use flop_base::Chrn;
 
 impl Fdc {

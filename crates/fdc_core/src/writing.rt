@@ -1,7 +1,7 @@
 // WRITE DATA and WRITE DELETED, word by word.
 ghost use Rattle.std.specs.Prelude.{◌≡◌, ◌<◌, ◌+◌, ℕ, true, false};
 ghost use Rattle.drive_model.specs.Drive.{rate_of};
-ghost use Rattle.fdc_writing.specs.Writings.{opens, is_due};
+ghost use Rattle.fdc_stages.specs.Writings.{opens, is_due};
 ghost use Rattle.fdc_phases.specs.Rates.{rate_fits};
 ghost use Rattle.fdc_core.specs.Times.{Opens, Closes};
 ghost use Rattle.fdc_core.specs.Listening.{HasStepsLeft};
@@ -13,8 +13,7 @@ use crate::steps::listen;
 use drive_model::Drive;
 use fdc_fifo::Fifo;
 use fdc_phases::{LAST_STEP, Task, Writing, head_of, is_write_over};
-use fdc_stages::Ending;
-use fdc_writing::WriteNext;
+use fdc_stages::{Ending, WriteNext};
 
 /// What is recorded where no byte is needed, or where none came before the terminal count.
 const NO_BYTE: u8 = 0x00;

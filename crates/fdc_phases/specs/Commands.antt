@@ -7,7 +7,7 @@ use Rattle.fdc_phases.specs.declared.phases.Task.{Task}
 use Rattle.fdc_phases.specs.Dma.{task_asks}
 use Rattle.fdc_phases.specs.Waiting.{TaskWaits}
 use Rattle.fdc_phases.specs.Written.{MayWriteTask, MayFormatTask}
-use Rattle.fdc_writing.specs.Formats.{Numbers}
+use Rattle.fdc_stages.specs.Formats.{Numbers}
 
 -- READ ID, which has heard nothing
 abbrev pub IsReadingId : ℕ → Task → Type 0

@@ -16,8 +16,8 @@ use Rattle.fdc_phases.specs.declared.phases.Task.TheVariants.{ReadId, Read, Writ
 use Rattle.fdc_phases.specs.declared.transfers.Reading.{Reading}
 use Rattle.fdc_phases.specs.declared.transfers.Writing.{Writing}
 use Rattle.fdc_phases.specs.declared.transfers.Formatting.{Formatting}
-use Rattle.fdc_writing.specs.declared.writing.WriteStage.{WriteStage}
-use Rattle.fdc_writing.specs.declared.formatting.FormatStage.{FormatStage}
+use Rattle.fdc_stages.specs.declared.writing.WriteStage.{WriteStage}
+use Rattle.fdc_stages.specs.declared.formatting.FormatStage.{FormatStage}
 use Rattle.fdc_stages.specs.Readings.{mark_at}
 
 -- READ DATA is the task

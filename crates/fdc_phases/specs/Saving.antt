@@ -3,7 +3,7 @@ use Rattle.std.specs.Prelude.{ℕ, List, ◌∷◌}
 use Rattle.saved_state.specs.Saved.{spelled_byte, spelled_flag, spelled_key, spelled_option, spelled_word}
 use Rattle.fdc_commands.specs.Saving.{spelled_results}
 use Rattle.fdc_stages.specs.Saving.{spelled_ending, spelled_search, spelled_read}
-use Rattle.fdc_writing.specs.Saving.{spelled_write, spelled_format}
+use Rattle.fdc_stages.specs.WritingSaving.{spelled_write, spelled_format}
 use Rattle.fdc_phases.specs.declared.sized_key.SizedKey.{SizedKey}
 use Rattle.fdc_phases.specs.declared.rates.DataRate.{DataRate}
 use Rattle.fdc_phases.specs.declared.rates.DataRate.TheVariants.{Kbit500, Kbit300, Kbit250, Mbit1}

@@ -3,12 +3,12 @@ use Rattle.std.specs.Prelude.{◌≡◌, ◌≤◌, ◌+◌, ℕ, Bool, true, fa
 use Rattle.flop_base.specs.declared.key.Chrn.{Chrn}
 use Rattle.fdc_stages.specs.History.{Past, wrote}
 use Rattle.fdc_stages.specs.declared.ending.Ending.{Ending}
-use Rattle.fdc_writing.specs.Windows.{lead_behind}
-use Rattle.fdc_writing.specs.Writings.{is_open, opens, is_due, needs_byte, handed_with, heard_where, IsWriting, IsNextWord, HasNext, FailsWell, EndsWell, LeadsOn, lead_of, rest_behind}
-use Rattle.fdc_writing.specs.declared.writing.WriteStage.{WriteStage}
-use Rattle.fdc_writing.specs.declared.writing.WriteNext.{WriteNext}
-use Rattle.fdc_writing.specs.declared.writing.WriteNext.TheVariants.{On, Ended}
-use Rattle.fdc_writing.specs.declared.writing.WriteWord.{WriteWord}
+use Rattle.fdc_stages.specs.Windows.{lead_behind}
+use Rattle.fdc_stages.specs.Writings.{is_open, opens, is_due, needs_byte, handed_with, heard_where, IsWriting, IsNextWord, HasNext, FailsWell, EndsWell, LeadsOn, lead_of, rest_behind}
+use Rattle.fdc_stages.specs.declared.writing.WriteStage.{WriteStage}
+use Rattle.fdc_stages.specs.declared.writing.WriteNext.{WriteNext}
+use Rattle.fdc_stages.specs.declared.writing.WriteNext.TheVariants.{On, Ended}
+use Rattle.fdc_stages.specs.declared.writing.WriteWord.{WriteWord}
 use Rattle.fdc_phases.specs.Answers.{key_after}
 use Rattle.fdc_phases.specs.declared.phases.End.{End}
 use Rattle.fdc_phases.specs.declared.phases.Phase.{Phase}

@@ -4,8 +4,8 @@ use Rattle.flop_base.specs.declared.key.Chrn.{Chrn}
 use Rattle.fdc_fifo.specs.Fifo.{Fifo, room_of}
 use Rattle.fdc_stages.specs.History.{Past}
 use Rattle.fdc_stages.specs.declared.ending.Ending.{Ending}
-use Rattle.fdc_writing.specs.Formats.{Numbers, IsFormatting, HasFormatted, IsResultKey}
-use Rattle.fdc_writing.specs.Writings.{IsWriting, HasWritten}
+use Rattle.fdc_stages.specs.Formats.{Numbers, IsFormatting, HasFormatted, IsResultKey}
+use Rattle.fdc_stages.specs.Writings.{IsWriting, HasWritten}
 use Rattle.fdc_phases.specs.Answers.{results_of}
 use Rattle.fdc_phases.specs.Heard.{Sent, results_sent}
 use Rattle.fdc_phases.specs.declared.answers.Answer.{Answer}

@@ -6,8 +6,7 @@ ghost use Rattle.fdc_phases.specs.Commands.{WaitsAtFirst, IsReadingId, IsReading
 use crate::phases::Task;
 use crate::sized_key::SizedKey;
 use crate::transfers::{Formatting, Reading, Writing};
-use fdc_stages::{ReadStage, Search};
-use fdc_writing::{FormatStage, WriteStage};
+use fdc_stages::{FormatStage, ReadStage, Search, WriteStage};
 use flop_base::Chrn;
 
 /// READ ID as it begins.

@@ -8,8 +8,7 @@ use crate::rates::DataRate;
 use crate::sized_key::SizedKey;
 use crate::transfers::{Formatting, Reading, Writing};
 use fdc_commands::Results;
-use fdc_stages::{Ending, ReadStage, Search};
-use fdc_writing::{FormatStage, WriteStage};
+use fdc_stages::{Ending, FormatStage, ReadStage, Search, WriteStage};
 use flop_base::Chrn;
 use saved_state::{Saved, Sink, Source};
 

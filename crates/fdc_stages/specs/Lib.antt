@@ -3,3 +3,8 @@ pub mod Searches
 pub mod Readings
 pub mod Findings
 pub mod Saving
+pub mod Windows
+pub mod Writings
+pub mod Formats
+pub mod Leads
+pub mod WritingSaving

@@ -1,15 +1,24 @@
-//! The stages of the diskette controller that hear the disk: the search for an address field, and the reading of a data
-//! field behind it, word by word as they pass (Intel 82077AA data sheet, READ DATA and READ ID).
+//! The stages of the diskette controller's commands, word by word as they pass (Intel 82077AA data sheet; System 34 format).
+//! Some hear the disk: the search for an address field, and the reading of a data field behind it, for READ DATA and READ ID.
+//! Others write: the search and the window of WRITE DATA and WRITE DELETED DATA, and the layout of FORMAT TRACK.
 //!
-//! Nothing here moves a drive or a FIFO: a stage is a value, and hearing a word gives the stage after it.
+//! Nothing here moves a drive or a FIFO: a stage is a value, and a word that was heard or written gives the stage after it.
 #![tactic(auto)]
 
 mod ending;
+mod formatting;
 pub mod laws;
 mod reading;
 mod saving;
 mod searching;
+mod window;
+mod writing;
+pub mod writing_laws;
+mod writing_saving;
 
 pub use ending::Ending;
 pub use reading::{ReadHeard, ReadStage};
 pub use searching::{Search, Searched};
+pub use formatting::{FormatEnd, FormatNext, FormatPart, FormatStage, FormatWord};
+pub use window::{Given, Part, Window};
+pub use writing::{WriteNext, WriteStage, WriteWord};

@@ -4,7 +4,7 @@ use Rattle.std.proofs.Common.{◌<◌, length, take, drop, get_or, length-drop}
 use Rattle.std.proofs.lemmas.List.Sums.{sum_by-append}
 use Rattle.std.proofs.lemmas.List.{take_more, get_or-drop}
 use Rattle.std.specs.Prelude.{sum}
-use Rattle.bay_model.specs.Memory.{bytes_from}
+use Rattle.flop_base.specs.Memory.{bytes_from}
 use Rattle.flat_commands.specs.Workload.{number_after, next_number}
 
 -- numbers after more draws

@@ -1,6 +1,6 @@
 // The requests of a workload, which goes on whatever is answered.
 ghost use Rattle.std.specs.Prelude.{◌≡◌, ◌+◌, ◌≤◌, IfOk, sum};
-ghost use Rattle.bay_model.specs.Memory.{user_bytes, bytes_from};
+ghost use Rattle.flop_base.specs.Memory.{user_bytes, bytes_from};
 ghost use Rattle.floppy_session.specs.Tries.{HasTries};
 ghost use Rattle.scripts.specs.Leading.{Goes, RanPart, faulty_of};
 ghost use Rattle.flat_commands.specs.Workload.{number_after};

@@ -6,3 +6,6 @@ pub mod Numbers
 pub mod Shelf
 pub mod Sink
 pub mod Standard
+pub mod Bays
+pub mod Counters
+pub mod Memory

@@ -1,5 +1,8 @@
 //! What every layer of the diskette path names: sector keys, codes, statuses, texts, and the outside world
 //! as two traits, a shelf of named files and a sink of printed bytes.
+//!
+//! For machine, driver and sector model it has definitions besides: two of a kind for the two bays, what is counted of their
+//! drives and how it goes on, and user memory with its size.
 #![tactic(auto)]
 
 mod answers;
@@ -16,3 +19,6 @@ pub use memory::{MemShelf, MemSink};
 pub use shelf::Shelf;
 pub use sink::Sink;
 pub use text::{Bytes, Name};
+
+/// The bytes of user memory, from 00000 to EFFFF; the page behind it is the driver's.
+pub const USER_BYTES: u32 = 983_040;

@@ -9,9 +9,9 @@ use Rattle.flop_base.specs.declared.answers.Code.{Code}
 use Rattle.flop_base.specs.declared.answers.Code.TheVariants.{BadRequest, NotReady}
 use Rattle.raw_image.specs.Disk.{Disk, IsDisk, track_of}
 use Rattle.track_model.specs.Fields.{IsAddress}
-use Rattle.bay_model.specs.Bays.{Two, in_bay}
-use Rattle.bay_model.specs.Counters.{DriveCounts, faults_of, FaultsRoseBy, FaultsRoseLess}
-use Rattle.bay_model.proofs.Counted.{faults_go_on}
+use Rattle.flop_base.specs.Bays.{Two, in_bay}
+use Rattle.flop_base.specs.Counters.{DriveCounts, faults_of, FaultsRoseBy, FaultsRoseLess}
+use Rattle.flop_base.proofs.Counted.{faults_go_on}
 use Rattle.sector_map.specs.Met.{met_in, HasClearAddress}
 use Rattle.sector_map.specs.MetTracks.{MeetsTrack}
 use Rattle.sector_map.proofs.MetTracks.{met_from_mark, met_track, one_met}

@@ -6,8 +6,8 @@ use Rattle.raw_image.specs.Disk.{Disk}
 use Rattle.flop_base.specs.declared.answers.Rate.{Rate}
 use Rattle.flop_base.specs.declared.answers.Code.{Code}
 use Rattle.flop_base.specs.declared.answers.Code.TheVariants.{BadRequest, Changed}
-use Rattle.bay_model.specs.Bays.{Two, in_bay}
-use Rattle.bay_model.specs.Counters.{DriveCounts}
+use Rattle.flop_base.specs.Bays.{Two, in_bay}
+use Rattle.flop_base.specs.Counters.{DriveCounts}
 use Rattle.single_commands.specs.Rigs.{Rig, OnlyAsks}
 use Rattle.sector_model.specs.Stations.{Bay, StationState, bay_of, set_bay}
 use Rattle.sector_model.specs.Orders.{is_acknowledged, IsRefusedAtOnce}

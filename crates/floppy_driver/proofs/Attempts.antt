@@ -3,9 +3,9 @@ use Rattle.std.proofs.Common.{◌≡◌, ◌↔◌, ℕ, ◌+◌, ◌≤◌, IsT
 use Rattle.std.proofs.lemmas.Bool.{cases_lt}
 use Rattle.retry_plan.specs.declared.Prepare.{Prepare}
 use Rattle.retry_plan.specs.declared.Prepare.TheVariants as prepare
-use Rattle.bay_model.specs.Bays.{Two, in_bay}
-use Rattle.bay_model.specs.Counters.{DriveCounts, Counters, faults_of, DisturbedLess, IsUndisturbed, GoesOn}
-use Rattle.bay_model.proofs.Counted.{faults_go_on}
+use Rattle.flop_base.specs.Bays.{Two, in_bay}
+use Rattle.flop_base.specs.Counters.{DriveCounts, Counters, faults_of, DisturbedLess, IsUndisturbed, GoesOn}
+use Rattle.flop_base.proofs.Counted.{faults_go_on}
 use Rattle.single_commands.specs.Rigs.{Rig, IsSound, OnlyAsks}
 use Rattle.single_commands.specs.Reading.{SendsRead}
 use Rattle.sector_model.specs.Stations.{Bay, StationState, IsSteady}

@@ -11,11 +11,11 @@ use Rattle.flop_base.specs.declared.answers.Code.TheVariants.{NoMark, NotFound, 
 use Rattle.raw_image.specs.Disk.{Disk, track_of}
 use Rattle.track_model.specs.Fields.{content_size}
 use Rattle.track_model.specs.Sectors.{IsSector, IsUnder}
-use Rattle.bay_model.specs.Bays.{Two, in_bay}
+use Rattle.flop_base.specs.Bays.{Two, in_bay}
 use Rattle.flop_base.specs.Lists.{with_items}
-use Rattle.bay_model.specs.Memory.{user_bytes, bytes_from}
-use Rattle.bay_model.specs.Counters.{Counters, IsFaultless, IsUndisturbed, GoesOn}
-use Rattle.bay_model.proofs.Counted.{goes_on_after}
+use Rattle.flop_base.specs.Memory.{user_bytes, bytes_from}
+use Rattle.flop_base.specs.Counters.{Counters, IsFaultless, IsUndisturbed, GoesOn}
+use Rattle.flop_base.proofs.Counted.{goes_on_after}
 use Rattle.sector_map.specs.Met.{met_in}
 use Rattle.sector_map.specs.MetTracks.{MeetsTrack}
 use Rattle.sector_map.proofs.MetTracks.{met_track}

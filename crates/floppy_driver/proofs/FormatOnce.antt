@@ -7,9 +7,9 @@ use Rattle.flop_base.specs.declared.answers.Code.{Code}
 use Rattle.flop_base.specs.declared.answers.Code.TheVariants.{BadRequest, NoMark, Protected, NotFound, NotReady, Changed, Overrun, Page, BadCrc, Seek}
 use Rattle.raw_image.specs.Disk.{Disk, IsDisk, HasTrack}
 use Rattle.retry_plan.specs.declared.Prepare.TheVariants as prepare
-use Rattle.bay_model.specs.Bays.{Two, in_bay}
-use Rattle.bay_model.specs.Counters.{Counters, GoesOn, IsUndisturbed, IsFaultless}
-use Rattle.bay_model.proofs.Counted.{goes_on_after, goes_on_itself, faults_go_on}
+use Rattle.flop_base.specs.Bays.{Two, in_bay}
+use Rattle.flop_base.specs.Counters.{Counters, GoesOn, IsUndisturbed, IsFaultless}
+use Rattle.flop_base.proofs.Counted.{goes_on_after, goes_on_itself, faults_go_on}
 use Rattle.flop_base.specs.declared.answers.Rate.{Rate}
 use Rattle.flop_base.specs.declared.answers.Rate.TheVariants.{R500, R250}
 use Rattle.sector_map.specs.Met.{met_in}

@@ -3,7 +3,7 @@ use Rattle.std.proofs.Common.{◌≡◌, ℕ, Bool, false, Option, Some, None, M
 use Rattle.std.specs.Option.{option_map_or}
 use Rattle.flop_base.specs.declared.answers.Code.{Code}
 use Rattle.raw_image.specs.Disk.{Disk}
-use Rattle.bay_model.specs.Bays.{Two, in_bay}
+use Rattle.flop_base.specs.Bays.{Two, in_bay}
 use Rattle.sector_map.specs.Layings.{Format, Laying}
 use Rattle.retry_plan.specs.declared.Prepare.{Prepare}
 use Rattle.single_commands.specs.Rigs.{Rig, IsSound, HeadsStay, OnlyAsks}

@@ -9,9 +9,9 @@ use Rattle.flop_base.specs.declared.answers.Rate.TheVariants.{R500}
 use Rattle.flop_base.specs.declared.answers.Code.{Code}
 use Rattle.flop_base.specs.declared.answers.Code.TheVariants.{BadRequest, Changed, Protected, Seek}
 use Rattle.raw_image.specs.Disk.{Disk}
-use Rattle.bay_model.specs.Bays.{Two, in_bay}
-use Rattle.bay_model.specs.Counters.{DriveCounts, Counters, GoesOn, IsFaultless, DisturbedLess, IsDriven}
-use Rattle.bay_model.proofs.Counted.{goes_on_after, faults_go_on}
+use Rattle.flop_base.specs.Bays.{Two, in_bay}
+use Rattle.flop_base.specs.Counters.{DriveCounts, Counters, GoesOn, IsFaultless, DisturbedLess, IsDriven}
+use Rattle.flop_base.proofs.Counted.{goes_on_after, faults_go_on}
 use Rattle.sector_map.specs.Layings.{Format, IsFormattable}
 use Rattle.sector_model.specs.Stations.{Bay, StationState, bay_of, set_bay}
 use Rattle.sector_model.specs.Orders.{is_bay, is_place, is_acknowledged, is_protected, most_format_gap, is_format_request, IsRefusedAtOnce}

@@ -10,9 +10,9 @@ use Rattle.flop_base.specs.declared.answers.Rate.TheVariants.{R500, R250}
 use Rattle.flop_base.specs.declared.answers.Code.{Code}
 use Rattle.raw_image.specs.Disk.{Disk, HasTrack}
 use Rattle.track_model.specs.Layouts.{Fits}
-use Rattle.bay_model.specs.Bays.{Two}
-use Rattle.bay_model.specs.Counters.{Counters, GoesOn, IsUndisturbed}
-use Rattle.bay_model.proofs.Counted.{goes_on_itself, faults_go_on}
+use Rattle.flop_base.specs.Bays.{Two}
+use Rattle.flop_base.specs.Counters.{Counters, GoesOn, IsUndisturbed}
+use Rattle.flop_base.proofs.Counted.{goes_on_itself, faults_go_on}
 use Rattle.sector_map.specs.Layings.{Format, Laying, format_keys, formatted, CanFormat, IsFormattable}
 use Rattle.sector_model.specs.Stations.{StationState, Bay, bay_of}
 use Rattle.sector_model.specs.Formats.{LaysDisk, Lays, IsFormatted, IsUnformatted}

@@ -4,9 +4,9 @@ use Rattle.flop_base.specs.Counts.{last_count}
 use Rattle.raw_image.specs.Disk.{Disk}
 use Rattle.retry_plan.specs.declared.Prepare.{Prepare}
 use Rattle.retry_plan.specs.declared.Prepare.TheVariants as prepare
-use Rattle.bay_model.specs.Bays.{Two, in_bay}
-use Rattle.bay_model.specs.Counters.{faults_of}
-use Rattle.bay_model.proofs.Counted.{faults_go_on}
+use Rattle.flop_base.specs.Bays.{Two, in_bay}
+use Rattle.flop_base.specs.Counters.{faults_of}
+use Rattle.flop_base.proofs.Counted.{faults_go_on}
 use Rattle.single_commands.specs.Rigs.{Rig}
 use Rattle.single_commands.specs.Heads.{MovesHeads}
 use Rattle.floppy_driver.specs.declared.driver.Notes.{Notes}

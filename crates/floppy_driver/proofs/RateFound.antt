@@ -7,9 +7,9 @@ use Rattle.flop_base.specs.declared.answers.Rate.{Rate}
 use Rattle.flop_base.specs.declared.answers.Rate.TheVariants.{R500, R250}
 use Rattle.flop_base.specs.declared.answers.Code.{Code}
 use Rattle.raw_image.specs.Disk.{Disk}
-use Rattle.bay_model.specs.Bays.{Two, in_bay}
-use Rattle.bay_model.specs.Counters.{Counters, faults_of, IsFaultless, FaultsRoseBy, GoesOn}
-use Rattle.bay_model.proofs.Counted.{goes_on_after, faults_go_on}
+use Rattle.flop_base.specs.Bays.{Two, in_bay}
+use Rattle.flop_base.specs.Counters.{Counters, faults_of, IsFaultless, FaultsRoseBy, GoesOn}
+use Rattle.flop_base.proofs.Counted.{goes_on_after, faults_go_on}
 use Rattle.sector_map.specs.Met.{met_in, HasClearAddress}
 use Rattle.single_commands.specs.Rigs.{Rig, StaysSpun, track_under}
 use Rattle.single_commands.specs.Reading.{SendsRead, ReadsId}

@@ -11,11 +11,11 @@ use Rattle.track_model.specs.declared.Look.TheVariants as look
 use Rattle.track_model.specs.Fields.{IsAddressAt, content_size, content_at}
 use Rattle.track_model.specs.Sectors.{IsSector}
 use Rattle.track_model.proofs.Unique.{one_look_at}
-use Rattle.bay_model.specs.Bays.{Two, in_bay}
-use Rattle.bay_model.proofs.Counted.{goes_on_after, goes_on_itself}
+use Rattle.flop_base.specs.Bays.{Two, in_bay}
+use Rattle.flop_base.proofs.Counted.{goes_on_after, goes_on_itself}
 use Rattle.sector_map.specs.Met.{met_in}
 use Rattle.sector_map.specs.Standard.{key_of}
-use Rattle.bay_model.specs.Counters.{IsUndisturbed}
+use Rattle.flop_base.specs.Counters.{IsUndisturbed}
 use Rattle.flop_base.specs.Lists.{with_items}
 use Rattle.sector_map.specs.MetTracks.{HasNothing}
 use Rattle.sector_map.proofs.MetTracks.{met_track}

@@ -8,11 +8,11 @@ use Rattle.flop_base.specs.declared.answers.Code.TheVariants.{BadRequest, NoMark
 use Rattle.retry_plan.specs.declared.Prepare.{Prepare}
 use Rattle.retry_plan.specs.declared.Prepare.TheVariants as prepare
 use Rattle.track_model.specs.Fields.{content_size}
-use Rattle.bay_model.specs.Bays.{Two, in_bay}
-use Rattle.bay_model.specs.Counters.{DriveCounts, IsFaultless, GoesOn}
+use Rattle.flop_base.specs.Bays.{Two, in_bay}
+use Rattle.flop_base.specs.Counters.{DriveCounts, IsFaultless, GoesOn}
 use Rattle.flop_base.specs.Lists.{with_items}
-use Rattle.bay_model.specs.Memory.{SameOutside}
-use Rattle.bay_model.proofs.Counted.{goes_on_after, goes_on_itself, faults_go_on}
+use Rattle.flop_base.specs.Memory.{SameOutside}
+use Rattle.flop_base.proofs.Counted.{goes_on_after, goes_on_itself, faults_go_on}
 use Rattle.sector_map.specs.Met.{met_in}
 use Rattle.single_commands.specs.Rigs.{Rig, track_under}
 use Rattle.single_commands.specs.Reading.{IsReadReason, IsReadCode, IsReadMiss, FindsField, ReadsData}

@@ -9,10 +9,10 @@ use Rattle.track_model.specs.declared.Look.{Look}
 use Rattle.track_model.specs.declared.Look.TheVariants as look
 use Rattle.track_model.specs.Fields.{content_size}
 use Rattle.track_model.proofs.Unique.{one_look_at}
-use Rattle.bay_model.specs.Counters.{Counters, IsFaultless, DisturbedLess, GoesOn}
+use Rattle.flop_base.specs.Counters.{Counters, IsFaultless, DisturbedLess, GoesOn}
 use Rattle.flop_base.specs.Lists.{with_items}
-use Rattle.bay_model.specs.Memory.{SameOutside}
-use Rattle.bay_model.proofs.Counted.{goes_on_after, goes_on_itself, faults_go_on}
+use Rattle.flop_base.specs.Memory.{SameOutside}
+use Rattle.flop_base.proofs.Counted.{goes_on_after, goes_on_itself, faults_go_on}
 use Rattle.sector_map.specs.Met.{HasClearAddress, HasLook, AllFound}
 use Rattle.single_commands.specs.Reading.{IsReadReason}
 use Rattle.sector_model.specs.Stations.{StationState, bay_of, met}

@@ -2,8 +2,8 @@
 use Rattle.std.proofs.Common.{ℕ, ◌+◌, ◌⊎◌, arith, inl, inr}
 use Rattle.std.proofs.lemmas.Bool.{cases_lt}
 use Rattle.flop_base.specs.Counts.{RoseBy}
-use Rattle.bay_model.specs.Counters.{Counters, faults_of, FaultsRoseBy, FaultsRoseLess, DisturbedLess, IsUndisturbed, GoesOn}
-use Rattle.bay_model.proofs.Counted.{faults_go_on}
+use Rattle.flop_base.specs.Counters.{Counters, faults_of, FaultsRoseBy, FaultsRoseLess, DisturbedLess, IsUndisturbed, GoesOn}
+use Rattle.flop_base.proofs.Counted.{faults_go_on}
 
 -- a call with two parts
 module _ (bay : ℕ) (a b c : Counters) (one : GoesOn a b) (two : GoesOn b c) where

@@ -1,7 +1,7 @@
 -- Words of the proofs: the rounds of an acknowledgement so far.
 use Rattle.std.proofs.Common.{◌≡◌, ℕ, ◌*◌, true, IsSome}
-use Rattle.bay_model.specs.Bays.{in_bay}
-use Rattle.bay_model.specs.Counters.{FaultsRoseBy, IsDriven}
+use Rattle.flop_base.specs.Bays.{in_bay}
+use Rattle.flop_base.specs.Counters.{FaultsRoseBy, IsDriven}
 use Rattle.single_commands.specs.Rigs.{Rig}
 use Rattle.floppy_driver.specs.Acknowledged.{Works, OnlyReads, IsSpoilt}
 

@@ -4,9 +4,9 @@ use Rattle.std.specs.Prelude.{◌==◌, ◌&&◌, not, is_some, if◌then◌else
 use Rattle.std.proofs.lemmas.Bool.{false≢true, cases_lt}
 use Rattle.flop_base.specs.declared.answers.Rate.TheVariants.{R500}
 use Rattle.raw_image.specs.Disk.{Disk}
-use Rattle.bay_model.specs.Bays.{Two, in_bay, with_bay}
-use Rattle.bay_model.specs.Counters.{DriveCounts, Counters, faults_of, IsFaultless, DisturbedLess, IsUndisturbed, GoesOn, IsDriven}
-use Rattle.bay_model.proofs.Counted.{faults_go_on}
+use Rattle.flop_base.specs.Bays.{Two, in_bay, with_bay}
+use Rattle.flop_base.specs.Counters.{DriveCounts, Counters, faults_of, IsFaultless, DisturbedLess, IsUndisturbed, GoesOn, IsDriven}
+use Rattle.flop_base.proofs.Counted.{faults_go_on}
 use Rattle.single_commands.specs.Rigs.{Rig, StaysSpun, HeadsStay, OnlyAsks}
 use Rattle.single_commands.specs.Heads.{MovesHeads}
 use Rattle.single_commands.specs.Reading.{SendsRead}

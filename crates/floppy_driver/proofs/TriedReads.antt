@@ -4,8 +4,8 @@ use Rattle.flop_base.specs.declared.key.Chrn.{Chrn}
 use Rattle.flop_base.specs.declared.answers.Code.{Code}
 use Rattle.flop_base.specs.declared.answers.Code.TheVariants.{Seek}
 use Rattle.track_model.specs.Fields.{content_size}
-use Rattle.bay_model.specs.Counters.{DisturbedLess, GoesOn, IsDriven}
-use Rattle.bay_model.specs.Memory.{SameOutside}
+use Rattle.flop_base.specs.Counters.{DisturbedLess, GoesOn, IsDriven}
+use Rattle.flop_base.specs.Memory.{SameOutside}
 use Rattle.sector_map.specs.Met.{HasClearAddress, AllFound}
 use Rattle.sector_model.specs.Stations.{StationState, Becomes, bay_of, met}
 use Rattle.floppy_driver.specs.Attempts.{IsSure}

@@ -10,7 +10,7 @@ use Rattle.track_model.specs.Fields.{IsAddressAt}
 use Rattle.track_model.specs.Looks.{HasAddressMark}
 use Rattle.track_model.specs.Windows.{IsCut, IsTidy}
 use Rattle.track_model.specs.Regular.{IsRegular}
-use Rattle.bay_model.specs.Counters.{DriveCounts, FaultsRoseBy, IsUndisturbed, DisturbedLess, GoesOn, IsDriven, faults_of}
+use Rattle.flop_base.specs.Counters.{DriveCounts, FaultsRoseBy, IsUndisturbed, DisturbedLess, GoesOn, IsDriven, faults_of}
 use Rattle.sector_map.specs.Met.{HasNoClearMark, HasClearAddress, HasLook}
 use Rattle.sector_map.specs.Disks.{IsRegularDisk}
 use Rattle.sector_map.specs.Changes.{Change, Written, window_of}

@@ -2,9 +2,9 @@
 use Rattle.std.proofs.Common.{◌≡◌, ℕ, zero, suc, ◌-◌, ◌≤◌, Bool, true, false, List, Option, Some, None, IsSome, refl, sym, ap, ◌∙◌, arith}
 use Rattle.std.proofs.lemmas.Bool.{false≢true}
 use Rattle.raw_image.specs.Disk.{Disk}
-use Rattle.bay_model.specs.Bays.{Two, in_bay}
-use Rattle.bay_model.specs.Counters.{DriveCounts, faults_of, IsDriven}
-use Rattle.bay_model.proofs.Counted.{goes_on_after, faults_go_on}
+use Rattle.flop_base.specs.Bays.{Two, in_bay}
+use Rattle.flop_base.specs.Counters.{DriveCounts, faults_of, IsDriven}
+use Rattle.flop_base.proofs.Counted.{goes_on_after, faults_go_on}
 use Rattle.single_commands.specs.Rigs.{Rig, OnlyAsks}
 use Rattle.sector_model.specs.Stations.{Bay, StationState, set_bay}
 use Rattle.floppy_driver.specs.declared.driver.Notes.{Notes}

@@ -5,11 +5,11 @@ use Rattle.flop_base.specs.declared.key.Chrn.{Chrn}
 use Rattle.flop_base.specs.declared.answers.Rate.{Rate}
 use Rattle.flop_base.specs.declared.answers.Code.{Code}
 use Rattle.raw_image.specs.Disk.{Disk}
-use Rattle.bay_model.specs.Bays.{Two, in_bay}
-use Rattle.bay_model.specs.Memory.{bytes_from}
+use Rattle.flop_base.specs.Bays.{Two, in_bay}
+use Rattle.flop_base.specs.Memory.{bytes_from}
 use Rattle.track_model.specs.Fields.{content_size}
-use Rattle.bay_model.specs.Counters.{DriveCounts, Counters, GoesOn}
-use Rattle.bay_model.proofs.Counted.{goes_on_after, faults_go_on}
+use Rattle.flop_base.specs.Counters.{DriveCounts, Counters, GoesOn}
+use Rattle.flop_base.proofs.Counted.{goes_on_after, faults_go_on}
 use Rattle.retry_plan.specs.declared.Prepare.{Prepare}
 use Rattle.retry_plan.specs.declared.Prepare.TheVariants as prepare
 use Rattle.sector_map.specs.Met.{met_in}

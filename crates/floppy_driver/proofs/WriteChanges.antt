@@ -3,7 +3,7 @@ use Rattle.std.proofs.Common.{MatchOption, ◌≡◌, ℕ, zero, suc, ◌+◌, �
 use Rattle.std.specs.Prelude.{◌==◌, if◌then◌else◌}
 use Rattle.std.proofs.lemmas.List.{length-append}
 use Rattle.raw_image.specs.Disk.{Disk, IsDisk}
-use Rattle.bay_model.specs.Bays.{Two}
+use Rattle.flop_base.specs.Bays.{Two}
 use Rattle.sector_map.specs.Changes.{Change, Written, IsChange}
 use Rattle.sector_map.specs.KeptDisks.{AreAlike}
 use Rattle.sector_map.proofs.KeptTracks.{alike_itself, alike_both}

@@ -10,8 +10,8 @@ use Rattle.track_model.specs.Looks.{LookAt}
 use Rattle.track_model.specs.Sectors.{IsLone, IsSector, IsUnder}
 use Rattle.track_model.specs.Windows.{window_place}
 use Rattle.track_model.proofs.Sectored.{lone_found}
-use Rattle.bay_model.specs.Bays.{Two}
-use Rattle.bay_model.specs.Counters.{faults_of, IsFaultless, FaultsRoseLess, DisturbedLess}
+use Rattle.flop_base.specs.Bays.{Two}
+use Rattle.flop_base.specs.Counters.{faults_of, IsFaultless, FaultsRoseLess, DisturbedLess}
 use Rattle.sector_map.specs.Disks.{IsRegularDisk, IsOnMap}
 use Rattle.sector_map.specs.Changes.{Change, Written, IsChange}
 use Rattle.sector_map.specs.ChangedDisks.{HasWritten, change_at, entry_of}

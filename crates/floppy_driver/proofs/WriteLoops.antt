@@ -7,10 +7,10 @@ use Rattle.flop_base.specs.declared.key.Chrn.{Chrn}
 use Rattle.flop_base.specs.declared.answers.Code.{Code}
 use Rattle.raw_image.specs.Disk.{Disk, IsDisk}
 use Rattle.track_model.specs.Fields.{content_size}
-use Rattle.bay_model.specs.Bays.{in_bay}
-use Rattle.bay_model.specs.Counters.{DriveCounts, faults_of, GoesOn}
-use Rattle.bay_model.specs.Memory.{user_bytes, bytes_from}
-use Rattle.bay_model.proofs.Counted.{goes_on_after, goes_on_itself}
+use Rattle.flop_base.specs.Bays.{in_bay}
+use Rattle.flop_base.specs.Counters.{DriveCounts, faults_of, GoesOn}
+use Rattle.flop_base.specs.Memory.{user_bytes, bytes_from}
+use Rattle.flop_base.proofs.Counted.{goes_on_after, goes_on_itself}
 use Rattle.sector_map.specs.Changes.{Written}
 use Rattle.sector_map.proofs.Writable.{FitsKey}
 use Rattle.sector_model.specs.Stations.{Bay, StationState, bay_of}

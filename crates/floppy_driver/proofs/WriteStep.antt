@@ -7,9 +7,9 @@ use Rattle.flop_base.specs.declared.answers.Code.{Code}
 use Rattle.flop_base.specs.declared.answers.Code.TheVariants.{BadRequest, Changed, Page, Protected}
 use Rattle.raw_image.specs.Disk.{Disk}
 use Rattle.track_model.specs.Fields.{content_size}
-use Rattle.bay_model.specs.Bays.{Two, in_bay}
-use Rattle.bay_model.specs.Counters.{DriveCounts}
-use Rattle.bay_model.proofs.Counted.{goes_on_after}
+use Rattle.flop_base.specs.Bays.{Two, in_bay}
+use Rattle.flop_base.specs.Counters.{DriveCounts}
+use Rattle.flop_base.proofs.Counted.{goes_on_after}
 use Rattle.single_commands.specs.Rigs.{Rig, IsSound, OnlyAsks}
 use Rattle.sector_model.specs.Stations.{Bay, StationState}
 use Rattle.sector_model.specs.Orders.{is_sector_request, crosses_page, is_acknowledged, is_protected, IsRefusedAtOnce}

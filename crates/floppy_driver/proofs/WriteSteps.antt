@@ -8,8 +8,8 @@ use Rattle.raw_image.specs.Disk.{Disk, IsDisk, HasTrack, track_of}
 use Rattle.track_model.specs.Fields.{IsAddressAt}
 use Rattle.track_model.specs.Regular.{IsRegular}
 use Rattle.track_model.specs.Windows.{IsCut, IsTidy}
-use Rattle.bay_model.specs.Counters.{IsUndisturbed, GoesOn, IsDriven}
-use Rattle.bay_model.proofs.Counted.{goes_on_after, faults_go_on}
+use Rattle.flop_base.specs.Counters.{IsUndisturbed, GoesOn, IsDriven}
+use Rattle.flop_base.proofs.Counted.{goes_on_after, faults_go_on}
 use Rattle.sector_map.specs.Met.{met_in}
 use Rattle.sector_map.specs.MetTracks.{MeetsTrack}
 use Rattle.sector_map.specs.Disks.{IsRegularDisk}

@@ -9,7 +9,7 @@ use Rattle.track_model.specs.Kept.{KeepsOthers}
 use Rattle.track_model.specs.Regular.{IsRegular}
 use Rattle.track_model.specs.Windows.{window_place, cut_of, IsCut, IsFieldFor, IsTidy}
 use Rattle.track_model.proofs.Kept as cuts
-use Rattle.bay_model.specs.Counters.{Counters, IsUndisturbed, GoesOn}
+use Rattle.flop_base.specs.Counters.{Counters, IsUndisturbed, GoesOn}
 use Rattle.sector_map.specs.Met.{HasLook}
 use Rattle.sector_map.specs.Changes.{Change, Written, window_of}
 use Rattle.sector_map.specs.ChangedDisks.{HasWritten}

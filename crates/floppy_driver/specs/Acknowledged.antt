@@ -4,8 +4,8 @@ use Rattle.flop_base.specs.declared.key.Chrn.{Chrn}
 use Rattle.flop_base.specs.declared.answers.Rate.{Rate}
 use Rattle.flop_base.specs.declared.answers.Rate.TheVariants.{R500, R250}
 use Rattle.track_model.specs.Fields.{IsAddress}
-use Rattle.bay_model.specs.Bays.{in_bay}
-use Rattle.bay_model.specs.Counters.{faults_of, FaultsRoseBy, GoesOn, IsDriven}
+use Rattle.flop_base.specs.Bays.{in_bay}
+use Rattle.flop_base.specs.Counters.{faults_of, FaultsRoseBy, GoesOn, IsDriven}
 use Rattle.sector_map.specs.Met.{HasClearAddress}
 use Rattle.single_commands.specs.Rigs.{Rig, StaysSpun, HeadsStay, track_under}
 use Rattle.floppy_driver.specs.declared.driver.Notes.{Notes}

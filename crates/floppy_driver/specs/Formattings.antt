@@ -7,7 +7,7 @@ use Rattle.flop_base.specs.declared.answers.Code.{Code}
 use Rattle.flop_base.specs.declared.answers.Code.TheVariants.{NoMark, NotFound, Overrun, BadCrc, Seek}
 use Rattle.raw_image.specs.Disk.{Disk}
 use Rattle.track_format.specs.Reads.{AllFilled}
-use Rattle.bay_model.specs.Counters.{Counters, IsFaultless, IsUndisturbed, DisturbedLess, FaultsRoseBy, GoesOn, IsDriven}
+use Rattle.flop_base.specs.Counters.{Counters, IsFaultless, IsUndisturbed, DisturbedLess, FaultsRoseBy, GoesOn, IsDriven}
 use Rattle.flop_base.specs.declared.answers.Rate.{Rate}
 use Rattle.sector_map.specs.Met.{HasClearAddress}
 use Rattle.sector_map.specs.MetTracks.{HasNothing}

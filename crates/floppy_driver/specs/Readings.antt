@@ -5,8 +5,8 @@ use Rattle.flop_base.specs.declared.key.Chrn.{Chrn}
 use Rattle.flop_base.specs.declared.answers.Code.{Code}
 use Rattle.flop_base.specs.declared.answers.Code.TheVariants.{Overrun, Seek}
 use Rattle.track_model.specs.Fields.{content_size}
-use Rattle.bay_model.specs.Counters.{IsUndisturbed, FaultsRoseBy, GoesOn, IsDriven}
-use Rattle.bay_model.specs.Memory.{SameOutside}
+use Rattle.flop_base.specs.Counters.{IsUndisturbed, FaultsRoseBy, GoesOn, IsDriven}
+use Rattle.flop_base.specs.Memory.{SameOutside}
 use Rattle.single_commands.specs.Reading.{IsReadReason}
 use Rattle.sector_model.specs.Stations.{StationState, Becomes, bay_of, met}
 use Rattle.sector_model.specs.Orders.{IsDeviceRefusal}

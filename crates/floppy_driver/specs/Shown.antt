@@ -2,7 +2,7 @@
 use Rattle.std.specs.Prelude.{◌≡◌, ℕ, ◌==◌, ◌&&◌, Bool, false, not, List, Option, Some, None, if◌then◌else◌}
 use Rattle.flop_base.specs.declared.answers.Rate.TheVariants.{R500}
 use Rattle.raw_image.specs.Disk.{Disk}
-use Rattle.bay_model.specs.Counters.{DriveCounts, Counters, GoesOn, IsDriven}
+use Rattle.flop_base.specs.Counters.{DriveCounts, Counters, GoesOn, IsDriven}
 use Rattle.sector_model.specs.Stations.{Bay, StationState, Stays}
 use Rattle.single_commands.specs.Rigs.{Rig}
 use Rattle.floppy_driver.specs.declared.driver.Notes.{Notes}

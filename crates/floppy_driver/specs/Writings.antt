@@ -10,8 +10,8 @@ use Rattle.track_model.specs.declared.Look.TheVariants as look
 use Rattle.track_model.specs.Looks.{HasAddressMark}
 use Rattle.track_model.specs.Sectors.{IsSector, IsUnder}
 use Rattle.track_model.specs.Windows.{window_word, window_words}
-use Rattle.bay_model.specs.Bays.{in_bay}
-use Rattle.bay_model.specs.Counters.{Counters, IsFaultless, FaultsRoseLess, FaultsRoseBy, IsUndisturbed, GoesOn, IsDriven}
+use Rattle.flop_base.specs.Bays.{in_bay}
+use Rattle.flop_base.specs.Counters.{Counters, IsFaultless, FaultsRoseLess, FaultsRoseBy, IsUndisturbed, GoesOn, IsDriven}
 use Rattle.sector_map.specs.Met.{HasNoClearMark, HasClearAddress, HasLook}
 use Rattle.sector_map.specs.Changes.{Change, Written, IsChange}
 use Rattle.sector_map.specs.ChangedDisks.{IsWholeChange}

@@ -1,7 +1,7 @@
 // Acknowledging a change of the medium.
 ghost use Rattle.std.specs.Prelude.{◌≡◌, ◌≤◌, true, List, ℕ};
-ghost use Rattle.bay_model.specs.Bays.{in_bay};
-ghost use Rattle.bay_model.specs.Counters.{DriveCounts, GoesOn};
+ghost use Rattle.flop_base.specs.Bays.{in_bay};
+ghost use Rattle.flop_base.specs.Counters.{DriveCounts, GoesOn};
 ghost use Rattle.single_commands.specs.Rigs.{IsSound};
 ghost use Rattle.floppy_driver.specs.Acknowledged.{ClearsChange, FindsRate};
 

@@ -1,8 +1,8 @@
 // What a driver notes of each bay.
 ghost use Rattle.std.specs.Prelude.{◌≡◌, ◌≤◌, ◌<◌, List, ℕ, Option, Some, None, not, true, false};
 ghost use Rattle.flop_base.specs.declared.answers.Rate.TheVariants.{R500};
-ghost use Rattle.bay_model.specs.Bays.{in_bay};
-ghost use Rattle.bay_model.specs.Counters.{DriveCounts, GoesOn};
+ghost use Rattle.flop_base.specs.Bays.{in_bay};
+ghost use Rattle.flop_base.specs.Counters.{DriveCounts, GoesOn};
 
 use change_line::Gate;
 use flop_base::{Code, Rate};

@@ -1,6 +1,6 @@
 // Preparing an attempt: the heads go to the cylinder of the command.
 ghost use Rattle.std.specs.Prelude.{◌≡◌, ◌≤◌, true, IsSome};
-ghost use Rattle.bay_model.specs.Bays.{in_bay};
+ghost use Rattle.flop_base.specs.Bays.{in_bay};
 ghost use Rattle.single_commands.specs.Rigs.{IsSound};
 ghost use Rattle.floppy_driver.specs.Prepared.{GoesToTrack0};
 

@@ -1,7 +1,7 @@
 // Reading a sector.
 ghost use Rattle.std.specs.Prelude.{◌≡◌, ◌≤◌, ◌+◌, ◌-◌, ◌/◌, List, ℕ};
 ghost use Rattle.track_model.specs.Fields.{content_size};
-ghost use Rattle.bay_model.specs.Counters.{DriveCounts, GoesOn};
+ghost use Rattle.flop_base.specs.Counters.{DriveCounts, GoesOn};
 
 use crate::driver::Driver;
 use flop_base::{Chrn, Code, sector_size};

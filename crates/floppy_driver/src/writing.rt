@@ -1,9 +1,9 @@
 // Writing a sector.
 ghost use Rattle.std.specs.Prelude.{◌≡◌, ◌≤◌, ◌+◌, ◌-◌, ◌/◌, ◌↔◌, List, ℕ, IsTrue, true, false};
 ghost use Rattle.std.specs.Option.{option_map_or};
-ghost use Rattle.bay_model.specs.Bays.{in_bay};
-ghost use Rattle.bay_model.specs.Counters.{DriveCounts, GoesOn};
-ghost use Rattle.bay_model.specs.Memory.{user_bytes, bytes_from};
+ghost use Rattle.flop_base.specs.Bays.{in_bay};
+ghost use Rattle.flop_base.specs.Counters.{DriveCounts, GoesOn};
+ghost use Rattle.flop_base.specs.Memory.{user_bytes, bytes_from};
 ghost use Rattle.track_model.specs.Fields.{content_size};
 ghost use Rattle.single_commands.specs.Rigs.{IsSound};
 ghost use Rattle.sector_model.specs.Asked.{IsAsked};

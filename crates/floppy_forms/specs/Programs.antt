@@ -3,7 +3,7 @@ use Rattle.std.specs.Prelude.{◌≡◌, ℕ, List, [], Option, Some, None}
 use Rattle.flop_base.specs.declared.answers.Rate.TheVariants.{R500, R250}
 use Rattle.flop_base.specs.declared.answers.Status.{Status}
 use Rattle.flop_base.specs.declared.answers.Status.TheVariants as status
-use Rattle.bay_model.specs.Bays.{Two}
+use Rattle.flop_base.specs.Bays.{Two}
 use Rattle.sector_model.specs.Faults.{Blames}
 use Rattle.sector_model.specs.Stations.{StationState}
 use Rattle.sector_model.specs.States.{start_of}

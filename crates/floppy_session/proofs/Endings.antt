@@ -11,12 +11,12 @@ use Rattle.sector_model.specs.declared.reply.Reply.{Reply}
 use Rattle.sector_model.specs.declared.reply.Reply.TheVariants as reply
 use Rattle.sector_model.specs.declared.reply.Reason.TheVariants as reason
 use Rattle.sector_model.specs.declared.reply.Stop.{Stop}
-use Rattle.bay_model.specs.Bays.{in_bay}
+use Rattle.flop_base.specs.Bays.{in_bay}
 use Rattle.sector_model.specs.Stations.{bay_of}
 use Rattle.sector_model.specs.States.{State, IsSame, ChangesMedium}
 use Rattle.sector_model.specs.Steps.{Step, StopsAt, StopCause, StoresMedium, refusal_of, is_loaded}
 use Rattle.sector_model.specs.Runs.{EndsBay, DropsMedium, EndStopsAt, AtSecond, IsEndStop}
-use Rattle.bay_model.proofs.Counted.{goes_on_itself}
+use Rattle.flop_base.proofs.Counted.{goes_on_itself}
 
 -- the step of the request that was asked
 pub step_at : (old new : State) (told : Option Files) (asked named : Request) (answer : Reply) → asked ≡ named → Step named old told answer new told → Step asked old told answer new told

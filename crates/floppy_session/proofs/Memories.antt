@@ -3,13 +3,13 @@ use Rattle.std.proofs.Common.{◌≡◌, ℕ, ◌+◌, ◌-◌, ◌<◌, List, [
 use Rattle.std.proofs.lemmas.List.{take-append-drop, replicate-append-replicate, length-replicate}
 use Rattle.std.proofs.Math.Seq.{drop-cons, set-append_seam}
 use Rattle.flop_base.specs.Lists.{with_items}
-use Rattle.bay_model.specs.Memory.{user_bytes}
+use Rattle.flop_base.specs.Memory.{user_bytes}
 use Rattle.sector_model.specs.Stations.{StationState}
-use Rattle.bay_model.specs.Counters.{GoesOn}
+use Rattle.flop_base.specs.Counters.{GoesOn}
 use Rattle.sector_model.specs.Calls.{SetsMemory}
 use Rattle.sector_model.specs.States.{State}
 use Rattle.sector_model.specs.Steps.{Fills}
-use Rattle.bay_model.proofs.Counted.{goes_on_after, goes_on_itself}
+use Rattle.flop_base.proofs.Counted.{goes_on_after, goes_on_itself}
 
 module _ (memory : List ℕ) (address : ℕ) where
   -- no bytes change nothing

@@ -5,7 +5,7 @@ use Rattle.flop_base.specs.declared.key.Chrn.{Chrn}
 use Rattle.flop_base.specs.declared.answers.Rate.{Rate}
 use Rattle.flop_base.specs.declared.answers.Code.{Code}
 use Rattle.raw_image.specs.Disk.{Disk, IsWithTrack}
-use Rattle.bay_model.specs.Bays.{Two, with_bay}
+use Rattle.flop_base.specs.Bays.{Two, with_bay}
 use Rattle.sector_model.specs.Stations.{StationState, Bay, Stays, bay_of}
 use Rattle.sector_model.specs.Orders.{read_refusal, write_refusal, format_refusal, rate_refusal}
 use Rattle.sector_model.specs.Reads.{Reads, ReadsDrive}

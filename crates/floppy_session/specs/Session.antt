@@ -1,6 +1,6 @@
 -- What a session shows, and how it is between requests.
 use Rattle.std.specs.Prelude.{ℕ, List, Option}
-use Rattle.bay_model.specs.Bays.{Two}
+use Rattle.flop_base.specs.Bays.{Two}
 use Rattle.sector_model.specs.Stations.{StationState}
 use Rattle.sector_model.specs.States.{State, IsNamed}
 use Rattle.floppy_session.specs.declared.labels.Labels.{Labels}

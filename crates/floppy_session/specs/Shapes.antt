@@ -2,7 +2,7 @@
 use Rattle.std.specs.Prelude.{◌≡◌, Option}
 use Rattle.std.specs.Option.{option_map}
 use Rattle.raw_image.specs.Disk.{Disk}
-use Rattle.bay_model.specs.Bays.{Two}
+use Rattle.flop_base.specs.Bays.{Two}
 use Rattle.sector_model.specs.Stations.{Bay}
 use Rattle.floppy_session.specs.declared.shape.Shape.{Shape}
 

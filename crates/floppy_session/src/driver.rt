@@ -1,7 +1,7 @@
 // The requests that are calls of the driver.
 ghost use Rattle.std.specs.Prelude.{◌≡◌, ◌+◌, ◌≤◌, length, Option, IfErr};
 ghost use Rattle.flop_base.specs.Shelf.{Files};
-ghost use Rattle.bay_model.specs.Memory.{SameOutside};
+ghost use Rattle.flop_base.specs.Memory.{SameOutside};
 ghost use Rattle.sector_model.specs.Steps.{Step, reply_of, read_reply};
 
 use crate::session::{Session, bad_request};

@@ -1,6 +1,6 @@
 // What a session keeps of the media that are in its bays.
 ghost use Rattle.std.specs.Prelude.{◌≡◌, ◌≤◌, None, Some};
-ghost use Rattle.bay_model.specs.Bays.{both, in_bay, with_bay};
+ghost use Rattle.flop_base.specs.Bays.{both, in_bay, with_bay};
 
 use crate::shape::Shape;
 use flop_base::Name;

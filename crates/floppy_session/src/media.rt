@@ -1,7 +1,7 @@
 // The requests that exchange media and drives.
 ghost use Rattle.std.specs.Prelude.{◌≡◌, ◌≤◌, Option, false, true, IfOk, IfErr, OnOk, OnErr, IsErrOf, IsOkUnless};
 ghost use Rattle.flop_base.specs.Shelf.{Files};
-ghost use Rattle.bay_model.specs.Bays.{in_bay, with_bay};
+ghost use Rattle.flop_base.specs.Bays.{in_bay, with_bay};
 ghost use Rattle.sector_model.specs.States.{ChangesMedium};
 ghost use Rattle.sector_model.specs.Steps.{Step, StopsAt, StoresMedium, is_loaded, is_blank_request as is_blank_request_of, blank_of};
 ghost use Rattle.sector_model.specs.Runs.{EndsBay, DropsMedium, IsEndStop};

@@ -1,12 +1,11 @@
 // The requests on user memory.
 ghost use Rattle.std.specs.Prelude.{◌≡◌, ◌+◌, ◌≤◌, Option, IfOk, IfErr, IsOkUnless, nat_le};
 ghost use Rattle.flop_base.specs.Shelf.{Files};
-ghost use Rattle.bay_model.specs.Memory.{user_bytes, bytes_from};
+ghost use Rattle.flop_base.specs.Memory.{user_bytes, bytes_from};
 ghost use Rattle.sector_model.specs.Steps.{Step, StopsAt, Fills};
 
 use crate::session::{Session, bad_request};
-use bay_model::USER_BYTES;
-use flop_base::{Bytes, NoMemory};
+use flop_base::{Bytes, NoMemory, USER_BYTES};
 use floppy_requests::Request;
 use sector_model::{Reply, Station, Stop};
 

@@ -2,7 +2,7 @@
 ghost use Rattle.std.specs.Prelude.{◌≡◌, ◌+◌, ◌≤◌, not, if◌then◌else◌, List, length, Option};
 ghost use Rattle.flop_base.specs.Shelf.{Files};
 ghost use Rattle.flop_base.specs.Lists.{with_items};
-ghost use Rattle.bay_model.specs.Memory.{user_bytes, bytes_from, SameOutside};
+ghost use Rattle.flop_base.specs.Memory.{user_bytes, bytes_from, SameOutside};
 ghost use Rattle.sector_model.specs.Runs.{Taken};
 ghost use Rattle.sector_model.specs.Orders.{is_acknowledged};
 ghost use Rattle.sector_model.specs.States.{IsSame};

@@ -1,6 +1,6 @@
 -- What is said of a run over a machine.
 use Rattle.std.proofs.Common.{◌≡◌, List, refl, sym, subst}
-use Rattle.bay_model.specs.Counters.{DriveCounts}
+use Rattle.flop_base.specs.Counters.{DriveCounts}
 use Rattle.pc_bus.specs.Boards.{Board}
 use Rattle.sector_model.specs.Stations.{StationState, IsFresh}
 use Rattle.sector_model.specs.States.{State, start_of}

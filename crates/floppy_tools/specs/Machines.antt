@@ -1,8 +1,8 @@
 -- The program over a machine: from the driver's set-up to the machine that comes back.
 use Rattle.std.specs.Prelude.{◌≡◌, List, Option, None}
 use Rattle.flop_base.specs.declared.answers.Status.{Status}
-use Rattle.bay_model.specs.Bays.{both}
-use Rattle.bay_model.specs.Counters.{DriveCounts}
+use Rattle.flop_base.specs.Bays.{both}
+use Rattle.flop_base.specs.Counters.{DriveCounts}
 use Rattle.pc_bus.specs.Boards.{Board}
 use Rattle.sector_model.specs.Stations.{IsFresh}
 use Rattle.sector_model.specs.States.{State}

@@ -1,6 +1,6 @@
 -- The table of functions: the work of each call, and the registers after it.
 use Rattle.std.specs.Prelude.{◌≡◌, ℕ, ◌+◌, ◌-◌, ◌*◌, ◌/◌, ◌≤◌, ◌==◌, ◌&&◌, Bool, true, false, not, nat_le, if◌then◌else◌}
-use Rattle.bay_model.specs.Memory.{user_bytes}
+use Rattle.flop_base.specs.Memory.{user_bytes}
 use Rattle.int13.specs.Registers.{ah, al, dh, dl, cylinder_of, record_of, address_of, names_drive, is_transfer, gives_parameters}
 use Rattle.int13.specs.declared.regs.Regs.{Regs}
 use Rattle.int13.specs.declared.work.Kind.{Kind}

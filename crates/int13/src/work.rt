@@ -4,8 +4,7 @@ ghost use Rattle.int13.specs.Registers.{al};
 ghost use Rattle.int13.specs.Table.{names_records, is_in_memory, crosses_page, transfer_address, transfer_of, IsDoable};
 
 use crate::Regs;
-use bay_model::USER_BYTES;
-use flop_base::Code;
+use flop_base::{Code, USER_BYTES};
 
 /// The functions that go over records.
 #[derive(Clone, Copy, Debug, PartialEq, Eq)]

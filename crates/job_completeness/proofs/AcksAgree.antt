@@ -5,7 +5,7 @@ use Rattle.flop_base.specs.declared.answers.Rate.{Rate}
 use Rattle.flop_base.specs.declared.answers.Rate.TheVariants.{R500, R250}
 use Rattle.flop_base.specs.declared.key.Chrn.{Chrn}
 use Rattle.raw_image.specs.Disk.{Disk, HasTrack, track_of}
-use Rattle.bay_model.specs.Counters.{GoesOn, IsUndisturbed, faults_of}
+use Rattle.flop_base.specs.Counters.{GoesOn, IsUndisturbed, faults_of}
 use Rattle.track_model.specs.Fields.{IsAddressAt}
 use Rattle.sector_map.specs.Disks.{IsRegularDisk}
 use Rattle.sector_map.proofs.RegularTracks.{clear_address}

@@ -8,8 +8,8 @@ use Rattle.flop_base.specs.declared.key.Chrn.{Chrn}
 use Rattle.flop_base.specs.declared.answers.Code.{Code}
 use Rattle.flop_base.specs.declared.answers.Code.TheVariants.{BadRequest, Page, Changed, Protected}
 use Rattle.flop_base.specs.declared.answers.Rate.{Rate}
-use Rattle.bay_model.specs.Counters.{GoesOn, IsUndisturbed}
-use Rattle.bay_model.specs.Memory.{user_bytes, bytes_from}
+use Rattle.flop_base.specs.Counters.{GoesOn, IsUndisturbed}
+use Rattle.flop_base.specs.Memory.{user_bytes, bytes_from}
 use Rattle.track_model.specs.Fields.{content_size}
 use Rattle.sector_map.specs.LaidDisks.{format_at}
 use Rattle.sector_model.specs.declared.reply.Reply.{Reply}

@@ -2,8 +2,8 @@
 use Rattle.std.proofs.Common.{arith, ◌+◌, ◌<◌, ℕ, Bool, true, false}
 use Rattle.std.specs.Prelude.{◌==◌, if◌then◌else◌}
 use Rattle.flop_base.specs.Counts.{last_count, RoseBy}
-use Rattle.bay_model.specs.Counters.{Counters, GoesOn, IsUndisturbed, IsFaultless, DisturbedLess, FaultsRoseBy, FaultsRoseLess}
-use Rattle.bay_model.proofs.Counted.{faults_go_on}
+use Rattle.flop_base.specs.Counters.{Counters, GoesOn, IsUndisturbed, IsFaultless, DisturbedLess, FaultsRoseBy, FaultsRoseLess}
+use Rattle.flop_base.proofs.Counted.{faults_go_on}
 use Rattle.sector_model.specs.Reads.{spoilable}
 
 -- in any bay, where it is so in both

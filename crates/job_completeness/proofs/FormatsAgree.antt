@@ -2,7 +2,7 @@
 use Rattle.std.proofs.Common.{arith, ◌≡◌, ◌∙◌, ℕ, suc, All, List, [], ◌∷◌, refl, sym, ap, subst, inl, inr, Option, Some, None, Result, Ok, Err, true≢false}
 use Rattle.flop_base.specs.declared.answers.Code.{Code}
 use Rattle.raw_image.specs.Disk.{Disk, IsDisk, HasTrack, track_of}
-use Rattle.bay_model.specs.Counters.{GoesOn, IsUndisturbed}
+use Rattle.flop_base.specs.Counters.{GoesOn, IsUndisturbed}
 use Rattle.sector_map.specs.Layings.{Format, Laying, formatted, CanFormat, IsFormattable}
 use Rattle.sector_map.specs.KeptDisks.{KeepsTracks}
 use Rattle.sector_map.proofs.KeptTracks.{keeps_itself, keeps_both}

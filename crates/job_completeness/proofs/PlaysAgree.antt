@@ -6,8 +6,8 @@ use Rattle.flop_base.specs.Shelf.{Files, file_at}
 use Rattle.flop_base.specs.Sink.{grown}
 use Rattle.flop_base.specs.declared.answers.Status.{Status}
 use Rattle.flop_base.specs.declared.answers.Status.TheVariants as status
-use Rattle.bay_model.specs.Bays.{Two, both}
-use Rattle.bay_model.specs.Memory.{user_bytes, zeroes}
+use Rattle.flop_base.specs.Bays.{Two, both}
+use Rattle.flop_base.specs.Memory.{user_bytes, zeroes}
 use Rattle.floppy_requests.specs.Texts.{job_of}
 use Rattle.floppy_requests.specs.declared.request.Request.{Request}
 use Rattle.floppy_requests.specs.declared.request.Request.TheVariants as request

@@ -5,9 +5,9 @@ use Rattle.flop_base.specs.declared.key.Chrn.{Chrn}
 use Rattle.flop_base.specs.declared.answers.Code.{Code}
 use Rattle.flop_base.specs.declared.answers.Code.TheVariants as code
 use Rattle.raw_image.specs.Disk.{HasTrack, track_of}
-use Rattle.bay_model.specs.Counters.{GoesOn, IsUndisturbed}
+use Rattle.flop_base.specs.Counters.{GoesOn, IsUndisturbed}
 use Rattle.flop_base.specs.Lists.{with_items}
-use Rattle.bay_model.specs.Memory.{user_bytes}
+use Rattle.flop_base.specs.Memory.{user_bytes}
 use Rattle.track_model.specs.declared.Look.{Look}
 use Rattle.track_model.specs.declared.Look.TheVariants as look
 use Rattle.track_model.specs.Bytes.{byte_at, bytes_at}

@@ -3,7 +3,7 @@ use Rattle.std.proofs.Common.{arith, ◌≡◌, ◌∙◌, ℕ, Bool, List, leng
 use Rattle.flop_base.specs.declared.key.Chrn.{Chrn}
 use Rattle.flop_base.specs.declared.answers.Code.{Code}
 use Rattle.raw_image.specs.Disk.{track_of}
-use Rattle.bay_model.specs.Counters.{GoesOn, IsUndisturbed}
+use Rattle.flop_base.specs.Counters.{GoesOn, IsUndisturbed}
 use Rattle.track_model.specs.Fields.{IsAddressAt, content_size}
 use Rattle.sector_map.specs.Changes.{Written}
 use Rattle.sector_map.specs.ChangedDisks.{written_under}

@@ -8,7 +8,7 @@ use Rattle.dma_8237.proofs.SettingUp.{is_set_up}
 use Rattle.fdc_commands.specs.Table.{answer}
 use Rattle.fdc_commands.specs.declared.bytes.Accepted.{Accepted}
 use Rattle.fdc_phases.specs.Rates.{rate_chosen}
-use Rattle.machine_pace.specs.Holds.{AreShort, IsShort}
+use Rattle.irq_events.specs.Holds.{AreShort, IsShort}
 use Rattle.machine_laws.specs.OnAwaits.Goes.{StandsReady}
 use Rattle.machine_laws.specs.OnOrders.Orders.{CanBegin, IsLast, IsSetFor}
 use Rattle.machine_laws.specs.OnReads.Begins.{IsDriveOf}

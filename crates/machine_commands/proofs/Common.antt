@@ -1,8 +1,8 @@
 -- What the lemmas of this crate cite of others, and of its own words.
-pub use Rattle.bay_model.proofs.Counted.{spends_twice}
-pub use Rattle.bay_model.specs.Bays.{Two, in_bay}
-pub use Rattle.bay_model.specs.Counters.{DriveGoesOn, GoesOn, IsDriven, IsFaultless, IsUndisturbed, faults_of}
-pub use Rattle.bay_model.specs.Memory.{bytes_from, user_bytes}
+pub use Rattle.flop_base.proofs.Counted.{spends_twice}
+pub use Rattle.flop_base.specs.Bays.{Two, in_bay}
+pub use Rattle.flop_base.specs.Counters.{DriveGoesOn, GoesOn, IsDriven, IsFaultless, IsUndisturbed, faults_of}
+pub use Rattle.flop_base.specs.Memory.{bytes_from, user_bytes}
 pub use Rattle.dma_8237.specs.Channel.{Channel}
 pub use Rattle.dma_8237.specs.SetUp.{set_up}
 pub use Rattle.drive_model.specs.Drive.{Becomes, DriveState, InRange, track_words, turns}
@@ -28,7 +28,7 @@ pub use Rattle.fdc_seek.specs.declared.motion.Motion.{Motion}
 pub use Rattle.fdc_seek.specs.declared.motion.Motion.TheVariants.{Ended, Outward, Toward}
 pub use Rattle.fdc_stages.specs.declared.ending.Ending.{Ending}
 pub use Rattle.fdc_stages.specs.declared.ending.Ending.TheVariants.{BadCheck, Late, NoCount, NoField, NoMark, NoSector, Overrun, Protected}
-pub use Rattle.fdc_writing.specs.Formats.{Numbers}
+pub use Rattle.fdc_stages.specs.Formats.{Numbers}
 pub use Rattle.flop_base.specs.Counts.{RoseBy, Spends, last_count}
 pub use Rattle.flop_base.specs.Lists.{with_items}
 pub use Rattle.flop_base.specs.Standard.{read_gap_at, sectors_at, standard_code}
@@ -59,9 +59,9 @@ pub use Rattle.fdc_drives.specs.Hearing.{IsCalm}
 pub use Rattle.machine_laws.specs.OnSteps.Stalls.{Stalled}
 pub use Rattle.machine_laws.specs.OnSteps.Steady.{Marching, Steady, regapped}
 pub use Rattle.machine_laws.specs.OnWrites.Results.{IsUnchanged}
-pub use Rattle.machine_pace.specs.Entries.{next_entry}
-pub use Rattle.machine_pace.specs.Holds.{Holds, counted, shown}
-pub use Rattle.machine_pace.specs.declared.holding.Request.TheVariants.{Low}
+pub use Rattle.irq_events.specs.Entries.{next_entry}
+pub use Rattle.irq_events.specs.Holds.{Holds, counted, shown}
+pub use Rattle.irq_events.specs.declared.holding.Request.TheVariants.{Low}
 pub use Rattle.fdc_drives.proofs.FollowedWrites.{drive_stays}
 pub use Rattle.pc_bus.specs.Boards.{Board, channel_of, controller_of, drive_in, holds_of, lines_of, memory_of}
 pub use Rattle.fdc_drives.specs.Lines.{lines_of_drive}

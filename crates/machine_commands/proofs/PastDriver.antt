@@ -7,8 +7,8 @@ use Rattle.std.proofs.lemmas.List.{drop-set-lt}
 use Rattle.std.proofs.Math.Seq.{take-set-lt}
 use Rattle.std.specs.Prelude.{List}
 use Rattle.machine_commands.proofs.Common.{last_count, Disk, DriveGoesOn, GoesOn, user_bytes, DriveState, Becomes, InRange, data_commands_of, dor_of, Holds, counted, Board, controller_of, drive_in, holds_of, memory_of, byte_set, Bus, IsIdle, IsReady, is_up, counts_of, counters_of, is_spun, rig_of, stalls_left, Motors}
-use Rattle.bay_model.specs.Counters.{IsPastDriver}
-use Rattle.bay_model.proofs.Counted.{drive_same}
+use Rattle.flop_base.specs.Counters.{IsPastDriver}
+use Rattle.flop_base.proofs.Counted.{drive_same}
 use Rattle.drive_model.specs.Drive.{at_speed, loaded, unloaded}
 use Rattle.pc_bus.specs.Boards.{IsEmpty}
 use Rattle.pc_bus.specs.Handling.{Touches, touched}

@@ -11,7 +11,7 @@ use Rattle.fdc_core.specs.State.{data_commands_of}
 use Rattle.pc_bus.specs.Boards.{Board, controller_of, holds_of, memory_of}
 use Rattle.pc_bus.specs.Ports.{Inputs, Outputs}
 use Rattle.pc_bus.specs.Steps.{Runs, Waits, stirred}
-use Rattle.machine_pace.specs.Holds.{AreShort}
+use Rattle.irq_events.specs.Holds.{AreShort}
 use Rattle.machine_commands.specs.Codes.{has_set, refusal_of, rate_byte}
 use Rattle.machine_commands.specs.Ready.{dor_with}
 use Rattle.machine_commands.specs.Sending.{Sends, Settles, latch_taken}

@@ -1,8 +1,8 @@
 -- What calls past the driver make of a machine: a medium is put in or taken out, a drive is exchanged, a byte of user memory is set.
 use Rattle.std.specs.Prelude.{◌≡◌, ◌≤◌, ◌-◌, ℕ, true, slice_set, Option, Some, None, IsSome, Result, Ok, Err}
 use Rattle.raw_image.specs.Disk.{Disk}
-use Rattle.bay_model.specs.Bays.{in_bay, with_bay}
-use Rattle.bay_model.specs.Counters.{Counters, DriveCounts, DriveGoesOn, GoesOn, IsPastDriver}
+use Rattle.flop_base.specs.Bays.{in_bay, with_bay}
+use Rattle.flop_base.specs.Counters.{Counters, DriveCounts, DriveGoesOn, GoesOn, IsPastDriver}
 use Rattle.single_commands.specs.Rigs.{Rig}
 
 -- nothing but counts was changed

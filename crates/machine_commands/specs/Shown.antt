@@ -1,7 +1,7 @@
 -- The machine as its driver sees it.
 use Rattle.std.specs.Prelude.{ℕ, Bool, List, [], take, drop, slice_index, nat_lt, count_by}
-use Rattle.bay_model.specs.Counters.{Counters}
-use Rattle.bay_model.specs.Memory.{user_bytes}
+use Rattle.flop_base.specs.Counters.{Counters}
+use Rattle.flop_base.specs.Memory.{user_bytes}
 use Rattle.drive_model.specs.Drive.{DriveState, at_speed}
 use Rattle.fdc_core.specs.State.{data_commands_of}
 use Rattle.pc_bus.specs.Boards.{Board, board, controller_of, memory_of, holds_of}

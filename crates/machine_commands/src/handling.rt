@@ -1,6 +1,6 @@
 // Calls past the driver: media, drives and user memory.
 ghost use Rattle.std.specs.Prelude.{◌≡◌, ◌≤◌, ◌<◌};
-ghost use Rattle.bay_model.specs.Memory.{user_bytes};
+ghost use Rattle.flop_base.specs.Memory.{user_bytes};
 ghost use Rattle.pc_bus.specs.Boards.{IsEmpty, drive_in};
 ghost use Rattle.machine_commands.specs.Handled.{ExchangesDrive, PutsIn, PutsMemory, TakesOut};
 ghost use Rattle.machine_laws.specs.OnCounts.Counts.{counts_of};

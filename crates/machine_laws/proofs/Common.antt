@@ -1,5 +1,5 @@
 -- What the lemmas of this crate cite of others, and of its own words.
-pub use Rattle.bay_model.proofs.Counted.{drive_twice, spends_twice}
+pub use Rattle.flop_base.proofs.Counted.{drive_twice, spends_twice}
 pub use Rattle.dma_8237.specs.Channel.{Channel, after_transfer, place_of, writes_memory}
 pub use Rattle.drive_model.specs.Drive.{Becomes, DriveState, Pulses, Writes, at_index, at_speed, can_write, has_track, is_protected, passed, rate_of, rewritten, track_words, turns, with_gate, word_under}
 pub use Rattle.fdc_commands.specs.Table.{answer, kept}
@@ -55,13 +55,13 @@ pub use Rattle.fdc_stages.specs.Searches.{HasNoClear, SearchOutcome}
 pub use Rattle.fdc_stages.specs.declared.ending.Ending.{Ending}
 pub use Rattle.fdc_stages.specs.declared.ending.Ending.TheVariants.{BadCheck, Done, Late, NoCount, NoField, NoMark, NoSector, Overrun, Protected}
 pub use Rattle.fdc_stages.specs.declared.reading.ReadStage.{ReadStage}
-pub use Rattle.fdc_writing.specs.Formats.{HasLaid, IsAtPart, IsBehindFirst, IsWholeTurn, Numbers, is_first, is_next}
-pub use Rattle.fdc_writing.specs.Writings.{IsFirstOf, IsWhole, IsWriting}
-pub use Rattle.fdc_writing.specs.declared.formatting.FormatNext.{FormatNext}
-pub use Rattle.fdc_writing.specs.declared.formatting.FormatPart.{FormatPart}
-pub use Rattle.fdc_writing.specs.declared.formatting.FormatPart.TheVariants.{Await, Barred, Due, Lay}
-pub use Rattle.fdc_writing.specs.declared.writing.WriteNext.{WriteNext}
-pub use Rattle.fdc_writing.specs.declared.writing.WriteStage.{WriteStage}
+pub use Rattle.fdc_stages.specs.Formats.{HasLaid, IsAtPart, IsBehindFirst, IsWholeTurn, Numbers, is_first, is_next}
+pub use Rattle.fdc_stages.specs.Writings.{IsFirstOf, IsWhole, IsWriting}
+pub use Rattle.fdc_stages.specs.declared.formatting.FormatNext.{FormatNext}
+pub use Rattle.fdc_stages.specs.declared.formatting.FormatPart.{FormatPart}
+pub use Rattle.fdc_stages.specs.declared.formatting.FormatPart.TheVariants.{Await, Barred, Due, Lay}
+pub use Rattle.fdc_stages.specs.declared.writing.WriteNext.{WriteNext}
+pub use Rattle.fdc_stages.specs.declared.writing.WriteStage.{WriteStage}
 pub use Rattle.flop_base.specs.Counts.{Rose, last_count}
 pub use Rattle.flop_base.specs.declared.key.Chrn.{Chrn}
 pub use Rattle.machine_laws.specs.OnAwaits.Awaits.{HoldsSet, IsAwaited, IsLetOut, TurnsOn, is_unread}
@@ -94,11 +94,11 @@ pub use Rattle.machine_laws.specs.OnWrites.Heads.{HasNoSeek, IsIdle, StaysIdle, 
 pub use Rattle.machine_laws.specs.OnWrites.Timely.{IsFilling, IsOnTime, IsTimely, fills, fills_task}
 pub use Rattle.machine_laws.specs.OnWrites.Underway.{IsTaken, range_of, refuses, refuses_as}
 pub use Rattle.machine_laws.specs.OnWritten.Written.{IsCalm, IsOver}
-pub use Rattle.machine_pace.proofs.InTime.{in_time}
-pub use Rattle.machine_pace.specs.Entries.{is_stray_due, next_entry, rest_of}
-pub use Rattle.machine_pace.specs.Holds.{AreShort, Holds, IsInTime, IsReady, IsShort, counted, is_due, looked, shown, waited}
-pub use Rattle.machine_pace.specs.declared.holding.Request.{Request}
-pub use Rattle.machine_pace.specs.declared.holding.Request.TheVariants.{High, Low}
+pub use Rattle.irq_events.proofs.InTime.{in_time}
+pub use Rattle.irq_events.specs.Entries.{is_stray_due, next_entry, rest_of}
+pub use Rattle.irq_events.specs.Holds.{AreShort, Holds, IsInTime, IsReady, IsShort, counted, is_due, looked, shown, waited}
+pub use Rattle.irq_events.specs.declared.holding.Request.{Request}
+pub use Rattle.irq_events.specs.declared.holding.Request.TheVariants.{High, Low}
 pub use Rattle.fdc_drives.proofs.FollowedWrites.{drive_stays, write_leaves}
 pub use Rattle.pc_bus.specs.Boards.{Board, channel_of, controller_of, drive_in, holds_of, latch_of, lines_of, memory_of, selected_of}
 pub use Rattle.pc_bus.specs.Handling.{irq_taken}

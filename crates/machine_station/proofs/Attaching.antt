@@ -2,9 +2,9 @@
 use Rattle.std.proofs.Common.{◌≡◌, ℕ, zero, suc, ◌-◌, ◌≤◌, Bool, true, false, refl, sym, ap, ◌∙◌, arith}
 use Rattle.std.specs.Prelude.{◌&&◌, Option, Some, None, Result, Ok, Err}
 use Rattle.raw_image.specs.Disk.{Disk}
-use Rattle.bay_model.specs.Bays.{Two, in_bay, with_bay}
-use Rattle.bay_model.specs.Counters.{DriveCounts, GoesOn, faults_of}
-use Rattle.bay_model.proofs.Counted.{faults_go_on}
+use Rattle.flop_base.specs.Bays.{Two, in_bay, with_bay}
+use Rattle.flop_base.specs.Counters.{DriveCounts, GoesOn, faults_of}
+use Rattle.flop_base.proofs.Counted.{faults_go_on}
 use Rattle.single_commands.specs.Rigs.{Rig}
 use Rattle.machine_commands.specs.Handled.{Untouched, Exchanged, PutsIn, TakesOut, PutsMemory, ExchangesDrive}
 use Rattle.floppy_driver.specs.declared.driver.Notes.{Notes}

@@ -3,7 +3,7 @@ use Rattle.std.proofs.Common.{◌≡◌, ℕ, ◌==◌, Bool, true, false, if◌
 use Rattle.std.specs.Prelude.{is_some, Option}
 use Rattle.flop_base.specs.declared.answers.Rate.{Rate}
 use Rattle.raw_image.specs.Disk.{Disk}
-use Rattle.bay_model.specs.Bays.{Two, in_bay, with_bay}
+use Rattle.flop_base.specs.Bays.{Two, in_bay, with_bay}
 use Rattle.sector_model.specs.Stations.{Bay}
 use Rattle.machine_station.specs.declared.flags.BayFlags.{BayFlags}
 use Rattle.machine_station.specs.Flagged.{flags_of, flags_of_both, with_rate}

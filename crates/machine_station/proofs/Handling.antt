@@ -4,8 +4,8 @@ use Rattle.std.specs.Prelude.{◌&&◌, not, is_some, is_err, IsSome, Option, So
 use Rattle.std.proofs.lemmas.Bool.{false≢true}
 use Rattle.flop_base.specs.declared.answers.Rate.TheVariants.{R500}
 use Rattle.raw_image.specs.Disk.{Disk}
-use Rattle.bay_model.specs.Bays.{Two, in_bay, with_bay}
-use Rattle.bay_model.specs.Counters.{Counters, DriveCounts, GoesOn, IsPastDriver}
+use Rattle.flop_base.specs.Bays.{Two, in_bay, with_bay}
+use Rattle.flop_base.specs.Counters.{Counters, DriveCounts, GoesOn, IsPastDriver}
 use Rattle.single_commands.specs.Rigs.{Rig}
 use Rattle.sector_model.specs.Stations.{StationState, Bay, Becomes, Stays, bay_of, set_bay, fresh_bay}
 use Rattle.sector_model.specs.Calls.{Inserts, Ejects, Exchanges, IsUnmoved, SetsMemory}

@@ -6,3 +6,7 @@ mod Attaching
 mod Replacing
 mod Starting
 mod Standing
+pub mod Readying
+pub mod Calming
+pub mod Placing
+pub mod Fetching

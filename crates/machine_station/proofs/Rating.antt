@@ -6,7 +6,7 @@ use Rattle.flop_base.specs.declared.answers.Rate.{Rate}
 use Rattle.flop_base.specs.declared.answers.Rate.TheVariants.{R500}
 use Rattle.flop_base.specs.declared.answers.Code.{Code}
 use Rattle.flop_base.specs.declared.answers.Code.TheVariants.{BadRequest}
-use Rattle.bay_model.specs.Counters.{DriveCounts, faults_of}
+use Rattle.flop_base.specs.Counters.{DriveCounts, faults_of}
 use Rattle.single_commands.specs.Rigs.{Rig}
 use Rattle.sector_model.specs.Stations.{StationState, Bay, bay_of, fresh_bay}
 use Rattle.sector_model.specs.Orders.{IsRefusedAtOnce, rate_refusal}

@@ -1,7 +1,7 @@
 -- A spare drive takes the place of one in a bay.
 use Rattle.std.proofs.Common.{◌≡◌, ℕ, ◌-◌, ◌∷◌, List, length, ap, ◌∙◌, arith}
 use Rattle.std.specs.Prelude.{None}
-use Rattle.bay_model.specs.Bays.{with_bay}
+use Rattle.flop_base.specs.Bays.{with_bay}
 use Rattle.drive_model.specs.Drive.{DriveState}
 use Rattle.single_commands.specs.Rigs.{Rig}
 use Rattle.sector_model.specs.Stations.{StationState, fresh_bay}

@@ -5,11 +5,11 @@ use Rattle.std.proofs.lemmas.List.{length-take-le, take-replicate}
 use Rattle.std.proofs.lemmas.List.Sums.{count_by-le-length}
 use Rattle.flop_base.specs.declared.answers.Rate.TheVariants.{R500}
 use Rattle.raw_image.specs.Disk.{Disk}
-use Rattle.bay_model.specs.Bays.{Two, both}
-use Rattle.bay_model.specs.Counters.{DriveCounts, DriveTells}
-use Rattle.bay_model.specs.Memory.{user_bytes, zeroes}
+use Rattle.flop_base.specs.Bays.{Two, both}
+use Rattle.flop_base.specs.Counters.{DriveCounts, DriveTells}
+use Rattle.flop_base.specs.Memory.{user_bytes, zeroes}
 use Rattle.drive_model.specs.Drive.{DriveState}
-use Rattle.machine_pace.specs.Holds.{Holds}
+use Rattle.irq_events.specs.Holds.{Holds}
 use Rattle.pc_bus.specs.declared.bus.Bus.{Bus}
 use Rattle.pc_bus.specs.Boards.{AreSetIfEmpty, Board, holds_of}
 use Rattle.pc_bus.specs.Calls.{AreCalled}

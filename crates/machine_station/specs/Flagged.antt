@@ -1,7 +1,7 @@
 -- The flags that a station keeps of its bays.
 use Rattle.std.specs.Prelude.{ℕ, is_some}
 use Rattle.flop_base.specs.declared.answers.Rate.{Rate}
-use Rattle.bay_model.specs.Bays.{Two, in_bay, with_bay}
+use Rattle.flop_base.specs.Bays.{Two, in_bay, with_bay}
 use Rattle.sector_model.specs.Stations.{Bay, StationState}
 use Rattle.machine_station.specs.declared.flags.BayFlags.{BayFlags}
 use Rattle.machine_station.specs.declared.flags.Flags.{Flags}

@@ -1,6 +1,6 @@
 -- The station that a machine with its driver and spare drives is.
 use Rattle.std.specs.Prelude.{◌≡◌, List, length, map}
-use Rattle.bay_model.specs.Counters.{DriveCounts}
+use Rattle.flop_base.specs.Counters.{DriveCounts}
 use Rattle.drive_model.specs.Drive.{DriveState}
 use Rattle.pc_bus.specs.Boards.{Board, memory_of}
 use Rattle.sector_model.specs.Stations.{StationState}

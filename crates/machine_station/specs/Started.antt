@@ -1,6 +1,6 @@
 -- A station before the first request.
 use Rattle.std.specs.Prelude.{◌≡◌, List}
-use Rattle.bay_model.specs.Counters.{DriveCounts, GoesOn}
+use Rattle.flop_base.specs.Counters.{DriveCounts, GoesOn}
 use Rattle.drive_model.specs.Drive.{DriveState}
 use Rattle.irq_events.specs.declared.pace.Pace.{Pace}
 use Rattle.pc_bus.specs.Boards.{Board, IsEmpty, IsNew}

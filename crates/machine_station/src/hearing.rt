@@ -1,6 +1,6 @@
 // What drives tell of the faults that are left to them. These functions do nothing but ask.
 ghost use Rattle.std.specs.Prelude.{All};
-ghost use Rattle.bay_model.specs.Counters.{DriveTells};
+ghost use Rattle.flop_base.specs.Counters.{DriveTells};
 ghost use Rattle.drive_model.specs.Drive.{InRange};
 ghost use Rattle.pc_bus.specs.Boards.{board};
 ghost use Rattle.machine_laws.specs.OnCounts.Counts.{counts_of};

@@ -1,6 +1,6 @@
 // A station with a machine.
 ghost use Rattle.std.specs.Prelude.{◌≡◌, length};
-ghost use Rattle.bay_model.specs.Memory.{user_bytes};
+ghost use Rattle.flop_base.specs.Memory.{user_bytes};
 ghost use Rattle.pc_bus.specs.Boards.{board};
 ghost use Rattle.machine_station.specs.Shown.{ShowsStation, station_shown};
 

@@ -6,7 +6,7 @@ use Rattle.flop_base.specs.declared.answers.Rate.TheVariants.{R500, R250}
 use Rattle.flop_base.specs.declared.answers.Code.TheVariants.{NotReady}
 use Rattle.raw_image.specs.Disk.{Disk, track_of}
 use Rattle.track_model.specs.Fields.{IsAddress}
-use Rattle.bay_model.specs.Counters.{faults_of}
+use Rattle.flop_base.specs.Counters.{faults_of}
 use Rattle.sector_model.specs.Stations.{StationState, Bay, bay_of, fresh_bay}
 use Rattle.sector_model.specs.Calls.{AcksDrive, HasNoStart}
 use Rattle.memory_station.specs.Driven.{Drives}

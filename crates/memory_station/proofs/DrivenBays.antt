@@ -1,7 +1,7 @@
 -- What a call that works on one bay leaves of the station.
 use Rattle.std.proofs.Common.{◌≡◌, ℕ, ◌≤◌, Option, Some, sym, ap, ◌∙◌, arith}
 use Rattle.raw_image.specs.Disk.{Disk}
-use Rattle.bay_model.specs.Counters.{Counters, IsDriven}
+use Rattle.flop_base.specs.Counters.{Counters, IsDriven}
 use Rattle.sector_model.specs.Stations.{StationState, Bay, Becomes, bay_of, set_bay}
 use Rattle.memory_station.specs.Driven.{Drives}
 

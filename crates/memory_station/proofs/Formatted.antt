@@ -12,7 +12,7 @@ use Rattle.flop_base.specs.Counts.{RoseBy}
 use Rattle.raw_image.specs.Disk.{Disk, IsDisk, HasTrack, IsWithTrack, track_of}
 use Rattle.track_model.specs.Layouts.{lay, laid_words}
 use Rattle.flop_base.specs.Lists.{with_items}
-use Rattle.bay_model.specs.Counters.{IsDriven}
+use Rattle.flop_base.specs.Counters.{IsDriven}
 use Rattle.sector_map.specs.Standard.{track_keys}
 use Rattle.sector_map.specs.Layings.{Format, formatted, Laying, IsLaying, IsFormattable}
 use Rattle.sector_map.specs.LaidDisks.{laying_at}

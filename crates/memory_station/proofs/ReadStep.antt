@@ -12,11 +12,11 @@ use Rattle.track_model.specs.Looks.{LookAt, LookFor}
 use Rattle.track_model.specs.Sectors.{IsSector}
 use Rattle.track_model.proofs.Sectored.{found_sector, sector_under}
 use Rattle.track_model.proofs.Unique.{one_look_at}
-use Rattle.bay_model.specs.Bays.{Two, in_bay}
-use Rattle.bay_model.specs.Counters.{Counters}
+use Rattle.flop_base.specs.Bays.{Two, in_bay}
+use Rattle.flop_base.specs.Counters.{Counters}
 use Rattle.flop_base.specs.Counts.{RoseBy}
 use Rattle.flop_base.specs.Lists.{with_items}
-use Rattle.bay_model.specs.Memory.{SameOutside}
+use Rattle.flop_base.specs.Memory.{SameOutside}
 use Rattle.sector_model.specs.Stations.{StationState, Bay, met}
 use Rattle.sector_model.specs.Orders.{IsDeviceRefusal}
 use Rattle.sector_map.specs.Met.{AllFound}

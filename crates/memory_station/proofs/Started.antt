@@ -1,10 +1,10 @@
 -- A station before the first request.
 use Rattle.std.proofs.Common.{◌≡◌, ℕ, ap, All, List, length, replicate, None, ◌∙◌, sym, subst, lit<, arith}
 use Rattle.std.proofs.lemmas.List.{length-replicate, get_or-replicate}
-use Rattle.bay_model.specs.Bays.{Two, both}
+use Rattle.flop_base.specs.Bays.{Two, both}
 use Rattle.sector_model.specs.Stations as model
-use Rattle.bay_model.specs.Counters.{DriveTells}
-use Rattle.bay_model.specs.Memory.{zeroes}
+use Rattle.flop_base.specs.Counters.{DriveTells}
+use Rattle.flop_base.specs.Memory.{zeroes}
 use Rattle.sector_model.specs.Stations.{fresh_bay}
 use Rattle.memory_station.specs.declared.bay.Bay.{Bay}
 use Rattle.memory_station.specs.Shown.{bay_shown, bays_shown}

@@ -3,10 +3,10 @@ use Rattle.std.proofs.Common.{◌≡◌, ℕ, zero, suc, ◌+◌, ◌-◌, ◌�
 use Rattle.std.proofs.lemmas.Bool.{false≢true, le-leb}
 use Rattle.raw_image.specs.Disk.{Disk}
 use Rattle.flop_base.specs.declared.answers.Code.{Code}
-use Rattle.bay_model.specs.Bays.{Two, both, in_bay, with_bay}
-use Rattle.bay_model.specs.Counters.{DriveCounts, Counters, IsPastDriver}
-use Rattle.bay_model.proofs.Counted.{drive_same}
-use Rattle.bay_model.specs.Memory.{bytes_from}
+use Rattle.flop_base.specs.Bays.{Two, both, in_bay, with_bay}
+use Rattle.flop_base.specs.Counters.{DriveCounts, Counters, IsPastDriver}
+use Rattle.flop_base.proofs.Counted.{drive_same}
+use Rattle.flop_base.specs.Memory.{bytes_from}
 use Rattle.sector_model.specs.Stations.{StationState, Bay, fresh_bay}
 use Rattle.flop_base.specs.declared.answers.Code.TheVariants.{BadRequest}
 use Rattle.sector_model.specs.Orders.{IsRefusedAtOnce}

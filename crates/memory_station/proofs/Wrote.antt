@@ -15,7 +15,7 @@ use Rattle.track_model.specs.Sectors.{IsSector}
 use Rattle.track_model.specs.Regular.{IsRegular}
 use Rattle.track_model.specs.Windows.{window_word, window_words}
 use Rattle.track_model.proofs.Sectored.{sector_under}
-use Rattle.bay_model.specs.Counters.{IsDriven}
+use Rattle.flop_base.specs.Counters.{IsDriven}
 use Rattle.sector_map.specs.Disks.{IsRegularDisk}
 use Rattle.sector_map.specs.Met.{HasLook}
 use Rattle.sector_map.specs.MetTracks.{MeetsTrack}

@@ -1,7 +1,7 @@
 -- The counters of a station in memory.
 use Rattle.std.specs.Prelude.{ℕ, List, replicate, Some}
-use Rattle.bay_model.specs.Bays.{both}
-use Rattle.bay_model.specs.Counters.{DriveCounts, Counters, GoesOn, IsDriven}
+use Rattle.flop_base.specs.Bays.{both}
+use Rattle.flop_base.specs.Counters.{DriveCounts, Counters, GoesOn, IsDriven}
 use Rattle.flop_base.specs.Counts.{RoseBy}
 use Rattle.memory_station.specs.declared.counts.Counts.{Counts}
 

@@ -1,6 +1,6 @@
 -- Calls that work on one bay.
 use Rattle.std.specs.Prelude.{◌≡◌, ℕ, ◌≤◌}
-use Rattle.bay_model.specs.Counters.{faults_of}
+use Rattle.flop_base.specs.Counters.{faults_of}
 use Rattle.sector_model.specs.Stations as model
 use Rattle.sector_model.specs.Stations.{StationState, Becomes, bay_of, set_bay}
 use Rattle.memory_station.specs.Counted.{HasSent}

@@ -3,7 +3,7 @@ use Rattle.std.specs.Prelude.{◌≡◌, ℕ, List, Some, None, if◌then◌else
 use Rattle.raw_image.specs.Disk.{Disk, IsDisk, track_of}
 use Rattle.track_model.specs.Cells.{IsTrackSized}
 use Rattle.sector_map.specs.MetTracks.{MeetsTrack}
-use Rattle.bay_model.specs.Bays.{Two}
+use Rattle.flop_base.specs.Bays.{Two}
 use Rattle.sector_model.specs.Stations as model
 use Rattle.sector_model.specs.Stations.{StationState, met}
 use Rattle.memory_station.specs.Counted.{counters_of}

@@ -1,6 +1,6 @@
 // The two bays of a station.
 ghost use Rattle.std.specs.Prelude.{◌≡◌};
-ghost use Rattle.bay_model.specs.Bays.{in_bay, with_bay};
+ghost use Rattle.flop_base.specs.Bays.{in_bay, with_bay};
 ghost use Rattle.sector_model.specs.Stations.{fresh_bay};
 ghost use Rattle.memory_station.specs.Shown.{bay_shown, bays_shown};
 

@@ -1,6 +1,6 @@
 // What a station in memory counts.
 ghost use Rattle.std.specs.Prelude.{◌≡◌, ◌+◌, ℕ, min};
-ghost use Rattle.bay_model.specs.Counters.{GoesOn, IsPastDriver};
+ghost use Rattle.flop_base.specs.Counters.{GoesOn, IsPastDriver};
 ghost use Rattle.flop_base.specs.Counts.{last_count};
 ghost use Rattle.memory_station.specs.Counted.{HasSent, counters_of};
 

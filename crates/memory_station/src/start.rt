@@ -1,6 +1,6 @@
 // A station before the first request.
 ghost use Rattle.std.specs.Prelude.{◌≡◌, ◌<◌, ◌^◌, length, IfOk};
-ghost use Rattle.bay_model.specs.Memory.{zeroes};
+ghost use Rattle.flop_base.specs.Memory.{zeroes};
 ghost use Rattle.sector_model.specs.Stations.{IsFresh};
 ghost use Rattle.memory_station.specs.Shown.{shown_of};
 
@@ -8,8 +8,7 @@ use crate::bay::Bay;
 use crate::bays::Bays;
 use crate::counts::Counts;
 use crate::station::MemoryStation;
-use bay_model::USER_BYTES;
-use flop_base::NoMemory;
+use flop_base::{NoMemory, USER_BYTES};
 use std::alloc::Global;
 
 /// The most words of a track.

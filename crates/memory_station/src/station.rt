@@ -1,6 +1,6 @@
 // A station in memory.
 ghost use Rattle.std.specs.Prelude.{◌≡◌, ◌≤◌, length};
-ghost use Rattle.bay_model.specs.Memory.{user_bytes};
+ghost use Rattle.flop_base.specs.Memory.{user_bytes};
 
 use crate::bays::Bays;
 use crate::counts::Counts;

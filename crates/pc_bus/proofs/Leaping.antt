@@ -8,10 +8,10 @@ use Rattle.fdc_core.specs.declared.controller.Fdc.{Fdc}
 use Rattle.fdc_drives.specs.WordTimes.{WordTimes}
 use Rattle.fdc_drives.proofs.PassedTimes.{dor_stays}
 use Rattle.irq_events.specs.Latch.{Latch}
-use Rattle.machine_pace.specs.Entries.{is_stray_due, strays_after, strays_later, AreQuiet}
-use Rattle.machine_pace.specs.Holds.{is_low, counted}
-use Rattle.machine_pace.specs.declared.holding.Request.{Request}
-use Rattle.machine_pace.specs.declared.holding.Request.TheVariants.{Low, High}
+use Rattle.irq_events.specs.Entries.{is_stray_due, strays_after, strays_later, AreQuiet}
+use Rattle.irq_events.specs.Holds.{is_low, counted}
+use Rattle.irq_events.specs.declared.holding.Request.{Request}
+use Rattle.irq_events.specs.declared.holding.Request.TheVariants.{Low, High}
 use Rattle.pc_bus.proofs.RunSteps.{runs_front, unset_front}
 use Rattle.pc_bus.specs.Boards.{Board, controller_of, selected_of, latch_of}
 use Rattle.pc_bus.specs.Leaps.{IsCalm, skipped}

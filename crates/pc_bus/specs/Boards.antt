@@ -1,12 +1,12 @@
 -- The machine as contracts see it: a board of chips, with a drive in each bay.
 use Rattle.std.specs.Prelude.{◌≡◌, ℕ, true, false, ◌==◌, if◌then◌else◌, List, None}
-use Rattle.bay_model.specs.Memory.{zeroes}
+use Rattle.flop_base.specs.Memory.{zeroes}
 use Rattle.drive_model.specs.Drive.{DriveState, Becomes, InRange, with_motor}
 use Rattle.dma_8237.specs.Channel.{Channel, power_up}
 use Rattle.irq_events.specs.Latch.{Latch}
 use Rattle.irq_events.specs.declared.pace.Pace.{Pace}
-use Rattle.machine_pace.specs.Holds.{AreShort, Holds}
-use Rattle.machine_pace.specs.declared.holding.Request.TheVariants.{Low}
+use Rattle.irq_events.specs.Holds.{AreShort, Holds}
+use Rattle.irq_events.specs.declared.holding.Request.TheVariants.{Low}
 use Rattle.fdc_core.specs.Ranges.{IsInRange as IsFdcInRange}
 use Rattle.fdc_core.specs.State.{at_power_up}
 use Rattle.fdc_core.specs.declared.controller.Fdc.{Fdc}

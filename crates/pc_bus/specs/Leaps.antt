@@ -1,8 +1,8 @@
 -- Device steps made at once: the word times alone pass.
 use Rattle.std.specs.Prelude.{◌≡◌, ℕ, ◌+◌, min, false}
 use Rattle.flop_base.specs.Counts.{last_count}
-use Rattle.machine_pace.specs.Entries.{strays_later}
-use Rattle.machine_pace.specs.declared.holding.Request.TheVariants.{Low}
+use Rattle.irq_events.specs.Entries.{strays_later}
+use Rattle.irq_events.specs.declared.holding.Request.TheVariants.{Low}
 use Rattle.fdc_core.specs.State.{asks, interrupts}
 use Rattle.pc_bus.specs.declared.bus.Bus.{Bus}
 

@@ -5,7 +5,7 @@ use Rattle.fdc_core.specs.Ports.{Writes, value_read as controller_value, after_r
 use Rattle.fdc_core.specs.declared.controller.Fdc.{Fdc}
 use Rattle.fdc_core.specs.declared.controller.Lines.{Lines}
 use Rattle.fdc_drives.specs.Following.{FollowsWrite}
-use Rattle.machine_pace.specs.Entries.{next_entry, rest_of}
+use Rattle.irq_events.specs.Entries.{next_entry, rest_of}
 use Rattle.pc_bus.specs.Boards.{Board, lines_of}
 use Rattle.pc_bus.specs.Steps.{Runs}
 use Rattle.pc_bus.specs.Transfers.{shown_again}

@@ -4,7 +4,7 @@ use Rattle.saved_state.specs.Saved.{spelled_count, spelled_flag, spelled_bytes}
 use Rattle.dma_8237.specs.Saving.{spelled_channel}
 use Rattle.fdc_core.specs.Saving.{spelled_fdc, FdcFits}
 use Rattle.irq_events.specs.Saving.{spelled_latch}
-use Rattle.machine_pace.specs.Saving.{spelled_gaps, spelled_strays, spelled_holds}
+use Rattle.irq_events.specs.PaceSaving.{spelled_gaps, spelled_strays, spelled_holds}
 use Rattle.pc_bus.specs.declared.bus.Bus.{Bus}
 use Rattle.pc_bus.specs.declared.chips.Chips.{Chips}
 use Rattle.pc_bus.specs.declared.machine.MachineOf.{MachineOf}

@@ -1,8 +1,8 @@
 -- Device steps of the machine.
 use Rattle.std.specs.Prelude.{◌≡◌, ◌≤◌, ℕ, zero, suc, Bool, true, false, not, ◌&&◌, ◌||◌}
 use Rattle.irq_events.specs.Latch.{Latch}
-use Rattle.machine_pace.specs.Entries.{is_stray_due, strays_after}
-use Rattle.machine_pace.specs.Holds.{counted}
+use Rattle.irq_events.specs.Entries.{is_stray_due, strays_after}
+use Rattle.irq_events.specs.Holds.{counted}
 use Rattle.fdc_core.specs.State.{interrupts}
 use Rattle.fdc_core.specs.declared.controller.Fdc.{Fdc}
 use Rattle.fdc_drives.specs.WordTimes.{PassesWordTime}

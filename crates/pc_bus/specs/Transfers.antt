@@ -4,7 +4,7 @@ use Rattle.dma_8237.specs.Channel.{Channel, grants, after_transfer, place_of, wr
 use Rattle.fdc_core.specs.Dma.{byte_out, taken_out, taken_in, told_count, to_memory_of}
 use Rattle.fdc_core.specs.State.{asks}
 use Rattle.fdc_core.specs.declared.controller.Fdc.{Fdc}
-use Rattle.machine_pace.specs.Holds.{looked, shown, is_due}
+use Rattle.irq_events.specs.Holds.{looked, shown, is_due}
 use Rattle.pc_bus.specs.declared.chips.Chips.{Chips}
 
 -- the byte that the channel gives of a memory: FF where it isn't set to read memory

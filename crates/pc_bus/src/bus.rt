@@ -1,7 +1,7 @@
 // The machine without its drives.
 ghost use Rattle.std.specs.Prelude.{◌≡◌, ◌<◌, ◌≤◌, IfOk, List, false, true};
 ghost use Rattle.fdc_core.specs.State.{interrupts};
-ghost use Rattle.machine_pace.specs.Entries.{next_entry, rest_of, AreQuiet};
+ghost use Rattle.irq_events.specs.Entries.{next_entry, rest_of, AreQuiet};
 ghost use Rattle.pc_bus.specs.Boards.{new_bus};
 ghost use Rattle.pc_bus.specs.Handling.{byte_set, irq_taken, touched};
 ghost use Rattle.pc_bus.specs.Leaps.{IsCalm, skipped};
@@ -11,8 +11,7 @@ ghost use Rattle.pc_bus.specs.Steps.{step_begun, step_ended};
 use crate::chips::Chips;
 use fdc_core::Lines;
 use flop_base::NoMemory;
-use irq_events::{IrqLatch, Pace};
-use machine_pace::{Gaps, Strays};
+use irq_events::{Gaps, IrqLatch, Pace, Strays};
 use std::alloc::Global;
 
 /// Memory below this address is the user's; the page above it is the driver's.
@@ -88,7 +87,7 @@ impl Bus {
     }
 
     /// For how many device steps, `most` at most, nothing comes but word times.
-    #[tactic(auto, unfolding(machine_pace::specs::Entries::AreQuiet))]
+    #[tactic(auto, unfolding(irq_events::specs::Entries::AreQuiet))]
     pub fn quiet_for(&self, most: u32) -> u32
         ensures few { result ≤ most }
         ensures quiet { AreQuiet result self.now.strays }

@@ -1,11 +1,11 @@
 // The controller, DMA channel 2 and memory, and a request between them.
 ghost use Rattle.std.specs.Prelude.{◌≡◌, IsTrue, IsFalse, IfOk, List};
-ghost use Rattle.bay_model.specs.Memory.{zeroes};
+ghost use Rattle.flop_base.specs.Memory.{zeroes};
 ghost use Rattle.dma_8237.specs.Channel.{grants, power_up};
 ghost use Rattle.fdc_core.specs.Dma.{to_memory_of};
 ghost use Rattle.fdc_core.specs.State.{at_power_up};
-ghost use Rattle.machine_pace.specs.Holds.{is_due};
-ghost use Rattle.machine_pace.specs.declared.holding.Request.TheVariants.{Low};
+ghost use Rattle.irq_events.specs.Holds.{is_due};
+ghost use Rattle.irq_events.specs.declared.holding.Request.TheVariants.{Low};
 ghost use Rattle.pc_bus.specs.Ports.{port_value, port_read, is_controllers, WritesChips};
 ghost use Rattle.pc_bus.specs.Transfers.{can_move, moved, moved_to_memory, moved_from_memory, moved_up_to, looked_at, shown_again, granted, dma_stepped};
 
@@ -14,7 +14,7 @@ use dma_8237::Dma;
 use fdc_core::{Fdc, Lines};
 use fdc_fifo::DEPTH;
 use flop_base::NoMemory;
-use machine_pace::Holding;
+use irq_events::Holding;
 use std::alloc::Global;
 
 /// The chips on the way of a byte.

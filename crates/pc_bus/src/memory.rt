@@ -1,6 +1,6 @@
 // The memory of the machine.
 ghost use Rattle.std.specs.Prelude.{◌≡◌, ◌==◌, ◌<◌, ◌^◌, ℕ, IfOk, IsTrue, length, slice_index, slice_set};
-ghost use Rattle.bay_model.specs.Memory.{zeroes};
+ghost use Rattle.flop_base.specs.Memory.{zeroes};
 ghost use Rattle.dma_8237.specs.Channel.{grants, after_transfer};
 ghost use Rattle.pc_bus.specs.Transfers.{byte_read, memory_after};
 
@@ -83,7 +83,7 @@ fn keep_bytes(_bytes: &[u8])
 {}
 
 /// So many bytes 00.
-#[tactic(auto, unfolding(bay_model::specs::Memory::zeroes))]
+#[tactic(auto, unfolding(flop_base::specs::Memory::zeroes))]
 fn blank(alloc: Global, count: usize) -> Result<Vec<u8>, NoMemory>
     ensures bytes { IfOk result (λ bytes. bytes.items ≡ zeroes count) }
     ensures len { IfOk result (λ bytes. length bytes.items ≡ count) }

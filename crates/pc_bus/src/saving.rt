@@ -6,8 +6,7 @@ use crate::memory::Memory;
 use dma_8237::Dma;
 use fdc_core::Fdc;
 use flop_base::NoMemory;
-use irq_events::IrqLatch;
-use machine_pace::{Gaps, Holding, Strays};
+use irq_events::{Gaps, Holding, IrqLatch, Strays};
 use saved_state::{Saved, SavedWhole, Sink, Source};
 use std::alloc::Global;
 

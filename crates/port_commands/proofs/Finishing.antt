@@ -4,7 +4,7 @@ use Rattle.std.specs.Option.{MatchOption}
 use Rattle.flop_base.specs.Counts.{RoseBy}
 use Rattle.floppy_jobs.specs.declared.ports.PortLine.{PortLine}
 use Rattle.floppy_jobs.specs.declared.ports.PortLine.TheVariants as line
-use Rattle.machine_pace.specs.Entries.{next_entry}
+use Rattle.irq_events.specs.Entries.{next_entry}
 use Rattle.machine_laws.specs.OnSteps.Moves.{Acts, Goes}
 use Rattle.machine_laws.proofs.OnSteps.Counted.{goes_counted}
 use Rattle.machine_laws.proofs.OnSteps.DataEnds.{data_over}

@@ -10,7 +10,7 @@ use Rattle.drive_model.specs.Drive.{DriveState, is_protected}
 use Rattle.floppy_jobs.specs.Texts.{ports_of}
 use Rattle.floppy_jobs.specs.declared.ports.PortLine.{PortLine}
 use Rattle.floppy_jobs.specs.declared.ports.PortLine.TheVariants as line
-use Rattle.machine_pace.specs.Entries.{next_entry}
+use Rattle.irq_events.specs.Entries.{next_entry}
 use Rattle.machine_laws.specs.OnSteps.Steady.{regapped, Marching, Steady}
 use Rattle.machine_laws.specs.OnWrites.Guards.{GuardsMedia}
 use Rattle.machine_laws.proofs.OnSteps.Runs.{inputs, outputs, march_gap, march_wait, march_waits, read_from, wait}

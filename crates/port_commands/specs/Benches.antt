@@ -1,6 +1,6 @@
 -- A machine on a bench, with no driver: its board, the name of the file that each medium came from, and the files.
 use Rattle.std.specs.Prelude.{◌≡◌, ℕ, Bool, List, Option, None, is_some}
-use Rattle.bay_model.specs.Bays.{Two, in_bay}
+use Rattle.flop_base.specs.Bays.{Two, in_bay}
 use Rattle.flop_base.specs.Shelf.{Files}
 use Rattle.drive_model.specs.Drive.{DriveState}
 use Rattle.pc_bus.specs.Boards.{Board, board}

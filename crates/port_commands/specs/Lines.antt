@@ -1,7 +1,7 @@
 -- What each line does, by its call of the machine.
 use Rattle.std.specs.Prelude.{◌≡◌, ℕ, Bool, true, false, not, ◌==◌, List, Option, Some, None, Result, Ok, Err, if◌then◌else◌}
 use Rattle.std.specs.Option.{MatchOption}
-use Rattle.bay_model.specs.Bays.{in_bay, with_bay}
+use Rattle.flop_base.specs.Bays.{in_bay, with_bay}
 use Rattle.flop_base.specs.Shelf.{stored}
 use Rattle.flop_base.specs.declared.answers.Code.TheVariants.{BadRequest}
 use Rattle.raw_image.specs.Disk.{Disk}

@@ -1,7 +1,7 @@
 // What holds of all port accesses, whatever the machine is doing. The bodies are empty.
 ghost use Rattle.std.specs.Prelude.{◌≤◌, ℕ, Bool, List};
 ghost use Rattle.flop_base.specs.Counts.{RoseBy};
-ghost use Rattle.machine_pace.specs.Entries.{next_entry};
+ghost use Rattle.irq_events.specs.Entries.{next_entry};
 ghost use Rattle.pc_bus.specs.Boards.{Board, IsInRange};
 ghost use Rattle.pc_bus.specs.Ports.{Inputs, Outputs};
 ghost use Rattle.pc_bus.specs.Steps.{Runs, Waits, stirred};

@@ -2,7 +2,7 @@
 ghost use Rattle.std.specs.Prelude.{◌≡◌, ◌≤◌, false, true};
 ghost use Rattle.floppy_jobs.specs.declared.ports.PortLine.TheVariants as line;
 ghost use Rattle.drive_model.specs.Drive.{Becomes, loaded};
-ghost use Rattle.bay_model.specs.Bays.{with_bay};
+ghost use Rattle.flop_base.specs.Bays.{with_bay};
 ghost use Rattle.pc_bus.specs.Boards.{board, drive_in};
 ghost use Rattle.pc_bus.specs.Handling.{Touches};
 ghost use Rattle.port_commands.specs.Benches.{AreNamed, is_loaded as is_loaded_in};

@@ -1,6 +1,6 @@
 // The names of the media that are in.
 ghost use Rattle.std.specs.Prelude.{◌≡◌};
-ghost use Rattle.bay_model.specs.Bays.{in_bay, with_bay};
+ghost use Rattle.flop_base.specs.Bays.{in_bay, with_bay};
 ghost use Rattle.port_commands.specs.Benches.{is_loaded, no_names};
 
 use flop_base::Name;

@@ -4,7 +4,7 @@ use Rattle.flop_base.specs.Shelf.{Files}
 use Rattle.flop_base.specs.declared.answers.Status.TheVariants as status
 use Rattle.flop_base.specs.declared.key.Chrn.{Chrn}
 use Rattle.raw_image.specs.Disk.{Disk}
-use Rattle.bay_model.specs.Counters.{Counters, DriveCounts}
+use Rattle.flop_base.specs.Counters.{Counters, DriveCounts}
 use Rattle.sector_map.specs.Standard.{key_of}
 use Rattle.sector_model.specs.Runs.{Taken}
 use Rattle.sector_model.specs.Steps.{IsImageOf}

@@ -7,7 +7,7 @@ use Rattle.flop_base.specs.declared.answers.Rate.TheVariants.{R250, R500}
 use Rattle.flop_base.specs.declared.answers.Status.{Status}
 use Rattle.flop_base.specs.declared.answers.Status.TheVariants as status
 use Rattle.raw_image.specs.Disk.{Disk}
-use Rattle.bay_model.specs.Counters.{DriveCounts}
+use Rattle.flop_base.specs.Counters.{DriveCounts}
 use Rattle.sector_model.specs.Faults.{Blames}
 use Rattle.sector_map.specs.Disks.{IsRegularDisk}
 use Rattle.sector_model.specs.Steps.{IsImageOf}

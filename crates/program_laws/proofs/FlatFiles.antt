@@ -3,7 +3,7 @@ use Rattle.std.proofs.Common.{◌≡◌, ℕ, List, Option, Some, subst}
 use Rattle.flop_base.specs.Shelf.{Files}
 use Rattle.flop_base.specs.declared.answers.Status.TheVariants as status
 use Rattle.raw_image.specs.Disk.{Disk}
-use Rattle.bay_model.specs.Counters.{Counters, DriveCounts}
+use Rattle.flop_base.specs.Counters.{Counters, DriveCounts}
 use Rattle.sector_model.specs.Runs.{Taken}
 use Rattle.sector_model.specs.Steps.{IsImageOf}
 use Rattle.pc_bus.specs.Boards.{Board}

@@ -1,7 +1,7 @@
 -- Words that are a form.
 use Rattle.std.proofs.Common.{◌≡◌, ◌∙◌, ℕ, List, Option, Some, None, refl, sym, subst}
 use Rattle.flop_base.specs.declared.answers.Status.{Status}
-use Rattle.bay_model.specs.Counters.{DriveCounts}
+use Rattle.flop_base.specs.Counters.{DriveCounts}
 use Rattle.floppy_words.specs.declared.form.Form.{Form}
 use Rattle.floppy_words.specs.Forms.{form_of, ports_file_of}
 use Rattle.floppy_words.proofs.PortsLemmas.{no_form}

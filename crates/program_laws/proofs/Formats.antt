@@ -2,7 +2,7 @@
 use Rattle.std.proofs.Common.{ℕ, List, Some}
 use Rattle.flop_base.specs.declared.answers.Rate.TheVariants.{R250, R500}
 use Rattle.flop_base.specs.declared.answers.Status.TheVariants as status
-use Rattle.bay_model.specs.Counters.{DriveCounts}
+use Rattle.flop_base.specs.Counters.{DriveCounts}
 use Rattle.pc_bus.specs.Boards.{Board}
 use Rattle.archive_commands.specs.Files.{Desk}
 use Rattle.floppy_words.specs.declared.form.Form.TheVariants as form

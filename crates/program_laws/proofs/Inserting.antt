@@ -14,7 +14,7 @@ use Rattle.raw_image.specs.Words.{bytes_of}
 use Rattle.raw_image.specs.Image.{image_of, file_of}
 use Rattle.raw_image.proofs.Pairs.{length-bytes_of}
 use Rattle.raw_image.proofs.Images.{image_again}
-use Rattle.bay_model.specs.Bays.{Two, in_bay, with_bay}
+use Rattle.flop_base.specs.Bays.{Two, in_bay, with_bay}
 use Rattle.sector_map.specs.Changes.{Change, Written}
 use Rattle.sector_map.specs.Layings.{Format, Laying}
 use Rattle.sector_model.specs.declared.reply.Reason.{Reason}

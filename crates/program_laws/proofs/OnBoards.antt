@@ -4,7 +4,7 @@ use Rattle.std.specs.Prelude.{nat_lt}
 use Rattle.std.proofs.lemmas.List.Recursion.{is_count_by}
 use Rattle.std.proofs.lemmas.Bool.{le-ltb}
 use Rattle.flop_base.specs.Counts.{CanTell, Spends}
-use Rattle.bay_model.specs.Counters.{DriveCounts, DriveGoesOn, Counters, IsFaultless, IsUndisturbed}
+use Rattle.flop_base.specs.Counters.{DriveCounts, DriveGoesOn, Counters, IsFaultless, IsUndisturbed}
 use Rattle.pc_bus.specs.Boards.{Board, holds_of}
 use Rattle.sector_model.specs.Stations.{StationState, IsFresh}
 use Rattle.sector_model.specs.Ties.{IsSpent, HasNothingLeft}

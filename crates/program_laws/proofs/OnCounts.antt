@@ -2,7 +2,7 @@
 use Rattle.std.proofs.Common.{arith, ◌+◌, ◌≤◌, ℕ, List, Option, Some, ap}
 use Rattle.flop_base.specs.declared.answers.Status.{Status}
 use Rattle.floppy_requests.specs.declared.request.Request.{Request}
-use Rattle.bay_model.specs.Counters.{Counters, DriveCounts}
+use Rattle.flop_base.specs.Counters.{Counters, DriveCounts}
 use Rattle.pc_bus.specs.Boards.{Board}
 use Rattle.sector_model.specs.Ties.{TiesCounts, IsJob, accesses_of_job}
 use Rattle.archive_commands.specs.Files.{Desk}

@@ -6,7 +6,7 @@ use Rattle.flop_base.specs.declared.answers.Status.{Status}
 use Rattle.raw_image.specs.Disk.{Disk}
 use Rattle.raw_image.specs.Image.{image_of}
 use Rattle.raw_image.specs.declared.error.ImageError.{ImageError}
-use Rattle.bay_model.specs.Bays.{both}
+use Rattle.flop_base.specs.Bays.{both}
 use Rattle.floppy_requests.specs.Texts.{job_of}
 use Rattle.floppy_requests.specs.declared.request.Request.{Request}
 use Rattle.sector_model.specs.declared.reply.Stop.{Stop}

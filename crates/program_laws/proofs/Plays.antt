@@ -7,7 +7,7 @@ use Rattle.flop_base.specs.Shelf.{Files, file_at}
 use Rattle.flop_base.specs.Sink.{grown}
 use Rattle.flop_base.specs.declared.answers.Status.{Status}
 use Rattle.flop_base.specs.declared.answers.Status.TheVariants as status
-use Rattle.bay_model.specs.Counters.{DriveCounts}
+use Rattle.flop_base.specs.Counters.{DriveCounts}
 use Rattle.pc_bus.specs.Boards.{Board}
 use Rattle.floppy_requests.specs.Texts.{job_of}
 use Rattle.floppy_requests.specs.declared.request.Request.{Request}

@@ -11,8 +11,8 @@ use Rattle.flop_base.specs.declared.answers.Status.{Status}
 use Rattle.raw_image.specs.Disk.{Disk, IsDisk}
 use Rattle.raw_image.specs.Image.{image_of, file_of}
 use Rattle.raw_image.proofs.Images.{image_again}
-use Rattle.bay_model.specs.Bays.{Two, both, in_bay, with_bay}
-use Rattle.bay_model.specs.Counters.{DriveCounts}
+use Rattle.flop_base.specs.Bays.{Two, both, in_bay, with_bay}
+use Rattle.flop_base.specs.Counters.{DriveCounts}
 use Rattle.pc_bus.specs.Boards.{Board}
 use Rattle.floppy_requests.specs.declared.request.Request.{Request}
 use Rattle.floppy_requests.specs.declared.request.Request.TheVariants as request

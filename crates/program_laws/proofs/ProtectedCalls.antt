@@ -3,7 +3,7 @@ use Rattle.std.proofs.Common.{◌≡◌, ◌∙◌, ℕ, true, List, ◌++◌, O
 use Rattle.flop_base.specs.Shelf.{Files}
 use Rattle.flop_base.specs.declared.answers.Status.{Status}
 use Rattle.raw_image.specs.Disk.{Disk, IsDisk}
-use Rattle.bay_model.specs.Counters.{DriveCounts}
+use Rattle.flop_base.specs.Counters.{DriveCounts}
 use Rattle.pc_bus.specs.Boards.{Board}
 use Rattle.floppy_jobs.specs.declared.calls.CallLine.{CallLine}
 use Rattle.sector_model.specs.States.{State}

@@ -6,7 +6,7 @@ use Rattle.flop_base.specs.declared.answers.Rate.TheVariants.{R250, R500}
 use Rattle.flop_base.specs.declared.answers.Status.{Status}
 use Rattle.flop_base.specs.declared.answers.Status.TheVariants as status
 use Rattle.raw_image.specs.Disk.{Disk}
-use Rattle.bay_model.specs.Counters.{DriveCounts}
+use Rattle.flop_base.specs.Counters.{DriveCounts}
 use Rattle.sector_model.specs.Faults.{Blames}
 use Rattle.sector_model.specs.Runs.{Taken, has_refusal}
 use Rattle.sector_model.specs.Steps.{IsImageOf}
@@ -28,7 +28,7 @@ use Rattle.rescue.specs.declared.line.LogLine.{LogLine}
 use Rattle.rescue_commands.specs.Logs.{IsLogFound}
 use Rattle.program_laws.proofs.PlayStatus.{play_by, begins_kept}
 use Rattle.program_laws.specs.Inserted.{IsDiskFile, InsertsDisks}
-use Rattle.bay_model.specs.Bays.{both}
+use Rattle.flop_base.specs.Bays.{both}
 use Rattle.floppy_requests.specs.Texts.{job_of}
 use Rattle.floppy_requests.specs.declared.request.Request.{Request}
 use Rattle.sector_model.specs.Plays.{IsText}

@@ -1,7 +1,7 @@
 -- What a rescue stores, and in which order.
 use Rattle.std.proofs.Common.{ℕ, List, [], Some, ap}
 use Rattle.flop_base.specs.declared.answers.Status.{Status}
-use Rattle.bay_model.specs.Counters.{DriveCounts}
+use Rattle.flop_base.specs.Counters.{DriveCounts}
 use Rattle.pc_bus.specs.Boards.{Board}
 use Rattle.sector_model.specs.Runs.{Taken}
 use Rattle.sector_model.specs.Plays.{World}
@@ -18,8 +18,8 @@ use Rattle.sector_map.specs.Disks.{IsRegularDisk}
 use Rattle.command_laws.proofs.CommandEnds.{fresh_memory}
 use Rattle.std.specs.Prelude.{◌≢◌, None, length, IsSomeAnd}
 use Rattle.flop_base.specs.Standard.{sectors_at}
-use Rattle.bay_model.specs.Memory.{user_bytes}
-use Rattle.bay_model.specs.Counters.{IsFaultless}
+use Rattle.flop_base.specs.Memory.{user_bytes}
+use Rattle.flop_base.specs.Counters.{IsFaultless}
 use Rattle.sector_model.specs.States.{State}
 use Rattle.rescue_commands.specs.Logs.{IsLogFound}
 use Rattle.command_laws.specs.Rescued.{HasLaidTracks, HasTarget, IsRescue}

@@ -9,8 +9,8 @@ use Rattle.flop_base.specs.declared.key.Chrn.{Chrn}
 use Rattle.raw_image.specs.Disk.{Disk}
 use Rattle.floppy_requests.specs.declared.request.Request.{Request}
 use Rattle.floppy_requests.specs.declared.request.Request.TheVariants as request
-use Rattle.bay_model.specs.Bays.{Two, in_bay, with_bay}
-use Rattle.bay_model.specs.Counters.{Counters, IsDriven}
+use Rattle.flop_base.specs.Bays.{Two, in_bay, with_bay}
+use Rattle.flop_base.specs.Counters.{Counters, IsDriven}
 use Rattle.sector_map.specs.Changes.{Change, Written}
 use Rattle.sector_model.specs.declared.reply.Reply.{Reply}
 use Rattle.sector_model.specs.Stations.{StationState, Bay, bay_of, set_bay, fresh_bay, Becomes, Stays}

@@ -1,7 +1,7 @@
 -- What the boards before and after a run tell of what disturbed it.
 use Rattle.std.specs.Prelude.{◌≡◌, ◌≤◌, ℕ, All, List, Some}
 use Rattle.flop_base.specs.Counts.{RoseLess}
-use Rattle.bay_model.specs.Counters.{DriveCounts}
+use Rattle.flop_base.specs.Counters.{DriveCounts}
 use Rattle.pc_bus.specs.Boards.{Board, drive_in, holds_of}
 
 -- the drive in a bay had no fault between two boards: its count didn't rise, and is below its last value

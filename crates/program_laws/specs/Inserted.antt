@@ -3,7 +3,7 @@ use Rattle.std.specs.Prelude.{◌≡◌, ◌≤◌, ◌⊎◌, ℕ, Bool, true, 
 use Rattle.flop_base.specs.Shelf.{Files, file_at}
 use Rattle.raw_image.specs.Disk.{Disk}
 use Rattle.raw_image.specs.Image.{Spells}
-use Rattle.bay_model.specs.Bays.{Two, in_bay, with_bay}
+use Rattle.flop_base.specs.Bays.{Two, in_bay, with_bay}
 use Rattle.floppy_requests.specs.declared.request.Request.{Request}
 use Rattle.floppy_requests.specs.declared.request.Request.TheVariants as request
 use Rattle.floppy_jobs.specs.declared.calls.CallLine.{CallLine}

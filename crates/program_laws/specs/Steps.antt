@@ -4,7 +4,7 @@ use Rattle.flop_base.specs.declared.answers.Code.{Code}
 use Rattle.flop_base.specs.declared.key.Chrn.{Chrn}
 use Rattle.floppy_requests.specs.declared.request.Request.{Request}
 use Rattle.floppy_requests.specs.declared.request.Request.TheVariants as request
-use Rattle.bay_model.specs.Counters.{IsDriven}
+use Rattle.flop_base.specs.Counters.{IsDriven}
 use Rattle.raw_image.specs.Disk.{Disk}
 use Rattle.sector_map.specs.Changes.{Change}
 use Rattle.sector_map.specs.Disks.{IsRegularDisk}

@@ -1,6 +1,6 @@
 // The forms on files alone: they leave the machine's media and its driver idle.
 ghost use Rattle.std.specs.Prelude.{List, Some, codes};
-ghost use Rattle.bay_model.specs.Counters.{DriveCounts};
+ghost use Rattle.flop_base.specs.Counters.{DriveCounts};
 ghost use Rattle.pc_bus.specs.Boards.{Board};
 ghost use Rattle.archive_commands.specs.Files.{Desk};
 ghost use Rattle.archive_commands.specs.Making.{MakesFromImd, MakesToImd, MakesRemaster};

@@ -6,7 +6,7 @@ ghost use Rattle.flop_base.specs.declared.answers.Rate.{Rate};
 ghost use Rattle.flop_base.specs.declared.answers.Rate.TheVariants.{R250, R500};
 ghost use Rattle.flop_base.specs.declared.answers.Status.{Status};
 ghost use Rattle.raw_image.specs.Disk.{Disk};
-ghost use Rattle.bay_model.specs.Counters.{DriveCounts};
+ghost use Rattle.flop_base.specs.Counters.{DriveCounts};
 ghost use Rattle.sector_map.specs.Disks.{IsRegularDisk};
 ghost use Rattle.sector_model.specs.Steps.{IsImageOf};
 ghost use Rattle.rescue.specs.Course.{logged_keys};

@@ -4,7 +4,7 @@ ghost use Rattle.flop_base.specs.Shelf.{Files};
 ghost use Rattle.flop_base.specs.declared.answers.Status.{Status};
 ghost use Rattle.raw_image.specs.Disk.{Disk};
 ghost use Rattle.raw_image.specs.Image.{image_of};
-ghost use Rattle.bay_model.specs.Counters.{DriveCounts};
+ghost use Rattle.flop_base.specs.Counters.{DriveCounts};
 ghost use Rattle.imagedisk.specs.declared.image.ImdImage.{ImdImage};
 ghost use Rattle.imagedisk.specs.Reading.{image_of as imd_of};
 ghost use Rattle.archive_commands.specs.Files.{ReadsAs};

@@ -1,7 +1,7 @@
 // The forms that format a disk.
 ghost use Rattle.std.specs.Prelude.{◌≤◌, ℕ, List, Some};
 ghost use Rattle.flop_base.specs.declared.answers.Rate.TheVariants.{R250, R500};
-ghost use Rattle.bay_model.specs.Counters.{DriveCounts};
+ghost use Rattle.flop_base.specs.Counters.{DriveCounts};
 ghost use Rattle.pc_bus.specs.Boards.{Board};
 ghost use Rattle.archive_commands.specs.Files.{Desk};
 ghost use Rattle.floppy_words.specs.declared.form.Form.TheVariants as form;

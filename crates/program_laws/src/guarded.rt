@@ -3,7 +3,7 @@ ghost use Rattle.std.specs.Prelude.{◌≡◌, true, List, Some};
 ghost use Rattle.flop_base.specs.Shelf.{Files};
 ghost use Rattle.flop_base.specs.declared.answers.Status.{Status};
 ghost use Rattle.raw_image.specs.Disk.{Disk, IsDisk};
-ghost use Rattle.bay_model.specs.Counters.{DriveCounts};
+ghost use Rattle.flop_base.specs.Counters.{DriveCounts};
 ghost use Rattle.pc_bus.specs.Boards.{Board};
 ghost use Rattle.floppy_requests.specs.declared.request.Request.{Request};
 ghost use Rattle.sector_model.specs.Ties.{IsJob};

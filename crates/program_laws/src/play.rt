@@ -2,7 +2,7 @@
 ghost use Rattle.std.specs.Prelude.{◌≡◌, List, Some};
 ghost use Rattle.flop_base.specs.Shelf.{Files};
 ghost use Rattle.flop_base.specs.declared.answers.Status.{Status};
-ghost use Rattle.bay_model.specs.Counters.{DriveCounts};
+ghost use Rattle.flop_base.specs.Counters.{DriveCounts};
 ghost use Rattle.pc_bus.specs.Boards.{Board};
 ghost use Rattle.archive_commands.specs.Files.{Desk};
 ghost use Rattle.floppy_words.specs.declared.form.Form.TheVariants as form;

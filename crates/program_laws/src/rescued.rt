@@ -9,7 +9,7 @@ ghost use Rattle.program_laws.specs.Disturbed.{HadNoFault, HadNoStall};
 ghost use Rattle.program_laws.specs.Stored.{StoresLogOf};
 ghost use Rattle.program_laws.specs.Told.{IsNotToldStopped};
 ghost use Rattle.flop_base.specs.declared.answers.Status.{Status};
-ghost use Rattle.bay_model.specs.Counters.{DriveCounts};
+ghost use Rattle.flop_base.specs.Counters.{DriveCounts};
 ghost use Rattle.pc_bus.specs.Boards.{Board};
 ghost use Rattle.archive_commands.specs.Files.{Desk};
 ghost use Rattle.floppy_words.specs.declared.form.Form.TheVariants as form;

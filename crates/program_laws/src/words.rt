@@ -1,7 +1,7 @@
 // Words that are a form.
 ghost use Rattle.std.specs.Prelude.{◌≡◌, ℕ, List, Some};
 ghost use Rattle.flop_base.specs.declared.answers.Status.{Status};
-ghost use Rattle.bay_model.specs.Counters.{DriveCounts};
+ghost use Rattle.flop_base.specs.Counters.{DriveCounts};
 ghost use Rattle.floppy_words.specs.declared.form.Form.{Form};
 ghost use Rattle.floppy_words.specs.Forms.{form_of};
 ghost use Rattle.floppy_tools.specs.Performed.{Stand, RanOver, Performed};

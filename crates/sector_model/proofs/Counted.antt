@@ -5,9 +5,9 @@ use Rattle.std.proofs.lemmas.List.Sums.{sum_by-cons}
 use Rattle.std.specs.Prelude.{◌==◌, if◌then◌else◌, sum_by}
 use Rattle.std.specs.Option.{option_map_or}
 use Rattle.flop_base.specs.Counts.{Spends}
-use Rattle.bay_model.specs.Bays.{in_bay}
-use Rattle.bay_model.specs.Counters.{DriveCounts, Counters, DriveGoesOn, GoesOn, TakesSpare}
-use Rattle.bay_model.proofs.Counted.{drive_same}
+use Rattle.flop_base.specs.Bays.{in_bay}
+use Rattle.flop_base.specs.Counters.{DriveCounts, Counters, DriveGoesOn, GoesOn, TakesSpare}
+use Rattle.flop_base.proofs.Counted.{drive_same}
 use Rattle.sector_model.specs.Ties.{with_spare, told_rise, told_faults, told_left, all_left}
 
 pub not-first : (bay : ℕ) → (suc bay == 0) ≡ false

@@ -4,7 +4,7 @@ use Rattle.std.proofs.lemmas.Bool.{true≢false, leb-true, eqb-false}
 use Rattle.std.specs.Prelude.{◌==◌, if◌then◌else◌, MatchOption}
 use Rattle.flop_base.specs.Counts.{Spends}
 use Rattle.flop_base.specs.Shelf.{Files}
-use Rattle.bay_model.specs.Counters.{DriveCounts, Counters, faults_of, DriveGoesOn, GoesOn, IsUndisturbed}
+use Rattle.flop_base.specs.Counters.{DriveCounts, Counters, faults_of, DriveGoesOn, GoesOn, IsUndisturbed}
 use Rattle.floppy_requests.specs.declared.request.Request.{Request}
 use Rattle.floppy_requests.specs.declared.request.Request.TheVariants as request
 use Rattle.sector_model.specs.declared.reply.Reply.{Reply}
@@ -17,7 +17,7 @@ use Rattle.sector_model.specs.Orders.{is_bay}
 use Rattle.sector_model.specs.Steps.{Step, IsRefused, unless_bad}
 use Rattle.sector_model.specs.Runs.{Taken, Run}
 use Rattle.sector_model.specs.Ties.{with_spare, entered_by, entered, left_by, step_faults, sum_told, all_left, is_exchange_by, is_exchange, came_with, faults_since, OfAllDrives, TellsFaults, IsSpent, HasNothingLeft, AreUndisturbed}
-use Rattle.bay_model.proofs.Counted.{faults_go_on}
+use Rattle.flop_base.proofs.Counted.{faults_go_on}
 use Rattle.sector_model.proofs.Counted.{not-first, left_paid, spare_left}
 use Rattle.sector_model.proofs.Ties.{step_goes}
 

@@ -5,7 +5,7 @@ use Rattle.std.specs.Prelude.{MatchOption, MatchBool, sum_by}
 use Rattle.flop_base.specs.Counts.{RoseBy}
 use Rattle.flop_base.specs.Shelf.{Files}
 use Rattle.flop_base.specs.declared.answers.Code.{Code}
-use Rattle.bay_model.specs.Counters.{Counters, GoesOn, IsDriven, IsPastDriver}
+use Rattle.flop_base.specs.Counters.{Counters, GoesOn, IsDriven, IsPastDriver}
 use Rattle.floppy_requests.specs.declared.request.Request.{Request}
 use Rattle.floppy_requests.specs.declared.request.Request.TheVariants as request
 use Rattle.sector_model.specs.declared.reply.Reply.{Reply}
@@ -18,7 +18,7 @@ use Rattle.sector_model.specs.States.{State, IsSame, ChangesMedium}
 use Rattle.sector_model.specs.Steps.{Step, Does, refusal_of, StopsAt, AfterStop}
 use Rattle.sector_model.specs.Runs.{Taken, Run, requests_of, Ends, EndsBay, Stored, Left, EndStopsAt, AtFirst, AtSecond}
 use Rattle.sector_model.specs.Ties.{entered_by, accesses_of, counters_after}
-use Rattle.bay_model.proofs.Counted.{goes_on_after}
+use Rattle.flop_base.proofs.Counted.{goes_on_after}
 use Rattle.sector_model.proofs.Counted.{exchange_goes}
 
 -- one of two cases holds, and each gives the fact

@@ -1,7 +1,7 @@
 -- What holds of a request that can be asked for.
 use Rattle.std.specs.Prelude.{ℕ, ◌+◌, ◌≤◌}
 use Rattle.flop_base.specs.declared.key.Chrn.{Chrn}
-use Rattle.bay_model.specs.Memory.{user_bytes}
+use Rattle.flop_base.specs.Memory.{user_bytes}
 use Rattle.track_model.specs.Fields.{IsSizeCode, content_size}
 
 -- a read or a write of this key, at this address

@@ -7,7 +7,7 @@ use Rattle.flop_base.specs.declared.answers.Code.TheVariants.{BadRequest, NotRea
 use Rattle.raw_image.specs.Disk.{Disk, track_of}
 use Rattle.track_model.specs.Fields.{IsAddress}
 use Rattle.track_model.specs.Sectors.{IsClear}
-use Rattle.bay_model.specs.Counters.{faults_of, FaultsRoseBy, FaultsRoseLess, TakesSpare, IsDriven, IsPastDriver, GoesOn}
+use Rattle.flop_base.specs.Counters.{faults_of, FaultsRoseBy, FaultsRoseLess, TakesSpare, IsDriven, IsPastDriver, GoesOn}
 use Rattle.sector_model.specs.Stations.{StationState, Becomes, Stays, bay_of, set_bay, fresh_bay}
 use Rattle.sector_model.specs.Orders.{is_bay, is_acknowledged, rate_refusal, IsRefusedAtOnce}
 

@@ -6,7 +6,7 @@ use Rattle.raw_image.specs.Disk.{Disk, HasTrack, track_of}
 use Rattle.flop_base.specs.Standard.{sectors_at}
 use Rattle.sector_map.specs.Layings.{Format, Laying, IsLaying, formatted, IsFormattable}
 use Rattle.flop_base.specs.Counts.{RoseBy}
-use Rattle.bay_model.specs.Counters.{IsFaultless, IsUndisturbed, DisturbedLess, FaultsRoseBy, IsDriven}
+use Rattle.flop_base.specs.Counters.{IsFaultless, IsUndisturbed, DisturbedLess, FaultsRoseBy, IsDriven}
 use Rattle.sector_model.specs.Stations.{StationState, Becomes, bay_of, set_bay}
 use Rattle.sector_model.specs.Orders.{format_refusal, IsRefusedAtOnce, IsDeviceRefusal}
 use Rattle.sector_model.specs.Reads.{spoilable}

@@ -7,8 +7,8 @@ use Rattle.flop_base.specs.declared.answers.Rate.TheVariants.{R500, R250}
 use Rattle.flop_base.specs.declared.answers.Code.{Code}
 use Rattle.flop_base.specs.declared.answers.Code.TheVariants.{BadRequest, NoMark, Protected, NotFound, Changed, Overrun, Page, BadCrc, Seek}
 use Rattle.track_model.specs.Fields.{content_size}
-use Rattle.bay_model.specs.Counters.{IsDriven}
-use Rattle.bay_model.specs.Memory.{user_bytes}
+use Rattle.flop_base.specs.Counters.{IsDriven}
+use Rattle.flop_base.specs.Memory.{user_bytes}
 use Rattle.sector_model.specs.Stations.{StationState, Stays, bay_of}
 
 -- there are bays 0 and 1

@@ -9,9 +9,9 @@ use Rattle.track_model.specs.Fields.{IsAddressAt, IsDataMark, IsWhole, content_s
 use Rattle.track_model.specs.Looks.{HasAddressMark}
 use Rattle.track_model.specs.Sectors.{IsSector, IsLone}
 use Rattle.flop_base.specs.Counts.{RoseBy}
-use Rattle.bay_model.specs.Counters.{IsFaultless, IsUndisturbed, DisturbedLess, FaultsRoseBy, IsDriven}
+use Rattle.flop_base.specs.Counters.{IsFaultless, IsUndisturbed, DisturbedLess, FaultsRoseBy, IsDriven}
 use Rattle.flop_base.specs.Lists.{with_items}
-use Rattle.bay_model.specs.Memory.{SameOutside}
+use Rattle.flop_base.specs.Memory.{SameOutside}
 use Rattle.sector_map.specs.Met.{HasNoClearMark, HasClearAddress, HasLook, AllFound}
 use Rattle.sector_model.specs.Stations.{StationState, Becomes, bay_of, met, IsSteady}
 use Rattle.sector_model.specs.Orders.{read_refusal, IsRefusedAtOnce, IsDeviceRefusal}

@@ -1,8 +1,8 @@
 -- The state of a session: its station, and the names of the media that are in.
 use Rattle.std.specs.Prelude.{◌≡◌, ℕ, List, Option, None, is_some}
 use Rattle.raw_image.specs.Disk.{Disk}
-use Rattle.bay_model.specs.Bays.{Two, both, with_bay}
-use Rattle.bay_model.specs.Counters.{GoesOn, IsPastDriver}
+use Rattle.flop_base.specs.Bays.{Two, both, with_bay}
+use Rattle.flop_base.specs.Counters.{GoesOn, IsPastDriver}
 use Rattle.sector_model.specs.Stations.{StationState, Stays}
 use Rattle.sector_model.specs.Calls.{Exchanges}
 

@@ -4,9 +4,9 @@ use Rattle.flop_base.specs.Counts.{last_count}
 use Rattle.flop_base.specs.declared.answers.Rate.{Rate}
 use Rattle.flop_base.specs.declared.answers.Rate.TheVariants.{R500}
 use Rattle.raw_image.specs.Disk.{Disk}
-use Rattle.bay_model.specs.Bays.{Two, both, in_bay, with_bay}
-use Rattle.bay_model.specs.Counters.{Counters, TellsLeft, faults_of}
-use Rattle.bay_model.specs.Memory.{user_bytes, zeroes}
+use Rattle.flop_base.specs.Bays.{Two, both, in_bay, with_bay}
+use Rattle.flop_base.specs.Counters.{Counters, TellsLeft, faults_of}
+use Rattle.flop_base.specs.Memory.{user_bytes, zeroes}
 use Rattle.sector_map.specs.Met.{met_in}
 
 -- a bay as the driver knows it

@@ -17,10 +17,10 @@ use Rattle.sector_model.specs.declared.reply.Reason.{Reason}
 use Rattle.sector_model.specs.declared.reply.Reason.TheVariants as reason
 use Rattle.sector_model.specs.declared.reply.Stop.{Stop}
 use Rattle.sector_model.specs.declared.reply.Stop.TheVariants as stop
-use Rattle.bay_model.specs.Bays.{in_bay}
-use Rattle.bay_model.specs.Counters.{GoesOn, IsPastDriver}
+use Rattle.flop_base.specs.Bays.{in_bay}
+use Rattle.flop_base.specs.Counters.{GoesOn, IsPastDriver}
 use Rattle.flop_base.specs.Lists.{with_items}
-use Rattle.bay_model.specs.Memory.{user_bytes, bytes_from}
+use Rattle.flop_base.specs.Memory.{user_bytes, bytes_from}
 use Rattle.sector_model.specs.Stations.{Becomes, bay_of}
 use Rattle.sector_model.specs.Orders.{is_bay}
 use Rattle.sector_model.specs.Reads.{Reads}

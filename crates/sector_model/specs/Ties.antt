@@ -3,8 +3,8 @@ use Rattle.std.specs.Prelude.{◌≡◌, ℕ, ◌+◌, ◌-◌, ◌<◌, ◌≤�
 use Rattle.std.specs.Option.{option_map_or}
 use Rattle.flop_base.specs.Counts.{last_count, RoseBy}
 use Rattle.flop_base.specs.Shelf.{Files, file_at}
-use Rattle.bay_model.specs.Bays.{with_bay}
-use Rattle.bay_model.specs.Counters.{DriveCounts, Counters, faults_of, IsUndisturbed}
+use Rattle.flop_base.specs.Bays.{with_bay}
+use Rattle.flop_base.specs.Counters.{DriveCounts, Counters, faults_of, IsUndisturbed}
 use Rattle.floppy_requests.specs.Texts.{job_of}
 use Rattle.floppy_requests.specs.declared.request.Request.{Request}
 use Rattle.floppy_requests.specs.declared.request.Request.TheVariants as request

@@ -12,8 +12,8 @@ use Rattle.track_model.specs.Windows.{window_word, window_words, cut_of, IsCutta
 use Rattle.track_model.specs.Regular.{IsRegular}
 use Rattle.sector_map.specs.Disks.{IsRegularDisk, Entry, IsOnMap}
 use Rattle.flop_base.specs.Counts.{RoseBy}
-use Rattle.bay_model.specs.Counters.{IsFaultless, FaultsRoseLess, IsUndisturbed, DisturbedLess, FaultsRoseBy, IsDriven}
-use Rattle.bay_model.specs.Memory.{bytes_from}
+use Rattle.flop_base.specs.Counters.{IsFaultless, FaultsRoseLess, IsUndisturbed, DisturbedLess, FaultsRoseBy, IsDriven}
+use Rattle.flop_base.specs.Memory.{bytes_from}
 use Rattle.sector_model.specs.Stations.{StationState, Becomes, bay_of, set_bay, met, IsSteady}
 use Rattle.sector_model.specs.Orders.{write_refusal, IsRefusedAtOnce, IsDeviceRefusal}
 use Rattle.sector_map.specs.Changes.{Change, Written, window_of, IsChange}

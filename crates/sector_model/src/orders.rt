@@ -1,11 +1,10 @@
 // What can be asked for, before a station is looked at.
 ghost use Rattle.std.specs.Prelude.{◌≡◌, ◌+◌, ◌≤◌, IsTrue};
-ghost use Rattle.bay_model.specs.Memory.{user_bytes};
+ghost use Rattle.flop_base.specs.Memory.{user_bytes};
 ghost use Rattle.sector_model.specs.Orders.{is_place, is_sector_request, crosses_page, most_format_gap};
 ghost use Rattle.sector_model.specs.Asked.{IsAsked};
 
-use bay_model::USER_BYTES;
-use flop_base::{Chrn, Rate, sector_size};
+use flop_base::{Chrn, Rate, USER_BYTES, sector_size};
 
 /// Whether a drive has this cylinder and head: cylinders 0 to 79, heads 0 and 1.
 pub fn is_place(c: u8, h: u8) -> bool

@@ -1,7 +1,7 @@
 // What a session stands on.
 ghost use Rattle.std.specs.Prelude.{◌≡◌, ◌≤◌, ◌<◌, ◌↔◌, ◌⊎◌, length, slice_index, is_some, IsTrue};
-ghost use Rattle.bay_model.specs.Counters.{GoesOn, faults_of};
-ghost use Rattle.bay_model.specs.Memory.{user_bytes};
+ghost use Rattle.flop_base.specs.Counters.{GoesOn, faults_of};
+ghost use Rattle.flop_base.specs.Memory.{user_bytes};
 ghost use Rattle.sector_model.specs.Stations.{StationState, bay_of};
 ghost use Rattle.sector_model.specs.Reads.{Reads};
 ghost use Rattle.sector_model.specs.Writes.{WritesTo};

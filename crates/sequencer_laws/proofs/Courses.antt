@@ -6,7 +6,7 @@ use Rattle.std.proofs.lemmas.List.Folds.{list_any-append}
 use Rattle.track_model.specs.Fields.{IsSizeCode, content_size}
 use Rattle.fdc_stages.specs.History.{Past, begun as new_past}
 use Rattle.fdc_stages.specs.declared.ending.Ending.TheVariants.{Done}
-use Rattle.fdc_writing.specs.Writings.{WritesWhole}
+use Rattle.fdc_stages.specs.Writings.{WritesWhole}
 use Rattle.fdc_phases.specs.Heard.{Sent, told_in}
 use Rattle.fdc_phases.specs.Written.{IsContent}
 use Rattle.fdc_sequencer.specs.Moves.{goes_on, has_met_other, would_go_on}

@@ -7,10 +7,10 @@ use Rattle.fdc_fifo.specs.Fifo.{Fifo}
 use Rattle.fdc_seek.specs.Seeking.{with_polls}
 use Rattle.fdc_stages.specs.History.{Past}
 use Rattle.fdc_stages.specs.declared.ending.Ending.TheVariants.{Late}
-use Rattle.fdc_writing.specs.Writings.{is_due, is_open, opens}
-use Rattle.fdc_writing.specs.declared.writing.WriteNext.TheVariants.{On}
-use Rattle.fdc_writing.specs.declared.writing.WriteStage.{WriteStage}
-use Rattle.fdc_writing.specs.declared.writing.WriteStage.TheVariants as stage
+use Rattle.fdc_stages.specs.Writings.{is_due, is_open, opens}
+use Rattle.fdc_stages.specs.declared.writing.WriteNext.TheVariants.{On}
+use Rattle.fdc_stages.specs.declared.writing.WriteStage.{WriteStage}
+use Rattle.fdc_stages.specs.declared.writing.WriteStage.TheVariants as stage
 use Rattle.fdc_core.specs.Dma.{byte_out, taken_out, taken_in, told_count, to_memory_of}
 use Rattle.fdc_phases.specs.Dma.{phase_told}
 use Rattle.fdc_phases.specs.Heard.{Sent, MayReadIn, MayReadTask, gave, stepped, told_in}

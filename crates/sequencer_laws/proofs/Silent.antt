@@ -9,9 +9,9 @@ use Rattle.fdc_stages.specs.Readings as heard
 use Rattle.fdc_stages.specs.declared.ending.Ending.{Ending}
 use Rattle.fdc_stages.specs.declared.ending.Ending.TheVariants.{Done, NoMark, NoSector, NoField, BadCheck, Overrun, NoCount, Protected, Late}
 use Rattle.fdc_seek.specs.Seeking.{has_ended_seek, with_polls}
-use Rattle.fdc_writing.specs.declared.writing.WriteNext.{WriteNext}
-use Rattle.fdc_writing.specs.declared.writing.WriteNext.TheVariants.{On, Ended}
-use Rattle.fdc_writing.specs.Writings.{needs_byte}
+use Rattle.fdc_stages.specs.declared.writing.WriteNext.{WriteNext}
+use Rattle.fdc_stages.specs.declared.writing.WriteNext.TheVariants.{On, Ended}
+use Rattle.fdc_stages.specs.Writings.{needs_byte}
 use Rattle.fdc_phases.specs.Dma.{phase_told, task_told}
 use Rattle.fdc_phases.specs.Heard.{MayReadIn, MayReadTask, Sent}
 use Rattle.fdc_phases.specs.Phases.{ending_of, is_listening, is_moving, is_over, is_read, is_reading, moves_bytes}

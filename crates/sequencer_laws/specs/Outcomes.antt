@@ -8,7 +8,7 @@ use Rattle.fdc_stages.specs.History.{IsTurn, Past}
 use Rattle.fdc_stages.specs.Findings.{FindsSector}
 use Rattle.fdc_stages.specs.declared.ending.Ending.{Ending}
 use Rattle.fdc_stages.specs.declared.ending.Ending.TheVariants.{Done, NoCount}
-use Rattle.fdc_writing.specs.Writings.{WritesWhole}
+use Rattle.fdc_stages.specs.Writings.{WritesWhole}
 use Rattle.fdc_commands.specs.declared.results.Results.{Results}
 use Rattle.sequencer_laws.specs.Serving.{History, IsMoved, IsOfSector, Means, Part, bytes_moved, has_other, sector_after, sent_of}
 use Rattle.fdc_sequencer.specs.Transfers.{is_last, is_other, is_skipping, next_of, results_told}

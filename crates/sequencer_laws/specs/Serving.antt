@@ -8,7 +8,7 @@ use Rattle.fdc_stages.specs.History.{Past, begun as new_past}
 use Rattle.fdc_stages.specs.Findings.{FindsSector}
 use Rattle.fdc_stages.specs.declared.ending.Ending.{Ending}
 use Rattle.fdc_stages.specs.declared.ending.Ending.TheVariants.{Done}
-use Rattle.fdc_writing.specs.Writings.{WritesWhole}
+use Rattle.fdc_stages.specs.Writings.{WritesWhole}
 use Rattle.fdc_commands.specs.Table.{answer}
 use Rattle.fdc_commands.specs.declared.bytes.Accepted.TheVariants.{Ready}
 use Rattle.fdc_commands.specs.declared.command.Command.{Command}

@@ -1,7 +1,7 @@
 -- Commands that move the heads of a drive.
 use Rattle.std.specs.Prelude.{◌≡◌, ◌≢◌, ℕ, ◌+◌, ◌-◌, ◌≤◌, Bool, true, false, IsSome, None, ◌⊎◌}
-use Rattle.bay_model.specs.Bays.{in_bay, with_bay}
-use Rattle.bay_model.specs.Counters.{FaultsRoseBy, FaultsRoseLess, GoesOn, IsDriven}
+use Rattle.flop_base.specs.Bays.{in_bay, with_bay}
+use Rattle.flop_base.specs.Counters.{FaultsRoseBy, FaultsRoseLess, GoesOn, IsDriven}
 use Rattle.single_commands.specs.Rigs.{Rig, StaysSpun}
 
 -- the heads of one drive were moved, or not, and nothing else changed but its change line, which a pulse clears where a

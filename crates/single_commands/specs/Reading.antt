@@ -10,10 +10,10 @@ use Rattle.track_model.specs.declared.Look.TheVariants as look
 use Rattle.track_model.specs.Fields.{IsAddressAt, IsDataMark, IsWhole, content_size}
 use Rattle.track_model.specs.Looks.{HasAddressMark}
 use Rattle.track_model.specs.Sectors.{IsSector, IsLone}
-use Rattle.bay_model.specs.Bays.{in_bay}
-use Rattle.bay_model.specs.Counters.{Counters, IsFaultless, IsUndisturbed, GoesOn, IsDriven}
+use Rattle.flop_base.specs.Bays.{in_bay}
+use Rattle.flop_base.specs.Counters.{Counters, IsFaultless, IsUndisturbed, GoesOn, IsDriven}
 use Rattle.flop_base.specs.Lists.{with_items}
-use Rattle.bay_model.specs.Memory.{SameOutside}
+use Rattle.flop_base.specs.Memory.{SameOutside}
 use Rattle.sector_map.specs.Met.{HasNoClearMark, HasClearAddress, HasLook}
 use Rattle.single_commands.specs.Rigs.{Rig, track_under, HeadsStay}
 

@@ -2,9 +2,9 @@
 use Rattle.std.specs.Prelude.{◌≡◌, ℕ, ◌<◌, ◌≤◌, ◌^◌, Bool, true, List, length, slice_index, Option, IfSome}
 use Rattle.raw_image.specs.Disk.{Disk, IsDisk}
 use Rattle.flop_base.specs.declared.answers.Rate.{Rate}
-use Rattle.bay_model.specs.Bays.{Two, in_bay}
-use Rattle.bay_model.specs.Counters.{Counters, GoesOn, IsDriven}
-use Rattle.bay_model.specs.Memory.{user_bytes}
+use Rattle.flop_base.specs.Bays.{Two, in_bay}
+use Rattle.flop_base.specs.Counters.{Counters, GoesOn, IsDriven}
+use Rattle.flop_base.specs.Memory.{user_bytes}
 use Rattle.sector_map.specs.Met.{met_in}
 
 pub record Rig : Type 0 where

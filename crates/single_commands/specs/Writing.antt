@@ -11,8 +11,8 @@ use Rattle.track_model.specs.Fields.{IsAddressAt}
 use Rattle.track_model.specs.Looks.{HasAddressMark}
 use Rattle.track_model.specs.Layouts.{Fits}
 use Rattle.track_model.specs.Windows.{window_word, window_words}
-use Rattle.bay_model.specs.Bays.{in_bay}
-use Rattle.bay_model.specs.Counters.{Counters, IsFaultless, IsUndisturbed, GoesOn, IsDriven}
+use Rattle.flop_base.specs.Bays.{in_bay}
+use Rattle.flop_base.specs.Counters.{Counters, IsFaultless, IsUndisturbed, GoesOn, IsDriven}
 use Rattle.sector_map.specs.Met.{HasNoClearMark, HasClearAddress}
 use Rattle.sector_map.specs.Changes.{Change, Written, window_of, IsChange}
 use Rattle.sector_map.specs.Layings.{Format, Laying, IsLaying, format_keys}

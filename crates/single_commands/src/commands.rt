@@ -1,9 +1,9 @@
 // What a driver stands on.
 ghost use Rattle.std.specs.Prelude.{◌≡◌, ◌≤◌, ◌<◌, ◌+◌, ◌-◌, ◌/◌, true, false, slice_index, Option, IsSome};
 ghost use Rattle.std.specs.Option.{option_map_or};
-ghost use Rattle.bay_model.specs.Bays.{in_bay};
-ghost use Rattle.bay_model.specs.Counters.{faults_of};
-ghost use Rattle.bay_model.specs.Memory.{user_bytes, bytes_from};
+ghost use Rattle.flop_base.specs.Bays.{in_bay};
+ghost use Rattle.flop_base.specs.Counters.{faults_of};
+ghost use Rattle.flop_base.specs.Memory.{user_bytes, bytes_from};
 ghost use Rattle.track_model.specs.Fields.{IsSizeCode, content_size};
 ghost use Rattle.sector_map.specs.Changes.{Change};
 ghost use Rattle.sector_map.specs.Layings.{Laying};

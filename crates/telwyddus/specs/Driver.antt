@@ -1,6 +1,6 @@
 -- A station: what it shows, how it starts, and what its calls are; single sectors.
-pub use Rattle.bay_model.specs.Counters
-pub use Rattle.bay_model.specs.Memory
+pub use Rattle.flop_base.specs.Counters
+pub use Rattle.flop_base.specs.Memory
 pub use Rattle.machine_station.specs.Ready
 pub use Rattle.machine_station.specs.Shown
 pub use Rattle.machine_station.specs.Started
@@ -10,5 +10,5 @@ pub use Rattle.sector_model.specs.Calls
 pub use Rattle.sector_model.specs.Reads
 pub use Rattle.sector_model.specs.Writes
 pub use Rattle.sector_model.specs.Formats
-pub use Rattle.sector_desk.specs.Desks
-pub use Rattle.sector_desk.specs.Sectors
+pub use Rattle.machine_station.specs.Desks
+pub use Rattle.machine_station.specs.Sectors

@@ -3,7 +3,7 @@ ghost use Rattle.std.specs.Prelude.{◌≡◌, None, Some, Option};
 ghost use Rattle.c_slots.specs.Controllers.{ControllerValue, held_owns, held_coded};
 
 use crate::SequencedBoard;
-use loose_box::Loose;
+use crate::loose::Loose;
 use std::alloc::Global;
 use std::marker::Model;
 use std::ptr::null_mut;

@@ -2,8 +2,8 @@
 ghost use Rattle.std.specs.Prelude.{◌≡◌, None, Some, Option};
 ghost use Rattle.c_slots.specs.Disks.{DeskValue, held_owns, held_coded};
 
-use loose_box::Loose;
-use sector_desk::SectorDesk;
+use crate::loose::Loose;
+use machine_station::SectorDesk;
 use std::alloc::Global;
 use std::marker::Model;
 use std::ptr::null_mut;

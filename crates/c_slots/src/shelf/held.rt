@@ -2,7 +2,7 @@
 ghost use Rattle.std.specs.Prelude.{◌≡◌, None, Some, Option};
 ghost use Rattle.c_slots.specs.Shelves.{ShelfValue, held_owns, held_coded};
 
-use loose_box::Loose;
+use crate::loose::Loose;
 use run_shelf::RunShelf;
 use std::alloc::Global;
 use std::marker::Model;

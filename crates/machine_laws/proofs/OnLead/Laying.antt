@@ -2,7 +2,7 @@
 use Rattle.std.proofs.Common.{◌≡◌, ◌⊎◌, inl, inr, ℕ, zero, suc, ◌+◌, ◌*◌, ◌≤◌, Bool, true, false, List, [], ◌∷◌, length, refl, sym, ◌∙◌, ap, subst, arith}
 use Rattle.std.proofs.lemmas.Bool.{false_from_ne_true, false≢true}
 use Rattle.machine_laws.proofs.Common.{Chrn, DriveState, Becomes, is_protected, Fifo, Past, heard, Numbers, is_first, is_next, IsAtPart, IsWriting, FormatPart, Await, Due, Lay, Barred, WriteStage, FormatDoes, stepped, is_executing, let_pass, WordTime, Saw, KeptOut, Wrote, Stopped, IsTime, after_time, WritesIn, WritesTask, WriteDoes, MayWriteTask, MayFormatTask, Fdc, Execution, Execute, Task, Formatting, Writing, turns_led, turn_led, led, IsSpinning, IsUnheard, IsLed, Laid, Window, Track, Write, MayLayIn, LaysOn, Scene, IsScene, head_sent, IsAtDrive}
-use Rattle.fdc_writing.specs.Writings.{is_due}
+use Rattle.fdc_stages.specs.Writings.{is_due}
 use Rattle.fdc_phases.specs.declared.phases.Task.TheVariants as task
 use Rattle.machine_laws.proofs.OnLead.Fields.{address_in}
 use Rattle.machine_laws.proofs.OnLead.Late.{few_led, time_led}

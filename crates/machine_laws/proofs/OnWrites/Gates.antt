@@ -3,8 +3,8 @@ use Rattle.std.proofs.Common.{◌≡◌, ◌⊎◌, inl, inr, ℕ, ◌+◌, ◌<
 use Rattle.std.proofs.lemmas.Bool.{and_parts, false≢true}
 use Rattle.machine_laws.proofs.Common.{DriveState, Writes, at_speed, can_write, rewritten, Fifo, FormatNext, WriteNext, FormatDoes, after_laid, is_listening, polled, Moves, MovesIn, MovesTask, WordTime, Saw, KeptOut, Wrote, Stopped, IsTime, Closes, WritesIn, WritesTask, WriteDoes, after_next, is_ended, Fdc, Phase, Command, Execute, Result, Task, ReadId, Format, DataRate, Formatting, Writing, Board, controller_of, selected_of, Works, Step, Marching}
 use Rattle.machine_laws.proofs.Facts.{polled_phase}
-use Rattle.fdc_writing.specs.declared.formatting.FormatNext.TheVariants as format_next
-use Rattle.fdc_writing.specs.declared.writing.WriteNext.TheVariants as write_next
+use Rattle.fdc_stages.specs.declared.formatting.FormatNext.TheVariants as format_next
+use Rattle.fdc_stages.specs.declared.writing.WriteNext.TheVariants as write_next
 use Rattle.fdc_phases.specs.Formatting as laying
 use Rattle.fdc_phases.specs.declared.phases.Task.TheVariants.{Read, Write}
 use Rattle.machine_laws.specs.OnWrites.Guards.{GatesDrives, HoldsGates, IsGated, IsGateOf, IsGivenIn, MakesTask, MakesTime, PassesClosed, is_recording}

@@ -11,10 +11,10 @@ use Rattle.track_model.proofs.Frames.{same_address_at}
 use Rattle.track_model.proofs.Splices.{same_before}
 use Rattle.track_model.proofs.Written.{length-window}
 use Rattle.sector_map.specs.Changes.{Change, IsChange}
-use Rattle.fdc_writing.specs.Windows.{words_behind}
+use Rattle.fdc_stages.specs.Windows.{words_behind}
 use Rattle.fdc_stages.specs.Searches.{IsMissed}
-use Rattle.fdc_writing.specs.Writings.{HasBegun, HasNoWindow, HasWritten}
-use Rattle.fdc_writing.specs.declared.writing.WriteStage.TheVariants as stage
+use Rattle.fdc_stages.specs.Writings.{HasBegun, HasNoWindow, HasWritten}
+use Rattle.fdc_stages.specs.declared.writing.WriteStage.TheVariants as stage
 use Rattle.fdc_phases.specs.Phases.{overran}
 use Rattle.fdc_phases.specs.declared.phases.Task.TheVariants.{Write}
 use Rattle.fdc_drives.proofs.Fields.{address_heard, mark_heard}

@@ -4,7 +4,7 @@ use Rattle.drive_model.specs.Drive.{DriveState}
 use Rattle.dma_8237.specs.Channel.{Channel, after_write}
 use Rattle.fdc_fifo.specs.Fifo.{Fifo}
 use Rattle.fdc_stages.specs.History.{Past}
-use Rattle.fdc_writing.specs.Formats.{Numbers}
+use Rattle.fdc_stages.specs.Formats.{Numbers}
 use Rattle.fdc_phases.specs.Heard.{MayReadIn, MayReadIdIn}
 use Rattle.fdc_core.specs.Listening.{is_executing}
 use Rattle.fdc_core.specs.State.{dor_of}

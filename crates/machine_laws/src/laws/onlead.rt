@@ -4,7 +4,7 @@ ghost use Rattle.fdc_commands.specs.declared.results.Results.{Results};
 ghost use Rattle.fdc_phases.specs.declared.answers.Answer.TheVariants.{Long};
 ghost use Rattle.fdc_phases.specs.declared.phases.Phase.TheVariants.{Command, Result};
 ghost use Rattle.fdc_stages.specs.declared.ending.Ending.TheVariants.{Done};
-ghost use Rattle.fdc_writing.specs.Formats.{Numbers};
+ghost use Rattle.fdc_stages.specs.Formats.{Numbers};
 ghost use Rattle.flop_base.specs.declared.key.Chrn.{Chrn};
 ghost use Rattle.machine_laws.specs.OnFormats.Results.{AreKeysOf, FormatEnded};
 ghost use Rattle.machine_laws.specs.OnLead.Leads.{CanWarm, WarmsUp};

@@ -1,5 +1,5 @@
 use Rattle.std.proofs.Common.{arith}
-use Rattle.fdc_writing.specs.Writings.{lead_of}
+use Rattle.fdc_stages.specs.Writings.{lead_of}
 use Rattle.fdc_phases.proofs.AtFirst.{empty_lead}
 use Rattle.std.proofs.Common.{refl, inl, [], false}
 use Rattle.fdc_phases.proofs.AtFirst.{rule_room}

@@ -1,5 +1,5 @@
 use Rattle.std.proofs.Common.{rules, ℕ, List, ◌++◌}
-use Rattle.bay_model.specs.Memory.{bytes_from}
+use Rattle.flop_base.specs.Memory.{bytes_from}
 use Rattle.sector_model.specs.States.{State}
 use Rattle.scripts.specs.Scripts.{Script}
 use Rattle.scripts.specs.Parts.{may_starve}

@@ -1,5 +1,5 @@
 use Rattle.std.proofs.Common.{◌≤◌, ◌≡◌, ◌*◌, sum}
-use Rattle.bay_model.specs.Memory.{bytes_from}
+use Rattle.flop_base.specs.Memory.{bytes_from}
 use Rattle.flat_commands.proofs.work.sum_read.Given as goal
 
 abbrev pub invariant-loop-i : goal.invariant-loop-i

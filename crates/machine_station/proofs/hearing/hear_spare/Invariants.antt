@@ -1,5 +1,5 @@
 use Rattle.std.proofs.Common.{take, All}
-use Rattle.bay_model.specs.Counters.{DriveTells}
+use Rattle.flop_base.specs.Counters.{DriveTells}
 use Rattle.machine_laws.specs.OnCounts.Counts.{counts_of}
 use Rattle.machine_station.proofs.hearing.hear_spare.Given as goal
 

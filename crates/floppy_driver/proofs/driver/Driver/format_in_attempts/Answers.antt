@@ -1,6 +1,6 @@
 use Rattle.std.proofs.Common.{◌+◌, Ok, Err, refl, ap, ◌∙◌, arith}
-use Rattle.bay_model.specs.Bays.{in_bay}
-use Rattle.bay_model.proofs.Counted.{goes_on_itself, goes_on_after}
+use Rattle.flop_base.specs.Bays.{in_bay}
+use Rattle.flop_base.proofs.Counted.{goes_on_itself, goes_on_after}
 use Rattle.sector_model.specs.Stations.{Bay}
 use Rattle.floppy_driver.specs.Shown.{shown}
 use Rattle.floppy_driver.specs.Formattings.{format_of}

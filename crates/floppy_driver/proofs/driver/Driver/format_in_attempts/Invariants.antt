@@ -1,6 +1,6 @@
 use Rattle.std.proofs.Common.{◌≡◌, ℕ, List, Err}
-use Rattle.bay_model.specs.Bays.{in_bay}
-use Rattle.bay_model.specs.Counters.{DriveCounts, GoesOn}
+use Rattle.flop_base.specs.Bays.{in_bay}
+use Rattle.flop_base.specs.Counters.{DriveCounts, GoesOn}
 use Rattle.floppy_driver.specs.Shown.{shown}
 use Rattle.floppy_driver.specs.Writings.{CanWrite}
 use Rattle.floppy_driver.specs.Formattings.{format_of, FormatsIn, HasOnlyMedium}

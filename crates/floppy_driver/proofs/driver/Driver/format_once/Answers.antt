@@ -4,7 +4,7 @@ use Rattle.flop_base.specs.Standard.{sectors_at}
 use Rattle.retry_plan.specs.declared.Prepare.TheVariants as prepare
 use Rattle.single_commands.specs.Rigs.{track_under}
 use Rattle.floppy_driver.specs.Formattings.{format_of, IsBlankUnder, HoldsRecords}
-use Rattle.bay_model.proofs.Counted.{goes_on_after}
+use Rattle.flop_base.proofs.Counted.{goes_on_after}
 use Rattle.floppy_driver.specs.Shown.{notes_of}
 use Rattle.floppy_driver.proofs.FormatOnce.{lost_attempt, refused_attempt, read_attempt}
 use Rattle.floppy_driver.proofs.FormatReady.{can_write_prepared, can_write_formatted, can_write_read}

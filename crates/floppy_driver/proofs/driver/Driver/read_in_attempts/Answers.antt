@@ -1,5 +1,5 @@
 use Rattle.std.proofs.Common.{arith, refl, ap, ◌∙◌}
-use Rattle.bay_model.proofs.Counted.{goes_on_after, goes_on_itself}
+use Rattle.flop_base.proofs.Counted.{goes_on_after, goes_on_itself}
 use Rattle.sector_model.specs.Stations.{StationState}
 use Rattle.floppy_driver.specs.Shown.{shown}
 use Rattle.floppy_driver.specs.Attempts.{IsSure}

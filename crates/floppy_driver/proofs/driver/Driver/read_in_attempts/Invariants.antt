@@ -1,5 +1,5 @@
 use Rattle.std.proofs.Common.{◌≡◌, ℕ, ◌-◌, List}
-use Rattle.bay_model.specs.Counters.{DriveCounts, GoesOn}
+use Rattle.flop_base.specs.Counters.{DriveCounts, GoesOn}
 use Rattle.sector_model.specs.Stations.{StationState}
 use Rattle.floppy_driver.specs.Shown.{shown, HasAsked}
 use Rattle.floppy_driver.specs.Attempts.{CanTry}

@@ -1,6 +1,6 @@
 use Rattle.std.proofs.Common.{◌≡◌, ◌+◌, ◌≤◌, List, length, Option}
 use Rattle.flop_base.specs.Shelf.{Files}
-use Rattle.bay_model.specs.Memory.{SameOutside}
+use Rattle.flop_base.specs.Memory.{SameOutside}
 use Rattle.sector_model.specs.Runs.{Taken}
 use Rattle.int13.specs.declared.work.Kind.TheVariants.{Verify}
 use Rattle.floppy_session.specs.Services.{AreDone, record_requests}

@@ -1,5 +1,5 @@
 use Rattle.std.proofs.Common.{sym, ap, ◌+◌, slice_index, ◌∙◌}
-use Rattle.bay_model.specs.Memory.{user_bytes}
+use Rattle.flop_base.specs.Memory.{user_bytes}
 use Rattle.pc_bus.specs.Boards.{memory_of}
 use Rattle.machine_commands.specs.Shown.{board_of}
 use Rattle.machine_commands.proofs.Landing.{page_at}

@@ -1,5 +1,5 @@
 use Rattle.std.proofs.Common.{length, sym, ap, ◌∙◌}
-use Rattle.bay_model.proofs.Counted.{goes_on_itself}
+use Rattle.flop_base.proofs.Counted.{goes_on_itself}
 use Rattle.machine_commands.specs.Shown.{rig_shown}
 use Rattle.machine_station.specs.Flagged.{flags_shown}
 use Rattle.machine_station.specs.Shown.{all_counts, station_shown}

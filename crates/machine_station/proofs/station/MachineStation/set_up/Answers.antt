@@ -1,7 +1,7 @@
 use Rattle.std.proofs.Common.{length, sym, subst, ap, ◌∙◌}
 use Rattle.std.proofs.lemmas.List.{length-map}
 use Rattle.std.proofs.lemmas.List.Elements.{All-map, All-same}
-use Rattle.bay_model.specs.Counters.{DriveTells}
+use Rattle.flop_base.specs.Counters.{DriveTells}
 use Rattle.pc_bus.specs.Boards.{Board, board, IsEmpty}
 use Rattle.single_commands.specs.Rigs.{IsReset}
 use Rattle.floppy_driver.specs.Attached.{CanSetUp}

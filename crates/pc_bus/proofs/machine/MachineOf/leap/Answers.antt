@@ -1,5 +1,5 @@
 use Rattle.std.proofs.Common.{arith}
-use Rattle.machine_pace.proofs.Quiet.{quiet_fewer}
+use Rattle.irq_events.proofs.Quiet.{quiet_fewer}
 use Rattle.pc_bus.specs.Boards.{board}
 use Rattle.pc_bus.proofs.Leaping.{leap_runs, leap_unset}
 use Rattle.pc_bus.proofs.RunSteps.{runs_none, unset_none}

@@ -1,3 +1,0 @@
-pub mod Bays
-pub mod Counters
-pub mod Memory

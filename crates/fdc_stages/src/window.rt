@@ -1,0 +1,191 @@
+// The words of a window, one by one.
+ghost use Rattle.std.specs.Prelude.{◌≡◌, ◌+◌, ◌≤◌, ℕ, List, false, Some, None};
+ghost use Rattle.track_model.specs.Marks.{data_byte};
+ghost use Rattle.track_model.specs.Writing.{window};
+ghost use Rattle.fdc_stages.specs.Windows.{Gives, words_left, bytes_left, count_left, lead_left, needs_byte, is_last, window_behind};
+
+use mfm_cells::{crc_step, encode_byte, mark_crc};
+
+/// A mark A1, with its lost clock.
+const MARK: u16 = 0x4489;
+
+/// The bytes 00 before the marks, and the marks, less one.
+const MORE_SYNC: u8 = 11;
+
+const MORE_MARKS: u8 = 2;
+
+/// The part of a window that its next word belongs to.
+#[derive(Clone, Copy)]
+pub enum Part {
+    /// A byte 00, and so many more.
+    Sync { more: u8 },
+    /// A mark A1, and so many more.
+    Marks { more: u8 },
+    /// The mark byte.
+    Mark,
+    /// A byte of the content, and so many more.
+    Content { more: u16 },
+    /// The high byte of the check.
+    High,
+    /// The low byte of the check.
+    Low,
+}
+
+/// The words that are written over a data field, with those to come. The bytes of the content are handed in one by one.
+#[derive(Clone, Copy)]
+pub struct Window {
+    pub(crate) deleted: bool,
+    /// The size of the content, less one.
+    pub(crate) more: u16,
+    pub(crate) part: Part,
+    /// The check of the field so far.
+    pub(crate) check: u16,
+    /// The last bit of the word before.
+    pub(crate) last: bool,
+}
+
+/// A word of a window.
+#[derive(Clone, Copy)]
+pub struct Given {
+    /// Its sixteen cells, the first in bit 15.
+    pub word: u16,
+    /// The words behind it; none behind the last.
+    pub rest: Option<Window>,
+}
+
+impl Window {
+    /// The window of a content of so many bytes: 18 words and one a byte (IBM System 34).
+    pub fn new(deleted: bool, size: u16) -> Window
+        requires { 1 ≤ size }
+        ensures words { (content : List ℕ) → words_left result content ≡ window deleted content }
+        ensures bytes { bytes_left result ≡ size }
+        ensures count { count_left result ≡ size + 18 }
+        ensures lead { lead_left result ≡ 16 }
+        ensures begins { needs_byte result ≡ false }
+    {
+        Window {
+            deleted,
+            more: size - 1,
+            part: Part::Sync { more: MORE_SYNC },
+            check: 0,
+            last: false,
+        }
+    }
+
+    /// Whether the next word is a byte of the content, which `next` is to be handed.
+    pub fn needs_byte(&self) -> bool
+        ensures { result ≡ needs_byte self.now }
+    {
+        matches!(self.part, Part::Content { .. })
+    }
+
+    /// Whether the next word is the last.
+    pub fn is_last(&self) -> bool
+        ensures { result ≡ is_last self.now }
+    {
+        matches!(self.part, Part::Low)
+    }
+
+    /// The next word. Where `needs_byte` says so, `byte` is the byte that it records; elsewhere it isn't used.
+    pub fn next(self, byte: u8) -> Given
+        ensures { Gives self.part self byte result.word result.rest }
+    {
+        let last = self.is_last();
+        let mut after = self;
+        let word = after.put(byte);
+        if last {
+            return Given { word, rest: None };
+        }
+        Given {
+            word,
+            rest: Some(after),
+        }
+    }
+
+    /// The same in place.
+    pub fn put(&mut self, byte: u8) -> u16
+        ensures { Gives self.old.part self.old byte result (window_behind (is_last self.old) self.new) }
+    {
+        match self.part {
+            Part::Sync { more } => self.give_sync(more),
+            Part::Marks { more } => self.give_mark_word(more),
+            Part::Mark => self.give_mark(),
+            Part::Content { more } => self.give_byte(more, byte),
+            Part::High => self.give_high(),
+            Part::Low => self.give_low(),
+        }
+    }
+
+    fn give_sync(&mut self, more: u8) -> u16
+        ensures { (byte : ℕ) → Gives (Part.Sync more) self.old byte result (Some self.new) }
+    {
+        let word = encode_byte(false, 0);
+        if more == 0 {
+            self.part = Part::Marks { more: MORE_MARKS };
+            return word;
+        }
+        self.part = Part::Sync { more: more - 1 };
+        word
+    }
+
+    fn give_mark_word(&mut self, more: u8) -> u16
+        ensures { (byte : ℕ) → Gives (Part.Marks more) self.old byte result (Some self.new) }
+    {
+        if more == 0 {
+            self.part = Part::Mark;
+            return MARK;
+        }
+        self.part = Part::Marks { more: more - 1 };
+        MARK
+    }
+
+    fn give_mark(&mut self) -> u16
+        ensures { (byte : ℕ) → Gives Part.Mark self.old byte result (Some self.new) }
+    {
+        let mark = mark_byte(self.deleted);
+        let check = mark_crc(mark);
+        self.part = Part::Content { more: self.more };
+        self.check = check;
+        self.last = mark % 2 == 1;
+        encode_byte(true, mark)
+    }
+
+    fn give_byte(&mut self, more: u16, byte: u8) -> u16
+        ensures { Gives (Part.Content more) self.old byte result (Some self.new) }
+    {
+        let word = encode_byte(self.last, byte);
+        let check = crc_step(self.check, byte);
+        self.check = check;
+        self.last = byte % 2 == 1;
+        if more == 0 {
+            self.part = Part::High;
+            return word;
+        }
+        self.part = Part::Content { more: more - 1 };
+        word
+    }
+
+    fn give_high(&mut self) -> u16
+        ensures { (byte : ℕ) → Gives Part.High self.old byte result (Some self.new) }
+    {
+        let high = (self.check / 256) as u8;
+        let word = encode_byte(self.last, high);
+        self.part = Part::Low;
+        self.last = high % 2 == 1;
+        word
+    }
+
+    fn give_low(&self) -> u16
+        ensures { (byte : ℕ) → Gives Part.Low self.now byte result None }
+    {
+        let low = (self.check % 256) as u8;
+        encode_byte(self.last, low)
+    }
+}
+
+/// The mark byte of a data field.
+fn mark_byte(deleted: bool) -> u8
+    ensures { result ≡ data_byte deleted }
+{
+    if deleted { 0xF8 } else { 0xFB }
+}

@@ -1,8 +1,0 @@
-pub mod Words
-mod Gaps
-mod Windowed
-mod Keyed
-mod Laying
-mod Turned
-pub mod Ended
-mod Leading

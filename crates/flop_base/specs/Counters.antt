@@ -1,0 +1,102 @@
+-- What the counters of a station show, and how far they rise in a call.
+use Rattle.std.specs.Prelude.{◌≡◌, ℕ, ◌+◌, ◌-◌, ◌<◌, ◌≤◌, ◌∷◌, All, List, Option}
+use Rattle.flop_base.specs.Counts.{last_count, RoseBy, RoseLess, CanTell, Spends}
+use Rattle.flop_base.specs.Bays.{Two, in_bay}
+
+-- what is counted of a drive
+pub record DriveCounts : Type 0 where
+  -- its faults
+  pub faults : ℕ
+  -- the most by which that count can still rise, where the drive tells it
+  pub left : Option ℕ
+
+-- all that is counted, of drives and machine
+pub record Counters : Type 0 where
+  -- of the drive in each bay
+  pub drives : Two DriveCounts
+  -- of each spare drive, the next one first
+  pub spares : List DriveCounts
+  -- the DMA requests that waited too long
+  pub stalls : ℕ
+  -- the most by which that count can still rise
+  pub stalls_left : ℕ
+  -- the data commands that began
+  pub data_commands : ℕ
+  -- the interrupts that were taken
+  pub taken : ℕ
+  -- the accesses past the driver: a byte of user memory set, a medium put in or taken out, a drive exchanged
+  pub direct : ℕ
+
+-- the faults of the drive in a bay
+abbrev pub faults_of : Counters → ℕ → ℕ
+faults_of counters bay = (in_bay counters.drives bay).faults
+
+-- the faults of the bay's drive rose by n or more in a call
+abbrev pub FaultsRoseBy : ℕ → ℕ → Counters → Counters → Type 0
+FaultsRoseBy n bay old new = RoseBy n (faults_of old bay) (faults_of new bay)
+
+-- the faults of the bay's drive rose by less than n in a call
+abbrev pub FaultsRoseLess : ℕ → ℕ → Counters → Counters → Type 0
+FaultsRoseLess n bay old new = RoseLess n (faults_of old bay) (faults_of new bay)
+
+-- the bay's drive had no fault in a call
+abbrev pub IsFaultless : ℕ → Counters → Counters → Type 0
+IsFaultless bay old new = FaultsRoseLess 1 bay old new
+
+-- the faults of the bay's drive and the stalls rose by less than n together
+pub record DisturbedLess (n bay : ℕ) (old new : Counters) : Type 0 where
+  pub faults : faults_of new bay < last_count
+  pub stalls : new.stalls < last_count
+  pub together : faults_of new bay + new.stalls < faults_of old bay + old.stalls + n
+
+-- neither a fault of the bay's drive nor a stall disturbed a call
+abbrev pub IsUndisturbed : ℕ → Counters → Counters → Type 0
+IsUndisturbed bay old new = DisturbedLess 1 bay old new
+
+-- how the counts of one drive go on: its faults never fall, and rise by no more than what was left of them
+pub record DriveGoesOn (old new : DriveCounts) : Type 0 where
+  pub never_falls : old.faults ≤ new.faults
+  pub spends : Spends old.faults old.left new.faults new.left
+
+-- how counts go on in a call that exchanges no drive: none falls, and faults and stalls rise by no more than what was left of them
+pub record GoesOn (old new : Counters) : Type 0 where
+  pub first : DriveGoesOn old.drives.first new.drives.first
+  pub second : DriveGoesOn old.drives.second new.drives.second
+  pub spares : new.spares ≡ old.spares
+  pub stalls : old.stalls ≤ new.stalls
+  pub stalls_spent : new.stalls + new.stalls_left ≤ old.stalls + old.stalls_left
+  pub data_commands : old.data_commands ≤ new.data_commands
+  pub taken : old.taken ≤ new.taken
+  pub direct : old.direct ≤ new.direct
+
+-- a drive tells what is left of its faults only where their count can't reach its last value
+abbrev pub DriveTells : DriveCounts → Type 0
+DriveTells drive = CanTell drive.faults drive.left
+
+-- so it is with all drives; the count of stalls is below its last value, and what is left brings it there at most
+pub record TellsLeft (counters : Counters) : Type 0 where
+  pub first : DriveTells counters.drives.first
+  pub second : DriveTells counters.drives.second
+  pub spares : All DriveTells counters.spares
+  pub stalls : counters.stalls + counters.stalls_left ≤ last_count
+  pub stalls_below : counters.stalls < last_count
+
+-- a call of the driver: at most so many data commands, an interrupt taken for each, and nothing past the driver
+pub record IsDriven (most : ℕ) (old new : Counters) : Type 0 where
+  pub most_commands : new.data_commands ≤ old.data_commands + most
+  pub interrupts : RoseBy (new.data_commands - old.data_commands) old.taken new.taken
+  pub past_driver : new.direct ≡ old.direct
+
+-- a call past the driver: at most so many accesses, and no data command
+pub record IsPastDriver (most : ℕ) (old new : Counters) : Type 0 where
+  pub accesses : new.direct ≤ old.direct + most
+  pub no_commands : new.data_commands ≡ old.data_commands
+
+-- how counters go on where the next spare drive takes the place of the one in a bay: it comes with its own counts
+pub record TakesSpare (bay : ℕ) (old new : Counters) : Type 0 where
+  pub other : in_bay new.drives (1 - bay) ≡ in_bay old.drives (1 - bay)
+  pub spare : (next : DriveCounts) × (old.spares ≡ next ∷ new.spares) × DriveGoesOn next (in_bay new.drives bay)
+  pub stalls : new.stalls ≡ old.stalls
+  pub stalls_left : new.stalls_left ≡ old.stalls_left
+  pub taken : new.taken ≡ old.taken
+  pub direct : old.direct ≤ new.direct

@@ -1,0 +1,75 @@
+-- A DMA request and how long its grant is held back.
+use Rattle.std.specs.Prelude.{◌≤◌, ℕ, ◌+◌, ◌-◌, min, Bool, true, false, ◌==◌, nat_lt, if◌then◌else◌, List}
+use Rattle.std.specs.List.{All}
+use Rattle.flop_base.specs.Counts.{last_count}
+use Rattle.irq_events.specs.Entries.{next_entry, rest_of}
+use Rattle.irq_events.specs.declared.holding.Request.{Request}
+use Rattle.irq_events.specs.declared.holding.Request.TheVariants.{Low, High}
+
+-- the holds that are left, the request, and how many holds were above 8
+pub record Holds : Type 0 where
+  pub entries : List ℕ
+  pub request : Request
+  pub stalls : ℕ
+
+-- the request is granted in this device step
+abbrev pub is_due : Request → Bool
+is_due Low = false
+is_due (High left) = left == 0
+
+-- the line is low
+abbrev pub is_low : Request → Bool
+is_low Low = true
+is_low (High left) = false
+
+-- a count, one higher, up to its last value
+abbrev pub counted : ℕ → ℕ
+counted count = min (count + 1) last_count
+
+-- the stalls once a hold was taken: one above 8 counts
+abbrev pub stalls_with : ℕ → ℕ → ℕ
+stalls_with hold stalls = if nat_lt 8 hold then counted stalls else stalls
+
+-- the line is high in a device step: where it rose, the next hold begins; else one step of the hold is over
+abbrev pub waited : Request → Holds → Holds
+waited Low old = record old {
+  entries = rest_of old.entries;
+  request = High (next_entry old.entries);
+  stalls = stalls_with (next_entry old.entries) old.stalls;
+}
+waited (High left) old = record old { request = High (left - 1) }
+
+-- the line is seen in a device step
+abbrev pub looked : Bool → Holds → Holds
+looked false old = record old { request = Low }
+looked true old = waited old.request old
+
+-- the line is shown between two device steps: a fall ends the request, and a rise waits for the next step
+abbrev pub shown : Bool → Holds → Holds
+shown false old = record old { request = Low }
+shown true old = old
+
+-- ---- ranges
+
+-- what is left of a request's hold is a byte
+abbrev pub IsShort : Request → Type 0
+IsShort Low = Unit {0}
+IsShort (High left) = left ≤ 255
+
+-- each hold is a byte, and what is left of one too
+pub record AreShort (holds : Holds) : Type 0 where
+  pub entries : All (λ entry. entry ≤ 255) holds.entries
+  pub request : IsShort holds.request
+
+-- ---- in time
+
+-- a device that can go on for so many device steps with no grant, between two of them: with its line low for nine, and with a
+-- request for all that are left of its hold
+abbrev pub IsReady : Request → ℕ → Type 0
+IsReady Low slack = 9 ≤ slack
+IsReady (High left) slack = (1 ≤ left) × (left ≤ slack)
+
+-- the same once the line was looked at: a request may be due
+abbrev pub IsInTime : Request → ℕ → Type 0
+IsInTime Low slack = 9 ≤ slack
+IsInTime (High left) slack = left ≤ slack

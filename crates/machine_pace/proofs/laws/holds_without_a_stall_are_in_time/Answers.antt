@@ -1,5 +1,0 @@
-use Rattle.machine_pace.proofs.InTime.{in_time}
-use Rattle.machine_pace.proofs.laws.holds_without_a_stall_are_in_time.Goals as goal
-
-pub returns : goal.returns
-returns c = in_time

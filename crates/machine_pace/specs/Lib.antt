@@ -1,3 +1,0 @@
-pub mod Entries
-pub mod Holds
-pub mod Saving

@@ -1,4 +1,0 @@
-pub mod Readying
-pub mod Calming
-pub mod Placing
-pub mod Fetching
