@@ -6,10 +6,10 @@ ghost use Rattle.fdc_core.specs.Whole.{is_idle, options_with, TakesWhole, ending
 ghost use Rattle.fdc_seek.specs.Seeking.{has_ended_seek};
 
 use crate::board::FdcBoard;
+use drive_model::Inspect;
 use fdc_commands::Accepted;
 use fdc_drives::lines;
 use fdc_stages::Ending;
-use drive_model::Inspect;
 
 impl<D: Inspect> FdcBoard<D> {
     ghost use Rattle.fdc_board.specs.Boards.{board_state, controller_of, lines_at, SameDrives};

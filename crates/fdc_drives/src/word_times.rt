@@ -51,7 +51,12 @@ pub fn may_leap(controller: &Fdc, most: u32) -> bool {
 /// Word times in a row in which no line of the controller changes, `most` at most; tells how many: where it is 0, the next one
 /// has to be made alone.
 #[inline(never)]
-pub fn pass_word_times<D: Drive>(controller: &mut Fdc, first: &mut D, second: &mut D, most: u32) -> u32
+pub fn pass_word_times<D: Drive>(
+    controller: &mut Fdc,
+    first: &mut D,
+    second: &mut D,
+    most: u32,
+) -> u32
     ensures few { result ≤ most }
     ensures passes { WordTimes result (selected_by controller.old) controller.old (D.state first.old) (D.state second.old)
         controller.new (D.state first.new) (D.state second.new) }

@@ -10,9 +10,9 @@ ghost use Rattle.fdc_sequencer.specs.Moves.{StepsFront, FollowsStep, MovesOn, En
 use crate::sequencer::Sequencer;
 use crate::stage::{Moving, Stage};
 use crate::transfer::Transfer;
+use drive_model::Inspect;
 use fdc_commands::{Accepted, Results};
 use fdc_stages::Ending;
-use drive_model::Inspect;
 
 impl<D: Inspect> Sequencer<D> {
     /// One device step: the board's, and where a sector ended in it, the next begins or there are results.

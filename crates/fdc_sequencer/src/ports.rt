@@ -8,10 +8,10 @@ use crate::opcode::Opcode;
 use crate::sequencer::Sequencer;
 use crate::stage::Stage;
 use crate::transfer::Transfer;
+use drive_model::Inspect;
 use fdc_commands::{Accepted, Command, CommandBytes, Results};
 use fdc_core::Fdc;
 use fdc_registers::{Flags, Msr};
-use drive_model::Inspect;
 
 /// MSR where it is read, DSR where it is written.
 const STATUS: u16 = 0x3F4;

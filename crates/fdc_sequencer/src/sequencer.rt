@@ -6,10 +6,10 @@ ghost use Rattle.fdc_sequencer.specs.Fronts.{front_state, board_of, IsNewFront, 
 ghost use Rattle.fdc_sequencer.specs.Moves.{HasLinesOutside, RunsFront};
 
 use crate::stage::Stage;
+use drive_model::Inspect;
 use fdc_board::FdcBoard;
 use fdc_commands::CommandBytes;
 use flop_base::NoMemory;
-use drive_model::Inspect;
 use std::alloc::Global;
 
 /// A controller with its drives that takes commands of several sectors.

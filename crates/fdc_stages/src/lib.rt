@@ -17,8 +17,8 @@ pub mod writing_laws;
 mod writing_saving;
 
 pub use ending::Ending;
+pub use formatting::{FormatEnd, FormatNext, FormatPart, FormatStage, FormatWord};
 pub use reading::{ReadHeard, ReadStage};
 pub use searching::{Search, Searched};
-pub use formatting::{FormatEnd, FormatNext, FormatPart, FormatStage, FormatWord};
 pub use window::{Given, Part, Window};
 pub use writing::{WriteNext, WriteStage, WriteWord};

@@ -5,9 +5,9 @@ ghost use Rattle.fdc_stages.specs.declared.ending.Ending.{Ending};
 ghost use Rattle.fdc_stages.specs.Writings.{IsStopped, IsWriting, HasWritten, WritesFirst, WritesWhole};
 ghost use Rattle.fdc_stages.specs.Formats.{Numbers, IsFormatting, HasFormatted, LaysFirst, LaysWhole};
 
+use crate::Ending;
 use crate::formatting::FormatStage;
 use crate::writing::WriteStage;
-use crate::Ending;
 use flop_base::Chrn;
 
 /// A writing may be stopped at each stage: by a byte that is missing before the terminal count, or at the last step that it

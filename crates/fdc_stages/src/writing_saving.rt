@@ -1,8 +1,8 @@
 // Stages that write as bytes.
+use crate::Search;
 use crate::formatting::{FormatPart, FormatStage};
 use crate::window::{Part, Window};
 use crate::writing::WriteStage;
-use crate::Search;
 use flop_base::Chrn;
 use saved_state::{Saved, Sink, Source};
 use track_format::FormatStream;

@@ -12,8 +12,8 @@ mod pace;
 mod queues;
 mod strays;
 
-pub use latch::IrqLatch;
-pub use pace::Pace;
 pub use gaps::Gaps;
 pub use holding::{Holding, Request};
+pub use latch::IrqLatch;
+pub use pace::Pace;
 pub use strays::Strays;

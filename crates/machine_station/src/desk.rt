@@ -5,10 +5,10 @@ ghost use Rattle.machine_station.specs.Ready.{is_station_ready};
 ghost use Rattle.machine_station.specs.Shown.{station_shown};
 ghost use Rattle.machine_station.specs.Quiet.{stalls_due};
 
+use crate::MachineStation;
 use drive_model::PlainDrive;
 use flop_base::{Code, NoMemory, Rate};
 use irq_events::Pace;
-use crate::MachineStation;
 use pc_bus::MachineOf;
 use raw_image::Medium;
 use sector_model::Station;

@@ -16,5 +16,5 @@ mod sectors;
 mod start;
 mod station;
 
-pub use station::MachineStation;
 pub use desk::SectorDesk;
+pub use station::MachineStation;
