@@ -1,5 +1,5 @@
 // A drive whose faults are planned.
-ghost use Rattle.std.specs.Prelude.{◌≡◌, ◌≤◌, ◌↔◌, length, IsErr, IsSome, OnOk, IfErr};
+ghost use Rattle.std.specs.Prelude.{◌≡◌, ◌≤◌, ◌↔◌, length, false, IsErr, IsSome, OnOk, IfErr};
 ghost use Rattle.std.specs.Bool.{OnTrue, OnFalse};
 ghost use Rattle.flop_base.specs.Counts.{last_count, Rose};
 ghost use Rattle.drive_model.specs.Drive.{Becomes, InRange, loaded, unloaded, with_motor, with_gate, moved, passed, written, forgotten, cut_off, at_index, word_under, rate_of, Pulses, Reads, Writes};
