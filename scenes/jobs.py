@@ -83,6 +83,19 @@ def whole_runs(book):
               "writedel 0 0 0 5 2 10200;read 0 0 0 5 2 20000;read 0 0 1 18 2 30000;dump 30000 1;format 0 0 1;eject 0",
               "insert ok;ack ok;read ok;10000 F6 F6;fill ok;write ok;writedel ok;read ok deleted;read ok;30000 A1;format ok;eject ok",
               stored={"a.rt": disk})
+    # An acknowledgement of 250 kbit/s is two data commands, a write reads back, and a format reads back nine sectors. Beside data
+    # commands interrupts are of the reset, three movements of an acknowledgement, and a seek of each attempt, behind a
+    # recalibration where it is a format or there is one try.
+    disk = formatted(1, 250).write(5, bytes(512), True, step=654).file()
+    book.scene("a job of each kind of request at 250 kbit per second")
+    book.file("a.rt", Made(formatted(1, 250).file(), "disk 1 250"))
+    book.count("commands", "taken", "direct", "stalls", "faults0", "faults1")
+    book.play("insert 0 a.rt;read 0 0 0 9 2 10000;ack 0;fill 10000 512 A1;write 0 0 1 9 2 10000;writedel 0 0 0 5 2 10200;"
+              "read 0 0 0 5 2 20000;read 0 0 1 9 2 30000;dump 30000 1;format 0 0 1;tries 1;read 0 0 0 10 2 10000;rate 0 500;"
+              "read 0 0 0 9 2 10000;rate 0 250;unit 0;unit 1;read 1 0 0 9 2 10000;eject 0",
+              "insert ok;read refused 06;ack ok;fill ok;write ok;writedel ok;read ok deleted;read ok;30000 A1;format ok;tries ok;"
+              "read refused 04;rate ok;read refused 02;rate ok;unit refused busy;unit ok;read refused 06;eject ok", 1, {"a.rt": disk},
+              counts=(2 + 2 * 2 + 2 + 10 + 2, 20 + 1 + 3 + 2 + 2 + 2 + 2 * 2, 1 + 512 + 1 + 1, 0, 0, 0))
     # With one try a refused read is one data command; an acknowledgement of 250 kbit/s looks at 500 first.
     disk = formatted(1, 250).write(9, b"\0" + b"\xF6" * 511, step=654).file()
     book.scene("a job of refusals")

@@ -1,5 +1,5 @@
 //! Tests of the whole program where only calls can show something: shelves and sinks at its edge, the calls of a session and of a
-//! machine one by one, drives behind a box, one of the tests' own among them, and both stations beside one another.
+//! machine one by one, and drives behind a box, one of the tests' own among them.
 #![tactic(auto)]
 
 #[cfg(test)]
@@ -15,6 +15,6 @@ mod printed;
 #[cfg(test)]
 mod session;
 #[cfg(test)]
-mod stations;
+mod shelves;
 #[cfg(test)]
 mod stuck;

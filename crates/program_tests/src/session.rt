@@ -2,7 +2,7 @@
 ghost use Rattle.floppy_session.specs.Tries.{HasTries};
 
 use crate::machines::{machine, spare};
-use crate::stations::shelf_with_disk;
+use crate::shelves::shelf_with_disk;
 use drive_model::PlainDrive;
 use flop_base::{Chrn, Code, MemShelf, Name};
 use floppy_requests::Request;

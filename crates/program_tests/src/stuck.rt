@@ -4,7 +4,7 @@ ghost use Rattle.flop_base.specs.Counts.{last_count};
 ghost use Rattle.pc_bus.specs.Boards.{IsEmpty};
 
 use crate::machines::machine_with;
-use crate::stations::{shelf_with_disk, words};
+use crate::shelves::{shelf_with_disk, words};
 use drive_model::{Drive, PlainDrive, Turn};
 use flop_base::{MemShelf, MemSink, NoMemory, Rate, Status};
 use floppy_tools::floppy;

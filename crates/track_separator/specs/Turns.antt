@@ -1,5 +1,5 @@
 -- What a word gives at any time, also as the last of its turn.
-use Rattle.std.specs.Prelude.{◌≡◌, ◌⊎◌, ℕ, ◌+◌, ◌*◌, ◌<◌, Bool, true, false, List}
+use Rattle.std.specs.Prelude.{◌≡◌, ◌⊎◌, ℕ, ◌+◌, ◌*◌, ◌<◌, Bool, true, false, List, []}
 use Rattle.track_model.specs.Bytes.{byte_at}
 use Rattle.track_model.specs.Fields.{IsAddress}
 use Rattle.track_model.specs.Looks.{IsFirstDataMark}
@@ -8,9 +8,9 @@ use Rattle.track_separator.specs.declared.state.Seen.TheVariants.{Nothing, Mark,
 use Rattle.track_separator.specs.declared.state.Stage.{Stage}
 use Rattle.track_separator.specs.declared.state.Stage.TheVariants.{Hunting, TurnEnded, Waiting, Content}
 use Rattle.track_separator.specs.declared.state.Separator.{Separator}
-use Rattle.track_separator.specs.Parts.{with_word}
-use Rattle.track_separator.specs.Hunts.{HuntsIn, FollowsIn, HuntSeenIn, GivesAll, Stands}
-use Rattle.track_separator.specs.Waits.{WaitsIn, ReadsIn, SWaitSeen, SReadSeen, HasEnded, TellsWhole, IsUnfinished}
+use Rattle.track_separator.specs.Parts.{with_word, turn_after}
+use Rattle.track_separator.specs.Hunts.{HuntsIn, SHunts, FollowsIn, SFollows, HuntSeenIn, SHuntSeen, GivesAll, Stands}
+use Rattle.track_separator.specs.Waits.{WaitsIn, SWaits, ReadsIn, SReads, SWaitSeen, SReadSeen, HasEnded, TellsWhole, IsUnfinished}
 
 -- a word to a separator that hunts, inside the turn
 pub record IsHuntedIn (cells back : ℕ) (stage : Stage) (word after behind : ℕ) (next : Stage) (seen : Seen) : Type 0 where
@@ -100,3 +100,19 @@ IsTold fed (Byte value) =
 IsTold fed (End good) =
     (p : ℕ) × (q : ℕ) × (deleted : Bool) × (size : ℕ) × IsAddress fed p × HasEnded fed p q deleted size × TellsWhole fed q size good
 IsTold fed NoData = Unit {0}
+
+-- a word to a separator at any stage, also as the last of its turn
+pub record Feeds (index : Bool) (word : ℕ) (old new : Separator) (seen : Seen) : Type 0 where
+  pub keeps : (fed : List ℕ) → SHunts old fed → SHunts new (turn_after index fed word)
+  pub stands : (fed : List ℕ) → SHunts old fed → Stands (with_word fed word) seen
+  pub address : (fed : List ℕ) → SHunts old fed → index ≡ false → SHuntSeen (with_word fed word) new seen
+  pub follows : (fed : List ℕ) → SFollows old fed → SFollows new (turn_after index fed word)
+  pub turns : index ≡ true → SFollows new []
+  pub begins : index ≡ true → SBegins new
+  pub gives : (fed : List ℕ) → SFollows old fed → GivesAll (with_word fed word) seen
+  pub waits : (fed : List ℕ) (p size : ℕ) → SWaits old fed p size → SWaitFed index (with_word fed word) p size new seen
+  pub reads : (fed : List ℕ) (p q : ℕ) (deleted : Bool) (size taken : ℕ) → SReads old fed p q deleted size taken
+      → SReadFed index (with_word fed word) p q deleted size taken new seen
+  pub turn_ended : STurnEnded old → (seen ≡ NoData) × ((fed : List ℕ) → SHunts new fed)
+  pub any : (fed : List ℕ) → SFed old fed → SFed new (turn_after index fed word)
+  pub told : (fed : List ℕ) → SFed old fed → IsTold (with_word fed word) seen

@@ -3,7 +3,7 @@ use Rattle.track_separator.specs.declared.state.Seen.TheVariants.{Byte}
 use Rattle.track_separator.specs.declared.state.Stage.{Stage}
 use Rattle.track_separator.specs.Parts.{with_word}
 use Rattle.track_separator.specs.Waits.{ReadsIn, SReadSeen, IsReading}
-use Rattle.track_separator.specs.Turns.{SFed, IsTold, AwaitsByteIn}
+use Rattle.track_separator.specs.Turns.{AwaitsByteIn}
 use Rattle.track_separator.proofs.Told.{fed_byte}
 use Rattle.track_separator.proofs.state.Separator.next_byte.Goals as goal
 

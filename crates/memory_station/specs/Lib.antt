@@ -1,5 +1,0 @@
-pub mod Answers
-pub mod Counted
-pub mod Driven
-pub mod Put
-pub mod Shown
