@@ -1,5 +1,5 @@
 -- Word times of a controller and its drives, one by one and in a row.
-use Rattle.std.proofs.Common.{◌≡◌, ◌≤◌, ℕ, zero, suc, refl, sym, ap, ◌∙◌, subst, arith}
+use Rattle.std.proofs.Common.{◌≡◌, ℕ, zero, suc, refl, sym, ap, ◌∙◌, subst, arith}
 use Rattle.drive_model.specs.Ahead.{LetsPass}
 use Rattle.drive_model.specs.Drive.{DriveState}
 use Rattle.fdc_core.specs.Courses.{Courses, HoldsLines, IsStill}
