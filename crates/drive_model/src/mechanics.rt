@@ -314,8 +314,9 @@ impl Mechanics {
     {
         let cylinder = self.cylinder;
         if let Some(medium) = &mut self.medium {
-            let replaced = replace_word(medium, cylinder, head, place, word);
-            self.replaced = self.replaced || replaced;
+            if replace_word(medium, cylinder, head, place, word) {
+                self.replaced = true;
+            }
         }
     }
 
