@@ -4,7 +4,7 @@
 The disk is laid out cell by cell from the tables of docs/FORMATS.md alone, with none of the program's own code:
 2 heads, 12,500 words a track, 18 sectors of 512 bytes F6, gap 3 of 108 bytes.
 """
-import sys
+import argparse, sys
 
 MARK, INDEX_MARK = 0x4489, 0x5224
 WORDS, SECTORS, GAP3, FILL = 12500, 18, 108, 0xF6
@@ -54,13 +54,29 @@ def track(cylinder, head):
     return laid.words
 
 
-def main():
-    name, cylinders = sys.argv[1], int(sys.argv[2]) if len(sys.argv) > 2 else 2
+def write(name, cylinders):
     with open(name, "wb") as file:
         file.write(b"RTIMAGE2" + bytes([0, cylinders, 2, 0]) + WORDS.to_bytes(2, "big"))
         for cylinder in range(cylinders):
             for head in range(2):
                 file.write(b"".join(word.to_bytes(2, "big") for word in track(cylinder, head)))
+
+
+def cylinders_of(word):
+    if not (word.isdecimal() and 1 <= int(word) <= 80):
+        raise argparse.ArgumentTypeError(f"{word} isn't 1 to 80")
+    return int(word)
+
+
+def main():
+    words = argparse.ArgumentParser(description=__doc__.splitlines()[0])
+    words.add_argument("file", metavar="FILE", help="the image, which is replaced")
+    words.add_argument("cylinders", metavar="CYLINDERS", nargs="?", type=cylinders_of, default=2, help="1 to 80; 2 where none is given")
+    given = words.parse_args()
+    try:
+        write(given.file, given.cylinders)
+    except OSError as fault:
+        sys.exit(f"{given.file}: {fault.strerror}")
 
 
 main()
