@@ -1,9 +1,12 @@
 use Rattle.std.proofs.Common.{sym, ◌∙◌}
+use Rattle.telwyddus_c.proofs.EmptyPlans.{none_planned}
 use Rattle.telwyddus_c.proofs.Options.{none_in}
 use Rattle.telwyddus_c.proofs.machine.making.telwyddus_machine_new.Goals as goal
 
 pub returns-in-Ok-new : goal.returns-in-Ok-new
-returns-in-Ok-new c = (
+returns-in-Ok-new c =
+    let first = c.new-first.ensures.state ∙ none_planned _ c.new-4.ensures.items in
+    let second = c.new-second.ensures.state ∙ none_planned _ c.new-5.ensures.items in (
   none_in c.args.slot.now.held.machine (sym c.is_full.ensures ∙ c.if-is_full.false),
   (
     _,
@@ -13,7 +16,7 @@ returns-in-Ok-new c = (
       gaps = c.new.ensures.items;
       holds = c.new-2.ensures.items;
       strays = c.new-3.ensures.items;
-      new = rw c.in-Ok-new.ensures.ok (rw c.new-4.ensures at (rw c.new-5.ensures at c.in-Ok.ensures));
+      new = rw c.in-Ok-new.ensures.ok (rw first at (rw second at c.in-Ok.ensures));
     },
   ),
 )

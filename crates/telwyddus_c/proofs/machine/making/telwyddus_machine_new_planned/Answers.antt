@@ -11,7 +11,7 @@ returns-in-Ok-new-2 c =
       gaps = refl;
       holds = refl;
       strays = refl;
-      new = rw c.in-Ok-new-2.ensures.ok (rw c.new.ensures.state at (rw c.new-in-Ok.ensures.state at c.in-Ok-new.ensures));
+      new = rw c.in-Ok-new-2.ensures.ok (rw c.new-first.ensures.state at (rw c.new-second.ensures.state at c.in-Ok-new.ensures));
     } in (
       (
         none_in c.args.slot.now.held.machine (sym c.is_full.ensures ∙ c.if-is_full.false),

@@ -1,0 +1,11 @@
+-- Drives whose list of faults is empty.
+use Rattle.std.proofs.Common.{◌≡◌, List, [], Some, refl, ap}
+use Rattle.drive_model.specs.Drive.{DriveState}
+use Rattle.drive_model.specs.Fault.{total_left}
+use Rattle.drive_model.specs.Mechanics.{at_rest}
+use Rattle.drive_model.specs.ScriptDrive.{told}
+use Rattle.drive_model.specs.declared.fault.Fault.{Fault}
+
+-- such a drive has no faults
+pub none_planned : (faults : List Fault) → faults ≡ [] → at_rest (told 0 (total_left faults)) ≡ at_rest (Some 0)
+none_planned faults none = ap (λ (it : List Fault). at_rest (told 0 (total_left it))) none
