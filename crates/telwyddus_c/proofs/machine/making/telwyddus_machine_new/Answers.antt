@@ -7,16 +7,16 @@ pub returns-in-Ok-new : goal.returns-in-Ok-new
 returns-in-Ok-new c =
     let first = c.new-first.ensures.state ∙ none_planned _ c.new-4.ensures.items in
     let second = c.new-second.ensures.state ∙ none_planned _ c.new-5.ensures.items in (
-  none_in c.args.slot.now.held.machine (sym c.is_full.ensures ∙ c.if-is_full.false),
-  (
-    _,
-    c.put.ensures,
-    record {
-      pace = record { gaps = c.new.result; holds = c.new-2.result; strays = c.new-3.result };
-      gaps = c.new.ensures.items;
-      holds = c.new-2.ensures.items;
-      strays = c.new-3.ensures.items;
-      new = rw c.in-Ok-new.ensures.ok (rw first at (rw second at c.in-Ok.ensures));
-    },
-  ),
-)
+      none_in c.args.slot.now.held.machine (sym c.is_full.ensures ∙ c.if-is_full.false),
+      (
+        _,
+        c.put.ensures,
+        record {
+          pace = record { gaps = c.new.result; holds = c.new-2.result; strays = c.new-3.result };
+          gaps = c.new.ensures.items;
+          holds = c.new-2.ensures.items;
+          strays = c.new-3.ensures.items;
+          new = rw c.in-Ok-new.ensures.ok (rw first at (rw second at c.in-Ok.ensures));
+        },
+      ),
+    )
