@@ -38,7 +38,7 @@ uncounted past key told sized ended =
     let counted : Past = record past { counted = true } in
     let (_, (turn, p, q, found)) = found_of counted key told past.given deleted sized (record { bytes = over_told past key told deleted true over; cause = (refl, over) }) (ended.rest, ended.bytes_are) in
     let whole = ended.bytes_are ∙ (ap (λ rest. past.given ++ rest) ended.spent ∙ append-nil past.given) in
-    (none, ap length (sym whole) ∙ over_full past key told deleted true over, (deleted, turn, p, q, record { among = found.among; address = found.address; finds = found.finds; content = found.content }))
+    (none, ap length (sym whole) ∙ over_full past key told deleted true over, (deleted, turn, p, q, record { among = found.among; address = found.address; finds = found.finds; begins = found.begins; content = found.content }))
 
 read_means : (past : Past) (sent : Sent) (ending : Ending) (told : List ℕ) → IsSizeCode sent.key.n → HasEndedAs past sent.key ending told → ReadMeans past sent ending
 read_means past sent (Done deleted) told sized ended =

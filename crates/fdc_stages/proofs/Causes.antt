@@ -1,5 +1,6 @@
 -- What the ending of a reading says of the words heard.
-use Rattle.std.proofs.Common.{◌≡◌, ℕ, Bool, true, false, Option, None, List, length, refl, sym, subst, ◌∙◌, inl, inr}
+use Rattle.std.proofs.Common.{◌≡◌, ℕ, Bool, true, false, Option, None, List, [], ◌++◌, length, refl, sym, subst, ◌∙◌, inl, inr}
+use Rattle.std.proofs.lemmas.List.{append-nil}
 use Rattle.flop_base.specs.declared.key.Chrn.{Chrn}
 use Rattle.track_model.specs.Fields.{IsSizeCode, content_size}
 use Rattle.track_separator.specs.declared.state.Separator.{Separator}
@@ -11,6 +12,11 @@ use Rattle.fdc_stages.specs.Searches.{IsMet, IsBetween, IsMissed}
 use Rattle.fdc_stages.specs.Readings.{IsStart, HasNoField, IsFieldOver, HasRead}
 use Rattle.fdc_stages.specs.Findings.{FindsSector, HasAddress, HasIdentified, FindsBadCheck, FindsNoField, FindsNoMark, FindsNoSector}
 use Rattle.fdc_stages.proofs.Lawful.{start_full, over_full}
+
+-- what was given are the first bytes of what was told
+start_rest : (counted : Bool) (given told : List ℕ) → IsStart counted given told → (rest : List ℕ) × (told ≡ given ++ rest)
+start_rest false given told is = ([], sym is ∙ sym (append-nil given))
+start_rest true given told (rest, is) = (rest, is)
 
 -- a reading that is done has found the sector
 pub found_of : (past : Past) (key : Chrn) (told given : List ℕ) (deleted : Bool) → IsSizeCode key.n → HasRead past key told (Done deleted) → IsStart past.counted given told → FindsSector past key given deleted
@@ -29,6 +35,7 @@ found_of past key told given deleted coded read start =
           among = read.cause.1.1;
           address = over.address;
           finds = field_stays turn turn (whole_part turn) p q key.n (content_size key.n) deleted true coded refl over.ended over.tells;
+          begins = let (rest, is) = start_rest past.counted given told start in (rest, sym over.bytes ∙ is);
           content = λ full. start_full past.counted given told start (full ∙ sym long) ∙ over.bytes;
         },
       ),

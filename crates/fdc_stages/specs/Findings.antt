@@ -1,5 +1,5 @@
 -- What the ending of a reading says of the words heard.
-use Rattle.std.specs.Prelude.{◌≡◌, ◌⊎◌, ℕ, ◌+◌, Bool, true, Option, None, List, length}
+use Rattle.std.specs.Prelude.{◌≡◌, ◌⊎◌, ℕ, ◌+◌, Bool, true, Option, None, List, ◌++◌, length}
 use Rattle.flop_base.specs.declared.key.Chrn.{Chrn}
 use Rattle.track_model.specs.declared.Look.TheVariants.{Found, NoData, BadCrc}
 use Rattle.track_model.specs.Fields.{IsAddressAt, content_size, content_at}
@@ -10,11 +10,13 @@ use Rattle.fdc_stages.specs.declared.ending.Ending.TheVariants.{Done, NoMark, No
 use Rattle.fdc_stages.specs.History.{Past, IsTurn, IsJustOver}
 use Rattle.fdc_stages.specs.Searches.{HasNoClear, HasMarkIn, IsBetween, IsMissed}
 
--- a turn has the sector at p, its data mark at q; where as many bytes as its size were given, they are its content
+-- a turn has the sector at p, its data mark at q; what was given are the first bytes of its content, and where they are as many as its
+-- size, the whole
 pub record IsFoundAt (past : Past) (key : Chrn) (given : List ℕ) (deleted : Bool) (turn : List ℕ) (p q : ℕ) : Type 0 where
   pub among : IsTurn past turn
   pub address : IsAddressAt turn p key
   pub finds : LookAt turn p key.n (Found deleted (q + 64))
+  pub begins : (rest : List ℕ) × (content_at turn (q + 64) key.n ≡ given ++ rest)
   pub content : length given ≡ content_size key.n → given ≡ content_at turn (q + 64) key.n
 
 -- the terminal count came, and the sector was found

@@ -12,7 +12,7 @@ use crate::ending::Ending;
 use crate::reading::ReadStage;
 use flop_base::Chrn;
 
-/// A reading that is done has found the sector; where as many bytes as its size were given, they are its content.
+/// A reading that is done has found the sector; what was given are the first bytes of its content.
 pub fn done_is_found(_key: Chrn, _deleted: bool)
     requires { IsSizeCode _key.n }
     ensures { (past : Past) (told given : List ℕ) → HasRead past _key told (Ending.Done _deleted)
