@@ -6,3 +6,6 @@ pub mod Shifted
 pub mod Fields
 pub mod Turns
 pub mod Passing
+pub mod Written
+pub mod WritingWords
+pub mod Writing

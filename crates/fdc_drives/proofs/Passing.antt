@@ -3,6 +3,8 @@ use Rattle.std.proofs.Common.{◌≡◌, ◌⊎◌, inl, inr, ℕ, ◌+◌, ◌<
 use Rattle.std.proofs.lemmas.List.{get_or-replicate, get_or_past, length-replicate}
 use Rattle.std.proofs.lemmas.Bool.{cases_lt}
 use Rattle.std.proofs.lemmas.Bool.Decides.{nat_tests}
+use Rattle.flop_base.specs.declared.key.Chrn.{Chrn}
+use Rattle.track_model.specs.Fields.{IsAddressAt}
 use Rattle.drive_model.specs.Drive.{DriveState, Becomes, passed, at_index, turns, word_under, rate_of}
 use Rattle.fdc_core.specs.Listening.{SeesUnder}
 use Rattle.fdc_core.specs.Steps.{let_pass}
@@ -15,8 +17,8 @@ use Rattle.raw_image.specs.Disk.{Disk, IsDisk, track_of}
 use Rattle.sector_map.proofs.RegularTracks.{length-track_of}
 use Rattle.fdc_drives.proofs.Facts.{if_both, different, le_true}
 use Rattle.sector_map.specs.Met.{unrecorded}
-use Rattle.sector_map.proofs.MetTracks.{length-unrecorded}
-use Rattle.fdc_drives.specs.Hearing.{IsHearing, IsUnder, Outset, track_heard}
+use Rattle.sector_map.proofs.MetTracks.{length-unrecorded, nothing_unrecorded}
+use Rattle.fdc_drives.specs.Hearing.{IsHearing, IsRecorded, IsUnder, Outset, track_heard}
 use Rattle.fdc_drives.proofs.Hearing.{heard_on, heard_on_whole}
 
 -- ---- tests
@@ -43,6 +45,18 @@ length_heard outset valid = by_track (nat_lt outset.cylinder outset.disk.cylinde
     by_track true true false low head = length-unrecorded outset.disk.words_per_track
     by_track true false r low head = length-unrecorded outset.disk.words_per_track
     by_track false h r low head = length-unrecorded outset.disk.words_per_track
+
+-- one with an address field is a track of the medium, at its own rate
+pub recorded : (outset : Outset) (p : ℕ) (key : Chrn) → IsAddressAt (track_heard outset) p key → IsRecorded outset
+recorded outset p key address =
+    by_track (nat_lt outset.cylinder outset.disk.cylinders) (nat_lt outset.head outset.disk.heads) (rate_fits outset.rate outset.disk.rate) refl refl refl address
+  where
+    by_track : (c h r : Bool) → nat_lt outset.cylinder outset.disk.cylinders ≡ c → nat_lt outset.head outset.disk.heads ≡ h → rate_fits outset.rate outset.disk.rate ≡ r
+        → IsAddressAt (if c && h && r then track_of outset.disk outset.cylinder outset.head else unrecorded outset.disk.words_per_track) p key → IsRecorded outset
+    by_track true true true low head fits there = record { has = (lt_of _ _ low, lt_of _ _ head); fits = fits; track = rw (low, head, fits) refl }
+    by_track true true false low head fits there = absurd ((nothing_unrecorded outset.disk.words_per_track).addresses p key there)
+    by_track true false r low head fits there = absurd ((nothing_unrecorded outset.disk.words_per_track).addresses p key there)
+    by_track false h r low head fits there = absurd ((nothing_unrecorded outset.disk.words_per_track).addresses p key there)
 
 seen_none : (fits : Bool) → seen_of fits 0 ≡ 0
 seen_none true = refl

@@ -1,7 +1,7 @@
 -- What a command heard of the track under its head.
 use Rattle.std.specs.Prelude.{◌≡◌, ℕ, ◌<◌, ◌≤◌, ◌&&◌, nat_lt, if◌then◌else◌, Bool, true, Some, List}
 use Rattle.flop_base.specs.Counts.{last_count}
-use Rattle.raw_image.specs.Disk.{Disk, track_of}
+use Rattle.raw_image.specs.Disk.{Disk, HasTrack, track_of}
 use Rattle.sector_map.specs.Met.{unrecorded}
 use Rattle.drive_model.specs.Drive.{DriveState}
 use Rattle.fdc_stages.specs.History.{Past}
@@ -25,6 +25,12 @@ abbrev pub track_heard : Outset → List ℕ
 track_heard outset =
     if nat_lt outset.cylinder outset.disk.cylinders && nat_lt outset.head outset.disk.heads && rate_fits outset.rate outset.disk.rate
     then track_of outset.disk outset.cylinder outset.head else unrecorded outset.disk.words_per_track
+
+-- it is one of the medium, recorded at that rate
+pub record IsRecorded (outset : Outset) : Type 0 where
+  pub has : HasTrack outset.disk outset.cylinder outset.head
+  pub fits : rate_fits outset.rate outset.disk.rate ≡ true
+  pub track : track_heard outset ≡ track_of outset.disk outset.cylinder outset.head
 
 -- a count that didn't rise
 abbrev pub IsCalm : ℕ → ℕ → Type 0

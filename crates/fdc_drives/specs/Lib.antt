@@ -3,3 +3,5 @@ pub mod Following
 pub mod WordTimes
 pub mod Heard
 pub mod Hearing
+pub mod Written
+pub mod Writing

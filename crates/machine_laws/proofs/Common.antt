@@ -68,6 +68,7 @@ pub use Rattle.machine_laws.specs.OnAwaits.Awaits.{HoldsSet, IsAwaited, IsLetOut
 pub use Rattle.machine_laws.specs.OnCounts.Counts.{CountsGoOn, counts_of}
 pub use Rattle.machine_laws.specs.OnFormats.Results.{AreKeysOf}
 pub use Rattle.fdc_drives.specs.Heard.{AreHeard, IsHeard, IsHeardFrom, IsHeardWhole, IsWholeFrom, place_in, start_of}
+pub use Rattle.fdc_drives.specs.Hearing.{IsCalm}
 pub use Rattle.machine_laws.specs.OnLead.Leads.{IsGuarded, IsLed, IsSpinning, IsTurningIn, IsUnheard, WarmsUp, led, turn_led, turns_led, unheard}
 pub use Rattle.machine_laws.specs.OnOrders.Orders.{AtDrive, CanBegin, GoesOn, Identify, IsDoneBy, IsLast, IsSetFor, Laid, LaysOn, Leaves, May, MayIn, MayLay, MayLayIn, Order, Read, Shows, Track, Underway, Window, Write}
 pub use Rattle.machine_laws.specs.OnOrders.Results.{IsFor, Only}
@@ -88,12 +89,11 @@ pub use Rattle.machine_laws.specs.OnSteps.Moves.{Acts, Goes, Lasting, read_from}
 pub use Rattle.machine_laws.specs.OnSteps.Stalls.{Keeping, Stalled}
 pub use Rattle.machine_laws.specs.OnSteps.Steady.{Marching, Moving, Progress, Steady, Transferred, regapped}
 pub use Rattle.machine_laws.specs.OnWrites.Begins.{write_of}
-pub use Rattle.machine_laws.specs.OnWrites.Drives.{ArePutOpen, HearsTrack, IsAtDrive, IsAtWindow, IsThere, start_in}
+pub use Rattle.machine_laws.specs.OnWrites.Drives.{IsAtDrive, IsAtWindow, IsThere, start_in}
 pub use Rattle.machine_laws.specs.OnWrites.Guards.{LeavesOthers}
 pub use Rattle.machine_laws.specs.OnWrites.Heads.{HasNoSeek, IsIdle, StaysIdle, StaysStill}
 pub use Rattle.machine_laws.specs.OnWrites.Timely.{IsFilling, IsOnTime, IsTimely, fills, fills_task}
 pub use Rattle.machine_laws.specs.OnWrites.Underway.{IsTaken, range_of, refuses, refuses_as}
-pub use Rattle.machine_laws.specs.OnWritten.Written.{IsCalm, IsOver}
 pub use Rattle.irq_events.proofs.InTime.{in_time}
 pub use Rattle.irq_events.specs.Entries.{is_stray_due, next_entry, rest_of}
 pub use Rattle.irq_events.specs.Holds.{AreShort, Holds, IsInTime, IsReady, IsShort, counted, is_due, looked, shown, waited}

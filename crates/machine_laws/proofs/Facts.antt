@@ -4,7 +4,7 @@ use Rattle.fdc_phases.specs.declared.phases.Task.TheVariants.{Read}
 use Rattle.irq_events.specs.Latch.{Latch}
 use Rattle.std.proofs.Common.{◌∙◌, Option, ◌⊎◌, inl, inr, ◌≡◌, ◌+◌, ◌≤◌, ◌<◌, ◌==◌, ◌||◌, ◌&&◌, if◌then◌else◌, Bool, true, false, refl, ℕ, nat_le, arith, [], Some, None, not, nat_lt}
 use Rattle.std.proofs.lemmas.Bool.Decides.{nat_tests}
-pub use Rattle.fdc_drives.proofs.Facts.{if_both, different, le_true, length_more}
+pub use Rattle.fdc_drives.proofs.Facts.{if_both, different, le_true, length_more, lt_true, not_granting, number_is}
 use Rattle.machine_laws.proofs.Common.{Channel, after_transfer, answer, after_byte, IsReadingData, fifo_told, phase_told, task_asks, Sent, is_executing, is_held, polled, Short, Long, Answer, Fdc, Command, Execute, Result, Phase, Task, Fifo, with_polls, Holds, shown, strayed_if, lined, phase_after, Ending, Results}
 
 pub either_is : (b : Bool) → (b ≡ true) ⊎ (b ≡ false)
@@ -19,9 +19,6 @@ pub same_grants : (channel : Channel) → (channel.count == 0) ≡ false → gra
 unfolding grants
 same_grants channel more = rw (more, or_false channel.masked) refl
 
-pub number_is : (a b : ℕ) → (a == b) ≡ true → a ≡ b
-number_is a b h = grind (arith, nat_tests)
-
 pub or_true : (b : Bool) → b || true ≡ true
 or_true true = refl
 or_true false = refl
@@ -35,10 +32,6 @@ zero_is n h = grind (arith, nat_tests)
 
 pub some_of : (n : ℕ) → (n == 0) ≡ false → 1 ≤ n
 some_of n h = grind (arith, nat_tests)
-
-pub not_granting : (granting : Bool) → granting ≡ false → granting ≡ true → ⊥
-not_granting true p q = absurd cc
-not_granting false p q = absurd cc
 
 pub shown_stalls : (line : Bool) (holding : Holds) → (shown line holding).stalls ≡ holding.stalls
 shown_stalls true holding = refl
@@ -109,9 +102,6 @@ lined_rose latch level up low = by_set latch.is_set
     by_set : (b : Bool) → (b || (level && not latch.level)) ≡ true
     by_set true = refl
     by_set false = rw (up, low) refl
-
-pub lt_true : (a b : ℕ) → a < b → nat_lt a b ≡ true
-lt_true a b h = grind (arith, nat_tests)
 
 pub spin_on : (b : Bool) (spin : ℕ) → spin ≤ (if b then spin + 1 else spin)
 spin_on true spin = omega arith

@@ -11,7 +11,8 @@ use Rattle.fdc_phases.specs.declared.phases.Task.TheVariants as task
 use Rattle.pc_bus.specs.Transfers.{moved}
 use Rattle.machine_laws.proofs.OnReads.Steps as reads
 use Rattle.machine_laws.proofs.OnWrites.Bytes as taking_bytes
-use Rattle.machine_laws.proofs.OnWrites.Drives.{drive_less}
+use Rattle.machine_laws.specs.OnReads.Scenes.{outset_of}
+use Rattle.fdc_drives.proofs.Writing.{drive_less}
 use Rattle.machine_laws.proofs.OnSteps.Transfers.{after_moves}
 use Rattle.machine_laws.proofs.OnSteps.Words.{selected}
 use Rattle.machine_laws.proofs.OnOrders.Behind.{KeepsOn, laid_on, IsDoing, IsOfWords}
@@ -143,7 +144,7 @@ transfers order scene P words fits = record {
 pub at_bytes : (order : Order) (scene : Scene) (drive : DriveState) → IsOfWords (λ past executes. AtDrive order scene past executes drive)
 at_bytes (Write laid) scene drive = record {
   bytes = λ past given taken counted executes was. laid_on laid scene past (record past { given = given; taken = taken; counted = counted }) executes executes drive drive
-      (drive_less scene past executes executes drive given taken counted (λ busy. busy)) refl refl was;
+      (drive_less (outset_of scene) past executes executes drive given taken counted (λ busy. busy)) refl refl was;
 }
 at_bytes Identify scene drive = record {
   bytes = λ past given taken counted executes was. reads.hearing_same scene past (record past { given = given; taken = taken; counted = counted }) executes drive (record { turns = refl; seen = refl }) was;
@@ -154,7 +155,7 @@ at_bytes Read scene drive = record {
 
 pub drive_on : (order : Order) (scene : Scene) (past : Past) (before now : Bool) (drive : DriveState) → (now ≡ true → before ≡ true) → AtDrive order scene past before drive → AtDrive order scene past now drive
 drive_on (Write laid) scene past before now drive less was =
-    laid_on laid scene past past before now drive drive (drive_less scene past before now drive past.given past.taken past.counted less) refl refl was
+    laid_on laid scene past past before now drive drive (drive_less (outset_of scene) past before now drive past.given past.taken past.counted less) refl refl was
 drive_on Identify scene past before now drive less was = hearing_less scene past before now drive less was
 drive_on Read scene past before now drive less was = hearing_less scene past before now drive less was
 

@@ -6,7 +6,8 @@ use Rattle.fdc_core.specs.Writes.{RestsWritten}
 use Rattle.machine_laws.proofs.OnReads.IdWords as ids
 use Rattle.machine_laws.proofs.OnReads.Steps as reads
 use Rattle.machine_laws.proofs.OnReads.Steps.{moves_faults}
-use Rattle.machine_laws.proofs.OnWrites.Drives.{rests_on}
+use Rattle.machine_laws.specs.OnReads.Scenes.{outset_of}
+use Rattle.fdc_drives.proofs.Writing.{rests_on}
 use Rattle.machine_laws.proofs.OnWrites.Guards.{moves_same}
 use Rattle.machine_laws.proofs.OnWrites.Steps as writes
 use Rattle.machine_laws.proofs.OnFormats.Steps as formats
@@ -44,7 +45,7 @@ laying laid scene whole = record {
   works = λ past drive after polls between asking fifo rate was execution may does. timed laid scene past between after
       (timed_led laid scene 0 past drive after polls between asking fifo whole rate (λ some. absurd (omega arith)) was execution
       (subst (λ p. MayLayIn laid scene p (Execute execution) asking fifo) (sym (led_none past)) may) does);
-  rests = λ past drive after was same falls. laid_on laid scene past past false false drive after (λ at. rests_on scene past drive after at same falls) refl refl was;
+  rests = λ past drive after was same falls. laid_on laid scene past past false false drive after (λ at. rests_on (outset_of scene) past drive after at same falls) refl refl was;
 }
 
 pub no_command : (laid : Laid) (scene : Scene) (past : Past) (asking : Bool) (fifo : Fifo) → MayLayIn laid scene past Command asking fifo → ⊥

@@ -9,7 +9,8 @@ use Rattle.fdc_phases.specs.Formatting as laying
 use Rattle.fdc_phases.specs.declared.phases.Task.TheVariants.{Read, Write}
 use Rattle.machine_laws.specs.OnWrites.Guards.{GatesDrives, HoldsGates, IsGated, IsGateOf, IsGivenIn, MakesTask, MakesTime, PassesClosed, is_recording}
 use Rattle.machine_laws.proofs.OnQuiet.Steps.{listens_told}
-use Rattle.machine_laws.proofs.OnWrites.Guards.{closes_same, moves_same, opens_same, step_leaves}
+use Rattle.fdc_drives.proofs.WritingWords.{closes_same, opens_same}
+use Rattle.machine_laws.proofs.OnWrites.Guards.{moves_same, step_leaves}
 use Rattle.machine_laws.proofs.OnSteps.Controllers.{dma_controller}
 use Rattle.machine_laws.proofs.OnSteps.Words.{bays}
 

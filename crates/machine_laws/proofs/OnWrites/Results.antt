@@ -21,7 +21,8 @@ use Rattle.fdc_drives.proofs.Fields.{address_heard, mark_heard}
 use Rattle.machine_laws.proofs.OnReads.Words.{length-met}
 use Rattle.machine_laws.specs.OnWrites.Results.{ChangesTo, ChangesWhole, EndedIn, EndsAs, HasChanged, IsUnchanged, WritesWell, window_in, written_in}
 use Rattle.machine_laws.proofs.OnWrites.Content.{handed_all, handed_rest, not_all}
-use Rattle.machine_laws.proofs.OnWrites.Words.{heard_met}
+use Rattle.fdc_drives.proofs.WritingWords.{heard_met}
+use Rattle.machine_laws.specs.OnReads.Scenes.{outset_of}
 use Rattle.fdc_drives.proofs.Turns.{between_is}
 
 -- ---- the words
@@ -117,7 +118,7 @@ address_kept track p k words key cuttable address =
 made : (scene : Scene) (deleted executes : Bool) (past : Past) (drive : DriveState) → IsScene scene → IsAtWindow scene past executes drive → (of : IsOfWindow scene deleted past) → MakesChange scene deleted past drive of.p
 made scene deleted executes past drive whole was of =
     let start = start_of scene.from past.turns in
-    let met = heard_met scene past drive.faults was.at.hears of.p scene.sent.key of.address in
+    let met = heard_met (outset_of scene) past drive.faults was.at.hears of.p scene.sent.key of.address in
     let put = was.at.medium.put (was.there of.some) of.some in
     let (others, is) = of.first in
     let track = track_of scene.disk scene.cylinder (head_sent scene.sent) in
