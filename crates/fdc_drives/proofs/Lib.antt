@@ -6,3 +6,7 @@ pub mod Shifted
 pub mod Fields
 pub mod Turns
 pub mod Passing
+pub mod Looks
+pub mod Late
+pub mod LateFields
+pub mod Spinning

@@ -44,7 +44,7 @@ length_heard outset valid = by_track (nat_lt outset.cylinder outset.disk.cylinde
     by_track true false r low head = length-unrecorded outset.disk.words_per_track
     by_track false h r low head = length-unrecorded outset.disk.words_per_track
 
-seen_none : (fits : Bool) → seen_of fits 0 ≡ 0
+pub seen_none : (fits : Bool) → seen_of fits 0 ≡ 0
 seen_none true = refl
 seen_none false = refl
 

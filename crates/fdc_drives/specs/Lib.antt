@@ -3,3 +3,4 @@ pub mod Following
 pub mod WordTimes
 pub mod Heard
 pub mod Hearing
+pub mod Spinning
