@@ -9,3 +9,7 @@ pub mod Passing
 pub mod Written
 pub mod WritingWords
 pub mod Writing
+pub mod Looks
+pub mod Late
+pub mod LateFields
+pub mod Spinning

@@ -58,7 +58,7 @@ recorded outset p key address =
     by_track true false r low head fits there = absurd ((nothing_unrecorded outset.disk.words_per_track).addresses p key there)
     by_track false h r low head fits there = absurd ((nothing_unrecorded outset.disk.words_per_track).addresses p key there)
 
-seen_none : (fits : Bool) → seen_of fits 0 ≡ 0
+pub seen_none : (fits : Bool) → seen_of fits 0 ≡ 0
 seen_none true = refl
 seen_none false = refl
 

@@ -5,3 +5,4 @@ pub mod Heard
 pub mod Hearing
 pub mod Written
 pub mod Writing
+pub mod Spinning

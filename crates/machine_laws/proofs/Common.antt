@@ -69,7 +69,8 @@ pub use Rattle.machine_laws.specs.OnCounts.Counts.{CountsGoOn, counts_of}
 pub use Rattle.machine_laws.specs.OnFormats.Results.{AreKeysOf}
 pub use Rattle.fdc_drives.specs.Heard.{AreHeard, IsHeard, IsHeardFrom, IsHeardWhole, IsWholeFrom, place_in, start_of}
 pub use Rattle.fdc_drives.specs.Hearing.{IsCalm}
-pub use Rattle.machine_laws.specs.OnLead.Leads.{IsGuarded, IsLed, IsSpinning, IsTurningIn, IsUnheard, WarmsUp, led, turn_led, turns_led, unheard}
+pub use Rattle.fdc_drives.specs.Spinning.{IsUnheard, led, turn_led, turns_led, unheard}
+pub use Rattle.machine_laws.specs.OnLead.Leads.{IsGuarded, IsLed, IsSpinning, IsTurningIn, WarmsUp}
 pub use Rattle.machine_laws.specs.OnOrders.Orders.{AtDrive, CanBegin, GoesOn, Identify, IsDoneBy, IsLast, IsSetFor, Laid, LaysOn, Leaves, May, MayIn, MayLay, MayLayIn, Order, Read, Shows, Track, Underway, Window, Write}
 pub use Rattle.machine_laws.specs.OnOrders.Results.{IsFor, Only}
 pub use Rattle.machine_laws.specs.OnQuiet.Quiet.{GoesQuietly, HaveTurned, HoldsOn, IsHushed, IsQuiet, StandsStill, Turned, only_listens}

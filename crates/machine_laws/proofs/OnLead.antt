@@ -1,9 +1,7 @@
-pub mod Late
 pub mod Spinning
 pub mod Listening
 pub mod Laying
 pub mod Steps
 pub mod Accesses
-pub mod Fields
 pub mod Ends
 pub mod Written

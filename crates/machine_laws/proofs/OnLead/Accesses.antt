@@ -4,7 +4,8 @@ use Rattle.machine_laws.proofs.Common.{DriveState, drive_in, Board, controller_o
 use Rattle.fdc_stages.specs.History.{begun as new_past}
 use Rattle.fdc_phases.specs.declared.phases.Phase.TheVariants as phase
 use Rattle.machine_laws.specs.OnLead.Leads.{CanWarm}
-use Rattle.machine_laws.proofs.OnLead.Spinning.{slow_or_fast, nothing_heard, turning_of}
+use Rattle.fdc_drives.proofs.Spinning.{slow_or_fast}
+use Rattle.machine_laws.proofs.OnLead.Spinning.{nothing_heard, turning_of}
 use Rattle.machine_laws.proofs.OnLead.Steps.{led_keeps}
 use Rattle.machine_laws.proofs.OnOrders.Accesses.{inputs_go, begins_on}
 use Rattle.machine_laws.proofs.OnOrders.Outputs.{outputs_go}

@@ -4,10 +4,12 @@ use Rattle.std.proofs.lemmas.Bool.{false_from_ne_true, false≢true}
 use Rattle.machine_laws.proofs.Common.{Chrn, DriveState, Becomes, is_protected, Fifo, Past, heard, Numbers, is_first, is_next, IsAtPart, IsWriting, FormatPart, Await, Due, Lay, Barred, WriteStage, FormatDoes, stepped, is_executing, let_pass, WordTime, Saw, KeptOut, Wrote, Stopped, IsTime, after_time, WritesIn, WritesTask, WriteDoes, MayWriteTask, MayFormatTask, Fdc, Execution, Execute, Task, Formatting, Writing, turns_led, turn_led, led, IsSpinning, IsUnheard, IsLed, Laid, Window, Track, Write, MayLayIn, LaysOn, Scene, IsScene, head_sent, IsAtDrive}
 use Rattle.fdc_stages.specs.Writings.{is_due}
 use Rattle.fdc_phases.specs.declared.phases.Task.TheVariants as task
-use Rattle.machine_laws.proofs.OnLead.Fields.{address_in}
-use Rattle.machine_laws.proofs.OnLead.Late.{few_led, time_led}
+use Rattle.fdc_drives.proofs.LateFields.{address_in}
+use Rattle.fdc_drives.proofs.Late.{few_led, time_led}
+use Rattle.fdc_drives.proofs.Spinning.{no_index, hears_none, turning_on}
+use Rattle.machine_laws.specs.OnReads.Scenes.{outset_of}
 use Rattle.machine_laws.proofs.OnLead.Listening.{led_over, spun}
-use Rattle.machine_laws.proofs.OnLead.Spinning.{no_index, hears_none, turning_on, nothing_heard}
+use Rattle.machine_laws.proofs.OnLead.Spinning.{nothing_heard}
 use Rattle.machine_laws.proofs.OnFormats.Covered as formats
 use Rattle.machine_laws.proofs.OnOrders.Behind.{IsTimed, Laying, laid_on}
 use Rattle.machine_laws.proofs.OnOrders.Words.{laying, timed_led}
@@ -41,7 +43,7 @@ module _ (laid : Laid) (scene : Scene) (lead : ℕ) (late : Past) (drive after :
     (none : IsUnheard late) (spins : IsSpinning scene lead drive) where
   stops_spinning : Becomes (let_pass drive) drive after → IsLed (Write laid) scene (stepped (led lead late)) false after
   stops_spinning becomes =
-      let turning = turning_on scene lead drive spins after becomes in
+      let turning = turning_on (outset_of scene) lead drive spins after becomes in
       let steps = ap (λ (p : Past). p.steps) none in
       let room = turning.inside in
       let since = spins.since in
@@ -62,8 +64,8 @@ module _ (laid : Laid) (scene : Scene) (lead : ℕ) (late : Past) (drive after :
       → IsLed (Write laid) scene (after_time time (led lead late)) executes after
   by_time (Saw index word) hears is unprotected over =
       let calm : heard index word (stepped (led lead late)) ≡ heard false 0 (stepped (led lead late)) =
-      ap (λ i. heard i word (stepped (led lead late))) (is.index_is ∙ no_index scene lead drive spins)
-      ∙ ap (λ w. heard false w (stepped (led lead late))) (hears_none scene lead drive spins after word is.sees) in
+      ap (λ i. heard i word (stepped (led lead late))) (is.index_is ∙ no_index (outset_of scene) lead drive spins)
+      ∙ ap (λ w. heard false w (stepped (led lead late))) (hears_none (outset_of scene) lead drive spins after word is.sees) in
       subst (λ p. IsLed (Write laid) scene p executes after) (sym calm)
       (spun (Write laid) scene lead late executes drive after whole none spins is.passes (λ _. unprotected (λ no. false≢true (ap is_stopped no))))
   by_time (KeptOut index word) hears is unprotected over = absurd hears

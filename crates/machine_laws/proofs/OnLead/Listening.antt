@@ -2,8 +2,10 @@
 use Rattle.std.proofs.Common.{◌≡◌, inl, inr, ℕ, ◌+◌, ◌≤◌, Bool, true, false, length, refl, sym, ◌∙◌, ap, subst, arith}
 use Rattle.std.proofs.lemmas.Bool.{false≢true}
 use Rattle.machine_laws.proofs.Common.{DriveState, Becomes, at_index, Past, heard, words_heard, stepped, SeesUnder, let_pass, led, IsSpinning, IsUnheard, IsGuarded, IsLed, Order, Identify, Read, Write, AtDrive, Scene, IsScene, head_sent, track_met}
-use Rattle.machine_laws.proofs.OnLead.Late.{heard_led, longer_led, passed_by, still_unheard, few_led, words_led}
-use Rattle.machine_laws.proofs.OnLead.Spinning.{slow_or_fast, no_index, hears_none, turning_on, spin_on, nothing_heard}
+use Rattle.fdc_drives.proofs.Late.{heard_led, longer_led, passed_by, still_unheard, few_led, words_led}
+use Rattle.fdc_drives.proofs.Spinning.{slow_or_fast, no_index, hears_none, turning_on, spin_on}
+use Rattle.machine_laws.specs.OnReads.Scenes.{outset_of}
+use Rattle.machine_laws.proofs.OnLead.Spinning.{nothing_heard}
 use Rattle.machine_laws.proofs.OnOrders.Steps.{drive_on}
 use Rattle.machine_laws.proofs.OnOrders.Behind.{IsOfWords, Listening}
 use Rattle.machine_laws.proofs.OnOrders.Steps.{at_bytes}
@@ -56,8 +58,8 @@ pub spun : (order : Order) (scene : Scene) (lead : ℕ) (late : Past) (executes 
     → IsSpinning scene lead drive
     → Becomes (let_pass drive) drive after → IsGuarded order scene (lead + 1) → IsLed order scene (heard false 0 (stepped (led lead late))) executes after
 spun order scene lead late executes drive after whole none spins becomes guarded =
-    let spin = spin_on scene lead drive spins after becomes in
-    let turning = turning_on scene lead drive spins after becomes in
+    let spin = spin_on (outset_of scene) lead drive spins after becomes in
+    let turning = turning_on (outset_of scene) lead drive spins after becomes in
     let since = spins.since in
     let slow = spins.slow in
     let later = still_unheard late none in
@@ -99,8 +101,8 @@ hears_led : (order : Order) (scene : Scene) (past : Past) (drive after : DriveSt
 hears_led order scene past drive after word executes listens whole was sees becomes = elim was.drive_is [
   | inl (none, spins) ↦
       let calm : heard (at_index drive) word (stepped past) ≡ heard false 0 (stepped (led was.lead was.late)) =
-      ap (λ index. heard index word (stepped past)) (no_index scene was.lead drive spins)
-      ∙ (ap (λ w. heard false w (stepped past)) (hears_none scene was.lead drive spins after word sees) ∙ ap (λ p. heard false 0 (stepped p)) was.past_is) in
+      ap (λ index. heard index word (stepped past)) (no_index (outset_of scene) was.lead drive spins)
+      ∙ (ap (λ w. heard false w (stepped past)) (hears_none (outset_of scene) was.lead drive spins after word sees) ∙ ap (λ p. heard false 0 (stepped p)) was.past_is) in
       subst (λ p. IsLed order scene p executes after) (sym calm)
       (spun order scene was.lead was.late executes drive after whole none spins becomes (unguarded order scene (was.lead + 1) listens))
   | inr at ↦ record {

@@ -4,8 +4,8 @@ use Rattle.machine_laws.proofs.Common.{Chrn, content_size, Results, Past, Done, 
 use Rattle.machine_laws.specs.OnFormats.Results as format_says
 use Rattle.machine_laws.specs.OnFormats.Results.{FormatEnded, FormatsOnly}
 use Rattle.machine_laws.proofs.OnFormats.Results as formats
-use Rattle.machine_laws.proofs.OnLead.Fields.{address_in}
-use Rattle.machine_laws.proofs.OnLead.Late.{few_led}
+use Rattle.fdc_drives.proofs.LateFields.{address_in}
+use Rattle.fdc_drives.proofs.Late.{few_led}
 use Rattle.machine_laws.proofs.OnLead.Listening.{led_over}
 use Rattle.machine_laws.specs.OnOrders.Orders.{IsDoneOn}
 use Rattle.machine_laws.specs.OnWrites.Results as write_says

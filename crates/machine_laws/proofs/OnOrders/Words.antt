@@ -11,7 +11,7 @@ use Rattle.fdc_drives.proofs.Writing.{rests_on}
 use Rattle.machine_laws.proofs.OnWrites.Guards.{moves_same}
 use Rattle.machine_laws.proofs.OnWrites.Steps as writes
 use Rattle.machine_laws.proofs.OnFormats.Steps as formats
-use Rattle.machine_laws.proofs.OnLead.Late.{led_none}
+use Rattle.fdc_drives.proofs.Late.{led_none}
 use Rattle.machine_laws.proofs.OnOrders.Behind.{IsDoing, IsBehind, IsTimed, IsTimedLed, Laying, laid_on}
 
 -- ---- of a command that writes

@@ -1,7 +1,11 @@
 -- What passed behind words 0000.
 use Rattle.std.proofs.Common.{◌≡◌, inl, inr, ℕ, ◌+◌, ◌≤◌, Bool, true, false, List, [], ◌∷◌, ◌++◌, length, replicate, refl, sym, ◌∙◌, ap, arith, length-append}
 use Rattle.std.proofs.lemmas.List.{append_assoc, append-nil, replicate-append-replicate, length-replicate}
-use Rattle.machine_laws.proofs.Common.{Past, heard, wrote, IsAmong, IsTurnIn, words_in, stepped, WordTime, Saw, KeptOut, Wrote, Stopped, after_time, with_word, turn_led, turns_led, led, unheard, IsUnheard}
+use Rattle.fdc_stages.specs.History.{IsAmong, IsTurnIn, Past, heard, words_in, wrote}
+use Rattle.fdc_phases.specs.Heard.{stepped}
+use Rattle.fdc_core.specs.Times.{KeptOut, Saw, Stopped, WordTime, Wrote, after_time}
+use Rattle.track_separator.specs.Parts.{with_word}
+use Rattle.fdc_drives.specs.Spinning.{IsUnheard, led, turn_led, turns_led, unheard}
 
 -- ---- one more word
 

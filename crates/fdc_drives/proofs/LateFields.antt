@@ -3,10 +3,18 @@ use Rattle.std.proofs.Common.{◌≡◌, inl, inr, ℕ, ◌+◌, ◌-◌, ◌*�
 use Rattle.std.proofs.Math.ListN.{get_or-append}
 use Rattle.std.proofs.lemmas.Bool.{cases_lt}
 use Rattle.std.proofs.lemmas.List.{get_or-append_right, get_or-replicate, length-replicate}
-use Rattle.machine_laws.proofs.Common.{Chrn, Found, IsSound, IsAddressAt, content_size, content_at, data_cells, HasDataField, IsIntact, LookAt, IsFoundAt, HasAddress, FindsSector, Past, IsTurnIn, IsHeardWhole, turn_led, led}
+use Rattle.flop_base.specs.declared.key.Chrn.{Chrn}
+use Rattle.track_model.specs.declared.Look.TheVariants.{Found}
+use Rattle.track_model.specs.Fields.{IsAddressAt, content_at, content_size, data_cells}
+use Rattle.track_model.specs.Looks.{HasDataField, IsIntact, LookAt}
+use Rattle.track_model.specs.Marks.{IsSound}
+use Rattle.fdc_stages.specs.Findings.{FindsSector, HasAddress, IsFoundAt}
+use Rattle.fdc_stages.specs.History.{IsTurnIn, Past}
+use Rattle.fdc_drives.specs.Heard.{IsHeardWhole}
+use Rattle.fdc_drives.specs.Spinning.{led, turn_led}
 use Rattle.fdc_drives.proofs.Fields.{whole_back, data_mark_on, data_mark_back, intact_back}
 use Rattle.fdc_drives.proofs.Shifted.{shifted_address_at, shifted_bytes_at}
-use Rattle.machine_laws.proofs.OnLead.Late.{length_front, turn_of_led}
+use Rattle.fdc_drives.proofs.Late.{length_front, turn_of_led}
 
 -- ---- words behind others
 
@@ -69,11 +77,12 @@ sound_behind lead words p count some sound = elim (cases_lt p (16 * lead)) [
 found_front : (lead : ℕ) (late : Past) (key : Chrn) (given : List ℕ) (deleted : Bool) (earlier : List (List ℕ)) (turn : List ℕ) (p q : ℕ)
     → IsTurnIn late.turns late.seen turn
     → IsAddressAt (turn_led lead earlier turn) p key → LookAt (turn_led lead earlier turn) p key.n (Found deleted (q + 64))
+    → (rest : List ℕ) × (content_at (turn_led lead earlier turn) (q + 64) key.n ≡ given ++ rest)
     → (length given ≡ content_size key.n → given ≡ content_at (turn_led lead earlier turn) (q + 64) key.n)
     → (w : List ℕ) × (a : ℕ) × (b : ℕ) × IsFoundAt late key given deleted w a b
-found_front lead late key given deleted (last ∷ earlier) turn p q among address look content =
-    (turn, p, q, record { among = among; address = address; finds = look; content = content })
-found_front lead late key given deleted [] turn p q among address look content =
+found_front lead late key given deleted (last ∷ earlier) turn p q among address look begins content =
+    (turn, p, q, record { among = among; address = address; finds = look; begins = begins; content = content })
+found_front lead late key given deleted [] turn p q among address look begins content =
     let front = replicate lead 0 ++ turn in
     let whole = front_whole lead turn in
     let long : length front ≡ lead + length turn = length_front lead turn in
@@ -87,7 +96,9 @@ found_front lead late key given deleted [] turn p q among address look content =
     let q_is : q ≡ b + 16 * lead = omega arith in
     let cells = field.inside in
     let moved : LookAt front (a + 16 * lead) key.n (Found deleted (b + 16 * lead + 64)) =
-    subst (λ k. LookAt front k key.n (Found deleted (b + 16 * lead + 64))) p_is (subst (λ k. LookAt front p key.n (Found deleted (k + 64))) q_is look) in (
+    subst (λ k. LookAt front k key.n (Found deleted (b + 16 * lead + 64))) p_is (subst (λ k. LookAt front p key.n (Found deleted (k + 64))) q_is look) in
+    let same : content_at front (q + 64) key.n ≡ content_at turn (b + 64) key.n =
+    ap (λ k. content_at front (k + 64) key.n) q_is ∙ content_back front lead turn whole (omega arith) b key.n (omega arith) in (
       turn,
       a,
       b,
@@ -95,7 +106,8 @@ found_front lead late key given deleted [] turn p q among address look content =
         among = among;
         address = address_back front lead turn whole (omega arith) a key (omega arith) (subst (λ k. IsAddressAt front k key) p_is address);
         finds = found_back front lead turn whole (omega arith) a key.n b deleted (omega arith) long moved;
-        content = λ all. content all ∙ (ap (λ k. content_at front (k + 64) key.n) q_is ∙ content_back front lead turn whole (omega arith) b key.n (omega arith));
+        begins = (begins.0, sym same ∙ begins.1);
+        content = λ all. content all ∙ same;
       },
     )
 
@@ -106,6 +118,7 @@ found_late lead late key given deleted (counted, (words, p, q, found)) =
       counted,
       found_front lead late key given deleted is.earlier is.turn p q is.among (subst (λ w. IsAddressAt w p key) is.words_are found.address)
           (subst (λ w. LookAt w p key.n (Found deleted (q + 64))) is.words_are found.finds)
+          (found.begins.0, sym (ap (λ w. content_at w (q + 64) key.n) is.words_are) ∙ found.begins.1)
           (λ all. found.content all ∙ ap (λ w. content_at w (q + 64) key.n) is.words_are),
     )
 
