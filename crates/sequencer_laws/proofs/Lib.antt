@@ -6,6 +6,8 @@ mod Served
 mod Outcome
 mod Called
 mod Whole
+mod LateLooks
+mod LateHearing
 mod Medium
 mod Silent
 mod Idle

@@ -3,13 +3,15 @@ use Rattle.std.proofs.Common.{◌≡◌, ◌⊎◌, inl, inr, ℕ, zero, suc, �
 use Rattle.std.proofs.lemmas.Bool.{eqb-true}
 use Rattle.flop_base.specs.declared.key.Chrn.{Chrn}
 use Rattle.raw_image.specs.Disk.{IsDisk}
+use Rattle.sector_map.specs.Met.{HasLook}
+use Rattle.track_model.specs.declared.Look.TheVariants.{BadCrc, NoData}
 use Rattle.track_model.specs.Fields.{content_at, content_size}
 use Rattle.track_model.specs.Looks.{HasAddressMark, HasDataField, IsIntact}
-use Rattle.fdc_stages.specs.Searches.{HasNoClear}
+use Rattle.fdc_stages.specs.Searches.{HasNoClear, IsBetween}
 use Rattle.flop_base.specs.Counts.{last_count}
 use Rattle.drive_model.specs.Drive.{DriveState}
 use Rattle.fdc_stages.specs.History.{Past, begun as new_past, heard}
-use Rattle.fdc_stages.specs.Findings.{FindsSector}
+use Rattle.fdc_stages.specs.Findings.{FindsBadCheck, FindsNoField, FindsSector}
 use Rattle.fdc_stages.specs.declared.ending.Ending.{Ending}
 use Rattle.fdc_stages.specs.declared.ending.Ending.TheVariants.{Done, NoMark, NoSector, NoField, BadCheck, Overrun, NoCount, Protected, Late}
 use Rattle.fdc_commands.specs.declared.results.Results.{Results}
@@ -25,14 +27,19 @@ use Rattle.fdc_core.specs.declared.controller.Fdc.{Fdc}
 use Rattle.fdc_seek.specs.Seeking.{has_ended_seek}
 use Rattle.fdc_board.specs.Boards.{BoardState, WritesBoard, drive_at, selected_at}
 use Rattle.fdc_drives.specs.Following.{FollowsDor, FollowsWrite}
-use Rattle.fdc_drives.specs.Heard.{IsHeardFrom, IsWholeFrom, place_in}
-use Rattle.fdc_drives.specs.Hearing.{IsHearing, Outset, track_heard}
+use Rattle.fdc_drives.specs.Heard.{IsHeardFrom, IsWholeFrom}
+use Rattle.fdc_drives.specs.Hearing.{Outset}
+use Rattle.fdc_drives.specs.Spinning.{IsTurningIn, IsUnheard, led}
 use Rattle.fdc_drives.proofs.Fields.{address_heard, data_mark_heard, field_heard, whole_shifted}
+use Rattle.fdc_drives.proofs.Late.{led_none}
+use Rattle.fdc_drives.proofs.LateFields.{found_late}
+use Rattle.sequencer_laws.proofs.LateHearing.{IsHearingLed, hearing_first, hearing_led, hearing_led_bytes}
+use Rattle.sequencer_laws.proofs.LateLooks.{bad_check_late, between_late, no_field_late, of_field_late}
+use Rattle.fdc_drives.proofs.Looks.{bad_met, no_field_met}
 use Rattle.fdc_drives.proofs.Shifted.{shifted_bytes_at}
 use Rattle.fdc_core.specs.Meaning.{AreOfField}
 use Rattle.sequencer_laws.specs.Outcomes.{PassesOfSector}
 use Rattle.fdc_drives.proofs.Turns.{between_is, turn_heard}
-use Rattle.fdc_drives.proofs.Passing.{hearing_on, length_heard}
 use Rattle.fdc_sequencer.specs.Fronts.{Front, GivesAt, TakesAt, TakesByte, WritesFront, begun_if, byte_given, count_told, moving_of, passed_one, reset_if, with_controller}
 use Rattle.fdc_sequencer.specs.Moves.{EndsIf, EndsSector, FollowsStep, MovesOn, SeeksOn, goes_on, has_met_other, is_unwanted, passed_over_if, results_behind, results_failed}
 use Rattle.fdc_sequencer.specs.Transfers.{next_of}
@@ -42,7 +49,7 @@ use Rattle.fdc_sequencer.specs.declared.stage.Stage.{Stage}
 use Rattle.fdc_sequencer.specs.declared.stage.Stage.TheVariants.{Through, Collecting, Seeking, Moving, Telling}
 use Rattle.fdc_sequencer.specs.declared.transfer.Transfer.{Transfer}
 use Rattle.sequencer_laws.specs.Calls.{AreWithin, Call, Changes, Counts, Does, Gather, Gives, Grows, Reads, Steps, Straps, Takes, Writes}
-use Rattle.sequencer_laws.specs.Media.{AreOnMedium, BeginsOnTrack, HasOnTrack, IsAt, IsAtWhile, IsClean, IsOnMedium, IsReadFrom, LastOnMedium, Place, StaysIn, TurnsOn, track_under}
+use Rattle.sequencer_laws.specs.Media.{AreOnMedium, BeginsOnTrack, HasOnTrack, IsAt, IsAtWhile, IsClean, IsOnMedium, IsReadFrom, Place, StaysIn, TurnsOn, TurnsOnIn, track_under}
 use Rattle.sequencer_laws.specs.Serving.{AreMoved, History, IsMoved, IsOfSector, IsTimeOf, Part, Passes, PassesAt, Serves, ServesAt, history_counted, history_ended, history_given, history_moved, history_passed, history_sought, history_stepped, history_taken, nothing_moved, sector_after, sent_of}
 use Rattle.sequencer_laws.proofs.Courses.{sector_more, sector_opcode}
 
@@ -50,7 +57,7 @@ use Rattle.sequencer_laws.proofs.Courses.{sector_more, sector_opcode}
 
 -- a field that was found in the words heard is on the track
 pub found_on_track : (track : List ℕ) (from : ℕ) (past : Past) (key : Chrn) (given : List ℕ) (marked : Bool) → IsHeardFrom track from past.turns past.seen → FindsSector past key given marked
-    → (content : List ℕ) × HasOnTrack track key marked content × (length given ≡ content_size key.n → given ≡ content)
+    → (content : List ℕ) × HasOnTrack track key marked content × ((rest : List ℕ) × (content ≡ given ++ rest)) × (length given ≡ content_size key.n → given ≡ content)
 found_on_track track from past key given marked heard (counted, (turn, p, q, found)) =
     let n = key.n in
     let (start, turned, turned_whole) = turn_heard track from past.turns past.seen turn heard found.among in
@@ -64,6 +71,7 @@ found_on_track track from past key given marked heard (counted, (turn, p, q, fou
         data_mark = data_mark_heard track start turn turned p q marked (subst (λ a. HasDataField turn p n a marked) same field).first.mark;
         whole = field_heard track start turn turned q n (content_at turn (q + 64) n) (subst (λ a. IsIntact turn a n) same intact);
       },
+      found.begins,
       found.content,
     )
 
@@ -104,10 +112,14 @@ outset_at place at from since = record {
   faults = since;
 }
 
--- the words that a sector's own search heard are those of the track under its head
-abbrev pub IsHeardAt : Place → Transfer → Past → Type 0
-IsHeardAt place at past = (from : ℕ) × IsHeardFrom (track_under place at) from past.turns past.seen
-    × (place.clean ≡ true → IsWholeFrom (track_under place at) from past.turns past.seen)
+-- a sector's own search heard words 0000 while the medium spun up, and then the words of the track under its head
+pub record IsHeardAt (place : Place) (at : Transfer) (past : Past) : Type 0 where
+  pub lead : ℕ
+  pub late : Past
+  pub past_is : past ≡ led lead late
+  pub from : ℕ
+  pub heard : IsHeardFrom (track_under place at) from late.turns late.seen
+  pub whole : place.clean ≡ true → IsWholeFrom (track_under place at) from late.turns late.seen
 
 abbrev pub AreHeardAt : Place → List Part → Type 0
 AreHeardAt place [] = Unit {0}
@@ -116,13 +128,37 @@ AreHeardAt place (part ∷ parts) = IsHeardAt place part.at part.past × AreHear
 -- and of the sector under way, which is where the drive is
 abbrev IsHearingAt : Place → Transfer → Past → DriveState → Type 0
 IsHearingAt place at past drive =
-    (from : ℕ) × (since : ℕ) × IsHearing (outset_at place at from since) past true drive × (place.clean ≡ true → since ≡ place.faults)
+    (from : ℕ) × (since : ℕ) × IsHearingLed (outset_at place at from since) past drive × (place.clean ≡ true → since ≡ place.faults)
+
+-- no word of the track was heard
+heard_nothing : (place : Place) (at : Transfer) (past : Past) (lead : ℕ) (late : Past) → past ≡ led lead late → IsUnheard late → IsHeardAt place at past
+heard_nothing place at past lead late is none =
+    let track = track_under place at in
+    let heard : IsHeardFrom track 0 [] [] = record { over = tt; now = record { inside = omega arith; each = λ i below. absurd (omega arith) } } in
+    let whole : IsWholeFrom track 0 [] [] = record { over = tt; now = record { each = λ i below. absurd (omega arith) } } in
+    record {
+      lead = lead;
+      late = late;
+      past_is = is;
+      from = 0;
+      heard = subst (λ (p : Past). IsHeardFrom track 0 p.turns p.seen) (sym none) heard;
+      whole = λ set. subst (λ (p : Past). IsWholeFrom track 0 p.turns p.seen) (sym none) whole;
+    }
 
 -- the search is over
 hearing_over : (place : Place) (at : Transfer) (past : Past) (drive : DriveState) → (place.clean ≡ true → (drive.faults ≡ place.faults) × (place.faults < last_count)) → IsHearingAt place at past drive
     → IsHeardAt place at past
-hearing_over place at past drive clean (from, since, was, began) =
-    (from, was.heard, λ set. was.whole (let one = began set in let two = clean set in let now = two.0 in let few = two.1 in (omega arith, omega arith)))
+hearing_over place at past drive clean (from, since, was, began) = elim was.drive_is [
+  | inl (none, spins) ↦ heard_nothing place at past was.lead was.late was.past_is none
+  | inr hears ↦ record {
+    lead = was.lead;
+    late = was.late;
+    past_is = was.past_is;
+    from = from;
+    heard = hears.heard;
+    whole = λ set. hears.whole (let one = began set in let two = clean set in let now = two.0 in let few = two.1 in (omega arith, omega arith));
+  }
+]
 
 -- which stands where so many lead
 abbrev here_of : Transfer → History → Transfer
@@ -143,73 +179,74 @@ heard_more : (place : Place) (parts : List Part) (part : Part) → AreHeardAt pl
 heard_more place [] part were is = (is, tt)
 heard_more place (other ∷ parts) part (one, were) is = (one, heard_more place parts part were is)
 
--- the same words, with whatever else
-same_hearing : (outset : Outset) (past other : Past) (drive : DriveState) → other.turns ≡ past.turns → other.seen ≡ past.seen → IsHearing outset past true drive → IsHearing outset other true drive
-same_hearing outset past other drive turns seen was =
-    let under = was.under refl in
-    let place = outset.from in
-    record {
-      heard = subst (λ t. IsHeardFrom (track_heard outset) outset.from t other.seen) (sym turns) (subst (λ s. IsHeardFrom (track_heard outset) outset.from past.turns s) (sym seen) was.heard);
-      never_falls = was.never_falls;
-      whole = λ calm. subst (λ t. IsWholeFrom (track_heard outset) outset.from t other.seen) (sym turns) (subst (λ s. IsWholeFrom (track_heard outset) outset.from past.turns s) (sym seen) (was.whole calm));
-      under = λ _. record {
-        medium = under.medium;
-        cylinder = under.cylinder;
-        motor = under.motor;
-        speed = under.speed;
-        place = under.place ∙ (ap (λ t. place_in outset.from t past.seen) (sym turns) ∙ ap (λ s. place_in outset.from other.turns s) (sym seen));
-        inside = under.inside;
-      };
-    }
-
 -- a search that begins where the drive is
-fresh_hearing : (place : Place) (front : Front) (at : Transfer) (past : Past) → IsAt place front → past.turns ≡ [] → past.seen ≡ [] → IsHearingAt place at past (drive_at front.board place.bay)
-fresh_hearing place front at past is turns seen =
+fresh_hearing : (place : Place) (front : Front) (at : Transfer) (past : Past) → IsAt place front → IsUnheard past → IsHearingAt place at past (drive_at front.board place.bay)
+fresh_hearing place front at past is none =
     let drive = drive_at front.board place.bay in
     let outset = outset_at place at drive.place drive.faults in
-    let long = length_heard outset is.disk in
-    let inside = is.inside in (
+    let turning : IsTurningIn outset drive =
+    record { medium = is.medium; cylinder = is.cylinder; motor = is.motor; place = refl; inside = is.inside; never_falls = omega arith } in (
       drive.place,
       drive.faults,
-      same_hearing outset new_past past drive turns seen (record {
-        heard = record { over = tt; now = record { inside = omega arith; each = λ i below. absurd (omega arith) } };
-        never_falls = omega arith;
-        whole = λ calm. record { over = tt; now = record { each = λ i below. absurd (omega arith) } };
-        under = λ _. record { medium = is.medium; cylinder = is.cylinder; motor = is.motor; speed = is.speed; place = omega arith; inside = is.inside };
-      }),
+      subst (λ p. IsHearingLed outset p drive) (led_none past) (hearing_first outset 0 past drive is.disk none turning),
       λ set. (is.clean set).0,
     )
 
 -- a drive that turns on over the same medium
-kept_hearing : (place : Place) (front : Front) (at : Transfer) (past : Past) (drive : DriveState) → IsAt place front → (drive_at front.board place.bay).place ≡ drive.place
-    → drive.faults ≤ (drive_at front.board place.bay).faults → IsHearingAt place at past drive → IsHearingAt place at past (drive_at front.board place.bay)
-kept_hearing place front at past drive is same falls (from, since, was, began) =
-    let under = was.under refl in
-    let before = was.never_falls in (
-      from,
-      since,
-      record {
-        heard = was.heard;
-        never_falls = omega arith;
-        whole = λ calm. was.whole (let no_more = calm.0 in let below = calm.1 in (omega arith, omega arith));
-        under = λ _. record { medium = is.medium; cylinder = is.cylinder; motor = is.motor; speed = is.speed; place = same ∙ under.place; inside = is.inside };
-      },
-      began,
-    )
+kept_hearing : (place : Place) (front : Front) (at : Transfer) (past : Past) (drive : DriveState) → IsAt place front → TurnsOn drive (drive_at front.board place.bay) → IsHearingAt place at past drive
+    → IsHearingAt place at past (drive_at front.board place.bay)
+kept_hearing place front at past drive is turns (from, since, was, began) =
+    let now = drive_at front.board place.bay in
+    let outset = outset_at place at from since in
+    let falls = turns.never_falls in
+    let hears : IsHearingLed outset past now = elim was.drive_is [
+      | inl (none, spins) ↦
+          let before = spins.turning.never_falls in
+          let turning : IsTurningIn outset now = record {
+            medium = is.medium;
+            cylinder = is.cylinder;
+            motor = is.motor;
+            place = turns.place ∙ spins.turning.place;
+            inside = spins.turning.inside;
+            never_falls = omega arith;
+          } in
+          subst (λ p. IsHearingLed outset p now) (sym was.past_is) (hearing_first outset was.lead was.late now is.disk none turning)
+      | inr fast ↦
+          let under = fast.under refl in
+          let before = fast.never_falls in
+          record {
+            lead = was.lead;
+            late = was.late;
+            past_is = was.past_is;
+            drive_is = inr (record {
+              heard = fast.heard;
+              never_falls = omega arith;
+              whole = λ calm. fast.whole (let no_more = calm.0 in let below = calm.1 in (omega arith, omega arith));
+              under = λ _. record {
+                medium = is.medium;
+                cylinder = is.cylinder;
+                motor = is.motor;
+                speed = turns.keeps_speed under.speed;
+                place = turns.place ∙ under.place;
+                inside = is.inside;
+              };
+            });
+          }
+    ] in
+    (from, since, hears, began)
 
-other_past : (place : Place) (at : Transfer) (past other : Past) (drive : DriveState) → other.turns ≡ past.turns → other.seen ≡ past.seen → IsHearingAt place at past drive → IsHearingAt place at other drive
-other_past place at past other drive turns seen (from, since, was, began) = (from, since, same_hearing (outset_at place at from since) past other drive turns seen was, began)
-
-told_turns : (b : Bool) (past : Past) → (told_in b past).turns ≡ past.turns
-told_turns true past = refl
-told_turns false past = refl
-
-told_seen : (b : Bool) (past : Past) → (told_in b past).seen ≡ past.seen
-told_seen true past = refl
-told_seen false past = refl
+-- bytes that were moved play no part in it
+bytes_hearing : (place : Place) (at : Transfer) (past : Past) (given taken : List ℕ) (counted : Bool) (drive : DriveState) → IsHearingAt place at past drive
+    → IsHearingAt place at (record past { given = given; taken = taken; counted = counted }) drive
+bytes_hearing place at past given taken counted drive (from, since, was, began) = (from, since, hearing_led_bytes (outset_at place at from since) past given taken counted drive was, began)
 
 told_hearing : (place : Place) (at : Transfer) (b : Bool) (past : Past) (drive : DriveState) → IsHearingAt place at past drive → IsHearingAt place at (told_in b past) drive
-told_hearing place at b past drive was = other_past place at past (told_in b past) drive (told_turns b past) (told_seen b past) was
+told_hearing place at true past drive was = bytes_hearing place at past past.given past.taken true drive was
+told_hearing place at false past drive was = was
+
+told_unheard : (b : Bool) → IsUnheard (told_in b new_past)
+told_unheard true = refl
+told_unheard false = refl
 
 -- ---- a word
 
@@ -225,7 +262,7 @@ time_hears wanted skip place at past (Saw index word) before after valid reads i
     let outset = outset_at place at from since in (
       from,
       since,
-      subst (λ i. IsHearing outset (heard i word (stepped past)) true after) (sym is.index_is) (hearing_on outset past before after word true valid was is.sees is.passes),
+      subst (λ i. IsHearingLed outset (heard i word (stepped past)) after) (sym is.index_is) (hearing_led outset past before after word valid was is.sees is.passes),
       began,
     )
 time_hears wanted skip place at past (KeptOut index word) before after valid reads is was = absurd reads
@@ -281,7 +318,7 @@ module _ (place : Place) (first : Transfer) (wanted skip : Bool) (reads : first.
         to_moving then_history next new stage_now (heard_more place history.parts part parts (subst (λ a. IsHeardAt place a now) (sym here)
         (heard_behind new (ap (λ front. drive_at front.board place.bay) is ∙ same) (at_new next new stage_now at).clean)))
         (ap next_of here ∙ sym (sector_more first history.parts part))
-        (fresh_hearing place new (here_of first then_history) new_past (at_new next new stage_now at) refl refl)
+        (fresh_hearing place new (here_of first then_history) new_past (at_new next new stage_now at) refl)
     begins_hear marked passed_over false then_board begun_from same is = absurd (stays (ap (λ front. front.stage) is))
 
     tells_hear : (results : Results) (front : Front) → drive_at front.board place.bay ≡ drive_at between place.bay → new ≡ record front { stage = Telling results 0 } → Hears place first (record history { past = now }) new
@@ -329,7 +366,7 @@ module _ (place : Place) (first : Transfer) (wanted skip : Bool) (reads : first.
           let moving = moving_of at counted false in
           let stage_now = ap (λ front. front.stage) is in
           to_moving (record history { past = told_in counted new_past }) moving new stage_now parts (here ∙ sym (ap (λ p. sector_after (length p) first) none))
-          (fresh_hearing place new (here_of first history) (told_in counted new_past) (at_new moving new stage_now is_at) (told_turns counted new_past) (told_seen counted new_past))
+          (fresh_hearing place new (here_of first history) (told_in counted new_past) (at_new moving new stage_now is_at) (told_unheard counted))
       by_busy false is = absurd (stays (ap (λ front. front.stage) is))
 
   step_hears : (stage : Stage) (history : History) (time : WordTime) (old : Front) (between : BoardState) (new : Front) → old.stage ≡ stage → AreHeardAt place history.parts → NowHeard stage place first history old
@@ -368,7 +405,7 @@ module _ (place : Place) (first : Transfer) (wanted skip : Bool) (reads : first.
   take_hears (Moving moving) None history old new now was (quiet, is) = same_front history old new is was
   take_hears (Moving moving) (Some byte) history old new (here, hearing) was (up, byte_is, is) =
       one_hears history moving (gave byte history.past) (taken_out old.board.controller) old new was.parts here
-      (other_past place (here_of first history) history.past (gave byte history.past) (drive_at old.board place.bay) refl refl hearing) is
+      (bytes_hearing place (here_of first history) history.past (history.past.given ++ byte ∷ []) history.past.taken history.past.counted (drive_at old.board place.bay) hearing) is
 
   give_hears : (stage : Stage) (byte : ℕ) (given : Bool) (history : History) (old new : Front) → NowHeard stage place first history old → Hears place first history old → GivesAt stage byte old given new
       → Hears place first (history_given stage byte given history) new
@@ -379,7 +416,7 @@ module _ (place : Place) (first : Transfer) (wanted skip : Bool) (reads : first.
   give_hears (Moving moving) byte false history old new now was (quiet, is) = same_front history old new is was
   give_hears (Moving moving) byte true history old new (here, hearing) was (up, is) =
       one_hears history moving (took byte history.past) (taken_in byte old.board.controller) old new was.parts here
-      (other_past place (here_of first history) history.past (took byte history.past) (drive_at old.board place.bay) refl refl hearing) is
+      (bytes_hearing place (here_of first history) history.past history.past.given (history.past.taken ++ byte ∷ []) history.past.counted (drive_at old.board place.bay) hearing) is
 
   count_hears : (stage : Stage) (history : History) (old new : Front) → NowHeard stage place first history old → Hears place first history old → new ≡ count_told stage old
       → Hears place first (history_counted stage history) new
@@ -409,15 +446,16 @@ module _ (place : Place) (first : Transfer) (wanted skip : Bool) (reads : first.
   read_hears (Moving moving) true history old new now was stays is = same_front history old new is was
   read_hears (Telling results read) true history old new now was stays is = result_hears (nat_le 6 read) results read history old new was.parts now stays is
 
-  -- the stage stays, and the medium turns on
+  -- the stage stays, and while a sector is moved the medium turns on
   turn_hears : (stage : Stage) (history : History) (old new : Front) → AreHeardAt place history.parts → NowHeard stage place first history old → new.stage ≡ stage → IsAtWhile new.stage place new
-      → (drive_at new.board place.bay).place ≡ (drive_at old.board place.bay).place → (drive_at old.board place.bay).faults ≤ (drive_at new.board place.bay).faults → Hears place first history new
-  turn_hears Through history old new parts now is at same falls = absurd now
-  turn_hears (Collecting opcode) history old new parts now is at same falls = absurd now
-  turn_hears (Seeking target counted) history old new parts now is at same falls = record { parts = parts; now = subst (λ stage. NowHeard stage place first history new) (sym is) now }
-  turn_hears (Telling results read) history old new parts now is at same falls = to_telling history results read new is parts now
-  turn_hears (Moving moving) history old new parts (here, hearing) is at same falls =
-      to_moving history moving new is parts here (kept_hearing place new (here_of first history) history.past (drive_at old.board place.bay) (at_new moving new is at) same falls hearing)
+      → ((moving : MovingSector) → stage ≡ Moving moving → IsAt place new → TurnsOn (drive_at old.board place.bay) (drive_at new.board place.bay)) → Hears place first history new
+  turn_hears Through history old new parts now is at turns = absurd now
+  turn_hears (Collecting opcode) history old new parts now is at turns = absurd now
+  turn_hears (Seeking target counted) history old new parts now is at turns = record { parts = parts; now = subst (λ stage. NowHeard stage place first history new) (sym is) now }
+  turn_hears (Telling results read) history old new parts now is at turns = to_telling history results read new is parts now
+  turn_hears (Moving moving) history old new parts (here, hearing) is at turns =
+      let there = at_new moving new is at in
+      to_moving history moving new is parts here (kept_hearing place new (here_of first history) history.past (drive_at old.board place.bay) there (turns moving refl there) hearing)
 
   ignored : (stage : Stage) (byte : ℕ) (history : History) (old new : Front) → NowHeard stage place first history old → TakesByte stage byte old new → new ≡ old
   ignored Through byte history old new now takes = absurd now
@@ -426,31 +464,38 @@ module _ (place : Place) (first : Transfer) (wanted skip : Bool) (reads : first.
   ignored (Moving moving) byte history old new now takes = takes
   ignored (Telling results read) byte history old new now takes = takes
 
-  -- the motor and the gate leave the place
-  keeps_place : (port value bay : ℕ) (controller : Fdc) (before after : DriveState) → FollowsWrite port value bay controller before after → (after.place ≡ before.place) × (before.faults ≤ after.faults)
-  keeps_place port value bay controller before after follows =
-      let one = by_motor (port == 0x3F2) follows.motor in
-      let two = by_gate (resets port value) follows.gate in
-      let first_falls = one.1 in
-      let then_falls = two.1 in
-      (two.0 ∙ one.0, omega arith)
-    where
-      by_motor : (b : Bool) → FollowsDor b bay controller before follows.between → (follows.between.place ≡ before.place) × (before.faults ≤ follows.between.faults)
-      by_motor true (on, is, becomes) = (ap (λ s. s.place) becomes.becomes, becomes.never_falls)
-      by_motor false is = (ap (λ s. s.place) is, subst (λ s. before.faults ≤ s.faults) (sym is) (omega arith))
+  -- a motor that stays on, and the gate, let the medium turn on
+  turns_same : (drive : DriveState) → TurnsOn drive drive
+  turns_same drive = record { place = refl; never_falls = omega arith; keeps_speed = λ fast. fast }
 
-      by_gate : (b : Bool) → Closes b follows.between after → (after.place ≡ follows.between.place) × (follows.between.faults ≤ after.faults)
-      by_gate true becomes = (ap (λ s. s.place) becomes.becomes, becomes.never_falls)
-      by_gate false is = (ap (λ s. s.place) is, subst (λ s. follows.between.faults ≤ s.faults) (sym is) (omega arith))
+  motor_turns : (b : Bool) (bay : ℕ) (controller : Fdc) (before after : DriveState) → FollowsDor b bay controller before after → after.motor ≡ true → TurnsOn before after
+  motor_turns true bay controller before after (on, is, becomes) runs =
+      let stays : on ≡ true = sym (ap (λ s. s.motor) becomes.becomes) ∙ runs in
+      let spin : after.spin ≡ before.spin = ap (λ s. s.spin) becomes.becomes ∙ ap (λ runs. if runs then before.spin else 0) stays in
+      record { place = ap (λ s. s.place) becomes.becomes; never_falls = becomes.never_falls; keeps_speed = λ fast. omega arith }
+  motor_turns false bay controller before after is runs = subst (TurnsOn before) (sym is) (turns_same before)
 
-  board_place : (port value bay : ℕ) (old new : BoardState) → WritesBoard port value old new
-      → ((drive_at new bay).place ≡ (drive_at old bay).place) × ((drive_at old bay).faults ≤ (drive_at new bay).faults)
-  board_place port value bay old new writes = by_bay (bay == 0)
+  gate_turns : (b : Bool) (before after : DriveState) → Closes b before after → (after.motor ≡ before.motor) × TurnsOn before after
+  gate_turns true before after becomes =
+      let spin : after.spin ≡ before.spin = ap (λ s. s.spin) becomes.becomes in
+      let turns : TurnsOn before after = record { place = ap (λ s. s.place) becomes.becomes; never_falls = becomes.never_falls; keeps_speed = λ fast. omega arith } in
+      (ap (λ s. s.motor) becomes.becomes, turns)
+  gate_turns false before after is = (ap (λ s. s.motor) is, subst (TurnsOn before) (sym is) (turns_same before))
+
+  write_turns : (port value bay : ℕ) (controller : Fdc) (before after : DriveState) → FollowsWrite port value bay controller before after → after.motor ≡ true → TurnsOn before after
+  write_turns port value bay controller before after follows runs =
+      let (same, closes) = gate_turns (resets port value) follows.between after follows.gate in
+      let turns = motor_turns (port == 0x3F2) bay controller before follows.between follows.motor (sym same ∙ runs) in
+      let falls = turns.never_falls in
+      let then_falls = closes.never_falls in
+      record { place = closes.place ∙ turns.place; never_falls = omega arith; keeps_speed = λ fast. closes.keeps_speed (turns.keeps_speed fast) }
+
+  board_turns : (port value bay : ℕ) (old new : BoardState) → WritesBoard port value old new → (drive_at new bay).motor ≡ true → TurnsOn (drive_at old bay) (drive_at new bay)
+  board_turns port value bay old new writes = by_bay (bay == 0)
     where
-      by_bay : (b : Bool) → ((if b then new.first else new.second).place ≡ (if b then old.first else old.second).place)
-          × ((if b then old.first else old.second).faults ≤ (if b then new.first else new.second).faults)
-      by_bay true = keeps_place port value 0 new.controller old.first new.first writes.first
-      by_bay false = keeps_place port value 1 new.controller old.second new.second writes.second
+      by_bay : (b : Bool) → (if b then new.first else new.second).motor ≡ true → TurnsOn (if b then old.first else old.second) (if b then new.first else new.second)
+      by_bay true runs = write_turns port value 0 new.controller old.first new.first writes.first runs
+      by_bay false runs = write_turns port value 1 new.controller old.second new.second writes.second runs
 
   write_hears : (port value : ℕ) (history : History) (old new : Front) → Hears place first history old → (new.stage ≡ Through → ⊥) → IsAtWhile new.stage place new → WritesFront port value old new
       → Hears place first history new
@@ -458,7 +503,7 @@ module _ (place : Place) (first : Transfer) (wanted skip : Bool) (reads : first.
     where
       by_reset : (b : Bool) → WritesBoard port value old.board new.board → new ≡ record (reset_if b old) { board = new.board } → Hears place first history new
       by_reset true wrote is = absurd (stays (ap (λ front. front.stage) is))
-      by_reset false wrote is = let (same, falls) = board_place port value place.bay old.board new.board wrote in turn_hears old.stage history old new was.parts was.now (ap (λ front. front.stage) is) at same falls
+      by_reset false wrote is = turn_hears old.stage history old new was.parts was.now (ap (λ front. front.stage) is) at (λ moving here there. board_turns port value place.bay old.board new.board wrote there.motor)
 
       by_port : (b : Bool) → (port == 0x3F5) ≡ b → Hears place first history new
       by_port true is = same_front history old new (ignored old.stage value history old new was.now (writes.bytes (eqb-true port 0x3F5 is))) was
@@ -467,7 +512,7 @@ module _ (place : Place) (first : Transfer) (wanted skip : Bool) (reads : first.
   -- ---- all calls
 
   call_hears : (call : Call) (history grown : History) (old new : Front) (does : Does call old new) → (new.stage ≡ Through → ⊥) → IsAtWhile old.stage place old → IsAtWhile new.stage place new
-      → TurnsOn call (drive_at old.board place.bay) (drive_at new.board place.bay) → Grows call old new does history grown → Hears place first history old → Hears place first grown new
+      → TurnsOnIn old.stage call (drive_at old.board place.bay) (drive_at new.board place.bay) → Grows call old new does history grown → Hears place first history old → Hears place first grown new
   call_hears Steps history grown old new step stays at at_then turns (time, passes, is) was =
       subst (λ h. Hears place first h new) (sym is) (step_hears old.stage history time old step.between new refl was.parts was.now at stays at_then passes step.follows)
   call_hears (Takes byte) history grown old new does stays at at_then turns is was = subst (λ h. Hears place first h new) (sym is) (take_hears old.stage byte history old new was.now was does)
@@ -485,8 +530,9 @@ module _ (place : Place) (first : Transfer) (wanted skip : Bool) (reads : first.
       strapped (Seeking target counted) now = now
       strapped (Moving moving) now = now
       strapped (Telling results read) now = now
-  call_hears Changes history grown old new does stays at at_then (same, falls) is was =
-      subst (λ h. Hears place first h new) (sym is) (turn_hears old.stage history old new was.parts was.now does.stage at_then same falls)
+  call_hears Changes history grown old new does stays at at_then turns is was =
+      subst (λ h. Hears place first h new) (sym is) (turn_hears old.stage history old new was.parts was.now does.stage at_then
+      (λ moving here there. subst (λ stage. TurnsOnIn stage Changes (drive_at old.board place.bay) (drive_at new.board place.bay)) here turns))
 
   first_at : (calls : List Call) (old new : Front) (within : AreWithin calls old new) → StaysIn place calls old new within → IsAtWhile old.stage place old
   first_at [] old new within is = is
@@ -500,10 +546,37 @@ module _ (place : Place) (first : Transfer) (wanted skip : Bool) (reads : first.
 
   -- ---- what that says of the medium
 
+  heard_found : (at : Transfer) (past : Past) (marked : Bool) → IsHeardAt place at past → FindsSector past at.key past.given marked
+      → (content : List ℕ) × HasOnTrack (track_under place at) at.key marked content × ((rest : List ℕ) × (content ≡ past.given ++ rest))
+      × (length past.given ≡ content_size at.key.n → past.given ≡ content)
+  heard_found at past marked was found =
+      found_on_track (track_under place at) was.from was.late at.key past.given marked was.heard
+      (found_late was.lead was.late at.key past.given marked (subst (λ (p : Past). FindsSector p at.key past.given marked) was.past_is found))
+
+  heard_given : (at : Transfer) (past : Past) → IsHeardAt place at past → place.clean ≡ true → AreOfField past at.key past.given → (past.given ≡ []) ⊎ BeginsOnTrack (track_under place at) at.key past.given
+  heard_given at past was set given =
+      told_on_track (track_under place at) was.from was.late at.key past.given was.heard (was.whole set)
+      (of_field_late was.lead was.late at.key past.given (subst (λ (p : Past). AreOfField p at.key past.given) was.past_is given))
+
+  heard_between : (at : Transfer) (past : Past) (between : List ℕ) → IsHeardAt place at past → place.clean ≡ true → IsBetween past between → between ≡ track_under place at
+  heard_between at past between was set is =
+      between_is (track_under place at) was.from was.late between was.heard (was.whole set)
+      (between_late was.lead was.late between (subst (λ (p : Past). IsBetween p between) was.past_is is))
+
+  heard_no_field : (at : Transfer) (past : Past) → IsHeardAt place at past → place.clean ≡ true → FindsNoField past at.key → HasLook (track_under place at) at.key NoData
+  heard_no_field at past was set finds =
+      no_field_met (track_under place at) was.from was.late at.key was.heard (was.whole set)
+      (no_field_late was.lead was.late at.key (subst (λ (p : Past). FindsNoField p at.key) was.past_is finds))
+
+  heard_bad_check : (at : Transfer) (past : Past) → IsHeardAt place at past → place.clean ≡ true → FindsBadCheck past at.key → HasLook (track_under place at) at.key BadCrc
+  heard_bad_check at past was set finds =
+      bad_met (track_under place at) was.from was.late at.key was.heard (was.whole set)
+      (bad_check_late was.lead was.late at.key (subst (λ (p : Past). FindsBadCheck p at.key) was.past_is finds))
+
   on_medium : (part : Part) → IsHeardAt place part.at part.past → IsMoved (Read wanted skip) part → IsOnMedium place (Read wanted skip) part
-  on_medium part (from, heard, whole) moved =
-      let found = found_on_track (track_under place part.at) from part.past part.at.key part.past.given part.marked heard moved.field in
-      record { content = found.0; field = found.1; given = elim moved.all [ inl (own, all) ↦ inl (own, found.2 all) | inr passed ↦ inr passed ] }
+  on_medium part was moved =
+      let found = heard_found part.at part.past part.marked was moved.field in
+      record { content = found.0; field = found.1; given = elim moved.all [ inl (own, all) ↦ inl (own, found.3 all) | inr passed ↦ inr passed ] }
 
   all_on_medium : (from : Transfer) (parts : List Part) → AreHeardAt place parts → AreMoved (Read wanted skip) from parts → AreOnMedium place (Read wanted skip) parts
   all_on_medium from [] heard moved = tt
@@ -513,12 +586,6 @@ module _ (place : Place) (first : Transfer) (wanted skip : Bool) (reads : first.
   parts_on_medium history front hears moved =
       subst (λ o. AreOnMedium place o history.parts) (sym reads) (all_on_medium first history.parts hears.parts (subst (λ o. AreMoved o first history.parts) reads moved))
 
-  last_on_medium : (history : History) (front : Front) (results : Results) (read : ℕ) (marked : Bool) → Hears place first history front → front.stage ≡ Telling results read
-      → FindsSector history.past (here_of first history).key history.past.given marked → LastOnMedium place (here_of first history) history.past marked
-  last_on_medium history front results read marked hears is found =
-      let (from, heard, whole) = subst (λ stage. NowHeard stage place first history front) is hears.now in
-      found_on_track (track_under place (here_of first history)) from history.past (here_of first history).key history.past.given marked heard found
-
   -- a command of which nothing was heard
   nothing_heard : (stage : Stage) (begun : Front) → begun.stage ≡ stage → ServesAt stage first (nothing_moved false) begun.board.controller → IsAtWhile stage place begun → Hears place first (nothing_moved false) begun
   nothing_heard Through begun is now at = absurd now
@@ -526,13 +593,9 @@ module _ (place : Place) (first : Transfer) (wanted skip : Bool) (reads : first.
   nothing_heard (Seeking target counted) begun is (here, none) at =
       record { parts = tt; now = subst (λ stage. NowHeard stage place first (nothing_moved false) begun) (sym is) (here, refl) }
   nothing_heard (Moving moving) begun is (here, counts, carries) at =
-      to_moving (nothing_moved false) moving begun is tt here (fresh_hearing place begun first new_past at refl refl)
+      to_moving (nothing_moved false) moving begun is tt here (fresh_hearing place begun first new_past at refl)
   nothing_heard (Telling results read) begun is now at =
-      to_telling (nothing_moved false) results read begun is tt (
-        0,
-        record { over = tt; now = record { inside = omega arith; each = λ i below. absurd (omega arith) } },
-        λ set. record { over = tt; now = record { each = λ i below. absurd (omega arith) } },
-      )
+      to_telling (nothing_moved false) results read begun is tt (heard_nothing place first new_past 0 new_past (sym (led_none new_past)) refl)
 
   pub read_from : (calls : List Call) (history : History) (begun end : Front) (within : AreWithin calls begun end) (results : Results) (read : ℕ) → Serves first (nothing_moved false) begun
       → StaysIn place calls begun end within → Gather calls begun end within (nothing_moved false) history → AreMoved first.opcode.operation first history.parts → PassesOfSector first history
@@ -540,13 +603,15 @@ module _ (place : Place) (first : Transfer) (wanted skip : Bool) (reads : first.
   read_from calls history begun end within results read serves stays gather moved of_sector tells =
       let at = first_at calls begun end within stays in
       let hears = calls_hear calls (nothing_moved false) history begun end within stays gather (nothing_heard begun.stage begun refl serves.now at) in
-      let (from, heard, whole) = subst (λ stage. NowHeard stage place first history end) tells hears.now in
-      let track = track_under place (here_of first history) in
+      let here = here_of first history in
+      let past = history.past in
+      let was : IsHeardAt place here past = subst (λ stage. NowHeard stage place first history end) tells hears.now in
       record {
         parts = parts_on_medium history end hears moved;
-        last = λ marked found. last_on_medium history end results read marked hears tells found;
-        given = λ set. told_on_track track from history.past (here_of first history).key history.past.given heard (whole set)
-            (subst (λ o. IsOfSector o history.past (sent_of (here_of first history))) reads of_sector);
-        missed = λ set (marks, (between, is, none)). subst (HasNoClear (Some (here_of first history).key)) (between_is track from history.past between heard (whole set) is) none;
-        bare = λ set (between, is, none) mark. none (subst HasAddressMark (sym (between_is track from history.past between heard (whole set) is)) mark);
+        last = λ marked finds. let found = heard_found here past marked was finds in (found.0, found.1, found.2);
+        given = λ set. heard_given here past was set (subst (λ o. IsOfSector o past (sent_of here)) reads of_sector);
+        missed = λ set (marks, (between, is, none)). subst (HasNoClear (Some here.key)) (heard_between here past between was set is) none;
+        bare = λ set (between, is, none) mark. none (subst HasAddressMark (sym (heard_between here past between was set is)) mark);
+        no_field = λ set finds. heard_no_field here past was set finds;
+        bad_check = λ set finds. heard_bad_check here past was set finds;
       }

@@ -2,8 +2,9 @@
 use Rattle.std.specs.Prelude.{◌≡◌, ◌+◌, ◌++◌, ◌⊎◌, ℕ, ◌<◌, ◌≤◌, Bool, true, false, ◌&&◌, nat_lt, Some, List, [], ◌∷◌, length, if◌then◌else◌}
 use Rattle.flop_base.specs.declared.key.Chrn.{Chrn}
 use Rattle.raw_image.specs.Disk.{Disk, IsDisk, track_of}
-use Rattle.sector_map.specs.Met.{unrecorded}
-use Rattle.track_model.specs.Fields.{IsAddressAt, IsDataMark, IsWhole, content_size}
+use Rattle.sector_map.specs.Met.{HasLook, unrecorded}
+use Rattle.track_model.specs.declared.Look.TheVariants.{BadCrc, NoData}
+use Rattle.track_model.specs.Fields.{IsAddressAt, IsDataMark, IsWhole}
 use Rattle.drive_model.specs.Drive.{DriveState}
 use Rattle.fdc_stages.specs.History.{Past}
 use Rattle.fdc_phases.specs.Phases.{head_of}
@@ -17,7 +18,7 @@ use Rattle.fdc_sequencer.specs.declared.stage.Stage.{Stage}
 use Rattle.fdc_sequencer.specs.declared.stage.Stage.TheVariants.{Moving, Telling}
 use Rattle.fdc_sequencer.specs.declared.transfer.Transfer.{Transfer}
 use Rattle.sequencer_laws.specs.Calls.{AreWithin, Call, Changes}
-use Rattle.fdc_stages.specs.Findings.{FindsNoMark, FindsNoSector, FindsSector}
+use Rattle.fdc_stages.specs.Findings.{FindsBadCheck, FindsNoField, FindsNoMark, FindsNoSector, FindsSector}
 use Rattle.fdc_stages.specs.Searches.{HasNoClear}
 use Rattle.track_model.specs.Looks.{HasAddressMark}
 use Rattle.track_model.specs.Bytes.{bytes_at}
@@ -48,7 +49,7 @@ track_at place head =
 abbrev pub track_under : Place → Transfer → List ℕ
 track_under place at = track_at place (head_of at.head_drive)
 
--- DOR selects the bay, and the medium is in and at speed, with the heads over the cylinder
+-- DOR selects the bay, and the medium is in with its motor on, whatever its speed, and the heads over the cylinder
 pub record IsAt (place : Place) (front : Front) : Type 0 where
   pub bay : place.bay ≤ 1
   pub disk : IsDisk place.disk
@@ -57,7 +58,6 @@ pub record IsAt (place : Place) (front : Front) : Type 0 where
   pub medium : (drive_at front.board place.bay).medium ≡ Some place.disk
   pub cylinder : (drive_at front.board place.bay).cylinder ≡ place.cylinder
   pub motor : (drive_at front.board place.bay).motor ≡ true
-  pub speed : 6250 ≤ (drive_at front.board place.bay).spin
   pub inside : (drive_at front.board place.bay).place < place.disk.words_per_track
   pub clean : IsClean place front
 
@@ -67,16 +67,22 @@ IsAtWhile (Moving moving) place front = IsAt place front
 IsAtWhile (Telling results read) place front = IsClean place front
 IsAtWhile _ place front = Unit {0}
 
--- the medium turns on where another one is put in or taken out
-abbrev pub TurnsOn : Call → DriveState → DriveState → Type 0
-TurnsOn Changes old new = (new.place ≡ old.place) × (old.faults ≤ new.faults)
-TurnsOn _ old new = Unit {0}
+-- the medium turns on: its place stays, and its speed where it was at speed
+pub record TurnsOn (old new : DriveState) : Type 0 where
+  pub place : new.place ≡ old.place
+  pub never_falls : old.faults ≤ new.faults
+  pub keeps_speed : 6250 ≤ old.spin → 6250 ≤ new.spin
+
+-- so it does where another one is put in or taken out while a sector is moved
+abbrev pub TurnsOnIn : Stage → Call → DriveState → DriveState → Type 0
+TurnsOnIn (Moving moving) Changes old new = TurnsOn old new
+TurnsOnIn _ _ old new = Unit {0}
 
 -- the medium stays in through all calls
 abbrev pub StaysIn : Place → (calls : List Call) (old new : Front) → AreWithin calls old new → Type 0
 StaysIn place [] old new same = IsAtWhile old.stage place old
 StaysIn place (call ∷ calls) old new within =
-    IsAtWhile old.stage place old × TurnsOn call (drive_at old.board place.bay) (drive_at within.0.board place.bay)
+    IsAtWhile old.stage place old × TurnsOnIn old.stage call (drive_at old.board place.bay) (drive_at within.0.board place.bay)
     × StaysIn place calls within.0 new within.3
 
 -- the track has a field of the key, intact, with this mark and content
@@ -103,11 +109,10 @@ abbrev pub AreOnMedium : Place → Operation → List Part → Type 0
 AreOnMedium place operation [] = Unit {0}
 AreOnMedium place operation (part ∷ parts) = IsOnMedium place operation part × AreOnMedium place operation parts
 
--- where the last sector was found too, it stands there, and what was given of it is its content where all of it was given
+-- where the last sector was found too, it stands there, and what was given of it are the first bytes of the content of that very field
 abbrev pub LastOnMedium : Place → Transfer → Past → Bool → Type 0
 LastOnMedium place at past marked =
-    (content : List ℕ) × HasOnTrack (track_under place at) at.key marked content
-    × (length past.given ≡ content_size at.key.n → past.given ≡ content)
+    (content : List ℕ) × HasOnTrack (track_under place at) at.key marked content × ((rest : List ℕ) × (content ≡ past.given ++ rest))
 
 -- the bytes are the first behind a data mark of an address field of the key on the track
 pub record BeginsOnTrack (track : List ℕ) (key : Chrn) (bytes : List ℕ) : Type 0 where
@@ -121,7 +126,8 @@ pub record BeginsOnTrack (track : List ℕ) (key : Chrn) (bytes : List ℕ) : Ty
   pub bytes_are : bytes_at track (mark + 64) count ≡ bytes ++ rest
 
 -- what a read heard and gave is the medium's: of each sector that is over, and of the last where it was found; and where no word is lost
--- it is missed only where the track has no clear address field of its key, or no address mark
+-- it is missed only where the track has no clear address field of its key, or no address mark, or where an address field of its key has
+-- no data field, or one that isn't intact
 pub record IsReadFrom (place : Place) (first : Transfer) (history : History) : Type 0 where
   pub parts : AreOnMedium place first.opcode.operation history.parts
   pub last : let at = sector_after (length history.parts) first in
@@ -132,3 +138,7 @@ pub record IsReadFrom (place : Place) (first : Transfer) (history : History) : T
       FindsNoSector history.past (Some at.key) → HasNoClear (Some at.key) (track_under place at)
   pub bare : place.clean ≡ true → let at = sector_after (length history.parts) first in
       FindsNoMark history.past → HasAddressMark (track_under place at) → ⊥
+  pub no_field : place.clean ≡ true → let at = sector_after (length history.parts) first in
+      FindsNoField history.past at.key → HasLook (track_under place at) at.key NoData
+  pub bad_check : place.clean ≡ true → let at = sector_after (length history.parts) first in
+      FindsBadCheck history.past at.key → HasLook (track_under place at) at.key BadCrc
