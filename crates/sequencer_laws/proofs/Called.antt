@@ -1,9 +1,10 @@
 -- What is served, through calls one after the other.
-use Rattle.std.proofs.Common.{◌≡◌, inl, inr, ℕ, zero, suc, ◌&&◌, Bool, true, false, ◌||◌, List, [], ◌∷◌, ◌++◌, replicate, refl, sym, ◌∙◌, ap, subst, append_assoc}
+use Rattle.std.proofs.Common.{◌≡◌, inl, inr, ℕ, zero, suc, ◌&&◌, ◌==◌, Bool, true, false, ◌||◌, List, [], ◌∷◌, ◌++◌, replicate, refl, sym, ◌∙◌, ap, subst, append_assoc}
 use Rattle.sequencer_laws.specs.Calls.{AreWithin, Behind, Call, Changes, Counts, Does, Gives, Grows, Reads, Steps, Straps, Takes, Writes, is_count, is_counted, passed_by, passed_in_all}
+use Rattle.fdc_core.specs.Ports.{resets}
 use Rattle.fdc_sequencer.specs.Fronts.{Front, KeepsFront}
 use Rattle.fdc_sequencer.specs.Moves.{FollowsStep, RunsFrontWith, StepsFront}
-use Rattle.sequencer_laws.specs.Serving.{GoesOn, History, KeepsServing, Serves, ServesAt, all_bytes, hears_count, history_counted, history_given, history_stepped, history_taken}
+use Rattle.sequencer_laws.specs.Serving.{GoesOn, History, KeepsServing, Serves, ServesAt, ServesUnless, all_bytes, gives_last, hears_count, history_counted, history_given, history_stepped, history_taken}
 use Rattle.fdc_sequencer.specs.declared.opcode.Operation.{Operation}
 use Rattle.fdc_sequencer.specs.declared.stage.Stage.TheVariants.{Through}
 use Rattle.fdc_sequencer.specs.declared.transfer.Transfer.{Transfer}
@@ -17,6 +18,7 @@ media_serve old new keeps first history serves = (
   none_more first.opcode.operation history,
   none_told history.counted,
   record {
+    sized = serves.sized;
     parts = serves.parts;
     now = subst (λ stage. ServesAt stage first history new.board.controller) (sym keeps.stage) (subst (ServesAt old.stage first history) (sym keeps.controller) serves.now);
   },
@@ -26,7 +28,7 @@ pub strap_serves : (on : Bool) (old new : Front) → new ≡ record old { strapp
 strap_serves on old new is first history serves = (
   none_more first.opcode.operation history,
   none_told history.counted,
-  subst (Serves first history) (sym is) (record { parts = serves.parts; now = serves.now }),
+  subst (Serves first history) (sym is) (record { sized = serves.sized; parts = serves.parts; now = serves.now }),
 )
 
 -- ---- runs
@@ -78,10 +80,15 @@ one_of : (call : Call) (first : Transfer) (old history : History) (told : Bool) 
 one_of call first old history told start new does grows is (bytes, counts, serves) =
     record { history = history; grows = grows; serves = serves; bytes = bytes; told = counts ∙ ap (λ b. old.counted || b) is }
 
+-- it goes on where it isn't left
+unless_left : (left : Bool) (first : Transfer) (history : History) (old new : Front) → (new.stage ≡ Through → ⊥) → Serves first history old → ServesUnless left old new → GoesOn [] false first history history new
+unless_left true first history old new within serves through = absurd (within through)
+unless_left false first history old new within serves keeps = keeps first history serves
+
 pub call_serves : (call : Call) (first : Transfer) (history : History) (old new : Front) (does : Does call old new) → (new.stage ≡ Through → ⊥) → Serves first history old → One first history call old new does
 call_serves Steps first history old new does within serves = elim (steps_serve old new does first history serves) [
   | inl on ↦ one_of Steps first history (history_stepped old.stage on.time does.between.controller history) false old new does (on.time, on.passes, refl) refl on.goes
-  | inr refused ↦ absurd (within refused.through)
+  | inr refuses ↦ absurd (within refuses.refused.through)
 ]
 call_serves (Takes byte) first history old new does within serves =
     one_of (Takes byte) first history (history_taken old.stage byte history) false old new does refl refl (takes_serve old byte new does first history serves)
@@ -89,14 +96,10 @@ call_serves (Gives byte was) first history old new does within serves =
     one_of (Gives byte was) first history (history_given old.stage byte was history) false old new does refl refl (gives_serve byte old was new does first history serves)
 call_serves Counts first history old new does within serves =
     one_of Counts first history (history_counted old.stage history) (hears_count old.stage) old new does refl refl (counts_serve old new does first history serves)
-call_serves (Reads port) first history old new does within serves = elim (reads_serve port old new does first history serves) [
-  | inl on ↦ one_of (Reads port) first history history false old new does refl refl on
-  | inr through ↦ absurd (within through)
-]
-call_serves (Writes port value) first history old new does within serves = elim (writes_serve port value old new does first history serves) [
-  | inl on ↦ one_of (Writes port value) first history history false old new does refl refl on
-  | inr through ↦ absurd (within through)
-]
+call_serves (Reads port) first history old new does within serves =
+    one_of (Reads port) first history history false old new does refl refl (unless_left ((port == 0x3F5) && gives_last old.stage) first history old new within serves (reads_serve port old new does))
+call_serves (Writes port value) first history old new does within serves =
+    one_of (Writes port value) first history history false old new does refl refl (unless_left (resets port value) first history old new within serves (writes_serve port value old new does))
 call_serves Changes first history old new does within serves = one_of Changes first history history false old new does refl refl (media_serve old new does first history serves)
 call_serves (Straps on) first history old new does within serves = one_of (Straps on) first history history false old new does refl refl (strap_serves on old new does first history serves)
 

@@ -389,11 +389,13 @@ in_on (Write deleted) past sent byte old busy up was = record {
 
 -- ---- port accesses
 
--- what the command is known by stays
+-- what the command is known by stays, and what the next one begins by
 pub record SameCommand (old new : Fdc) : Type 0 where
   pub phase : new.phase ≡ old.phase
   pub asking : new.asking ≡ old.asking
   pub fifo : new.fifo ≡ old.fifo
+  pub seeks : new.seeks ≡ old.seeks
+  pub non_dma : new.non_dma ≡ old.non_dma
 
 same_known : (operation : Operation) (past : Past) (sent : Sent) (old new : Fdc) → SameCommand old new → MayMove operation past sent old → MayMove operation past sent new
 same_known (Read wanted skip) past sent old new same was =
@@ -417,18 +419,18 @@ port_same port value lines old new writes no_byte no_reset = either_way (port ==
     (λ output.
     let quiet : dor_resets value ≡ false =
     sym (ap (λ b. if b then dor_resets value else (if port == 0x3F4 then dsr_resets value else false)) output) ∙ no_reset in
-    same_as old _ new (not_reset (dor_resets value) old (record old { dor = record { 0 = value } }) quiet (record { phase = refl; asking = refl; fifo = refl }))
+    same_as old _ new (not_reset (dor_resets value) old (record old { dor = record { 0 = value } }) quiet (record { phase = refl; asking = refl; fifo = refl; seeks = refl; non_dma = refl }))
     (writes.output (eqb-true port 0x3F2 output)))
     (λ no_output. either_way (port == 0x3F4)
     (λ select.
     let quiet : dsr_resets value ≡ false =
     sym (ap (λ b. if b then dsr_resets value else false) select)
     ∙ (sym (ap (λ b. if b then dor_resets value else (if port == 0x3F4 then dsr_resets value else false)) no_output) ∙ no_reset) in
-    same_as old _ new (not_reset (dsr_resets value) old (record old { rate = rate_chosen value }) quiet (record { phase = refl; asking = refl; fifo = refl }))
+    same_as old _ new (not_reset (dsr_resets value) old (record old { rate = rate_chosen value }) quiet (record { phase = refl; asking = refl; fifo = refl; seeks = refl; non_dma = refl }))
     (writes.select (eqb-true port 0x3F4 select)))
     (λ no_select. either_way (port == 0x3F7)
-    (λ control. same_as old _ new (record { phase = refl; asking = refl; fifo = refl }) (writes.control (eqb-true port 0x3F7 control)))
-    (λ no_control. same_as old _ new (record { phase = refl; asking = refl; fifo = refl }) (writes.others no_output no_select no_byte no_control))))
+    (λ control. same_as old _ new (record { phase = refl; asking = refl; fifo = refl; seeks = refl; non_dma = refl }) (writes.control (eqb-true port 0x3F7 control)))
+    (λ no_control. same_as old _ new (record { phase = refl; asking = refl; fifo = refl; seeks = refl; non_dma = refl }) (writes.others no_output no_select no_byte no_control))))
 
 -- a write of another port than the data port's that doesn't reset the controller
 pub port_on : (operation : Operation) (past : Past) (sent : Sent) (port value : ℕ) (lines : Lines) (old new : Fdc) → Writes port value lines old new → (port == 0x3F5) ≡ false

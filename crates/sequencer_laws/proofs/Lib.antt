@@ -1,6 +1,7 @@
 mod Marks
 mod Known
 mod Started
+mod Free
 mod Courses
 mod Served
 mod Outcome

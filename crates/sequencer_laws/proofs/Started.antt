@@ -24,7 +24,7 @@ use Rattle.fdc_core.specs.declared.controller.Lines.{Lines}
 use Rattle.fdc_phases.specs.declared.phases.Phase.TheVariants.{Result}
 use Rattle.fdc_board.specs.Boards.{BoardState}
 use Rattle.fdc_sequencer.specs.Fronts.{told_if, moving_of}
-use Rattle.sequencer_laws.specs.Serving.{Accounts, Carries, IsOfOther, MayMove, bytes_moved, sent_of}
+use Rattle.sequencer_laws.specs.Serving.{Accounts, Carries, IsFree, IsOfOther, MayMove, bytes_moved, sent_of}
 use Rattle.fdc_sequencer.specs.Transfers.{command_for, command_of, is_skipping, size_of}
 use Rattle.fdc_sequencer.specs.declared.opcode.Operation.{Operation}
 use Rattle.fdc_sequencer.specs.declared.opcode.Operation.TheVariants.{Read, Write}
@@ -56,7 +56,7 @@ size_some (suc (suc (suc (suc (suc zero))))) sized = refl
 size_some (suc (suc (suc (suc (suc (suc zero)))))) sized = refl
 size_some (suc (suc (suc (suc (suc (suc (suc n))))))) (some, few) = absurd (omega arith)
 
-in_range : (n : ℕ) → (nat_le 1 n && nat_le n 6) ≡ true → IsSizeCode n
+pub in_range : (n : ℕ) → (nat_le 1 n && nat_le n 6) ≡ true → IsSizeCode n
 in_range n is = let (some, few) = and_parts (nat_le 1 n) (nat_le n 6) is in (leb-true 1 n some, leb-true n 6 few)
 
 -- ---- the command is taken
@@ -74,9 +74,9 @@ module _ (P : Type 0) (seeks : ℕ) (non_dma : Bool) (old new : Fdc) where
   May = (seeks ≡ 0 → (non_dma ≡ true → new ≡ answered 0x80 None old) × (non_dma ≡ false → P)) × ((seeks == 0) ≡ false → new ≡ answered 0x80 None old)
 
   -- it begins, or 80 is answered
-  begins_or : May → P ⊎ IsAnswered new
+  begins_or : May → (P × (seeks ≡ 0) × (non_dma ≡ false)) ⊎ IsAnswered new
   begins_or (resting, seeking) = either_way (seeks == 0)
-      (λ none. let begins = resting (eqb-true seeks 0 none) in either_way non_dma (λ set. inr (ap (λ fdc. fdc.phase) (begins.0 set))) (λ clear. inl (begins.1 clear)))
+      (λ none. let rests = eqb-true seeks 0 none in let begins = resting rests in either_way non_dma (λ set. inr (ap (λ fdc. fdc.phase) (begins.0 set))) (λ clear. inl (begins.1 clear, rests, clear)))
       (λ some. inr (ap (λ fdc. fdc.phase) (seeking some)))
 
 sized_or : (b : Bool) (command : Command) (lines : Lines) (old new : Fdc) → TakesAs (if b then Ready command else Invalid) lines old new
@@ -89,27 +89,34 @@ pub record Begun (operation : Operation) (sent : Sent) (new : Fdc) : Type 0 wher
   pub sized : IsSizeCode sent.key.n
   pub moves : MayMove operation new_past sent new
   pub busy : is_executing new.phase ≡ true
+  pub free : IsFree new
 
 module _ (head_drive : ℕ) (key : Chrn) (last_sector gap length_code : ℕ) (lines : Lines) (old new : Fdc) where
   abbrev sends : Sent
   sends = record { head_drive = head_drive; key = key; last_sector = last_sector }
 
-  read_begins : (wanted skip : Bool) → IsSizeCode key.n → BeginsData (ReadData head_drive key last_sector gap length_code) old new → Begun (Read wanted skip) sends new
-  read_begins wanted skip sized (task, is, waits, after) =
-      record { sized = sized; moves = subst (MayRead new_past sends) (sym after) is; busy = ap (λ fdc. is_executing fdc.phase) after }
+  read_begins : (wanted skip : Bool) → IsSizeCode key.n → IsFree old → BeginsData (ReadData head_drive key last_sector gap length_code) old new → Begun (Read wanted skip) sends new
+  read_begins wanted skip sized free (task, is, waits, after) = record {
+    sized = sized;
+    moves = subst (MayRead new_past sends) (sym after) is;
+    busy = ap (λ fdc. is_executing fdc.phase) after;
+    free = subst IsFree (sym after) (record { rests = free.rests; by_dma = free.by_dma });
+  }
 
-  write_begins : IsSizeCode key.n → BeginsData (WriteData head_drive key last_sector gap length_code) old new → Begun (Write false) sends new
-  write_begins sized (task, is, waits, after) = record {
+  write_begins : IsSizeCode key.n → IsFree old → BeginsData (WriteData head_drive key last_sector gap length_code) old new → Begun (Write false) sends new
+  write_begins sized free (task, is, waits, after) = record {
     sized = sized;
     moves = subst (MayWrite new_past sends false) (sym after) (is (emptied old.fifo.on old.fifo.threshold) false refl);
     busy = ap (λ fdc. is_executing fdc.phase) after;
+    free = subst IsFree (sym after) (record { rests = free.rests; by_dma = free.by_dma });
   }
 
-  deleted_begins : IsSizeCode key.n → BeginsData (WriteDeleted head_drive key last_sector gap length_code) old new → Begun (Write true) sends new
-  deleted_begins sized (task, is, waits, after) = record {
+  deleted_begins : IsSizeCode key.n → IsFree old → BeginsData (WriteDeleted head_drive key last_sector gap length_code) old new → Begun (Write true) sends new
+  deleted_begins sized free (task, is, waits, after) = record {
     sized = sized;
     moves = subst (MayWrite new_past sends true) (sym after) (is (emptied old.fifo.on old.fifo.threshold) false refl);
     busy = ap (λ fdc. is_executing fdc.phase) after;
+    free = subst IsFree (sym after) (record { rests = free.rests; by_dma = free.by_dma });
   }
 
   read_taken : (wanted skip : Bool) → TakesAs (if nat_le 1 key.n && nat_le key.n 6 then Ready (ReadData head_drive key last_sector gap length_code) else Invalid) lines old new
@@ -118,7 +125,7 @@ module _ (head_drive : ℕ) (key : Chrn) (last_sector gap length_code : ℕ) (li
     | inr answers ↦ inr answers
     | inl (sized, obeys) ↦ elim (begins_or (BeginsData (ReadData head_drive key last_sector gap length_code) old new) (seek_bits old.seeks) old.non_dma old new obeys) [
       | inr answers ↦ inr answers
-      | inl begins ↦ inl (read_begins wanted skip (in_range key.n sized) begins)
+      | inl (begins, rests, by_dma) ↦ inl (read_begins wanted skip (in_range key.n sized) (record { rests = rests; by_dma = by_dma }) begins)
     ]
   ]
 
@@ -127,7 +134,7 @@ module _ (head_drive : ℕ) (key : Chrn) (last_sector gap length_code : ℕ) (li
     | inr answers ↦ inr answers
     | inl (sized, obeys) ↦ elim (begins_or (BeginsData (WriteData head_drive key last_sector gap length_code) old new) (seek_bits old.seeks) old.non_dma old new obeys) [
       | inr answers ↦ inr answers
-      | inl begins ↦ inl (write_begins (in_range key.n sized) begins)
+      | inl (begins, rests, by_dma) ↦ inl (write_begins (in_range key.n sized) (record { rests = rests; by_dma = by_dma }) begins)
     ]
   ]
 
@@ -136,12 +143,12 @@ module _ (head_drive : ℕ) (key : Chrn) (last_sector gap length_code : ℕ) (li
     | inr answers ↦ inr answers
     | inl (sized, obeys) ↦ elim (begins_or (BeginsData (WriteDeleted head_drive key last_sector gap length_code) old new) (seek_bits old.seeks) old.non_dma old new obeys) [
       | inr answers ↦ inr answers
-      | inl begins ↦ inl (deleted_begins (in_range key.n sized) begins)
+      | inl (begins, rests, by_dma) ↦ inl (deleted_begins (in_range key.n sized) (record { rests = rests; by_dma = by_dma }) begins)
     ]
   ]
 
 -- without the bytes of a command that has begun
-abbrev without_bytes : Fdc → Fdc
+abbrev pub without_bytes : Fdc → Fdc
 without_bytes old = record old { command = [] }
 
 taken_by : (operation : Operation) (at : Transfer) (lines : Lines) (old new : Fdc) → TakesWhole (Ready (command_for operation at.head_drive at.key at.last_sector at.gap at.length)) lines old new
@@ -204,12 +211,13 @@ begun_mark (Read wanted skip) sent fdc moves skips (marked, is, other) = cc (fre
 begun_mark (Write deleted) sent fdc moves skips other = false≢true skips
 
 -- the controller is told the count
-pub told_carries : (operation : Operation) (met : Bool) (moving : MovingSector) (past : Past) (fdc : Fdc) → MayMove operation past (sent_of moving.transfer) fdc → is_executing fdc.phase ≡ true
+pub told_carries : (operation : Operation) (met : Bool) (moving : MovingSector) (past : Past) (fdc : Fdc) → MayMove operation past (sent_of moving.transfer) fdc → is_executing fdc.phase ≡ true → IsFree fdc
     → Accounts operation met moving (told_in true past) (mark_of fdc) → (is_skipping operation ≡ true → IsOfOther operation (mark_of fdc) → moving.left ≡ 0)
     → Carries operation met moving (told_in true past) (told_count fdc)
-told_carries operation met moving past fdc moves busy accounts passes = record {
+told_carries operation met moving past fdc moves busy free accounts passes = record {
   moves = told_on operation past (sent_of moving.transfer) fdc busy moves;
   busy = told_busy fdc.phase busy;
+  free = record { rests = free.rests; by_dma = free.by_dma };
   accounts = subst (Accounts operation met moving (told_in true past)) (sym (told_mark fdc.phase)) accounts;
   passes = λ skips other. passes skips (subst (IsOfOther operation) (told_mark fdc.phase) other);
 }
@@ -217,12 +225,13 @@ told_carries operation met moving past fdc moves busy accounts passes = record {
 pub begun_carries : (operation : Operation) (met : Bool) (at : Transfer) (counted : Bool) (between : BoardState) → Begun operation (sent_of at) between.controller
     → Carries operation met (moving_of at counted met) (told_in counted new_past) (told_if counted between).controller
 begun_carries operation met at true between begun =
-    told_carries operation met (moving_of at true met) new_past between.controller begun.moves begun.busy
+    told_carries operation met (moving_of at true met) new_past between.controller begun.moves begun.busy begun.free
     (begun_accounts operation met at true (mark_of between.controller) begun.sized)
     (λ skips other. absurd (begun_mark operation (sent_of at) between.controller begun.moves skips other))
 begun_carries operation met at false between begun = record {
   moves = begun.moves;
   busy = begun.busy;
+  free = begun.free;
   accounts = begun_accounts operation met at false (mark_of between.controller) begun.sized;
   passes = λ skips other. absurd (begun_mark operation (sent_of at) between.controller begun.moves skips other);
 }

@@ -1,6 +1,6 @@
 -- What a command of several sectors means: the bytes that pass are, in order, those of its sectors, each found in the words of
 -- its own search.
-use Rattle.std.specs.Prelude.{◌≡◌, ◌≤◌, ◌⊎◌, ℕ, zero, suc, ◌+◌, ◌-◌, Bool, true, false, ◌||◌, ◌==◌, Option, None, Some, List, [], ◌∷◌, ◌++◌, length, flat_map}
+use Rattle.std.specs.Prelude.{◌≡◌, ◌≤◌, ◌⊎◌, ℕ, zero, suc, ◌+◌, ◌-◌, nat_le, Bool, true, false, ◌||◌, ◌==◌, Option, None, Some, List, [], ◌∷◌, ◌++◌, length, flat_map}
 use Rattle.std.specs.List.{list_any}
 use Rattle.flop_base.specs.declared.key.Chrn.{Chrn}
 use Rattle.track_model.specs.Fields.{IsSizeCode, content_size}
@@ -18,7 +18,7 @@ use Rattle.fdc_phases.specs.Heard.{Sent, gave, results_sent, told_in}
 use Rattle.fdc_phases.specs.Phases.{head_of}
 use Rattle.fdc_phases.specs.Written.{took}
 use Rattle.fdc_core.specs.Times.{WordTime, Saw, KeptOut, Wrote, Stopped, IsTime, after_time}
-use Rattle.fdc_seek.specs.Seeking.{has_ended_seek}
+use Rattle.fdc_seek.specs.Seeking.{has_ended_seek, seek_bits}
 use Rattle.fdc_board.specs.Boards.{BoardState, selected_at}
 use Rattle.fdc_core.specs.Listening.{is_executing}
 use Rattle.fdc_core.specs.Meaning.{AreOfField, ReadMeans}
@@ -126,10 +126,16 @@ pub record Accounts (operation : Operation) (met : Bool) (moving : MovingSector)
   -- the controller was told the count where the command was, or where nothing is left
   pub told : past.counted ≡ (moving.counted || (moving.left == 0))
 
--- the controller executes its own command for the sector
+-- no seek bit is set, and SPECIFY's ND isn't: a command for a sector is executed
+pub record IsFree (fdc : Fdc) : Type 0 where
+  pub rests : seek_bits fdc.seeks ≡ 0
+  pub by_dma : fdc.non_dma ≡ false
+
+-- the controller executes its own command for the sector, and is free for the next
 pub record Carries (operation : Operation) (met : Bool) (moving : MovingSector) (past : Past) (fdc : Fdc) : Type 0 where
   pub moves : MayMove operation past (sent_of moving.transfer) fdc
   pub busy : is_executing fdc.phase ≡ true
+  pub free : IsFree fdc
   pub accounts : Accounts operation met moving past (mark_of fdc)
   pub passes : is_skipping operation ≡ true → IsOfOther operation (mark_of fdc) → moving.left ≡ 0
 
@@ -194,8 +200,10 @@ ServesAt (Telling results _) first history fdc =
     Ends first.opcode.operation (has_other first.opcode.operation history.parts) history.counted (sector_after (length history.parts) first) history.past results
 ServesAt _ first history fdc = ⊥
 
--- a command that began at this sector is served, or its results are told, and this is what it heard and moved
+-- a command that began at this sector, of a size that there is, is served, or its results are told, and this is what it heard and
+-- moved
 pub record Serves (first : Transfer) (history : History) (front : Front) : Type 0 where
+  pub sized : IsSizeCode first.key.n
   pub parts : AreMoved first.opcode.operation first history.parts
   pub now : ServesAt front.stage first history front.board.controller
 
@@ -303,19 +311,36 @@ pub record IsRefused (front : Front) : Type 0 where
   pub through : front.stage ≡ Through
   pub answer_is : front.board.controller.phase ≡ Result (Short 0x80 None)
 
+-- the heads seek, before the first sector
+abbrev pub still_seeks : Stage → Bool
+still_seeks (Seeking _ _) = true
+still_seeks _ = false
+
+-- the first sector is refused, once the heads came to its cylinder, since SPECIFY set ND
+pub record RefusesFirst (old new : Front) : Type 0 where
+  pub seeks : still_seeks old.stage ≡ true
+  pub non_dma : old.board.controller.non_dma ≡ true
+  pub refused : IsRefused new
+
 -- this passed under the head in a device step, and it is added to what was heard and moved; no byte passed
 pub record StepsTo (first : Transfer) (history : History) (old : Front) (between : BoardState) (new : Front) : Type 0 where
   pub time : WordTime
   pub passes : Passes old.stage time old.board between
   pub goes : GoesOn [] false first history (history_stepped old.stage time between.controller history) new
 
--- whatever command was served still is, with what passed in this step; or the next sector is refused
+-- whatever command was served still is, with what passed in this step; or its first sector is refused
 abbrev pub ServesStep : (old new : Front) → StepsFront old new → Type 0
-ServesStep old new step = (first : Transfer) (history : History) → Serves first history old → StepsTo first history old step.between new ⊎ IsRefused new
+ServesStep old new step = (first : Transfer) (history : History) → Serves first history old → StepsTo first history old step.between new ⊎ RefusesFirst old new
 
--- whatever command was served still is, and no byte passed; or each access is the controller's again
-abbrev pub ServesOrLeaves : Front → Front → Type 0
-ServesOrLeaves old new = (first : Transfer) (history : History) → Serves first history old → GoesOn [] false first history history new ⊎ (new.stage ≡ Through)
+-- the next result byte is the seventh
+abbrev pub gives_last : Stage → Bool
+gives_last (Telling _ read) = nat_le 6 read
+gives_last _ = false
+
+-- where this is so each access is the controller's again; else whatever command was served still is, and no byte passed
+abbrev pub ServesUnless : Bool → Front → Front → Type 0
+ServesUnless true old new = new.stage ≡ Through
+ServesUnless false old new = KeepsServing [] (λ history. history) old new
 
 -- the byte that passed, if one did
 abbrev pub passed_out : Option ℕ → List ℕ

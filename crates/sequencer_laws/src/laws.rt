@@ -1,30 +1,32 @@
 // What is known of a command of several sectors. The bodies are empty: the contracts say what follows from what each call does.
-ghost use Rattle.std.specs.Prelude.{◌≡◌, ℕ, Bool, Option, List, [], ◌++◌, length, replicate};
+ghost use Rattle.std.specs.Prelude.{◌≡◌, ◌==◌, ◌&&◌, ℕ, Bool, Option, List, [], ◌++◌, length, replicate};
 ghost use Rattle.fdc_sequencer.specs.Fronts.{Front, IsNewFront, KeepsFront, TakesFront, GivesFront, WritesFront, after_reading, told_front};
 ghost use Rattle.fdc_sequencer.specs.Moves.{RunsFront, StepsFront};
 ghost use Rattle.sequencer_laws.specs.Calls.{AreWithin, Behind, Call, Does, IsLastByte, Gather, Served, Steps, Waits, passed_in_all};
 ghost use Rattle.sequencer_laws.specs.Outcomes.{HasField, PassedWhole, PassesOfSector, ResultsSay};
-ghost use Rattle.sequencer_laws.specs.Serving.{History, IsMoved, KeepsServing, Part, Serves, ServesCounted, ServesOrLeaves, ServesStep, BeginsAt, history_given, history_taken, passed_in, passed_out};
+ghost use Rattle.sequencer_laws.specs.Serving.{History, IsMoved, KeepsServing, Part, Serves, ServesCounted, ServesStep, ServesUnless, BeginsAt, gives_last, history_given, history_taken, passed_in, passed_out};
 ghost use Rattle.sequencer_laws.specs.Media.{IsReadFrom, Place, StaysIn};
 ghost use Rattle.drive_model.specs.Drive.{DriveState};
 ghost use Rattle.flop_base.specs.declared.key.Chrn.{Chrn};
 ghost use Rattle.track_model.specs.Fields.{content_size};
 ghost use Rattle.fdc_stages.specs.Findings.{FindsSector};
 ghost use Rattle.fdc_stages.specs.History.{Past};
+ghost use Rattle.fdc_core.specs.Ports.{resets};
 ghost use Rattle.fdc_sequencer.specs.declared.opcode.Operation.{Operation};
 ghost use Rattle.fdc_sequencer.specs.declared.opcode.Operation.TheVariants.{Read};
 ghost use Rattle.fdc_commands.specs.declared.results.Results.{Results};
 ghost use Rattle.fdc_sequencer.specs.declared.stage.Stage.TheVariants.{Through, Telling};
 ghost use Rattle.fdc_sequencer.specs.declared.transfer.Transfer.{Transfer};
 
-/// A command that is served goes on through each call, or it is over.
+/// A command that is served goes on through each call. It is over only where the seventh result byte is read or the controller is
+/// reset; and where an implied seek ends while SPECIFY's ND is set, which refuses the first sector.
 pub fn a_served_command_goes_on()
     ensures steps { (old new : Front) (step : StepsFront old new) → ServesStep old new step }
     ensures takes { (old : Front) (byte : Option ℕ) (new : Front) → TakesFront old byte new → KeepsServing (passed_out byte) (history_taken old.stage byte) old new }
     ensures gives { (byte : ℕ) (old : Front) (was : Bool) (new : Front) → GivesFront byte old was new → KeepsServing (passed_in was byte) (history_given old.stage byte was) old new }
     ensures counts { (old new : Front) → new ≡ told_front old → ServesCounted old new }
-    ensures reads { (port : ℕ) (old new : Front) → new ≡ after_reading port old → ServesOrLeaves old new }
-    ensures writes { (port value : ℕ) (old new : Front) → WritesFront port value old new → ServesOrLeaves old new }
+    ensures reads { (port : ℕ) (old new : Front) → new ≡ after_reading port old → ServesUnless ((port == 0x3F5) && gives_last old.stage) old new }
+    ensures writes { (port value : ℕ) (old new : Front) → WritesFront port value old new → ServesUnless (resets port value) old new }
     ensures changes { (old new : Front) → KeepsFront old new → KeepsServing [] (λ history. history) old new }
     ensures begins { (port byte : ℕ) (old new : Front) → WritesFront port byte old new → port ≡ 0x3F5 → BeginsAt old.stage byte old new }
 {}
