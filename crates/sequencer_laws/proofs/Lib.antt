@@ -12,3 +12,4 @@ mod LateHearing
 mod Medium
 mod Silent
 mod Idle
+mod Shown

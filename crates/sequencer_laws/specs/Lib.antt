@@ -2,3 +2,4 @@ pub mod Serving
 pub mod Outcomes
 pub mod Calls
 pub mod Media
+pub mod Lasting

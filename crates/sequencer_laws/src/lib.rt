@@ -2,4 +2,5 @@
 //! order, those of its sectors.
 #![tactic(auto)]
 
+pub mod ends;
 pub mod laws;
