@@ -13,3 +13,6 @@ mod Medium
 mod Silent
 mod Idle
 mod Shown
+mod Sectors
+mod Sought
+mod Lasted
