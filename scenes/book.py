@@ -105,6 +105,10 @@ class Book:
         """Later runs have the plan of this name, whether or not there is one."""
         self.give("plan " + name)
 
+    def plan_unnamed(self):
+        """Later runs have a plan whose name isn't text."""
+        self.give("noname")
+
     def shelf(self, *calls):
         self.give(*(f"shelf {call}" for call in calls))
 

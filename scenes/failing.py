@@ -54,6 +54,10 @@ def planned_jobs(book):
     book.plan_named("faults")
     book.sink(1)
     book.play("fill 10000 16 AA", "", UNHEARD)
+    book.scene("a plan whose name is no text and whose line is not heard")
+    book.plan_unnamed()
+    book.sink(1)
+    book.play("fill 10000 16 AA", "", UNHEARD)
 
 
 def copies(book):

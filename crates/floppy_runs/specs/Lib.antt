@@ -1,3 +1,4 @@
 pub mod Drives
 pub mod Plans
+pub mod Programs
 pub mod Runs

@@ -1,10 +1,11 @@
 // Runs of the program over a shelf and a sink in memory.
 use drive_model::Drive;
 use flop_base::{MemShelf, MemSink};
-use floppy_runs::{Ended, run_plain, run_planned};
+use floppy_runs::{Ended, ProgramEnded, run_program};
 use pc_bus::MachineOf;
 use scene_files::Wrong;
 use std::alloc::Global;
+use std::env::VarError;
 
 /// What a machine counted.
 #[derive(Clone, Copy)]
@@ -73,17 +74,17 @@ fn look_over<D: Drive>(alloc: Global, ended: Ended<D>, range: Range) -> Result<S
     }
 }
 
-/// Runs the program with the plan of this name, or with none.
+/// Runs the program with the plan that the variable gives.
 pub(crate) fn run(
     alloc: Global,
-    plan: Option<&str>,
+    plan: Result<String, VarError>,
     words: &[String],
     shelf: &mut MemShelf,
     sink: &mut MemSink,
     range: Range,
 ) -> Result<Seen, Wrong> {
-    match plan {
-        Some(plan) => look_over(alloc, run_planned(alloc, plan, words, shelf, sink), range),
-        None => look_over(alloc, run_plain(alloc, words, shelf, sink), range),
+    match run_program(alloc, plan, words, shelf, sink) {
+        ProgramEnded::Planned(ended) => look_over(alloc, ended, range),
+        ProgramEnded::Unplanned(ended) => look_over(alloc, ended, range),
     }
 }

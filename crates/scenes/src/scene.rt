@@ -6,6 +6,7 @@ use floppy_jobs::is_verb;
 use floppy_jobs::numbers::address;
 use scene_files::{Wrong, count, follow, put_file, put_line};
 use std::alloc::Global;
+use std::env::VarError;
 
 /// A name that is watched, and the file that has it, if one does.
 #[derive(Drop)]
@@ -20,8 +21,8 @@ struct Scene {
     /// Whether the next lines are a file's text.
     is_text: bool,
     files: Vec<Kept>,
-    /// The name of the plan that the runs have.
-    plan: Option<String>,
+    /// What the variable gives that names the plan of the runs.
+    plan: Result<String, VarError>,
     shelf_fails: Vec<u64>,
     sink_fails: Vec<u64>,
     /// The counts that the runs print.
@@ -50,7 +51,7 @@ impl Scene {
             alloc,
             is_text: false,
             files: Vec::new(alloc),
-            plan: None,
+            plan: Err(VarError::NotPresent),
             shelf_fails: Vec::new(alloc),
             sink_fails: Vec::new(alloc),
             counts: Vec::new(alloc),
@@ -117,6 +118,9 @@ impl Scene {
             Ok(())
         } else if is_verb(word, "plan") {
             self.plan(fields)
+        } else if is_verb(word, "noname") {
+            self.plan = Err(VarError::NotUnicode);
+            Ok(())
         } else if is_verb(word, "shelf") {
             self.shelf_fails.push(call(fields)?)?;
             Ok(())
@@ -153,8 +157,8 @@ impl Scene {
     /// `plan NAME`: the later runs have the plan of this name. `plan`: they have none.
     fn plan(&mut self, fields: &[&str]) -> Result<(), Wrong> {
         self.plan = match fields {
-            [] => None,
-            [name] => Some(String::from_str(self.alloc, name)?),
+            [] => Err(VarError::NotPresent),
+            [name] => Ok(String::from_str(self.alloc, name)?),
             _ => return Err(Wrong::Line),
         };
         Ok(())
@@ -210,6 +214,14 @@ impl Scene {
         Ok(shelf)
     }
 
+    /// What the variable gives to a run.
+    fn variable(&self) -> Result<Result<String, VarError>, Wrong> {
+        match &self.plan {
+            Ok(name) => Ok(Ok(String::from_str(self.alloc, name.as_str())?)),
+            Err(cause) => Ok(Err(cause.clone()?)),
+        }
+    }
+
     /// Runs the program, and prints its report, what is seen behind it, and each watched file that changed.
     fn run(&mut self, fields: &[&str], out: &mut Vec<u8>) -> Result<(), Wrong> {
         let mut words = Vec::new(self.alloc);
@@ -219,7 +231,7 @@ impl Scene {
         }
         let mut shelf = self.shelf()?;
         let mut sink = MemSink::new(self.alloc, self.sink_fails.to_vec(self.alloc)?);
-        let plan = self.plan.as_ref().map(|name| name.as_str());
+        let plan = self.variable()?;
         let seen = run(self.alloc, plan, &words, &mut shelf, &mut sink, self.range)?;
         out.extend_from_slice(sink.bytes())?;
         put_seen(self.alloc, &seen, &self.counts, out)?;
