@@ -83,7 +83,7 @@ polled_phase : (b : Bool) (old : Fdc) → (if b then record old { poll_due = fal
 polled_phase true old = refl
 polled_phase false old = refl
 
-polled_rate : (b : Bool) (old : Fdc) → (if b then record old { poll_due = false; interrupt = true; seeks = with_polls old.seeks } else old).rate ≡ old.rate
+pub polled_rate : (b : Bool) (old : Fdc) → (if b then record old { poll_due = false; interrupt = true; seeks = with_polls old.seeks } else old).rate ≡ old.rate
 polled_rate true old = refl
 polled_rate false old = refl
 
@@ -167,13 +167,13 @@ reads_on wanted skip past sent old new steps busy was =
 
 -- ---- a write
 
-time_taken : (time : WordTime) (past : Past) → (after_time time past).taken ≡ past.taken
+pub time_taken : (time : WordTime) (past : Past) → (after_time time past).taken ≡ past.taken
 time_taken (Saw index word) past = refl
 time_taken (KeptOut index word) past = refl
 time_taken (Wrote opened closed index word) past = refl
 time_taken Stopped past = refl
 
-time_counted : (time : WordTime) (past : Past) → (after_time time past).counted ≡ past.counted
+pub time_counted : (time : WordTime) (past : Past) → (after_time time past).counted ≡ past.counted
 time_counted (Saw index word) past = refl
 time_counted (KeptOut index word) past = refl
 time_counted (Wrote opened closed index word) past = refl
@@ -184,7 +184,7 @@ module _ (deleted : Bool) (past : Past) (sent : Sent) (mark : Option Bool) where
   abbrev IsWriteAt : DataRate → DriveState → DriveState → Fdc → WordTime → Type 0
   IsWriteAt rate before after new time = IsTime time rate (head_of sent.head_drive) before after × StopsAtEnd time new
 
-  write_stops : (time : WordTime) (head_drive steps : ℕ) (writing : Writing) (old : Fdc) (before : DriveState) (new : Fdc) → WriteDoes time head_drive steps writing old before new → StopsAtEnd time new
+  pub write_stops : (time : WordTime) (head_drive steps : ℕ) (writing : Writing) (old : Fdc) (before : DriveState) (new : Fdc) → WriteDoes time head_drive steps writing old before new → StopsAtEnd time new
   write_stops (Saw index word) head_drive steps writing old before new does = tt
   write_stops (KeptOut index word) head_drive steps writing old before new does = tt
   write_stops (Wrote opened closed index word) head_drive steps writing old before new does = tt

@@ -16,3 +16,9 @@ mod Shown
 mod Sectors
 mod Sought
 mod Lasted
+mod WriteStages
+mod Resting
+mod WrittenWords
+mod WrittenSteps
+mod WrittenAlike
+mod WrittenCalls

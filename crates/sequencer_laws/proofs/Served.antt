@@ -11,14 +11,14 @@ use Rattle.fdc_commands.specs.declared.bytes.Accepted.TheVariants.{Ready}
 use Rattle.fdc_commands.specs.declared.results.Results.{Results}
 use Rattle.fdc_core.specs.Dma.{byte_out, taken_in, taken_out, to_memory_of, told_count}
 use Rattle.fdc_phases.specs.Heard.{MayReadIn, Sent, gave, results_sent, told_in}
-use Rattle.fdc_core.specs.Times.{Stopped, after_time}
+use Rattle.fdc_core.specs.Times.{WordTime, Stopped, after_time}
 use Rattle.fdc_core.specs.Listening.{is_executing}
 use Rattle.fdc_core.specs.Meaning.{AreOfField, ReadMeans, ReadMeansIn, bytes_held}
 use Rattle.fdc_core.specs.Ports.{resets}
 use Rattle.fdc_core.specs.State.{asks}
 use Rattle.fdc_core.specs.Tellings.{WriteMeans, WriteMeansIn}
 use Rattle.fdc_core.specs.Whole.{ending_told, given_up, is_idle, mark_of, without_seek}
-use Rattle.fdc_phases.specs.Phases.{ending_of_phase}
+use Rattle.fdc_phases.specs.Phases.{ending_of_phase, head_of}
 use Rattle.fdc_phases.specs.Written.{MayWriteIn, took}
 use Rattle.fdc_phases.specs.declared.answers.Answer.TheVariants.{Short, Long}
 use Rattle.fdc_core.specs.declared.controller.Fdc.{Fdc}
@@ -27,10 +27,10 @@ use Rattle.fdc_phases.specs.declared.phases.Phase.TheVariants.{Command as Taking
 use Rattle.fdc_core.proofs.MayRead.{starts_given}
 use Rattle.fdc_core.proofs.Meanings.{read_gives, read_tells}
 use Rattle.fdc_core.proofs.Tellings.{write_tells, writes_window}
-use Rattle.fdc_board.specs.Boards.{BoardState, StepsBoard, WritesBoard, lines_at}
+use Rattle.fdc_board.specs.Boards.{BoardState, StepsBoard, WritesBoard, lines_at, selected_at}
 use Rattle.fdc_sequencer.specs.Fronts.{BeginsSector, CollectsAs, Front, GivesAt, GivesFront, GivesMoving, SeeksFirst, Starts, StartsIf, TakesAt, TakesByte, TakesFront, TakesMoving, WritesFront, after_reading, begun_if, byte_given, count_told, moving_of, passed_one, reset_if, told_front, told_if, with_controller}
 use Rattle.fdc_sequencer.specs.Moves.{EndsIf, EndsSector, FollowsStep, MovesOn, SeeksOn, StepsFront, goes_on, has_met_other, is_unwanted, passed_over_if}
-use Rattle.sequencer_laws.specs.Serving.{Accounts, AreLeft, AreMoved, BeginsAt, BeginsWith, Carries, GoesOn, History, IsLastOne, IsFree, IsLeft, IsMarkOf, IsOfOther, IsOfSector, IsRefused, IsTimeOf, KeepsServing, MayMove, Means, Part, Passes, RefusesFirst, Serves, ServesAt, ServesCounted, ServesStep, ServesUnless, StepsTo, bytes_moved, gives_last, has_other, hears_count, history_counted, history_ended, history_given, history_moved, history_passed, history_sought, history_stepped, history_taken, nothing_moved, passed_in, passed_out, results_ended, sector_after, sent_of, still_seeks}
+use Rattle.sequencer_laws.specs.Serving.{Accounts, AreLeft, AreMoved, BeginsAt, BeginsWith, Carries, GoesOn, History, IsLastOne, IsFree, IsLeft, IsMarkOf, IsOfOther, IsOfSector, IsRefused, IsTimeOf, KeepsServing, MayMove, Means, Part, Passes, PassesAt, RefusesFirst, Serves, ServesAt, ServesCounted, ServesStep, ServesUnless, StepsTo, bytes_moved, gives_last, has_other, hears_count, history_counted, history_ended, history_given, history_moved, history_passed, history_sought, history_stepped, history_taken, nothing_moved, passed_in, passed_out, results_ended, sector_after, sent_of, still_seeks}
 use Rattle.fdc_sequencer.specs.Transfers.{is_other, is_skipping, next_of, size_of}
 use Rattle.fdc_sequencer.specs.declared.opcode.Opcode.{Opcode}
 use Rattle.fdc_sequencer.specs.declared.opcode.Operation.{Operation}
@@ -39,7 +39,7 @@ use Rattle.fdc_sequencer.specs.declared.stage.Moving.{Moving as MovingSector}
 use Rattle.fdc_sequencer.specs.declared.stage.Stage.{Stage}
 use Rattle.fdc_sequencer.specs.declared.stage.Stage.TheVariants.{Through, Collecting, Seeking, Moving, Telling}
 use Rattle.fdc_sequencer.specs.declared.transfer.Transfer.{Transfer}
-use Rattle.sequencer_laws.proofs.Known.{MovedOn, bytes_told, clash, either_way, in_on, out_on, port_busy, port_mark, port_on, steps_on}
+use Rattle.sequencer_laws.proofs.Known.{KnownOn, MovedOn, bytes_told, clash, either_way, in_on, out_on, port_busy, port_mark, port_on, steps_on}
 use Rattle.sequencer_laws.proofs.Free.{answer_sized, first_sized, free_executes, given_free, next_size, port_free, sought_free, step_dma, step_free}
 use Rattle.sequencer_laws.proofs.Marks.{mark_then, then_busy, then_done}
 use Rattle.sequencer_laws.proofs.Started.{Begun, answered_idle, begun_busy, begun_carries, seek_answered, size_is, told_carries}
@@ -141,7 +141,7 @@ of_sector (Read wanted skip) past sent fdc was = by_phase fdc.phase (read_gives 
 of_sector (Write deleted) past sent fdc was = writes_window past sent deleted fdc was
 
 -- as none are told the command is in execution
-still_busy : (operation : Operation) (past : Past) (sent : Sent) (fdc : Fdc) → MayMove operation past sent fdc → ending_told fdc ≡ None → is_executing fdc.phase ≡ true
+pub still_busy : (operation : Operation) (past : Past) (sent : Sent) (fdc : Fdc) → MayMove operation past sent fdc → ending_told fdc ≡ None → is_executing fdc.phase ≡ true
 still_busy (Read wanted skip) past sent fdc was none = by_phase fdc.phase was none
   where
     by_phase : (phase : Phase) → MayReadIn past sent phase fdc.asking fdc.fifo.bytes → ending_of_phase phase ≡ None → is_executing phase ≡ true
@@ -328,19 +328,26 @@ module _ (first : Transfer) (parts : List Part) (past : Past) (counted : Bool) (
       (of_sector operation now (sent_of moving.transfer) old.board.controller moves)
       (ended_means operation now (sent_of moving.transfer) old.board.controller ending accounts.sized moves some) (done_mark ending was old.board.controller.phase some) does)
 
+  -- with whatever word time this is known of the controller
+  pub known_moves : (old : Front) (between : BoardState) (new : Front) (Is : WordTime → Type 0) → old.stage ≡ Moving moving → Carries operation met moving past old.board.controller → StepsBoard old.board between
+      → (known : KnownOn operation past (sent_of moving.transfer) (mark_of old.board.controller) Is between.controller) → MovesOn (ending_told between.controller) moving (record old { board = between }) new
+      → GoesOn [] false first so_far (history_moved (ending_told between.controller) moving (mark_of between.controller) (after_time known.time past) so_far) new
+  known_moves old between new Is stage_is carries steps known does =
+      let was = mark_of old.board.controller in
+      let now = after_time known.time past in
+      let free = step_free operation past (sent_of moving.transfer) old.board between steps carries.busy carries.moves carries.free in
+      moves_on (ending_told between.controller) now was (record old { board = between }) new stage_is refl free known.bytes
+      (accounts_on operation met moving past now was (mark_then was between.controller.phase) known.marks known.bytes known.counted carries.accounts) known.moves does
+
   step_moves : (old : Front) (between : BoardState) (new : Front) → old.stage ≡ Moving moving → Carries operation met moving past old.board.controller → StepsBoard old.board between
       → MovesOn (ending_told between.controller) moving (record old { board = between }) new → StepsTo first so_far old between new
   step_moves old between new stage_is carries steps does =
-      let was = mark_of old.board.controller in
       let known = steps_on operation past (sent_of moving.transfer) old.board between steps carries.busy carries.moves in
-      let now = after_time known.time past in
-      let free = step_free operation past (sent_of moving.transfer) old.board between steps carries.busy carries.moves carries.free in
       record {
         time = known.time;
         passes = subst (λ stage. Passes stage known.time old.board between) (sym stage_is) (subst (λ o. IsTimeOf o known.time) (sym same_operation) known.is.0, known.is.1);
         goes = subst (λ stage. GoesOn [] false first so_far (history_stepped stage known.time between.controller so_far) new) (sym stage_is)
-            (moves_on (ending_told between.controller) now was (record old { board = between }) new stage_is refl free known.bytes
-            (accounts_on operation met moving past now was (mark_then was between.controller.phase) known.marks known.bytes known.counted carries.accounts) known.moves does);
+            (known_moves old between new (λ time. IsTimeOf operation time × PassesAt (selected_at old.board) (head_of moving.transfer.head_drive) time old.board between) stage_is carries steps known does);
       }
 
   -- ---- bytes

@@ -3,3 +3,4 @@ pub mod Outcomes
 pub mod Calls
 pub mod Media
 pub mod Lasting
+pub mod Written

@@ -4,3 +4,4 @@
 
 pub mod ends;
 pub mod laws;
+pub mod written;

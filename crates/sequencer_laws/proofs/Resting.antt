@@ -1,0 +1,43 @@
+-- Device steps of a controller that executes nothing: no medium changes.
+use Rattle.std.proofs.Common.{◌≡◌, inl, inr, ◌&&◌, Bool, true, false, not, Option, Some, None, if◌then◌else◌, refl, sym, ◌∙◌, ap, subst}
+use Rattle.std.proofs.lemmas.Bool.{false≢true}
+use Rattle.fdc_seek.specs.Seeking.{with_polls}
+use Rattle.drive_model.specs.Drive.{DriveState}
+use Rattle.fdc_phases.specs.declared.phases.Phase.{Phase}
+use Rattle.fdc_phases.specs.declared.phases.Phase.TheVariants.{Command, Execute, Result}
+use Rattle.fdc_core.specs.Courses.{Works}
+use Rattle.fdc_core.specs.Listening.{is_executing}
+use Rattle.fdc_core.specs.State.{is_held}
+use Rattle.fdc_core.specs.Steps.{Moves, MovesIn, RestsIn, polled}
+use Rattle.fdc_core.specs.declared.controller.Fdc.{Fdc}
+
+-- the poll leaves the phase
+pub polled_phase : (old : Fdc) → (polled old).phase ≡ old.phase
+polled_phase old = by_poll (old.poll_due && not (is_held old))
+  where
+    by_poll : (b : Bool) → (if b then record old { poll_due = false; interrupt = true; seeks = with_polls old.seeks } else old).phase ≡ old.phase
+    by_poll true = refl
+    by_poll false = refl
+
+-- a word time with its pulse
+pub moves_same : (pulse : Option Bool) (before after : DriveState) → Moves pulse before after → after.medium ≡ before.medium
+moves_same None before after becomes = ap (λ s. s.medium) becomes.becomes
+moves_same (Some inward) before after (between, pulses, becomes) =
+    ap (λ s. s.medium) becomes.becomes ∙ elim pulses [ inl moved ↦ ap (λ s. s.medium) moved.becomes | inr lost ↦ ap (λ s. s.medium) lost.0.becomes ]
+
+idle_moves : (phase : Phase) (polls : Fdc) (before after : DriveState) → is_executing phase ≡ false → MovesIn phase polls before after → after.medium ≡ before.medium
+idle_moves Command polls before after idle moves = moves_same _ before after moves
+idle_moves (Result answer) polls before after idle moves = moves_same _ before after moves
+idle_moves (Execute execution) polls before after idle moves = absurd (false≢true (sym idle))
+
+pub idle_medium : (old new : Fdc) (before after : DriveState) → is_executing old.phase ≡ false → Works old before new after → after.medium ≡ before.medium
+idle_medium old new before after idle works = idle_moves old.phase (polled old) before after idle (subst (λ phase. MovesIn phase (polled old) before after) (polled_phase old) works.drive)
+
+-- and it goes on executing nothing
+pub idle_rests : (track0 : Bool) (old new : Fdc) → is_executing old.phase ≡ false → RestsIn (polled old).phase track0 (polled old) new → is_executing new.phase ≡ false
+idle_rests track0 old new idle rests = by_phase (polled old).phase refl rests
+  where
+    by_phase : (phase : Phase) → (polled old).phase ≡ phase → RestsIn phase track0 (polled old) new → is_executing new.phase ≡ false
+    by_phase Command is rests = ap (λ fdc. is_executing fdc.phase) rests ∙ ap is_executing is
+    by_phase (Result answer) is rests = ap (λ fdc. is_executing fdc.phase) rests ∙ ap is_executing is
+    by_phase (Execute execution) is rests = absurd (false≢true (sym idle ∙ (ap is_executing (sym (polled_phase old)) ∙ ap is_executing is)))
