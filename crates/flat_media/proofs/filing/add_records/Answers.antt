@@ -11,10 +11,10 @@ loop-i-preserved c =
     more_records c.args.tracks.now (c.args.track / 2) (c.args.track % 2) c.loop-i.i c.args.bytes.now.items c.loop-i.bytes.items c.extend_from_slice.new.self.items
     c.in-Some.added.now c.loop-i.invariant c.in-Some.ensures c.in_ok-extend_from_slice.ensures.items
 
-pub returns-in-None : goal.returns-in-None
-returns-in-None c =
+pub returns-in_default : goal.returns-in_default
+returns-in_default c =
     next_lacks c.args.tracks.now c.args.sectors c.args.track c.loop-i.i c.args.bytes.now.items c.loop-i.bytes.items c.requires.there c.loop-i-test.true
-    c.requires.before c.requires.plain c.loop-i.invariant c.in-None.ensures
+    c.requires.before c.requires.plain c.loop-i.invariant c.in_default.ensures
 
 pub returns : goal.returns
 returns c =
