@@ -14,8 +14,12 @@
  * signal handler.
  *
  * WHAT YOU GET. Each call answers a code, below. What a call hands out through a pointer is set where it answers
- * TELWYDDUS_DONE; where it answers anything else it is left, but for the length of TELWYDDUS_TOO_SHORT and the line of
- * TELWYDDUS_BAD_PLAN, and so is the object, but where it says more.
+ * TELWYDDUS_DONE; where it answers anything else it is left, but for the length of TELWYDDUS_TOO_SHORT, the line of
+ * TELWYDDUS_BAD_PLAN, and the cylinder and head of TELWYDDUS_UNFIT; and so is the object, but where it says more.
+ *
+ * FULL SLOTS. A call that makes something in a slot (new, new_planned, blank, read, read_flat, read_imd; eject, in the tray) looks
+ * at that slot first: where it holds something already the answer is TELWYDDUS_FULL, whatever else is wrong, and it stays. Any
+ * other code is one of an empty slot. Before that an eject looks at its own object and at the bay: EMPTY, OUT_OF_RANGE.
  *
  * TIME. Nothing moves between calls. A device step is a word time, in which 16 cells (a byte) pass under the heads:
  * 16 microseconds at 500 kbit/s, 32 at 250. A medium of 12,500 words a track at 500 kbit/s turns in 200 milliseconds, as one of
@@ -64,7 +68,7 @@ enum telwyddus_code {
     TELWYDDUS_BAD_CRC = 18,     /* the sector's data is damaged, or was read back otherwise than it was written */
     TELWYDDUS_OVERRUN = 19,     /* a DMA request waited too long */
     TELWYDDUS_SEEK = 20,        /* the heads didn't find track 0 */
-    TELWYDDUS_UNFIT = 21,       /* the other form can't have a track, or the medium */
+    TELWYDDUS_UNFIT = 21,       /* the other form can't have a track, which is told, or the medium */
     TELWYDDUS_BAD_STATE = 22    /* the bytes are no saved state */
 };
 
@@ -90,9 +94,12 @@ TELWYDDUS_CALL uint32_t telwyddus_tray_blank(telwyddus_tray *tray, uint8_t cylin
 TELWYDDUS_CALL uint32_t telwyddus_tray_read_flat(telwyddus_tray *tray, const uint8_t *bytes, size_t length);
 
 /* Writes the flat sector file of its medium to the beginning of a buffer: of 80 cylinders and two heads the sectors 1 to 18 at 500 kbit/s,
- * 1 to 9 at 250, each of 512 bytes. *length is the file's, told where the buffer is too short too. UNFIT where the medium has another shape, or
- * lacks one of these sectors, or has it damaged. DONE, EMPTY, NO_MEMORY, NO_MEDIUM, TOO_SHORT, UNFIT. */
-TELWYDDUS_CALL uint32_t telwyddus_tray_write_flat(telwyddus_tray *tray, uint8_t *out, size_t room, size_t *length);
+ * 1 to 9 at 250, each of 512 bytes. *length is the file's, told where the buffer is too short too. The file has each sector of the medium,
+ * or there is none: UNFIT where an ImageDisk file can't have a track either; else where a track has more sectors than these, or one that is
+ * marked deleted, or lacks one of these, or has it damaged. The cylinder and head of the first such track are told; both are 255 where the
+ * medium has another shape. DONE, EMPTY, NO_MEMORY, NO_MEDIUM, TOO_SHORT, UNFIT. */
+TELWYDDUS_CALL uint32_t telwyddus_tray_write_flat(telwyddus_tray *tray, uint8_t *out, size_t room, size_t *length,
+    uint8_t *cylinder, uint8_t *head);
 
 /* Makes a tray with the medium of an ImageDisk file (MFM at 500 or 250 kbit/s): all its sectors, and no others. UNFIT where a track
  * has no room for its sectors: its cylinder and head are told. DONE, FULL, NO_MEMORY, BAD_IMAGE, UNFIT. */

@@ -6,7 +6,7 @@
 /* Ports, bits of MSR, codes of commands with MFM, and the bits MT and SK of these. */
 enum { DOR = 0x3F2, MSR = 0x3F4, BYTES = 0x3F5, CCR = 0x3F7 };
 enum { RQM = 0x80, DIO = 0x40, BUSY = 0x10 };
-enum { READ = 0x46, READ_DELETED = 0x4C, WRITE = 0x45, WRITE_DELETED = 0x49, MT = 0x80, SK = 0x20 };
+enum { READ = 0x46, READ_DELETED = 0x4C, WRITE = 0x45, WRITE_DELETED = 0x49, FORMAT = 0x4D, MT = 0x80, SK = 0x20 };
 enum { EIS = 0x40, FIFO_OFF = 0x20 };
 
 typedef struct {

@@ -4,7 +4,8 @@
  * file WANTED; the file CONTENT is written there, and the image that comes out is compared with the file AFTER. Then a blank medium of 2
  * cylinders is formatted, and compared with the image file FORMATTED; all its sectors are written, read back and surveyed, the image is
  * compared with FILLED, and the medium goes through an ImageDisk file. And a flat sector file is put in, CONTENT is written to the
- * sector C H R, the image is compared with FLAT, and a shelf exports it. */
+ * sector C H R, the image is compared with FLAT, and a shelf exports it. With a sector more on the track C H, or with the sector C H R
+ * marked deleted, it has no flat file. */
 #include "flat.h"
 
 enum { SIZE = 512, CODE = 2, FIELD = 11, CYLINDERS = 2 };
@@ -156,6 +157,73 @@ static void whole(const uint8_t *formatted, const uint8_t *filled, size_t length
     MUST(telwyddus_tray_free(&tray));
 }
 
+/* ---- what a flat sector file can't have */
+
+/* There is no flat file of a medium, which is told of the track of a cylinder and head. All else is left. */
+static void is_unfit(telwyddus_tray *tray, uint8_t c, uint8_t h, const char *what) {
+    uint8_t out[] = {0x55}, cylinder = 1, head = 1;
+    size_t told = 7;
+    uint32_t code = telwyddus_tray_write_flat(tray, out, sizeof out, &told, &cylinder, &head);
+    check(code == TELWYDDUS_UNFIT && cylinder == c && head == h && told == 7 && out[0] == 0x55, what);
+}
+
+/* Where the track that stands there in an ImageDisk file ends. */
+static size_t track_end(const uint8_t *file, size_t at) {
+    size_t count = file[at + 3], size = (size_t)128 << file[at + 4];
+    at += 5 + count;
+    for (size_t i = 0; i < count; i++) at += file[at] == 0 ? 1 : file[at] % 2 == 1 ? 1 + size : 2;
+    return at;
+}
+
+/* The same file, with one record more on a track: all bytes E5. Gives its length. */
+static size_t with_one_more(const uint8_t *file, size_t length, const uint8_t *key, uint8_t *out) {
+    size_t at = 0;
+    while (file[at++] != 0x1A) {}
+    while (file[at + 1] != key[0] || file[at + 2] != key[1]) at = track_end(file, at);
+    size_t end = track_end(file, at), records = at + 5 + file[at + 3];
+    memcpy(out, file, records);
+    out[at + 3]++;
+    out[records] = out[at + 3];
+    memcpy(out + records + 1, file + records, end - records);
+    out[end + 1] = 2;
+    out[end + 2] = 0xE5;
+    memcpy(out + end + 3, file + end, length - end);
+    return length + 3;
+}
+
+/* A tenth or nineteenth sector on one track. */
+static void one_more(telwyddus_tray *tray, const uint8_t *key) {
+    telwyddus_tray more = {0};
+    size_t told;
+    uint8_t cylinder, head, none;
+    check(telwyddus_tray_write_imd(tray, &none, 0, &told, &cylinder, &head) == TELWYDDUS_TOO_SHORT, "the length of its ImageDisk file is told");
+    uint8_t *file = (uint8_t *)malloc(told), *other = (uint8_t *)malloc(told + 3);
+    if (file == NULL || other == NULL) exit(1);
+    MUST(telwyddus_tray_write_imd(tray, file, told, &told, &cylinder, &head));
+    MUST(telwyddus_tray_read_imd(&more, other, with_one_more(file, told, key, other), &cylinder, &head));
+    is_unfit(&more, key[0], key[1], "a track has a sector more than a flat file: it is told");
+    MUST(telwyddus_tray_free(&more));
+    free(file), free(other);
+}
+
+/* A sector that is marked deleted. */
+static void one_deleted(telwyddus_tray *tray, const uint8_t *key, const uint8_t *content) {
+    put_in(tray);
+    MUST(telwyddus_disk_write(&disk, bay, key[0], key[1], key[2], CODE, content, SIZE, 1));
+    MUST(telwyddus_disk_eject(&disk, bay, tray));
+    is_unfit(tray, key[0], key[1], "a sector is marked deleted: its track is told");
+}
+
+/* A slot that holds a medium is told to be full, whatever it is to be filled with. */
+static void is_full(telwyddus_tray *tray) {
+    uint8_t bytes[] = {1, 2, 3}, cylinder = 9, head = 9;
+    int full = telwyddus_tray_read(tray, bytes, sizeof bytes) == TELWYDDUS_FULL;
+    full += telwyddus_tray_read_flat(tray, bytes, sizeof bytes) == TELWYDDUS_FULL;
+    full += telwyddus_tray_read_imd(tray, bytes, sizeof bytes, &cylinder, &head) == TELWYDDUS_FULL;
+    full += telwyddus_tray_blank(tray, 81, 300) == TELWYDDUS_FULL;
+    check(full == 4 && cylinder == 9 && head == 9, "a full tray is full, whatever is to go in");
+}
+
 /* ---- a flat sector file */
 
 /* The program exports an image, and the bytes are those of a flat file. */
@@ -174,6 +242,7 @@ static void flat(const uint8_t *key, const uint8_t *content, const uint8_t *imag
     static uint8_t file[FLAT], again[FLAT];
     telwyddus_tray tray = {0};
     size_t file_length = (size_t)160 * sectors * SIZE, told = 0;
+    uint8_t cylinder = 7, head = 7;
     int same = 0;
     for (size_t i = 0; i < file_length; i++) file[i] = (uint8_t)(i * 7 ^ i / 512);
     check(telwyddus_tray_read_flat(&tray, file, file_length - 1) == TELWYDDUS_BAD_IMAGE, "no flat file has so many bytes");
@@ -192,12 +261,19 @@ static void flat(const uint8_t *key, const uint8_t *content, const uint8_t *imag
     MUST(telwyddus_disk_eject(&disk, bay, &tray));
     is_file(&tray, image, length, "the medium of the flat file is the one that was wanted");
     exports(image, length, file, file_length);
-    check(telwyddus_tray_write_flat(&tray, again, file_length - 1, &told) == TELWYDDUS_TOO_SHORT && told == file_length, "the length is told");
-    MUST(telwyddus_tray_write_flat(&tray, again, file_length, &told));
+    check(telwyddus_tray_write_flat(&tray, again, file_length - 1, &told, &cylinder, &head) == TELWYDDUS_TOO_SHORT && told == file_length, "the length is told");
+    MUST(telwyddus_tray_write_flat(&tray, again, file_length, &told, &cylinder, &head));
     check(told == file_length && memcmp(again, file, file_length) == 0, "its flat file has each sector");
+    check(cylinder == 7 && head == 7, "no track is told");
+    is_full(&tray);
+    one_more(&tray, key);
+    one_deleted(&tray, key, content);
+    MUST(telwyddus_tray_free(&tray));
+    MUST(telwyddus_tray_blank(&tray, 80, rate));
+    is_unfit(&tray, 0, 0, "a blank medium lacks the first sector");
     MUST(telwyddus_tray_free(&tray));
     MUST(telwyddus_tray_blank(&tray, CYLINDERS, rate));
-    check(telwyddus_tray_write_flat(&tray, again, file_length, &told) == TELWYDDUS_UNFIT, "a blank medium has no flat file");
+    is_unfit(&tray, 255, 255, "a medium of another shape has no flat file");
     MUST(telwyddus_tray_free(&tray));
 }
 

@@ -2,7 +2,7 @@
  *
  * A guest writes whole cylinders of 36 sectors, in one command each, and reads them back; `export` on a shelf then gives the flat
  * file that was wanted. Then one command for each rule of MT, SK, EOT and the terminal count: how many bytes pass, and what its
- * result bytes are by the table in docs/C.md. */
+ * result bytes are by the table in docs/C.md. At last it formats a track with 21 sectors, and the disk has no flat file. */
 #include "guest.h"
 #include "flat.h"
 
@@ -277,6 +277,46 @@ static void breaks(void) {
     try_one(&again);
 }
 
+/* ---- what a flat sector file can't have */
+
+/* A track with so many sectors of 512 bytes. */
+static void format(uint8_t c, uint8_t h, uint8_t count, uint8_t gap) {
+    const uint8_t bytes[] = {FORMAT, (uint8_t)(h << 2), 2, count, gap, 0xF6};
+    for (uint8_t r = 1; r <= count; r++) {
+        const uint8_t key[] = {c, h, r, 2};
+        memcpy(buffer + 4 * (r - 1), key, 4);
+    }
+    seek(&guest, c);
+    channel(&guest, buffer, 4 * (size_t)count);
+    command(&guest, bytes, 6);
+    need(guest.results == 7 && (guest.result[0] & 0xC0) == 0 && guest.left == 0, "a track is formatted");
+}
+
+/* What a tray answers of the guest's disk, and the track that it tells. */
+static uint32_t flat_code(uint8_t *c, uint8_t *h) {
+    telwyddus_tray tray = {0};
+    size_t told;
+    image_of(&guest, image, IMAGE);
+    MUST(telwyddus_tray_read(&tray, image, IMAGE));
+    uint32_t code = telwyddus_tray_write_flat(&tray, back, FLAT, &told, c, h);
+    MUST(telwyddus_tray_free(&tray));
+    return code;
+}
+
+static void flat_files(void) {
+    static const Case last = {"the last of 21 sectors is read", {READ, 4, 33, 1, 21, 2, 21, GAP}, 512, 512, {0x04, 0, 0, 34, 1, 1, 2}};
+    uint8_t c = 0, h = 0;
+    check(flat_code(&c, &h) == TELWYDDUS_UNFIT && c == 9 && h == 0, "a sector is marked deleted: the disk has no flat file, and the track is told");
+    for (uint8_t marked = 9; marked <= 10; marked++) {
+        format(marked, 0, 18, 0x6C);
+        format(marked, 1, 18, 0x6C);
+    }
+    check(flat_code(&c, &h) == TELWYDDUS_DONE, "once these tracks are formatted again it has one");
+    format(33, 1, 21, 12);
+    try_one(&last);
+    check(flat_code(&c, &h) == TELWYDDUS_UNFIT && c == 33 && h == 1, "a track has 21 sectors: it has none, and the track is told");
+}
+
 int main(void) {
     import_flat(flat, image);
     make_guest(&guest, image, IMAGE);
@@ -291,6 +331,7 @@ int main(void) {
     breaks();
     starve();
     seeks();
+    flat_files();
     protect();
     MUST(telwyddus_controller_free(&guest.controller));
     return 0;

@@ -195,12 +195,13 @@ static void archive(void) {
 static void flat(void) {
     static uint8_t file[737280], again[737280];
     size_t told = 0;
+    uint8_t cylinder, head;
     telwyddus_disk disk = {0};
     telwyddus_tray tray = {0};
     uint8_t bytes[512], deleted, *last = file + sizeof file - sizeof bytes;
     memset(last, 0xA5, sizeof bytes);
     TRY(telwyddus_tray_read_flat(&tray, file, sizeof file));
-    TRY(telwyddus_tray_write_flat(&tray, again, sizeof again, &told));
+    TRY(telwyddus_tray_write_flat(&tray, again, sizeof again, &told, &cylinder, &head));
     is_so(told == sizeof file && memcmp(again, file, sizeof file) == 0, "the flat file of the medium is the same");
     TRY(telwyddus_disk_new(&disk));
     MUST(telwyddus_disk_insert(&disk, 0, &tray));

@@ -1,8 +1,8 @@
 #!/usr/bin/env python3
 """Single sectors by calls: a damaged image is read, a blank medium is formatted and written, an ImageDisk file made
-of it, and a flat file read."""
+of it, and a flat file read and written."""
 import disks
-from telwyddus import BadCrc, Changed, Disk, Found, NotFound, Tray
+from telwyddus import BadCrc, Changed, Disk, Found, NotFound, Tray, Unfit
 
 CYLINDERS, DAMAGED = 2, (1, 0, 3)
 
@@ -44,6 +44,21 @@ def rescued(disk):
             yield place, None
 
 
+def unfit_at(tray):
+    """The cylinder and head that keep a medium from having a flat file."""
+    try:
+        tray.flat()
+    except Unfit as refused:
+        return refused.cylinder, refused.head
+
+
+def one_more():
+    """An image of 80 cylinders, one track of which has a sector more than the others."""
+    made = disks.formatted(80, 250)
+    made.tracks[2 * 7 + 1] = disks.layout(disks.standard(7, 1, 10), 0x20, 0xF6, 6250)
+    return made.file()
+
+
 def main():
     with Disk() as disk, Tray(damaged()) as old, Tray.blank(CYLINDERS) as new:
         fields = list(old.survey())
@@ -72,10 +87,17 @@ def main():
             assert disk.read(0, *place) == (content(*place), False)
     flat = bytes(i * 7 % 256 ^ i // 512 % 256 for i in range(737280))
     with Tray.of_flat(flat) as tray, Disk() as disk:
+        assert tray.flat() == flat
         disk.insert(0, tray)
         disk.acknowledge(0)
         there = [disk.read(0, c, h, r)[0] for c in (0, 1, 40, 79) for h in range(2) for r in range(1, 10)]
         assert b"".join(there) == b"".join(flat[9216 * c:9216 * (c + 1)] for c in (0, 1, 40, 79))
+        disk.write(0, 40, 1, 9, flat[:512], deleted=True)
+        with disk.eject(0) as marked:
+            assert unfit_at(marked) == (40, 1)
+    with Tray(one_more()) as more, Tray.blank(40) as short:
+        assert unfit_at(more) == (7, 1)
+        assert unfit_at(short) == (255, 255)
     print("each sector is where it was asked for")
 
 

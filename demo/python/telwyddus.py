@@ -38,7 +38,7 @@ class NotFound(Refused): """The track has no such sector."""
 class BadCrc(Refused): """The sector's data is damaged."""
 class Overrun(Refused): """A DMA request waited too long."""
 class Seek(Refused): """The heads didn't find track 0."""
-class Unfit(Refused): """The other form can't have a track: `cylinder` and `head`."""
+class Unfit(Refused): """The other form can't have a track: `cylinder` and `head`; both are 255 where it is the whole medium."""
 class BadState(Refused): """The bytes are no saved state."""
 
 
@@ -162,8 +162,11 @@ class Tray(Holder):
 
     def imd(self):
         """Its ImageDisk file."""
-        place = (ctypes.c_uint8 * 2)()
-        return self._fitting(place, lambda: self._bytes("write_imd", behind=self._places(place)))
+        return self._fitting_bytes("write_imd")
+
+    def flat(self):
+        """Its flat sector file."""
+        return self._fitting_bytes("write_flat")
 
     def survey(self):
         """Its address fields: cylinder and head of the track, the first cell, (C, H, R, N), and what was found."""
@@ -171,6 +174,10 @@ class Tray(Holder):
         for at in range(0, len(data), 11):
             field = data[at:at + 11]
             yield field[0], field[1], int.from_bytes(field[2:6], "little"), tuple(field[6:10]), Found(field[10])
+
+    def _fitting_bytes(self, name):
+        place = (ctypes.c_uint8 * 2)()
+        return self._fitting(place, lambda: self._bytes(name, behind=self._places(place)))
 
     @staticmethod
     def _places(place): return ctypes.byref(place), ctypes.byref(place, 1)

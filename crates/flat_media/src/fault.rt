@@ -15,7 +15,10 @@ pub enum FlatFault {
     /// The first track with sectors of several sizes, or of a size that none names.
     #[error("track {c} {h} unfit")]
     Unfit { c: u8, h: u8 },
-    /// A sector isn't there, or its data is missing or damaged.
+    /// The first track with more sectors than a flat file takes of it, or with one that is marked as deleted.
+    #[error("track {c} {h} has more")]
+    More { c: u8, h: u8 },
+    /// The first sector that isn't there, or whose data is missing or damaged.
     #[error("sector {c} {h} {r} lacking")]
     Lacks { c: u8, h: u8, r: u8 },
     /// Memory couldn't be had. This says nothing of the medium.

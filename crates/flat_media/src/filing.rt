@@ -1,9 +1,9 @@
 // The flat file of a medium.
-ghost use Rattle.std.specs.Prelude.{◌≡◌, ◌<◌, ◌≤◌};
-ghost use Rattle.flat_media.specs.Files.{AddsTrack, GivesFlat, GivesTracks, sectors_at_rate};
+ghost use Rattle.std.specs.Prelude.{◌≡◌, ◌<◌, ◌≤◌, ◌/◌, ◌%◌, true};
+ghost use Rattle.flat_media.specs.Files.{AddsTrack, AreOfTracks, GivesFlat, GivesTracks, is_plain as is_plain_track, sectors_at_rate};
 
 use crate::fault::FlatFault;
-use crate::finding::content;
+use crate::finding::{content, is_plain};
 use flop_base::Rate;
 use imagedisk::{ImdError, ImdTrack, from_medium};
 use raw_image::Medium;
@@ -23,8 +23,8 @@ fn sectors_at(rate: Rate) -> u8
     }
 }
 
-/// Adds the contents of a track, counted by cylinder, then head.
-fn add_track(
+/// Adds the contents of a track's records, behind those of the tracks before it.
+fn add_records(
     bytes: &mut Vec<u8>,
     tracks: &[ImdTrack],
     sectors: u8,
@@ -32,7 +32,9 @@ fn add_track(
 ) -> Result<(), FlatFault>
     requires most { sectors ≤ 18 }
     requires there { track < 160 }
-    ensures { AddsTrack tracks.now sectors track bytes.old.items bytes.new.items result }
+    requires before { AreOfTracks tracks.now sectors track bytes.old.items }
+    requires plain { is_plain_track tracks.now sectors (track / 2) (track % 2) ≡ true }
+    ensures { AddsTrack tracks.now sectors track bytes.new.items result }
 {
     let c = track / 2;
     let h = track % 2;
@@ -44,6 +46,28 @@ fn add_track(
         bytes.extend_from_slice(added)?;
     }
     Ok(())
+}
+
+/// Adds the contents of a track, counted by cylinder, then head, behind those of the tracks before it. What a flat file has no
+/// room for isn't left out: such a track is refused.
+fn add_track(
+    bytes: &mut Vec<u8>,
+    tracks: &[ImdTrack],
+    sectors: u8,
+    track: u8,
+) -> Result<(), FlatFault>
+    requires most { sectors ≤ 18 }
+    requires there { track < 160 }
+    requires before { AreOfTracks tracks.now sectors track bytes.old.items }
+    ensures { AddsTrack tracks.now sectors track bytes.new.items result }
+{
+    let c = track / 2;
+    let h = track % 2;
+    if is_plain(tracks, sectors, c, h) {
+        add_records(bytes, tracks, sectors, track)
+    } else {
+        Err(FlatFault::More { c, h })
+    }
 }
 
 /// The contents of all tracks.
@@ -58,8 +82,8 @@ fn file_of(alloc: Global, tracks: &[ImdTrack], sectors: u8) -> Result<Vec<u8>, F
     Ok(bytes)
 }
 
-/// The flat file of a medium of 80 cylinders of two heads: of each track the records 1 to 18 at 500 kbit/s, 1 to 9 at 250, each of
-/// 512 bytes under the key of its cylinder and head. Where a track has a key twice, the first whole sector counts.
+/// The flat file of a medium of 80 cylinders of two heads, which has no sector beyond it: of each track the records 1 to 18 at
+/// 500 kbit/s, 1 to 9 at 250, each of 512 bytes under the key of its cylinder and head, and not marked as deleted.
 pub fn flat_file(alloc: Global, medium: &Medium) -> Result<Vec<u8>, FlatFault>
     ensures { GivesFlat medium.now result }
 {

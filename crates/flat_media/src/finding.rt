@@ -1,22 +1,23 @@
 // The sector of a key in the image of a medium.
 ghost use Rattle.std.specs.Prelude.{◌≡◌, MatchOption, Some, None, find};
 ghost use Rattle.imagedisk.specs.declared.sector.ImdSector.{ImdSector};
-ghost use Rattle.flat_media.specs.Files.{is_track as is_track_of, is_wanted as is_wanted_of, is_whole as is_whole_kind, sector_on, sectors_on as sectors_of_track};
+ghost use Rattle.flat_media.specs.Files.{has_deleted as has_deleted_of, is_deleted as is_deleted_kind, is_plain as is_plain_track, is_track as is_track_of, is_wanted as is_wanted_of, is_whole as is_whole_kind, sector_on, sectors_on as sectors_of_track};
 
 use flop_base::standard::SIZE_CODE;
 use imagedisk::{ImdKind, ImdSector, ImdTrack};
 
-/// Whether data are there and whole, also where they are marked as deleted.
+/// Whether data are there and whole, and not marked as deleted.
 fn is_whole(kind: ImdKind) -> bool
     ensures { result ≡ is_whole_kind kind }
 {
-    match kind {
-        ImdKind::Good => true,
-        ImdKind::Deleted => true,
-        ImdKind::Absent => false,
-        ImdKind::Bad => false,
-        ImdKind::BadDeleted => false,
-    }
+    matches!(kind, ImdKind::Good)
+}
+
+/// Whether data are marked as deleted, also where they are damaged.
+fn is_deleted(kind: ImdKind) -> bool
+    ensures { result ≡ is_deleted_kind kind }
+{
+    matches!(kind, ImdKind::Deleted | ImdKind::BadDeleted)
 }
 
 /// Whether it is a whole sector of 512 bytes with this key.
@@ -47,6 +48,21 @@ fn sectors_on(tracks: &[ImdTrack], c: u8, h: u8) -> &[ImdSector]
         }
     }
     &[]
+}
+
+/// Whether one of these is marked as deleted.
+fn has_deleted(sectors: &[ImdSector]) -> bool
+    ensures { result ≡ has_deleted_of sectors.now }
+{
+    sectors.iter().any(|sector| is_deleted(sector.kind))
+}
+
+/// Whether the track of this cylinder and head has so many sectors at most, and none that is marked as deleted.
+pub(crate) fn is_plain(tracks: &[ImdTrack], most: u8, c: u8, h: u8) -> bool
+    ensures { result ≡ is_plain_track tracks.now most c h }
+{
+    let sectors = sectors_on(tracks, c, h);
+    sectors.len() <= usize::from(most) && !has_deleted(sectors)
 }
 
 /// The first whole one of these with this key.

@@ -1,12 +1,15 @@
 -- Bytes are copied one by one.
-use Rattle.std.proofs.Common.{◌≡◌, ℕ, ◌+◌, ◌<◌, ◌≤◌, List, false, length, sym, ◌∙◌, ap, inl, inr, ⊎_elim, arith}
+use Rattle.std.proofs.Common.{◌≡◌, ℕ, zero, suc, ◌+◌, ◌-◌, ◌<◌, ◌≤◌, ◌==◌, min, List, Bool, false, nat_lt, if◌then◌else◌, length, refl, sym, ◌∙◌, ap, subst, inl, inr, ⊎_elim, arith, ne_eqb}
 use Rattle.std.specs.Prelude.{slice_index, slice_set}
-use Rattle.std.proofs.lemmas.Bool.{cases_eq, cases_lt}
+use Rattle.std.specs.Fn.{iterate}
+use Rattle.std.proofs.lemmas.Bool.{cases_eq, cases_lt, cond_above, cond_below, cond-false}
 use Rattle.std.proofs.lemmas.Grind.{get_or-set_at}
 use Rattle.std.proofs.lemmas.List.{get_or-set_other}
+use Rattle.flop_base.specs.Memory.{user_bytes}
+use Rattle.irq_events.specs.Holds.{counted}
 use Rattle.pc_bus.specs.Boards.{Board, memory_of}
 use Rattle.pc_bus.specs.Handling.{byte_set}
-use Rattle.telwyddus_c.specs.Machines.{IsStored, KeepsAllBut}
+use Rattle.telwyddus_c.specs.Machines.{CountsBytes, IsStored, in_user_memory}
 
 less : (k : ℕ) {i : ℕ} → k < i + 1 → (k ≡ i → ⊥) → k < i
 less k {i} below other = ⊎_elim (λ (low : k < i). low) (λ (high : i ≤ k). absurd (other (omega (arith, below, high)))) (cases_lt k i)
@@ -31,12 +34,46 @@ stored_more address i v bytes old now inside is so_far = record {
       ∙ so_far.outside k (⊎_elim (λ (low : k < address). inl low) (λ (high : address + (i + 1) ≤ k). inr (omega (arith, high))) away);
 }
 
--- another byte is set in memory, and all else stays
-pub rest_more : (address value : ℕ) (old now : Board) → KeepsAllBut old now → KeepsAllBut old (record now { bus = byte_set address value now.bus })
-rest_more address value old now rest = ap (λ (b : Board). record b {
-  bus = record b.bus {
-    chips = record b.bus.chips { memory = slice_set (memory_of now) address value };
-    direct = (byte_set address value now.bus).direct;
-    fresh = false;
-  };
-}) rest
+-- one more in user memory, and one beyond
+one_inside : (top address i : ℕ) → address + i < top → min (i + 1) (top - address) ≡ min i (top - address) + 1
+one_inside top address i inside = omega (arith, inside)
+
+one_beyond : (top address i : ℕ) → top ≤ address + i → min (i + 1) (top - address) ≡ min i (top - address)
+one_beyond top address i beyond = omega (arith, beyond)
+
+once_last : (f : ℕ → ℕ) (k m : ℕ) → iterate f (suc k) m ≡ f (iterate f k m)
+once_last f zero m = refl
+once_last f (suc k) m = once_last f k (f m)
+
+once_more : (f : ℕ → ℕ) (k m : ℕ) → iterate f (k + 1) m ≡ f (iterate f k m)
+once_more f k m = let more : suc k ≡ k + 1 = omega arith in subst (λ (n : ℕ). iterate f n m ≡ f (iterate f k m)) more (once_last f k m)
+
+-- so it counts where it is in user memory
+counted_more : (address i direct : ℕ) → iterate counted (in_user_memory address (i + 1)) direct
+    ≡ (if nat_lt (address + i) user_bytes then counted (iterate counted (in_user_memory address i) direct) else iterate counted (in_user_memory address i) direct)
+counted_more address i direct =
+    ⊎_elim
+    (λ (inside : address + i < user_bytes). ap (λ (n : ℕ). iterate counted n direct) (one_inside user_bytes address i inside)
+        ∙ once_more counted (in_user_memory address i) direct
+        ∙ cond_below (address + i) user_bytes (counted (iterate counted (in_user_memory address i) direct)) (iterate counted (in_user_memory address i) direct) inside)
+    (λ (beyond : user_bytes ≤ address + i). cond_above (address + i) user_bytes (counted (iterate counted (in_user_memory address i) direct))
+        (iterate counted (in_user_memory address i) direct) (iterate counted (in_user_memory address (i + 1)) direct) beyond
+        (ap (λ (n : ℕ). iterate counted n direct) (one_beyond user_bytes address i beyond)))
+    (cases_lt (address + i) user_bytes)
+
+not_fresh : (i : ℕ) (fresh : Bool) → (if (i + 1) == 0 then fresh else false) ≡ false
+not_fresh i fresh = cond-false ((i + 1) == 0) fresh false (ne_eqb (i + 1) 0 (λ none. omega (arith, none)))
+
+-- a board with these in place of what it has
+abbrev with_memory : Board → (memory : List ℕ) → (direct : ℕ) → (fresh : Bool) → Board
+with_memory old memory direct fresh =
+    record old { bus = record old.bus { chips = record old.bus.chips { memory = memory }; direct = direct; fresh = fresh } }
+
+-- another byte is set in memory: it counts, and all else stays
+pub rest_more : (address i value : ℕ) (old now : Board) → CountsBytes address i old now
+    → CountsBytes address (i + 1) old (record now { bus = byte_set (address + i) value now.bus })
+rest_more address i value old now rest =
+    let memory = slice_set (memory_of now) (address + i) value in
+    ap (λ (b : Board). record b { bus = byte_set (address + i) value b.bus }) rest
+    ∙ ap (λ (direct : ℕ). with_memory old memory direct false) (sym (counted_more address i old.bus.direct))
+    ∙ ap (λ (fresh : Bool). with_memory old memory (iterate counted (in_user_memory address (i + 1)) old.bus.direct) fresh) (sym (not_fresh i old.bus.fresh))

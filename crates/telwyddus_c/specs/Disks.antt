@@ -1,5 +1,5 @@
 -- Calls on a desk for sectors.
-use Rattle.std.specs.Prelude.{◌≡◌, ◌==◌, ◌&&◌, nat_le, ℕ, Bool, List, length, take, drop, Option, None, Some, IsSome, Result, Ok, Err, MatchBool, MatchOption, MatchResult, if◌then◌else◌}
+use Rattle.std.specs.Prelude.{◌≡◌, ◌==◌, ◌&&◌, nat_le, ℕ, Bool, List, length, take, drop, Option, None, Some, Result, Ok, Err, MatchBool, MatchOption, MatchResult, if◌then◌else◌}
 use Rattle.c_slots.specs.Disks.{DeskValue}
 use Rattle.c_slots.specs.Trays.{TrayValue}
 use Rattle.flop_base.specs.Standard.{gap_at, standard_fill}
@@ -16,6 +16,7 @@ use Rattle.sector_model.specs.Formats.{FormatsTo}
 use Rattle.sector_model.specs.Orders.{is_size_code}
 use Rattle.sector_model.specs.Stations.{IsFresh, bay_of}
 use Rattle.telwyddus_c.specs.Rates.{rate_named}
+use Rattle.telwyddus_c.specs.Slots.{FullOr}
 use Rattle.track_model.specs.Fields.{content_size}
 
 -- two empty bays
@@ -54,14 +55,13 @@ abbrev pub InsertsFrom : (bay code : ℕ) → Option TrayValue → Option TrayVa
 InsertsFrom bay code None left old new = (code ≡ 7) × (left ≡ None) × (new ≡ old)
 InsertsFrom bay code (Some tray) left old new = (kept : TrayValue) × (left ≡ Some kept) × PutsInto bay code tray kept old new
 
--- the medium of a bay goes into a new tray: 0. The bay has none in, 7, the slot holds a tray already, 2, or memory is out, 3: the slot
+-- the medium of a bay goes into a new tray: 0. The slot holds a tray already, 2, memory is out, 3, or the bay has none in, 7: the slot
 -- stays
 abbrev pub EjectsInto : (bay code : ℕ) → Option TrayValue → Option TrayValue → DeskValue → DeskValue → Type 0
 EjectsInto bay code tray left old new =
-    MatchBool (code == 0) ((disk : Disk) × (tray ≡ None) × (left ≡ Some (record { medium = Some disk }))
-    × Ejects bay (station_of old) (Some disk) (station_of new))
+    FullOr code tray left (new ≡ old)
+    (MatchBool (code == 0) ((disk : Disk) × (left ≡ Some (record { medium = Some disk })) × Ejects bay (station_of old) (Some disk) (station_of new))
     (MatchBool (code == 7) ((left ≡ tray) × Ejects bay (station_of old) None (station_of new))
-    (MatchBool (code == 2) (IsSome tray × (left ≡ tray) × (new ≡ old))
     (MatchBool (code == 3) ((left ≡ tray) × (new ≡ old)) ⊥)))
 
 -- ---- what is set before

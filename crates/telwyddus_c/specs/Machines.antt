@@ -1,11 +1,14 @@
 -- Calls on the machine.
-use Rattle.std.specs.Prelude.{◌≡◌, ◌≤◌, ◌<◌, ◌+◌, ◌==◌, ◌⊎◌, ℕ, List, [], length, slice_index, Option, Some, MatchBool}
+use Rattle.std.specs.Prelude.{◌≡◌, ◌≤◌, ◌<◌, ◌+◌, ◌-◌, ◌==◌, ◌⊎◌, ℕ, min, false, List, [], length, slice_index, Option, Some, MatchBool, if◌then◌else◌}
+use Rattle.std.specs.Fn.{iterate}
 use Rattle.c_slots.specs.Machines.{MachineValue}
 use Rattle.c_slots.specs.Trays.{TrayValue}
 use Rattle.drive_model.specs.Fault.{total_left}
 use Rattle.drive_model.specs.Mechanics.{at_rest}
 use Rattle.drive_model.specs.ScriptDrive.{script_state, told}
 use Rattle.fault_plan.specs.Plan.{Plan}
+use Rattle.flop_base.specs.Memory.{user_bytes}
+use Rattle.irq_events.specs.Holds.{counted}
 use Rattle.irq_events.specs.declared.pace.Pace.{Pace}
 use Rattle.pc_bus.specs.Boards.{Board, board, drive_in, latch_of, memory_of, IsNew}
 use Rattle.pc_bus.specs.Handling.{Touches}
@@ -60,13 +63,18 @@ pub record IsStored (address count : ℕ) (bytes old new : List ℕ) : Type 0 wh
   pub inside : (k : ℕ) → k < count → slice_index new (address + k) ≡ slice_index bytes k
   pub outside : (k : ℕ) → (k < address) ⊎ (address + count ≤ k) → slice_index new k ≡ slice_index old k
 
--- all but memory and the count of accesses past the controller is as it was
-abbrev pub KeepsAllBut : Board → Board → Type 0
-KeepsAllBut old new = new ≡ record old {
+-- how many of so many bytes from an address on lie in user memory
+abbrev pub in_user_memory : (address count : ℕ) → ℕ
+in_user_memory address count = min count (user_bytes - address)
+
+-- so many bytes of memory from an address on were set, each once: those in user memory are counted as accesses past the controller, and
+-- where there was any the machine isn't fresh any more. But for memory, all else is as it was
+abbrev pub CountsBytes : (address count : ℕ) → Board → Board → Type 0
+CountsBytes address count old new = new ≡ record old {
   bus = record old.bus {
     chips = record old.bus.chips { memory = memory_of new };
-    direct = new.bus.direct;
-    fresh = new.bus.fresh;
+    direct = iterate counted (in_user_memory address count) old.bus.direct;
+    fresh = if count == 0 then old.bus.fresh else false;
   };
 }
 
@@ -74,7 +82,7 @@ KeepsAllBut old new = new ≡ record old {
 pub record Stores (address : ℕ) (bytes : List ℕ) (old new : Board) : Type 0 where
   pub within : address + length bytes ≤ 1048576
   pub stored : IsStored address (length bytes) bytes (memory_of old) (memory_of new)
-  pub rest : KeepsAllBut old new
+  pub rest : CountsBytes address (length bytes) old new
 
 -- bytes are copied into memory: 0. Their range isn't within memory, 4: the machine stays
 abbrev pub CopiesIn : ℕ → List ℕ → ℕ → MachineValue → MachineValue → Type 0

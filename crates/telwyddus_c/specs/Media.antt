@@ -3,6 +3,7 @@ use Rattle.std.specs.Prelude.{◌≡◌, ℕ, ◌==◌, Option, None, Some, IsSo
 use Rattle.c_slots.specs.Trays.{TrayValue}
 use Rattle.drive_model.specs.Drive.{DriveState, Becomes, loaded, unloaded}
 use Rattle.raw_image.specs.Disk.{Disk}
+use Rattle.telwyddus_c.specs.Slots.{FullOr}
 
 -- the medium of a tray goes into a drive: 0. The drive has one in, 6, or the tray has none, 7: it stays in the tray
 abbrev pub PutsIn : ℕ → TrayValue → TrayValue → DriveState → DriveState → Type 0
@@ -16,12 +17,12 @@ abbrev pub Inserts : ℕ → Option TrayValue → Option TrayValue → DriveStat
 Inserts code None left before after = (code ≡ 7) × (left ≡ None) × (after ≡ before)
 Inserts code (Some tray) left before after = (kept : TrayValue) × (left ≡ Some kept) × PutsIn code tray kept before after
 
--- the medium of a drive goes into a new tray: 0. The drive has none in, 7, the slot holds a tray already, 2, or memory is out, 3:
--- the slot stays
+-- the medium of a drive goes into a new tray: 0. The slot holds a tray already, 2, memory is out, 3, or the drive has none in, 7: the slot
+-- stays
 abbrev pub Ejects : ℕ → Option TrayValue → Option TrayValue → DriveState → DriveState → Type 0
 Ejects code tray left before after =
-    MatchBool (code == 0) ((disk : Disk) × (before.medium ≡ Some disk) × (tray ≡ None) × (left ≡ Some (record { medium = Some disk }))
+    FullOr code tray left (after ≡ before)
+    (MatchBool (code == 0) ((disk : Disk) × (before.medium ≡ Some disk) × (left ≡ Some (record { medium = Some disk }))
     × Becomes (unloaded before) before after)
     (MatchBool (code == 7) ((before.medium ≡ None) × (left ≡ tray) × Becomes (unloaded before) before after)
-    (MatchBool (code == 2) (IsSome tray × (left ≡ tray) × (after ≡ before))
     (MatchBool (code == 3) ((left ≡ tray) × (after ≡ before)) ⊥)))

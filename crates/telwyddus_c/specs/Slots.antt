@@ -1,5 +1,5 @@
 -- What a call makes of a slot, by the code that it answers. No call answers another code than those that are named.
-use Rattle.std.specs.Prelude.{◌≡◌, ◌≤◌, ◌<◌, ℕ, ◌==◌, Option, None, Some, IsSome, MatchBool}
+use Rattle.std.specs.Prelude.{◌≡◌, ◌≤◌, ◌<◌, ℕ, ◌==◌, Option, None, Some, IsSome, MatchBool, ⊤}
 
 -- done, 0, or refused by one other code
 abbrev pub DoneOr : (refusal code : ℕ) → Type 0 → Type 0 → Type 0
@@ -10,11 +10,16 @@ abbrev pub Serves : {V : Type 0} → (ℕ → V → V → Type 0) → Type 0 →
 Serves called stays code None new = (code ≡ 1) × (new ≡ None) × stays
 Serves {V} called stays code (Some old) new = (after : V) × (new ≡ Some after) × called code old after
 
--- a slot is filled: 0. It holds something already, 2, or memory is out, 3: it stays
+-- a call that fills a slot. It holds something already: 2, whatever was asked, and it stays, and so does what is beside. Each other code is
+-- that of an empty slot
+abbrev pub FullOr : {V : Type 0} → (code : ℕ) → Option V → Option V → (stays filled : Type 0) → Type 0
+FullOr code old new stays filled = MatchBool (code == 2) (IsSome old × (new ≡ old) × stays) ((old ≡ None) × filled)
+
+-- an empty slot is filled: 0. Memory is out, 3: it stays
 abbrev pub Fills : {V : Type 0} → (V → Type 0) → ℕ → Option V → Option V → Type 0
 Fills {V} made code old new =
-    MatchBool (code == 0) ((old ≡ None) × ((value : V) × (new ≡ Some value) × made value))
-    (MatchBool (code == 2) (IsSome old × (new ≡ old))
+    FullOr code old new ⊤
+    (MatchBool (code == 0) ((value : V) × (new ≡ Some value) × made value)
     (MatchBool (code == 3) (new ≡ old) ⊥))
 
 -- what a slot holds is freed: 0. It holds nothing: 1

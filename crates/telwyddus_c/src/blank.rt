@@ -19,12 +19,12 @@ pub extern "C" fn telwyddus_tray_blank(
 ) -> u32
     ensures { FillsBlank cylinders kilobits result slot.old.held.tray slot.new.held.tray }
 {
-    let Some(rate) = blank_asked(cylinders, kilobits) else {
-        return OUT_OF_RANGE;
-    };
     if slot.is_full() {
         return FULL;
     }
+    let Some(rate) = blank_asked(cylinders, kilobits) else {
+        return OUT_OF_RANGE;
+    };
     match Medium::blank_at(alloc, cylinders, 2, rate.words(), rate) {
         Ok(medium) => fill(alloc, slot, medium),
         Err(_) => NO_MEMORY,

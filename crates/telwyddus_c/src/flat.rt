@@ -1,7 +1,7 @@
 // Flat sector files in buffers of C.
 ghost use Rattle.std.specs.Prelude.{◌≡◌};
 ghost use Rattle.std.specs.Option.{option_copied};
-ghost use Rattle.telwyddus_c.specs.Flats.{ReadsFlat, WritesFlat, WritesSectors, code_of_fault};
+ghost use Rattle.telwyddus_c.specs.Flats.{ReadsFlat, TellsFault, WritesFlat, WritesSectors, place_of as place_of_fault};
 ghost use Rattle.telwyddus_c.specs.Slots.{Serves};
 
 use crate::blank::fill;
@@ -11,6 +11,9 @@ use c_slots::TraySlot;
 use flat_media::{FlatFault, flat_file, flat_medium};
 use raw_image::{ImageError, Medium};
 use std::alloc::Global;
+
+/// What is told in place of a cylinder and a head where no track is meant.
+const NO_TRACK: u8 = 0xFF;
 
 /// Makes a tray with the medium of a flat file: all sectors, by cylinder, head and record, of 1.44 MB or 720 KB.
 #[unsafe(no_mangle)]
@@ -27,21 +30,26 @@ pub extern "C" fn telwyddus_tray_read_flat(alloc: Global, slot: &mut TraySlot, b
     }
 }
 
-/// Writes the flat file of the medium in a tray to a buffer, and tells its length.
+/// Writes the flat file of the medium in a tray to a buffer, and tells its length. Where there is none, the cylinder and head of the first
+/// track that isn't as such a file has it are told; both FF where the medium has another shape.
 #[unsafe(no_mangle)]
 pub extern "C" fn telwyddus_tray_write_flat(
     alloc: Global,
     slot: &mut TraySlot,
     out: &mut [u8],
     length: &mut usize,
+    cylinder: &mut u8,
+    head: &mut u8,
 ) -> u32
-    ensures { Serves (λ code old new. (new ≡ old) × WritesFlat old.medium code out.old out.new length.old length.new) ((out.new ≡ out.old) × (length.new ≡ length.old))
+    ensures { Serves (λ code old new. (new ≡ old)
+        × WritesFlat old.medium code out.old out.new length.old length.new cylinder.old cylinder.new head.old head.new)
+        ((out.new ≡ out.old) × (length.new ≡ length.old) × (cylinder.new ≡ cylinder.old) × (head.new ≡ head.old))
         result slot.old.held.tray slot.new.held.tray }
 {
     match slot.take(alloc) {
         None => EMPTY,
         Some(tray) => {
-            let code = write_file(alloc, tray.medium.as_ref(), out, length);
+            let code = write_file(alloc, tray.medium.as_ref(), out, length, cylinder, head);
             slot.put(tray);
             code
         }
@@ -49,31 +57,62 @@ pub extern "C" fn telwyddus_tray_write_flat(
 }
 
 /// The same of a medium, where there is one.
-fn write_file(alloc: Global, medium: Option<&Medium>, out: &mut [u8], length: &mut usize) -> u32
-    ensures { WritesFlat (option_copied medium.entry) result out.old out.new length.old length.new }
+fn write_file(
+    alloc: Global,
+    medium: Option<&Medium>,
+    out: &mut [u8],
+    length: &mut usize,
+    cylinder: &mut u8,
+    head: &mut u8,
+) -> u32
+    ensures { WritesFlat (option_copied medium.entry) result out.old out.new length.old length.new cylinder.old cylinder.new head.old head.new }
 {
     match medium {
         None => NO_MEDIUM,
-        Some(medium) => write_sectors(alloc, medium, out, length),
+        Some(medium) => write_sectors(alloc, medium, out, length, cylinder, head),
     }
 }
 
 /// The same of a medium.
-fn write_sectors(alloc: Global, medium: &Medium, out: &mut [u8], length: &mut usize) -> u32
-    ensures { WritesSectors medium.now result out.old out.new length.old length.new }
+fn write_sectors(
+    alloc: Global,
+    medium: &Medium,
+    out: &mut [u8],
+    length: &mut usize,
+    cylinder: &mut u8,
+    head: &mut u8,
+) -> u32
+    ensures { WritesSectors medium.now result out.old out.new length.old length.new cylinder.old cylinder.new head.old head.new }
 {
     match flat_file(alloc, medium) {
         Ok(bytes) => write_bytes(&bytes, out, length),
-        Err(fault) => code_of(fault),
+        Err(fault) => tell_fault(fault, cylinder, head),
     }
 }
 
-/// The code of a medium of which there is no flat file.
-fn code_of(fault: FlatFault) -> u32
-    ensures { result ≡ code_of_fault fault }
+/// Tells where a medium isn't as a flat file has it.
+fn tell_fault(fault: FlatFault, cylinder: &mut u8, head: &mut u8) -> u32
+    ensures { TellsFault fault result cylinder.old cylinder.new head.old head.new }
+{
+    match place_of(fault) {
+        None => NO_MEMORY,
+        Some((c, h)) => {
+            *cylinder = c;
+            *head = h;
+            UNFIT
+        }
+    }
+}
+
+/// The cylinder and head of the track at which a medium isn't as a flat file has it; that memory is out says nothing of a medium.
+fn place_of(fault: FlatFault) -> Option<(u8, u8)>
+    ensures { result ≡ place_of_fault fault }
 {
     match fault {
-        FlatFault::Shape | FlatFault::Unfit { .. } | FlatFault::Lacks { .. } => UNFIT,
-        FlatFault::NoMemory => NO_MEMORY,
+        FlatFault::Shape => Some((NO_TRACK, NO_TRACK)),
+        FlatFault::Unfit { c, h } => Some((c, h)),
+        FlatFault::More { c, h } => Some((c, h)),
+        FlatFault::Lacks { c, h, .. } => Some((c, h)),
+        FlatFault::NoMemory => None,
     }
 }

@@ -1,7 +1,7 @@
 use Rattle.pc_bus.specs.Boards.{memory_of}
-use Rattle.telwyddus_c.specs.Machines.{board_of, IsStored, KeepsAllBut}
+use Rattle.telwyddus_c.specs.Machines.{CountsBytes, IsStored, board_of}
 use Rattle.telwyddus_c.proofs.machine.memory.set.Given as goal
 
 abbrev pub invariant-loop-i : goal.invariant-loop-i
 invariant-loop-i l = IsStored l.address l.i l.bytes (memory_of (board_of l.fn.machine)) (memory_of (board_of l.machine))
-    × KeepsAllBut (board_of l.fn.machine) (board_of l.machine)
+    × CountsBytes l.address l.i (board_of l.fn.machine) (board_of l.machine)
