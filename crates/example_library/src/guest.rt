@@ -9,7 +9,9 @@ use telwyddus::disk::Medium;
 pub(crate) type Controller = Sequencer<PlainDrive>;
 
 const DOR: u16 = 0x3F2;
+
 const DATA: u16 = 0x3F5;
+
 const CCR: u16 = 0x3F7;
 
 /// Device steps within which each command here ends: a turn of the disk has 12,500.
