@@ -1,0 +1,163 @@
+// A guest at the ports of the controller, with a DMA channel of its own.
+use crate::trouble::Trouble;
+use std::alloc::Global;
+use telwyddus::NoMemory;
+use telwyddus::controller::{PlainDrive, Sequencer};
+use telwyddus::disk::Medium;
+
+/// The controller that takes commands of several sectors, with two drives that have no faults.
+pub(crate) type Controller = Sequencer<PlainDrive>;
+
+const DOR: u16 = 0x3F2;
+
+const DATA: u16 = 0x3F5;
+
+const CCR: u16 = 0x3F7;
+
+/// Device steps within which each command here ends: a turn of the disk has 12,500.
+const MOST_STEPS: u32 = 100_000;
+
+/// The bytes behind which the channel of a read tells the terminal count.
+const FOUR_SECTORS: usize = 2048;
+
+/// A controller that awaits commands, with this medium at speed in drive 0, and the heads over cylinder 0.
+pub(crate) fn set_up(alloc: Global, medium: Medium) -> Result<Controller, Trouble> {
+    let mut controller = Sequencer::new(alloc, PlainDrive::new(), PlainDrive::new())?;
+    // An empty bay takes it.
+    let _refused = controller.insert(0, medium);
+    start(&mut controller);
+    Ok(controller)
+}
+
+/// Out of reset, with drive 0 selected and its motor on, at 500 kbit/s.
+fn start(controller: &mut Controller) {
+    controller.write(DOR, 0x1C);
+    controller.write(CCR, 0x00);
+    // INT follows the reset, and SENSE INTERRUPT tells of each drive. RECALIBRATE ends with INT too.
+    controller.run(100);
+    for _drive in 0..4 {
+        sense(controller);
+    }
+    send(controller, &[0x07, 0x00]);
+    controller.run(100);
+    sense(controller);
+    // The medium is at speed 6,250 word times after the motor was turned on. No line changes meanwhile.
+    controller.run(6_250);
+}
+
+/// SENSE INTERRUPT, and its two results.
+fn sense(controller: &mut Controller) {
+    send(controller, &[0x08]);
+    controller.read(DATA);
+    controller.read(DATA);
+}
+
+/// Sends the bytes of a command.
+pub(crate) fn send(controller: &mut Controller, bytes: &[u8]) {
+    for byte in bytes {
+        controller.write(DATA, *byte);
+    }
+}
+
+/// The seven result bytes of a command that has ended.
+pub(crate) fn results(controller: &mut Controller) -> [u8; 7] {
+    let mut results = [0; 7];
+    for result in results.iter_mut() {
+        *result = controller.read(DATA);
+    }
+    results
+}
+
+/// A read on its way: what the channel took, and what was seen between two device steps.
+#[derive(Drop)]
+pub(crate) struct Reading {
+    pub bytes: Vec<u8>,
+    /// INT and DRQ in turn.
+    pub lines: Vec<bool>,
+    /// Whether drive and medium stayed as `set_up` left them.
+    pub stayed: bool,
+}
+
+/// Goes on with a read of which these bytes have passed, step by step, until so many have, or INT tells that there are results.
+pub(crate) fn read_on(
+    alloc: Global,
+    controller: &mut Controller,
+    passed: &[u8],
+    most: usize,
+) -> Result<Reading, NoMemory> {
+    let mut reading = Reading {
+        bytes: Vec::from_slice(alloc, passed)?,
+        lines: Vec::new(alloc),
+        stayed: true,
+    };
+    for _step in 0..MOST_STEPS {
+        reading.look(controller)?;
+        if controller.int() || reading.bytes.len() >= most {
+            break;
+        }
+        reading.take(controller)?;
+        controller.step();
+    }
+    Ok(reading)
+}
+
+impl Reading {
+    /// The channel takes the byte that is asked for, where one is.
+    fn take(&mut self, controller: &mut Controller) -> Result<(), NoMemory> {
+        let Some(byte) = controller.dack_read() else {
+            return Ok(());
+        };
+        self.bytes.push(byte)?;
+        if self.bytes.len() == FOUR_SECTORS {
+            controller.tc();
+        }
+        Ok(())
+    }
+
+    /// Notes the lines, and whether drive and medium are as before.
+    fn look(&mut self, controller: &Controller) -> Result<(), NoMemory> {
+        self.lines.push(controller.int())?;
+        self.lines.push(controller.drq())?;
+        if !is_turning(controller) || !has_medium(controller) {
+            self.stayed = false;
+        }
+        Ok(())
+    }
+}
+
+/// Drive 0 is selected, its motor is on, and the rate is 500 kbit/s, at which a word time has 16,000 nanoseconds.
+fn is_turning(controller: &Controller) -> bool {
+    controller.selected() == 0 && controller.is_motor_on(0) && controller.word_time() == 16_000
+}
+
+/// The medium is in, under heads over cylinder 0, and none of its words was replaced.
+fn has_medium(controller: &Controller) -> bool {
+    controller.medium(0).is_some() && controller.cylinder(0) == 0 && !controller.is_written(0)
+}
+
+/// The channel gives these bytes as they are asked for, step by step, until INT tells that there are results.
+pub(crate) fn give_all(controller: &mut Controller, bytes: &[u8]) {
+    let mut given = 0;
+    for _step in 0..MOST_STEPS {
+        if controller.int() {
+            break;
+        }
+        given = give(controller, bytes, given);
+        controller.step();
+    }
+}
+
+/// Gives the next byte, where one is asked for, and the terminal count with the last; tells how many were given.
+fn give(controller: &mut Controller, bytes: &[u8], given: usize) -> usize {
+    let Some(byte) = bytes.get(given) else {
+        return given;
+    };
+    if !controller.dack_write(*byte) {
+        return given;
+    }
+    let given = given.saturating_add(1);
+    if given == bytes.len() {
+        controller.tc();
+    }
+    given
+}

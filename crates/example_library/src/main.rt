@@ -1,0 +1,126 @@
+//! Runs the library on one diskette: a flat file makes its medium, a read of several sectors is saved in its middle and goes on
+//! twice, two sectors are written, a desk has a single one, and the program takes the file in on a shelf.
+//!
+//! Each step that comes out as it should is printed. The first that doesn't ends the program with status 1.
+#![tactic(auto)]
+
+mod files;
+mod guest;
+mod tools;
+mod trouble;
+
+use files::{flat_bytes, must_give, replace};
+use guest::{Controller, give_all, read_on, results, send, set_up};
+use std::alloc::Global;
+use std::io;
+use telwyddus::disk::{Medium, flat_medium};
+use telwyddus::{restore_state, save_state};
+use tools::{use_desk, use_shelf};
+use trouble::{Trouble, must};
+
+/// READ DATA with MT, MFM and SK, from cylinder 0, head 0, record 17 on, of 512 bytes. EOT is 18, so that behind record 18 come
+/// records 1 and 2 of head 1.
+const READ: [u8; 9] = [0xE6, 0x00, 0, 0, 17, 2, 18, 0x1B, 0xFF];
+
+/// WRITE DATA with MT and MFM, from record 18 on: behind it comes record 1 of head 1.
+const WRITE: [u8; 9] = [0xC5, 0x00, 0, 0, 18, 2, 18, 0x1B, 0xFF];
+
+/// The medium of a flat file, which gives the file back.
+fn medium_of(alloc: Global, flat: &[u8]) -> Result<Medium, Trouble> {
+    let medium = flat_medium(alloc, flat)?;
+    must_give(alloc, &medium, flat)?;
+    Ok(medium)
+}
+
+/// Another controller in the same state: with the command that is under way, and a medium of its own.
+fn twin_of(alloc: Global, controller: &Controller) -> Result<Controller, Trouble> {
+    let state = save_state(alloc, controller)?;
+    let twin: Controller = restore_state(alloc, &state)?;
+    Ok(twin)
+}
+
+/// Reads four sectors with one command, which is saved behind 700 bytes and goes on at two controllers; the results of both.
+///
+/// From the last byte of the command to its results drive 0 is selected and its motor on, at one rate, and the medium is in
+/// and at speed, under heads that stay over one cylinder, and no word of it is lost or replaced. So this run meets the premise
+/// of the law by which what such a read gives stands on the medium (`sequencer_laws`): that the medium stays in.
+fn read_four(
+    alloc: Global,
+    controller: &mut Controller,
+    flat: &[u8],
+) -> Result<([u8; 7], [u8; 7]), Trouble> {
+    send(controller, &READ);
+    let begun = read_on(alloc, controller, &[], 700)?;
+    let mut twin = twin_of(alloc, controller)?;
+    let first = read_on(alloc, controller, &begun.bytes, usize::MAX)?;
+    let second = read_on(alloc, &mut twin, &begun.bytes, usize::MAX)?;
+    must(begun.stayed && first.stayed && second.stayed)?;
+    must(first.bytes == second.bytes && first.lines == second.lines)?;
+    // Records 17 and 18 of head 0, and behind them 1 and 2 of head 1, begin at (17 - 1) * 512.
+    must_be(&first.bytes, flat.get(8_192..10_240))?;
+    Ok((results(controller), results(&mut twin)))
+}
+
+/// These bytes have to be those.
+fn must_be(bytes: &[u8], wanted: Option<&[u8]>) -> Result<(), Trouble> {
+    match wanted {
+        Some(wanted) => must(bytes == wanted),
+        None => Err(Trouble::Differs),
+    }
+}
+
+/// Writes two sectors with one command, and gives its results.
+fn write_two(alloc: Global, controller: &mut Controller, flat: &[u8]) -> Result<[u8; 7], Trouble> {
+    // What two sectors of cylinder 40 have: no byte of it is the one that it replaces.
+    let Some(given) = flat.get(737_280..738_304) else {
+        return Err(Trouble::Differs);
+    };
+    send(controller, &WRITE);
+    give_all(controller, given);
+    // Record 18 of head 0 begins at (18 - 1) * 512, and record 1 of head 1 stands behind it. All else is as it was.
+    let mut wanted = Vec::from_slice(alloc, flat)?;
+    replace(&mut wanted, 8_704, given);
+    must_hold(alloc, controller, &wanted)?;
+    Ok(results(controller))
+}
+
+/// The medium in drive 0 was written, and its flat file has to be this one.
+fn must_hold(alloc: Global, controller: &Controller, flat: &[u8]) -> Result<(), Trouble> {
+    must(controller.is_written(0))?;
+    match controller.medium(0) {
+        Some(medium) => must_give(alloc, medium, flat),
+        None => Err(Trouble::Differs),
+    }
+}
+
+fn print_results(rt: &impl Print, told: [u8; 7]) -> io::Result<()> {
+    print!(rt; "results")?;
+    for byte in told {
+        print!(rt; " {byte:02X}")?;
+    }
+    println!(rt; "")
+}
+
+fn main(rt: HostRuntime) -> Result<(), Trouble> {
+    let alloc = rt.alloc();
+    let flat = flat_bytes(alloc)?;
+    let mut controller = set_up(alloc, medium_of(alloc, &flat)?)?;
+    println!(rt; "a flat file makes a medium, which gives it back")?;
+    let (first, second) = read_four(alloc, &mut controller, &flat)?;
+    println!(rt; "READ DATA of four sectors is saved behind 700 bytes, and restored")?;
+    println!(rt; "both give the bytes of the file, with INT and DRQ alike")?;
+    println!(rt; "drive and medium stay, as is seen at each step")?;
+    // Head 1, and no error; the key is that behind record 2 of head 1.
+    print_results(&rt, first)?;
+    print_results(&rt, second)?;
+    let told = write_two(alloc, &mut controller, &flat)?;
+    println!(rt; "WRITE DATA of two sectors changes no others")?;
+    // Head 1, and no error; the key is that behind record 1 of head 1.
+    print_results(&rt, told)?;
+    let Some(medium) = controller.eject(0) else {
+        return Err(Trouble::Differs);
+    };
+    let deleted = use_desk(alloc, medium)?;
+    println!(rt; "a desk writes a sector and reads it back, deleted {deleted}")?;
+    use_shelf(&rt, alloc, &flat)
+}
