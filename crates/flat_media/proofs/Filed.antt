@@ -29,7 +29,7 @@ records_there tracks c h zero old new adds k least most = absurd (omega (arith, 
 records_there tracks c h (suc n) old new adds k least most =
     ⊎_elim (λ (early : k < n + 1). records_there tracks c h n old adds.0 adds.1 k least (omega (arith, early)))
     (λ (late : n + 1 ≤ k). let last : n + 1 ≡ k = omega (arith, late, most) in
-        subst (λ (j : ℕ). IsSome (sector_on tracks c h j)) last (subst (λ (o : Option ImdSector). IsSome o) (sym adds.2.1) refl))
+    subst (λ (j : ℕ). IsSome (sector_on tracks c h j)) last (subst (λ (o : Option ImdSector). IsSome o) (sym adds.2.1) refl))
     (cases_lt k (n + 1))
 
 pub no_tracks : (tracks : List ImdTrack) (sectors : ℕ) → AreOfTracks tracks sectors 0 []

@@ -410,7 +410,7 @@ first_lasts byte first start begun last records writes stays range =
     let bytes = start.bytes ++ byte ∷ [] in
     let takes : TakesByte (Collecting last.opcode) byte start begun = subst (λ stage. TakesByte stage byte start begun) last.collects (writes.bytes refl) in
     let collects : CollectsAs last.opcode (Ready last.command) (record start { bytes = [] }) begun =
-        subst (λ accepted. CollectsAs last.opcode accepted (record start { bytes = kept accepted bytes }) begun) last.whole takes in
+    subst (λ accepted. CollectsAs last.opcode accepted (record start { bytes = kept accepted bytes }) begun) last.whole takes in
     starts_last first (record start { bytes = [] }) begun records range stays (subst (λ transfer. Starts transfer (record start { bytes = [] }) begun) last.transfer collects)
 
 -- ---- the whole command

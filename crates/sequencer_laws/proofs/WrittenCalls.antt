@@ -125,12 +125,15 @@ module _ (place : Place) (deleted : Bool) (first : Transfer) (writes : first.opc
   one_now : (history : History) (moving : MovingSector) (past : Past) (fdc : Fdc) (old new : Front) (under : IsUnderway place deleted first history old.board) → moving.transfer ≡ here_of first history
       → IsAtSector place (here_of first history) under.disk past true (drive_at old.board place.bay) → new ≡ passed_one moving fdc old → IsNow (history_passed moving past history) new
   one_now history moving past fdc old new under here sector is =
-      subst (λ front. IsNow (history_passed moving past history) front) (sym is) (here, record {
-        disk = under.disk;
-        like = under.like;
-        parts = under.parts;
-        sector = sector_told place (here_of first history) under.disk past true (drive_at old.board place.bay) (moving.left - 1 == 0) sector;
-      })
+      subst (λ front. IsNow (history_passed moving past history) front) (sym is) (
+        here,
+        record {
+          disk = under.disk;
+          like = under.like;
+          parts = under.parts;
+          sector = sector_told place (here_of first history) under.disk past true (drive_at old.board place.bay) (moving.left - 1 == 0) sector;
+        },
+      )
 
   take_now : (stage : Stage) (byte : Option ℕ) (history : History) (old new : Front) → old.stage ≡ stage → NowWritten stage place deleted first history old.board → TakesAt stage old byte new
       → IsNow (history_taken stage byte history) new
@@ -162,12 +165,15 @@ module _ (place : Place) (deleted : Bool) (first : Transfer) (writes : first.opc
   count_now (Seeking at counted) history old new stage_is (here, none, rests) is = subst (λ front. IsNow (record history { counted = true }) front) (sym is) (here, none, rests)
   count_now (Telling results read) history old new stage_is now is = same_now (Telling results read) history old new stage_is is now
   count_now (Moving moving) history old new stage_is (here, under) is =
-      subst (λ front. IsNow (record history { past = told_in true history.past; counted = true }) front) (sym is) (here, record {
-        disk = under.disk;
-        like = under.like;
-        parts = under.parts;
-        sector = sector_told place (here_of first history) under.disk history.past true (drive_at old.board place.bay) true under.sector;
-      })
+      subst (λ front. IsNow (record history { past = told_in true history.past; counted = true }) front) (sym is) (
+        here,
+        record {
+          disk = under.disk;
+          like = under.like;
+          parts = under.parts;
+          sector = sector_told place (here_of first history) under.disk history.past true (drive_at old.board place.bay) true under.sector;
+        },
+      )
 
   -- ---- ports and media
 

@@ -54,11 +54,11 @@ counted_more : (address i direct : ℕ) → iterate counted (in_user_memory addr
 counted_more address i direct =
     ⊎_elim
     (λ (inside : address + i < user_bytes). ap (λ (n : ℕ). iterate counted n direct) (one_inside user_bytes address i inside)
-        ∙ once_more counted (in_user_memory address i) direct
-        ∙ cond_below (address + i) user_bytes (counted (iterate counted (in_user_memory address i) direct)) (iterate counted (in_user_memory address i) direct) inside)
+    ∙ once_more counted (in_user_memory address i) direct
+    ∙ cond_below (address + i) user_bytes (counted (iterate counted (in_user_memory address i) direct)) (iterate counted (in_user_memory address i) direct) inside)
     (λ (beyond : user_bytes ≤ address + i). cond_above (address + i) user_bytes (counted (iterate counted (in_user_memory address i) direct))
-        (iterate counted (in_user_memory address i) direct) (iterate counted (in_user_memory address (i + 1)) direct) beyond
-        (ap (λ (n : ℕ). iterate counted n direct) (one_beyond user_bytes address i beyond)))
+    (iterate counted (in_user_memory address i) direct) (iterate counted (in_user_memory address (i + 1)) direct) beyond
+    (ap (λ (n : ℕ). iterate counted n direct) (one_beyond user_bytes address i beyond)))
     (cases_lt (address + i) user_bytes)
 
 not_fresh : (i : ℕ) (fresh : Bool) → (if (i + 1) == 0 then fresh else false) ≡ false
