@@ -22,8 +22,7 @@ use Rattle.sequencer_laws.specs.Serving.{History, Part, sector_after}
 
 -- ---- the run
 
--- DOR selects the bay, and its drive is on, whatever its speed, with the heads over the cylinder; what stands on the medium may have
--- changed
+-- DOR selects the bay, and its motor is on, whatever its speed, with the heads over the cylinder; the medium may have changed
 pub record IsOverCylinder (place : Place) (front : Front) : Type 0 where
   pub bay : place.bay ≤ 1
   pub disk : IsDisk place.disk
