@@ -9,6 +9,7 @@ mod Called
 mod Whole
 mod LateLooks
 mod LateHearing
+mod LateWriting
 mod Medium
 mod Silent
 mod Idle

@@ -35,7 +35,7 @@ use Rattle.sequencer_laws.specs.Calls.{AreWithin, Call, Changes, Counts, Does, G
 use Rattle.sequencer_laws.specs.Media.{Place}
 use Rattle.sequencer_laws.specs.Outcomes.{EndsSo, IsFailure}
 use Rattle.sequencer_laws.specs.Serving.{History, Part, Serves, has_other, history_counted, history_given, history_passed, history_taken, nothing_moved}
-use Rattle.sequencer_laws.specs.Written.{AreWritten, HasFirst, HasWindow, IsAtSpeedWhile, IsDone, IsWrittenTo, KeepsIn, LeavesPut, StaysPut, TellsDone}
+use Rattle.sequencer_laws.specs.Written.{AreWritten, HasFirst, HasWindow, IsDone, IsOverCylinderWhile, IsWrittenTo, KeepsIn, KeepsSpeed, KeepsSpeedWhile, LeavesPut, StaysPut, TellsDone}
 use Rattle.sequencer_laws.proofs.Called.{call_serves}
 use Rattle.sequencer_laws.proofs.Known.{port_same}
 use Rattle.sequencer_laws.proofs.Outcome.{results_say}
@@ -75,6 +75,29 @@ board_puts port value bay old new writes none = by_bay (bay == 0)
     by_bay : (b : Bool) → StaysPut (if b then old.first else old.second) (if b then new.first else new.second)
     by_bay true = port_puts port value 0 new.controller old.first new.first writes.first none
     by_bay false = port_puts port value 1 new.controller old.second new.second writes.second none
+
+-- one that stays on keeps its speed
+motor_speed : (b : Bool) (bay : ℕ) (controller : Fdc) (before after : DriveState) → FollowsDor b bay controller before after → after.motor ≡ true → KeepsSpeed before after
+motor_speed true bay controller before after (on, is, becomes) runs fast =
+    let stays : on ≡ true = sym (ap (λ s. s.motor) becomes.becomes) ∙ runs in
+    let spin : after.spin ≡ before.spin = ap (λ s. s.spin) becomes.becomes ∙ ap (λ runs. if runs then before.spin else 0) stays in
+    omega arith
+motor_speed false bay controller before after is runs fast = let same = ap (λ s. s.spin) is in omega arith
+
+port_speed : (port value bay : ℕ) (controller : Fdc) (before after : DriveState) → FollowsWrite port value bay controller before after → resets port value ≡ false → after.motor ≡ true → KeepsSpeed before after
+port_speed port value bay controller before after follows none runs = by_gate (resets port value) none follows.gate
+  where
+    by_gate : (b : Bool) → b ≡ false → Closes b follows.between after → KeepsSpeed before after
+    by_gate true clear closes = absurd (false≢true (sym clear))
+    by_gate false clear same =
+        subst (λ s. KeepsSpeed before s) (sym same) (motor_speed (port == 0x3F2) bay controller before follows.between follows.motor (sym (ap (λ s. s.motor) same) ∙ runs))
+
+board_speed : (port value bay : ℕ) (old new : BoardState) → WritesBoard port value old new → resets port value ≡ false → (drive_at new bay).motor ≡ true → KeepsSpeed (drive_at old bay) (drive_at new bay)
+board_speed port value bay old new writes none = by_bay (bay == 0)
+  where
+    by_bay : (b : Bool) → (if b then new.first else new.second).motor ≡ true → KeepsSpeed (if b then old.first else old.second) (if b then new.first else new.second)
+    by_bay true runs = port_speed port value 0 new.controller old.first new.first writes.first none runs
+    by_bay false runs = port_speed port value 1 new.controller old.second new.second writes.second none runs
 
 -- ---- what the results tell
 
@@ -190,22 +213,25 @@ module _ (place : Place) (deleted : Bool) (first : Transfer) (writes : first.opc
       by_last true is = absurd (stays (ap (λ front. front.stage) is))
       by_last false is = subst (λ front. IsNow history front) (sym is) over
 
-  -- the stage stays, and the drive stays put
-  put_now : (stage : Stage) (history : History) (old new : Front) → NowWritten stage place deleted first history old.board → new.stage ≡ stage → IsAtSpeedWhile new.stage place new
-      → StaysPut (drive_at old.board place.bay) (drive_at new.board place.bay) → (is_executing old.board.controller.phase ≡ false → is_executing new.board.controller.phase ≡ false) → IsNow history new
-  put_now Through history old new now is at puts idles = absurd now
-  put_now (Collecting opcode) history old new now is at puts idles = absurd now
-  put_now (Seeking target counted) history old new (here, none, rests) is at puts idles =
+  -- the stage stays, and the drive stays put, at speed where a sector is moved
+  put_now : (stage : Stage) (history : History) (old new : Front) → NowWritten stage place deleted first history old.board → new.stage ≡ stage → IsOverCylinderWhile new.stage place new
+      → StaysPut (drive_at old.board place.bay) (drive_at new.board place.bay)
+      → ((moving : MovingSector) → stage ≡ Moving moving → (drive_at new.board place.bay).motor ≡ true → KeepsSpeed (drive_at old.board place.bay) (drive_at new.board place.bay))
+      → (is_executing old.board.controller.phase ≡ false → is_executing new.board.controller.phase ≡ false) → IsNow history new
+  put_now Through history old new now is at puts keeps idles = absurd now
+  put_now (Collecting opcode) history old new now is at puts keeps idles = absurd now
+  put_now (Seeking target counted) history old new (here, none, rests) is at puts keeps idles =
       subst (λ stage. NowWritten stage place deleted first history new.board) (sym is) (here, none, record { medium = puts.medium ∙ rests.medium; idle = idles rests.idle })
-  put_now (Telling results read) history old new over is at puts idles =
+  put_now (Telling results read) history old new over is at puts keeps idles =
       to_telling place deleted first writes history results read new is
       (over_rests place deleted first writes history old.board new.board over (record { medium = puts.medium ∙ over.rests.medium; idle = idles over.rests.idle }))
-  put_now (Moving moving) history old new (here, under) is at puts idles =
+  put_now (Moving moving) history old new (here, under) is at puts keeps idles =
+      let over = at_new place deleted first writes moving new is at in
       to_moving place deleted first writes history moving new is here (record {
         disk = under.disk;
         like = under.like;
         parts = under.parts;
-        sector = sector_stays place (here_of first history) under.disk history.past (drive_at old.board place.bay) new (at_new place deleted first writes moving new is at) puts under.sector;
+        sector = sector_stays place (here_of first history) under.disk history.past (drive_at old.board place.bay) new under.like over puts (keeps moving refl over.motor) under.sector;
       })
 
   ignored : (stage : Stage) (byte : ℕ) (history : History) (old new : Front) → NowWritten stage place deleted first history old.board → TakesByte stage byte old new → new ≡ old
@@ -215,13 +241,14 @@ module _ (place : Place) (deleted : Bool) (first : Transfer) (writes : first.opc
   ignored (Moving moving) byte history old new now takes = takes
   ignored (Telling results read) byte history old new now takes = takes
 
-  write_now : (port value : ℕ) (history : History) (old new : Front) → IsNow history old → (new.stage ≡ Through → ⊥) → IsAtSpeedWhile new.stage place new → WritesFront port value old new → IsNow history new
+  write_now : (port value : ℕ) (history : History) (old new : Front) → IsNow history old → (new.stage ≡ Through → ⊥) → IsOverCylinderWhile new.stage place new → WritesFront port value old new → IsNow history new
   write_now port value history old new now stays at written = by_port (port == 0x3F5) refl
     where
       by_reset : (b : Bool) → resets port value ≡ b → (port == 0x3F5) ≡ false → WritesBoard port value old.board new.board → new ≡ record (reset_if b old) { board = new.board } → IsNow history new
       by_reset true reset no_byte wrote is = absurd (stays (ap (λ front. front.stage) is))
       by_reset false reset no_byte wrote is =
           put_now old.stage history old new now (ap (λ front. front.stage) is) at (board_puts port value place.bay old.board new.board wrote reset)
+          (λ moving here runs. board_speed port value place.bay old.board new.board wrote reset runs)
           (λ idle. ap is_executing (port_same port value (lines_at old.board) old.board.controller new.board.controller wrote.writes no_byte reset).phase ∙ idle)
 
       by_port : (b : Bool) → (port == 0x3F5) ≡ b → IsNow history new
@@ -230,8 +257,8 @@ module _ (place : Place) (deleted : Bool) (first : Transfer) (writes : first.opc
 
   -- ---- one call
 
-  call_writes : (call : Call) (history : History) (old new : Front) (does : Does call old new) → (new.stage ≡ Through → ⊥) → IsAtSpeedWhile old.stage place old → IsAtSpeedWhile new.stage place new
-      → LeavesPut call (drive_at old.board place.bay) (drive_at new.board place.bay) → Serves first history old → IsNow history old → OneWritten place deleted first call history old new does
+  call_writes : (call : Call) (history : History) (old new : Front) (does : Does call old new) → (new.stage ≡ Through → ⊥) → IsOverCylinderWhile old.stage place old → IsOverCylinderWhile new.stage place new
+      → LeavesPut old.stage call (drive_at old.board place.bay) (drive_at new.board place.bay) → Serves first history old → IsNow history old → OneWritten place deleted first call history old new does
   call_writes Steps history old new step stays at at_then leaves serves now = step_writes place deleted first writes old.stage history old new step refl serves now at stays at_then
   call_writes (Takes byte) history old new does stays at at_then leaves serves now =
       let one = call_serves (Takes byte) first history old new does stays serves in
@@ -255,7 +282,8 @@ module _ (place : Place) (deleted : Bool) (first : Transfer) (writes : first.opc
         grows = one.grows;
         serves = one.serves;
         now = subst (λ h. IsNow h new) (sym one.grows)
-            (put_now old.stage history old new now does.stage at_then leaves (λ idle. ap (λ fdc. is_executing fdc.phase) does.controller ∙ idle));
+            (put_now old.stage history old new now does.stage at_then leaves.0
+            (λ moving here runs. subst (λ stage. KeepsSpeedWhile stage (drive_at old.board place.bay) (drive_at new.board place.bay)) here leaves.1) (λ idle. ap (λ fdc. is_executing fdc.phase) does.controller ∙ idle));
       }
   call_writes (Straps on) history old new does stays at at_then leaves serves now =
       let one = call_serves (Straps on) first history old new does stays serves in
@@ -268,7 +296,7 @@ module _ (place : Place) (deleted : Bool) (first : Transfer) (writes : first.opc
 
   -- ---- all of them
 
-  first_at : (calls : List Call) (old new : Front) (within : AreWithin calls old new) → KeepsIn place calls old new within → IsAtSpeedWhile old.stage place old
+  first_at : (calls : List Call) (old new : Front) (within : AreWithin calls old new) → KeepsIn place calls old new within → IsOverCylinderWhile old.stage place old
   first_at [] old new within is = is
   first_at (call ∷ calls) old new within is = is.0
 
@@ -287,7 +315,7 @@ module _ (place : Place) (deleted : Bool) (first : Transfer) (writes : first.opc
 
   -- ---- how it begins
 
-  begins_now : (byte : ℕ) (start begun : Front) → IsLastByte byte first start → WritesFront 0x3F5 byte start begun → (begun.stage ≡ Through → ⊥) → IsAtSpeedWhile begun.stage place begun
+  begins_now : (byte : ℕ) (start begun : Front) → IsLastByte byte first start → WritesFront 0x3F5 byte start begun → (begun.stage ≡ Through → ⊥) → IsOverCylinderWhile begun.stage place begun
       → (drive_at begun.board place.bay).medium ≡ Some place.disk → IsNow (nothing_moved false) begun
   begins_now byte start begun last written stays at medium =
       let bytes = start.bytes ++ byte ∷ [] in
@@ -306,10 +334,10 @@ module _ (place : Place) (deleted : Bool) (first : Transfer) (writes : first.opc
       by_busy between true is =
           let moving = moving_of first false false in
           let stage_now = ap (λ front. front.stage) is in
-          let speed = at_new place deleted first writes moving begun stage_now at in
-          let like : IsLike place place.disk = record { valid = speed.disk; words = refl } in
+          let placed = at_new place deleted first writes moving begun stage_now at in
+          let like : IsLike place place.disk = record { valid = placed.disk; words = refl } in
           to_moving place deleted first writes (nothing_moved false) moving begun stage_now refl
-          (record { disk = place.disk; like = like; parts = refl; sector = sector_begins place first place.disk begun speed medium like })
+          (record { disk = place.disk; like = like; parts = refl; sector = sector_begins place first place.disk begun placed medium like })
       by_busy between false is = absurd (stays (ap (λ front. front.stage) is))
 
       by_seek : (b : Bool) → StartsIf b first (record start { bytes = [] }) begun → IsNow (nothing_moved false) begun

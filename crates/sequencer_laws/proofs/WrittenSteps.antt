@@ -35,7 +35,7 @@ use Rattle.fdc_sequencer.specs.declared.transfer.Transfer.{Transfer}
 use Rattle.sequencer_laws.specs.Calls.{Call, Does, Grows, Steps}
 use Rattle.sequencer_laws.specs.Media.{IsClean, Place}
 use Rattle.sequencer_laws.specs.Serving.{AreMoved, History, IsMoved, IsTimeOf, MayMove, Part, Passes, PassesAt, Serves, ServesAt, StopsAtEnd, bytes_moved, history_ended, history_moved, history_sought, history_stepped, sector_after, sent_of}
-use Rattle.sequencer_laws.specs.Written.{AreWritten, HasWindow, IsAtSpeed, IsAtSpeedWhile}
+use Rattle.sequencer_laws.specs.Written.{AreWritten, HasWindow, IsOverCylinder, IsOverCylinderWhile}
 use Rattle.sequencer_laws.proofs.Called.{call_serves}
 use Rattle.sequencer_laws.proofs.Courses.{sector_more, sector_opcode}
 use Rattle.sequencer_laws.proofs.Known.{KnownOn, MarkGoes, polled_rate, time_counted, time_taken, which_drive}
@@ -175,15 +175,15 @@ module _ (place : Place) (deleted : Bool) (first : Transfer) (writes : first.opc
   pub to_telling : (history : History) (results : Results) (read : ℕ) (new : Front) → new.stage ≡ Telling results read → IsOver place deleted first history new.board → IsNow history new
   to_telling history results read new is over = subst (λ stage. NowWritten stage place deleted first history new.board) (sym is) over
 
-  pub at_new : (moving : MovingSector) (new : Front) → new.stage ≡ Moving moving → IsAtSpeedWhile new.stage place new → IsAtSpeed place new
-  at_new moving new is at = subst (λ stage. IsAtSpeedWhile stage place new) is at
+  pub at_new : (moving : MovingSector) (new : Front) → new.stage ≡ Moving moving → IsOverCylinderWhile new.stage place new → IsOverCylinder place new
+  at_new moving new is at = subst (λ stage. IsOverCylinderWhile stage place new) is at
 
   -- ---- a device step of a sector
 
   module _ (history : History) (moving : MovingSector) (old : Front) (between : BoardState) (new : Front) (now : Past) (disk : Disk) (like : IsLike place disk) (parts : AreWritten place deleted history.parts place.disk disk)
       (here : moving.transfer ≡ here_of first history) (may : MayWrite now (sent_of moving.transfer) deleted between.controller)
       (sector : IsAtSector place moving.transfer disk now (is_executing between.controller.phase) (drive_at between place.bay)) (stage_is : old.stage ≡ Moving moving) (same : moving.transfer.opcode.operation ≡ Write deleted)
-      (stays : new.stage ≡ Through → ⊥) (at : IsAtSpeedWhile new.stage place new) where
+      (stays : new.stage ≡ Through → ⊥) (at : IsOverCylinderWhile new.stage place new) where
     abbrev fronted : Front
     fronted = record old { board = between }
 
@@ -213,7 +213,7 @@ module _ (place : Place) (deleted : Bool) (first : Transfer) (writes : first.opc
       tells_now results is =
           let stage_now = ap (λ f. f.stage) is in
           let drive = ap (λ f. drive_at f.board place.bay) is in
-          let over = over_at new drive (subst (λ stage. IsAtSpeedWhile stage place new) stage_now at) in
+          let over = over_at new drive (subst (λ stage. IsOverCylinderWhile stage place new) stage_now at) in
           to_telling (record history { past = now }) results 0 new stage_now (record {
             disk = disk;
             now = over.now;
@@ -231,15 +231,15 @@ module _ (place : Place) (deleted : Bool) (first : Transfer) (writes : first.opc
           let next = moving_of (next_of moving.transfer) false passed_over in
           let then_history = history_ended true moving.transfer marked now history in
           let stage_now = ap (λ front. front.stage) is in
-          let at_speed = at_new next new stage_now at in
+          let placed = at_new next new stage_now at in
           let drive : drive_at new.board place.bay ≡ drive_at between place.bay = ap (λ front. drive_at front.board place.bay) is ∙ drives in
-          let over = over_at new drive at_speed.clean in
+          let over = over_at new drive placed.clean in
           let moved : IsMoved (Write deleted) part = subst (λ o. IsMoved o part) writes (last_moved first.opcode.operation first history.parts part serves.parts) in
           to_moving then_history next new stage_now (ap next_of here ∙ sym (sector_more first history.parts part)) (record {
             disk = over.now;
             like = over.like;
             parts = written_more place deleted history.parts part place.disk disk over.now parts (over.left.whole now.taken moved.field);
-            sector = sector_begins place (here_of first then_history) over.now new at_speed (ap (λ d. d.medium) drive ∙ over.medium) over.like;
+            sector = sector_begins place (here_of first then_history) over.now new placed (ap (λ d. d.medium) drive ∙ over.medium) over.like;
           })
 
       ends_if : (b marked : Bool) → Serves first (history_ended b moving.transfer marked now history) new → EndsIf b moving marked (record fronted { board = with_controller (given_up between.controller) between }) new
@@ -268,16 +268,16 @@ module _ (place : Place) (deleted : Bool) (first : Transfer) (writes : first.opc
     moves_now (Some ending) ended serves does = ends_now ending (mark_of between.controller) ended serves does
 
   moving_step : (history : History) (moving : MovingSector) (old new : Front) (step : StepsFront old new) → old.stage ≡ Moving moving → IsSizeCode first.key.n → AreMoved first.opcode.operation first history.parts
-      → ServesAt (Moving moving) first history old.board.controller → NowWritten (Moving moving) place deleted first history old.board → IsAtSpeed place old → (new.stage ≡ Through → ⊥) → IsAtSpeedWhile new.stage place new
+      → ServesAt (Moving moving) first history old.board.controller → NowWritten (Moving moving) place deleted first history old.board → IsOverCylinder place old → (new.stage ≡ Through → ⊥) → IsOverCylinderWhile new.stage place new
       → OneWritten place deleted first Steps history old new step
-  moving_step history moving old new step stage_is sized were (here, counts, carries) (there, underway) speed stays at =
+  moving_step history moving old new step stage_is sized were (here, counts, carries) (there, underway) placed stays at =
       let operation = first.opcode.operation in
       let between = step.between in
       let fdc = old.board.controller in
-      let works = bay_works place.bay old.board between speed.bay speed.selects step.steps in
+      let works = bay_works place.bay old.board between placed.bay placed.selects step.steps in
       let may : MayWrite history.past (sent_of moving.transfer) deleted fdc = subst (λ o. MayMove o history.past (sent_of moving.transfer) fdc) writes carries.moves in
       let timed = timed_in place moving.transfer deleted underway.disk history.past (drive_at old.board place.bay) (drive_at between place.bay) (polled fdc) between.controller fdc.asking fdc.fifo underway.like.valid
-      (polled_rate (fdc.poll_due && not (is_held fdc)) fdc ∙ speed.rate)
+      (polled_rate (fdc.poll_due && not (is_held fdc)) fdc ∙ placed.rate)
       (subst (λ a. IsAtSector place a underway.disk history.past true (drive_at old.board place.bay)) (sym there) underway.sector) fdc.phase carries.busy may works.writes in
       let now = after_time timed.time history.past in
       let known : KnownOn operation history.past (sent_of moving.transfer) (mark_of fdc) (λ _. Unit {0}) between.controller = record {
@@ -292,8 +292,8 @@ module _ (place : Place) (deleted : Bool) (first : Transfer) (writes : first.opc
       let same : moving.transfer.opcode.operation ≡ Write deleted = ap (λ opcode. opcode.operation) (ap (λ a. a.opcode) here ∙ sector_opcode (length history.parts) first) ∙ writes in
       let then_history = history_moved (ending_told between.controller) moving (mark_of between.controller) now history in
       let passed : PassesAt (selected_at old.board) (head_of moving.transfer.head_drive) timed.time old.board between =
-      bay_passes place.bay (head_of moving.transfer.head_drive) timed.time old.board between speed.bay speed.selects
-      (subst (λ r. IsTime timed.time r (head_of moving.transfer.head_drive) (drive_at old.board place.bay) (drive_at between place.bay)) (sym speed.rate) timed.is, timed.stops) in
+      bay_passes place.bay (head_of moving.transfer.head_drive) timed.time old.board between placed.bay placed.selects
+      (subst (λ r. IsTime timed.time r (head_of moving.transfer.head_drive) (drive_at old.board place.bay) (drive_at between place.bay)) (sym placed.rate) timed.is, timed.stops) in
       let on = known_moves first history.parts history.past history.counted moving sized were here counts old between new (λ _. Unit {0}) stage_is carries step.steps known follows in
       record {
         history = then_history;
@@ -309,7 +309,7 @@ module _ (place : Place) (deleted : Bool) (first : Transfer) (writes : first.opc
   -- ---- while the heads seek, and where results are told
 
   seeks_now : (b : Bool) (target : Transfer) (counted : Bool) (history : History) (old new : Front) → old.stage ≡ Seeking target counted → target ≡ first → history.parts ≡ [] → IsResting place place.disk old.board
-      → (new.stage ≡ Through → ⊥) → IsAtSpeedWhile new.stage place new → SeeksOn b target counted old new → IsNow (history_sought b counted history) new
+      → (new.stage ≡ Through → ⊥) → IsOverCylinderWhile new.stage place new → SeeksOn b target counted old new → IsNow (history_sought b counted history) new
   seeks_now false target counted history old new stage_is here none rests stays at does =
       subst (λ front. IsNow history front) (sym does) (subst (λ stage. NowWritten stage place deleted first history old.board) (sym stage_is) (here, none, rests))
   seeks_now true target counted history old new stage_is here none rests stays at begins = by_busy (is_executing begins.between.controller.phase) begins.begun
@@ -321,26 +321,26 @@ module _ (place : Place) (deleted : Bool) (first : Transfer) (writes : first.opc
           let then_history : History = record history { past = told_in counted new_past } in
           let moving = moving_of target counted false in
           let stage_now = ap (λ front. front.stage) is in
-          let speed = at_new moving new stage_now at in
+          let placed = at_new moving new stage_now at in
           let drive : drive_at new.board place.bay ≡ drive_at old.board place.bay =
           ap (λ front. drive_at front.board place.bay) is ∙ (told_drive counted place.bay begins.between ∙ same_drives place.bay old.board begins.between begins.takes.first begins.takes.second) in
-          let like : IsLike place place.disk = record { valid = speed.disk; words = refl } in
+          let like : IsLike place place.disk = record { valid = placed.disk; words = refl } in
           to_moving then_history moving new stage_now (here ∙ sym (ap (λ p. sector_after (length p) first) none)) (record {
             disk = place.disk;
             like = like;
             parts = subst (λ p. AreWritten place deleted p place.disk place.disk) (sym none) refl;
             sector = sector_told place (here_of first then_history) place.disk new_past true (drive_at new.board place.bay) counted
-                (sector_begins place (here_of first then_history) place.disk new speed (ap (λ d. d.medium) drive ∙ rests.medium) like);
+                (sector_begins place (here_of first then_history) place.disk new placed (ap (λ d. d.medium) drive ∙ rests.medium) like);
           })
 
   pub over_rests : (history : History) (old new : BoardState) (over : IsOver place deleted first history old) → IsResting place over.now new → IsOver place deleted first history new
   over_rests history old new over rests = record { disk = over.disk; now = over.now; parts = over.parts; left = over.left; rests = rests }
 
   pub step_writes : (stage : Stage) (history : History) (old new : Front) (step : StepsFront old new) → old.stage ≡ stage → Serves first history old → NowWritten stage place deleted first history old.board
-      → IsAtSpeedWhile stage place old → (new.stage ≡ Through → ⊥) → IsAtSpeedWhile new.stage place new → OneWritten place deleted first Steps history old new step
-  step_writes Through history old new step stage_is serves now speed stays at = absurd now
-  step_writes (Collecting opcode) history old new step stage_is serves now speed stays at = absurd now
-  step_writes (Seeking target counted) history old new step stage_is serves (here, none, rests) speed stays at =
+      → IsOverCylinderWhile stage place old → (new.stage ≡ Through → ⊥) → IsOverCylinderWhile new.stage place new → OneWritten place deleted first Steps history old new step
+  step_writes Through history old new step stage_is serves now placed stays at = absurd now
+  step_writes (Collecting opcode) history old new step stage_is serves now placed stays at = absurd now
+  step_writes (Seeking target counted) history old new step stage_is serves (here, none, rests) placed stays at =
       let one = call_serves Steps first history old new step stays serves in
       let (time, passes, is) = one.grows in
       let grown : one.history ≡ history_sought (has_ended_seek step.between.controller.seeks) counted history = subst (λ stage. one.history ≡ history_stepped stage time step.between.controller history) stage_is is in
@@ -353,9 +353,9 @@ module _ (place : Place) (deleted : Bool) (first : Transfer) (writes : first.opc
             (step_rests place place.disk old.board step.between step.steps rests) stays at
             (subst (λ stage. FollowsStep stage (record old { board = step.between }) new) stage_is step.follows));
       }
-  step_writes (Moving moving) history old new step stage_is serves now speed stays at =
-      moving_step history moving old new step stage_is serves.sized serves.parts (subst (λ stage. ServesAt stage first history old.board.controller) stage_is serves.now) now speed stays at
-  step_writes (Telling results read) history old new step stage_is serves over speed stays at =
+  step_writes (Moving moving) history old new step stage_is serves now placed stays at =
+      moving_step history moving old new step stage_is serves.sized serves.parts (subst (λ stage. ServesAt stage first history old.board.controller) stage_is serves.now) now placed stays at
+  step_writes (Telling results read) history old new step stage_is serves over placed stays at =
       let one = call_serves Steps first history old new step stays serves in
       let (time, passes, is) = one.grows in
       let grown : one.history ≡ history = subst (λ stage. one.history ≡ history_stepped stage time step.between.controller history) stage_is is in

@@ -22,23 +22,22 @@ use Rattle.sequencer_laws.specs.Serving.{History, Part, sector_after}
 
 -- ---- the run
 
--- DOR selects the bay, and its drive is at speed with the heads over the cylinder; what stands on the medium may have changed
-pub record IsAtSpeed (place : Place) (front : Front) : Type 0 where
+-- DOR selects the bay, and its motor is on, whatever its speed, with the heads over the cylinder; the medium may have changed
+pub record IsOverCylinder (place : Place) (front : Front) : Type 0 where
   pub bay : place.bay ≤ 1
   pub disk : IsDisk place.disk
   pub selects : selected_at front.board ≡ place.bay
   pub rate : front.board.controller.rate ≡ place.rate
   pub cylinder : (drive_at front.board place.bay).cylinder ≡ place.cylinder
   pub motor : (drive_at front.board place.bay).motor ≡ true
-  pub speed : 6250 ≤ (drive_at front.board place.bay).spin
   pub inside : (drive_at front.board place.bay).place < place.disk.words_per_track
   pub clean : IsClean place front
 
 -- while a sector is moved; and no word was lost of the last one
-abbrev pub IsAtSpeedWhile : Stage → Place → Front → Type 0
-IsAtSpeedWhile (Moving moving) place front = IsAtSpeed place front
-IsAtSpeedWhile (Telling results read) place front = IsClean place front
-IsAtSpeedWhile _ place front = Unit {0}
+abbrev pub IsOverCylinderWhile : Stage → Place → Front → Type 0
+IsOverCylinderWhile (Moving moving) place front = IsOverCylinder place front
+IsOverCylinderWhile (Telling results read) place front = IsClean place front
+IsOverCylinderWhile _ place front = Unit {0}
 
 -- a drive keeps its medium, where it is, and its gate; no fault is taken back
 pub record StaysPut (old new : DriveState) : Type 0 where
@@ -48,16 +47,25 @@ pub record StaysPut (old new : DriveState) : Type 0 where
   pub cut : new.cut ≡ old.cut
   pub never_falls : old.faults ≤ new.faults
 
--- so does this one where another medium is put in or taken out
-abbrev pub LeavesPut : Call → DriveState → DriveState → Type 0
-LeavesPut Changes old new = StaysPut old new
-LeavesPut _ old new = Unit {0}
+-- it stays at speed where it was
+abbrev pub KeepsSpeed : DriveState → DriveState → Type 0
+KeepsSpeed old new = 6250 ≤ old.spin → 6250 ≤ new.spin
+
+-- so it does while a sector is moved
+abbrev pub KeepsSpeedWhile : Stage → DriveState → DriveState → Type 0
+KeepsSpeedWhile (Moving moving) old new = KeepsSpeed old new
+KeepsSpeedWhile _ old new = Unit {0}
+
+-- this drive does all that where another medium is put in or taken out
+abbrev pub LeavesPut : Stage → Call → DriveState → DriveState → Type 0
+LeavesPut stage Changes old new = StaysPut old new × KeepsSpeedWhile stage old new
+LeavesPut stage _ old new = Unit {0}
 
 -- the medium stays in through all calls
 abbrev pub KeepsIn : Place → (calls : List Call) (old new : Front) → AreWithin calls old new → Type 0
-KeepsIn place [] old new same = IsAtSpeedWhile old.stage place old
+KeepsIn place [] old new same = IsOverCylinderWhile old.stage place old
 KeepsIn place (call ∷ calls) old new within =
-    IsAtSpeedWhile old.stage place old × LeavesPut call (drive_at old.board place.bay) (drive_at within.0.board place.bay)
+    IsOverCylinderWhile old.stage place old × LeavesPut old.stage call (drive_at old.board place.bay) (drive_at within.0.board place.bay)
     × KeepsIn place calls within.0 new within.3
 
 -- ---- what it leaves
