@@ -69,6 +69,14 @@ abbrev with_memory : Board → (memory : List ℕ) → (direct : ℕ) → (fresh
 with_memory old memory direct fresh =
     record old { bus = record old.bus { chips = record old.bus.chips { memory = memory }; direct = direct; fresh = fresh } }
 
+none_in : (top address : ℕ) → min 0 (top - address) ≡ 0
+none_in top address = omega arith
+
+-- no byte was set
+pub rest_none : (address : ℕ) (old : Board) → CountsBytes address 0 old old
+rest_none address old =
+    ap (λ (n : ℕ). with_memory old (memory_of old) (iterate counted n old.bus.direct) old.bus.fresh) (sym (none_in user_bytes address))
+
 -- another byte is set in memory: it counts, and all else stays
 pub rest_more : (address i value : ℕ) (old now : Board) → CountsBytes address i old now
     → CountsBytes address (i + 1) old (record now { bus = byte_set (address + i) value now.bus })

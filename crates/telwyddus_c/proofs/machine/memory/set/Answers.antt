@@ -1,11 +1,11 @@
 use Rattle.std.proofs.Common.{◌≡◌, ◌+◌, ◌<◌, length, refl, sym, ap, subst, arith}
 use Rattle.pc_bus.specs.Boards.{Board, memory_of}
 use Rattle.telwyddus_c.specs.Machines.{CountsBytes, board_of}
-use Rattle.telwyddus_c.proofs.Copies.{stored_more, rest_more}
+use Rattle.telwyddus_c.proofs.Copies.{stored_more, rest_more, rest_none}
 use Rattle.telwyddus_c.proofs.machine.memory.set.Goals as goal
 
 pub loop-i-init : goal.loop-i-init
-loop-i-init c = (record { inside = λ k none. absurd (omega (arith, none)); outside = λ k _. refl }, refl)
+loop-i-init c = (record { inside = λ k none. absurd (omega (arith, none)); outside = λ k _. refl }, rest_none c.args.address (board_of c.args.machine.now))
 
 pub loop-i-preserved : goal.loop-i-preserved
 loop-i-preserved c =
