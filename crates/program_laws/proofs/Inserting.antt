@@ -1,6 +1,6 @@
 -- What stands in the bays and under their names in a run: the files of disks stay the files of disks.
 use Rattle.std.proofs.Common.{◌≡◌, ◌∙◌, ◌≤◌, ℕ, Bool, true, false, true≢false, cond, List, [], ◌∷◌, length, Option, Some, None, Ok, refl, ap, sym, subst, inl}
-use Rattle.std.specs.Prelude.{◌==◌, is_some, IsSomeAnd, MatchOption, if◌then◌else◌}
+use Rattle.std.specs.Prelude.{◌==◌, ◌&&◌, not, is_some, IsSomeAnd, MatchOption, if◌then◌else◌}
 use Rattle.std.specs.Ordering.{nat_cmp, eq_by_cmp}
 use Rattle.std.proofs.lemmas.Cmp.{eq_by_cmp_equiv}
 use Rattle.std.specs.Cmp.Lexicographic.{slice_cmp, nat_list_cmp_total}
@@ -161,10 +161,11 @@ pub record IsKept (Holds : List ℕ → Type 0) (names : Names) (state : State) 
 
 -- by the order of refusals: a medium goes in, or nothing changes
 pub choose : {P : Type 0} {Q : Reason → Type 0} (F : Names → Type 0) (names put : Names) (good loaded : Bool)
-    → MatchOption (unless_bad good (if loaded then Some reason.Busy else None)) P Q → (good ≡ true → P → F put) → ((cause : Reason) → Q cause → F names)
+    → MatchOption (unless_bad good (if loaded then Some reason.Busy else None)) P Q → (good ≡ true → loaded ≡ false → P → F put)
+    → ((cause : Reason) → Q cause → F names)
     → F (if good then (if loaded then names else put) else names)
 choose F names put true true holds done refused = refused reason.Busy holds
-choose F names put true false holds done refused = done refl holds
+choose F names put true false holds done refused = done refl refl holds
 choose F names put false loaded holds done refused = refused (reason.Driver code.BadRequest) holds
 
 -- or one comes out
@@ -174,6 +175,15 @@ pub choose_out : {P : Type 0} {Q : Reason → Type 0} (F : Names → Type 0) (na
 choose_out F names put true true holds done refused = done holds
 choose_out F names put true false holds done refused = refused reason.Empty (λ a b. true≢false (sym b)) holds
 choose_out F names put false loaded holds done refused = refused (reason.Driver code.BadRequest) (λ a b. true≢false (sym a)) holds
+
+-- a medium that isn't refused goes into a free bay
+pub goes_in : (good loaded : Bool) → unless_bad good (if loaded then Some reason.Busy else None) ≡ None → (good && not loaded) ≡ true
+goes_in true true e = absurd (cc e)
+goes_in true false e = refl
+goes_in false loaded e = absurd (cc e)
+
+pub both_free : (good loaded : Bool) → good ≡ true → loaded ≡ false → (good && not loaded) ≡ true
+both_free good loaded e f = rw (e, f) refl
 
 pub not_loaded : (good loaded : Bool) (next : Option Reason) → unless_bad good (if loaded then Some reason.Busy else next) ≡ None → loaded ≡ false
 not_loaded true true next e = absurd (cc e)

@@ -94,8 +94,8 @@ pub fn further_rescue_status(_from: &str, _to: &str, _log: &str)
         → EndsByReplies (has_refusal ran.runs.runs.course) old new ended }
 {}
 
-/// A law: so does `play JOB`, where JOB is a job of at most 4,194,304 bytes, and each file that it inserts is the file of a disk, or was
-/// stored by one of its ejects before.
+/// A law: so does `play JOB`, where JOB is a job of at most 4,194,304 bytes, and each file that it inserts, where the insert doesn't have
+/// to be refused, is the file of a disk, or was stored by one of its ejects before.
 pub fn play_status(_job: &str)
     ensures { (spares : List DriveCounts) (old new : Stand) (ended : Status) (files : Files) (text : List ℕ) (requests : List Request)
         → old.desk.desk.files ≡ Some files → IsText (Some files) _job.now text → job_of text ≡ Ok requests
@@ -104,8 +104,8 @@ pub fn play_status(_job: &str)
         → EndsByReplies (has_refusal ran.runs.runs.course) old new ended }
 {}
 
-/// A law: `int13 FILE`, where FILE is a text of calls of at most 4,194,304 bytes, and each file that its requests insert is the file of a
-/// disk, or was stored by one of their ejects before, ends with status 0 or 1, and then has answered its calls, with status 1 where
+/// A law: `int13 FILE`, where FILE is a text of calls of at most 4,194,304 bytes, and each file that its requests insert, where that
+/// doesn't have to be refused, is the file of a disk, or was stored by one of their ejects before, ends with status 0 or 1, and then has answered its calls, with status 1 where
 /// something counts as a refusal, unless memory couldn't be had, or the shelf or the sink failed, and counted it.
 pub fn int13_status(_file: &str)
     ensures { (spares : List DriveCounts) (old new : Stand) (ended : Status) (files : Files) (text : List ℕ) (lines : List CallLine)
