@@ -21,6 +21,7 @@ mod Protected
 mod ProtectedCalls
 mod ProtectedJobs
 mod PlayStatus
+mod PortStatus
 mod CallStatus
 mod RescueAgain
 pub mod Telling

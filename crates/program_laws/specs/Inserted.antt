@@ -8,6 +8,8 @@ use Rattle.floppy_requests.specs.declared.request.Request.{Request}
 use Rattle.floppy_requests.specs.declared.request.Request.TheVariants as request
 use Rattle.floppy_jobs.specs.declared.calls.CallLine.{CallLine}
 use Rattle.floppy_jobs.specs.declared.calls.CallLine.TheVariants as call
+use Rattle.floppy_jobs.specs.declared.ports.PortLine.{PortLine}
+use Rattle.floppy_jobs.specs.declared.ports.PortLine.TheVariants as port
 use Rattle.sector_model.specs.Orders.{is_bay}
 use Rattle.sector_model.specs.Steps.{is_blank_request, most_image_bytes}
 
@@ -63,3 +65,13 @@ abbrev pub requests_among : List CallLine → List Request
 requests_among [] = []
 requests_among (call.Job asked ∷ later) = asked ∷ requests_among later
 requests_among (call.Call ax bx cx dx es ∷ later) = requests_among later
+
+-- the requests among lines of port accesses: media that are put in, and that are taken out
+abbrev pub media_among : List PortLine → List Request
+media_among [] = []
+media_among (port.In number ∷ later) = media_among later
+media_among (port.Out number value ∷ later) = media_among later
+media_among (port.Wait steps ∷ later) = media_among later
+media_among (port.Irq ∷ later) = media_among later
+media_among (port.Insert bay name ∷ later) = request.Insert bay name ∷ media_among later
+media_among (port.Eject bay ∷ later) = request.Eject bay ∷ media_among later
