@@ -9,6 +9,7 @@ ghost use Rattle.sector_model.specs.Runs.{has_refusal};
 ghost use Rattle.sector_model.specs.Steps.{IsImageOf};
 ghost use Rattle.flat_commands.specs.FlatFiles.{IsFlatFile};
 ghost use Rattle.floppy_words.specs.declared.form.Form.TheVariants as form;
+ghost use Rattle.floppy_forms.specs.Rounds.{world};
 ghost use Rattle.floppy_tools.specs.Performed.{Stand, RanOver};
 ghost use Rattle.flop_base.specs.Bays.{both};
 ghost use Rattle.flop_base.specs.Standard.{sectors_at};
@@ -111,6 +112,7 @@ pub fn int13_status(_file: &str)
     ensures { (spares : List DriveCounts) (old new : Stand) (ended : Status) (files : Files) (text : List ℕ) (lines : List CallLine)
         → old.desk.desk.files ≡ Some files → IsText (Some files) _file.now text → calls_of text ≡ Ok lines
         → InsertsDisks (IsDiskFile (Some files)) (both None) (requests_among lines)
-        → RanOver (Some (form.Int13 _file.now)) spares old new ended
-        → EndsAnswered (AnswersCalls _file.now old.desk.desk new.desk.desk ended) old new ended }
+        → (ran : RanOver (Some (form.Int13 _file.now)) spares old new ended)
+        → EndsAnswered (AnswersCalls _file.now (world ran.runs.start old.desk.desk.files old.desk.desk.report) ran.runs.runs.course
+        (world ran.runs.last new.desk.desk.files new.desk.desk.report) ended) old new ended }
 {}
