@@ -14,6 +14,7 @@ pub mod Plays
 mod Replies
 mod RescueStatus
 mod Rescues
+mod JobSettled
 mod Stepping
 mod Inserting
 mod KeptSteps

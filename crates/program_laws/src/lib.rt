@@ -12,6 +12,7 @@ mod guarded;
 mod play;
 mod ports;
 mod rescued;
+mod settled;
 mod status;
 mod steps;
 mod verify;
@@ -34,6 +35,7 @@ pub use rescued::{
     further_rescue_settles_each_record, new_rescue_settles_each_record, rescue_logs_the_rest,
     rescue_stores_in_order,
 };
+pub use settled::job_answers_are_settled;
 pub use status::{
     copy_status, exercise_status, export_status, format_status, formatdd_status,
     further_rescue_status, import_status, int13_status, new_rescue_status, play_status,
