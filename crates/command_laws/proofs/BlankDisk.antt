@@ -11,6 +11,7 @@ use Rattle.sector_map.specs.Met.{unrecorded}
 use Rattle.sector_map.specs.MetTracks.{HasNothing}
 use Rattle.sector_map.proofs.MetTracks.{nothing_unrecorded}
 use Rattle.sector_model.specs.Steps.{blank_of}
+use Rattle.command_laws.specs.Rescued.{HasLaidFields}
 
 -- a track with nothing recorded is regular
 none_regular : (track : List ℕ) (c h : ℕ) → HasNothing track → IsRegular track c h
@@ -42,10 +43,17 @@ some_zeroes w m =
       | inr enough ↦ (w, take-replicate w m 0 (omega arith))
     ]
 
-pub blank_regular : (count : ℕ) (rate : Rate) → IsRegularDisk (blank_of count rate)
-blank_regular count rate c h has =
+blank_nothing : (count : ℕ) (rate : Rate) (c h : ℕ) → HasNothing (track_of (blank_of count rate) c h)
+blank_nothing count rate c h =
     let words = count * 2 * words_at rate in
     let start = (c * 2 + h) * words_at rate in
     let row = some_zeroes (words_at rate) (words - start) in
     let is : track_of (blank_of count rate) c h ≡ unrecorded row.0 = ap (λ (rest : List ℕ). take (words_at rate) rest) (drop-replicate start words 0) ∙ row.1 in
-    subst (λ (track : List ℕ). IsRegular track c h) (sym is) (none_regular (unrecorded row.0) c h (nothing_unrecorded row.0))
+    subst HasNothing (sym is) (nothing_unrecorded row.0)
+
+pub blank_regular : (count : ℕ) (rate : Rate) → IsRegularDisk (blank_of count rate)
+blank_regular count rate c h has = none_regular (track_of (blank_of count rate) c h) c h (blank_nothing count rate c h)
+
+-- it has no address field
+pub blank_fields : (count : ℕ) (rate : Rate) → HasLaidFields (blank_of count rate)
+blank_fields count rate c h p key has address = absurd ((blank_nothing count rate c h).addresses p key address)

@@ -136,6 +136,7 @@ same_sectors : (disk : Disk) (to : List ℕ) (old new : Counters) (course : List
     → StoresCopy disk to old told course new after → StoresSameSectors disk to told after
 same_sectors disk to old new course told after sure stores = record {
   copied = stores.copied;
+  protected = stores.protected;
   regular = stores.regular;
   cylinders = stores.cylinders;
   rate = stores.rate;

@@ -1,5 +1,6 @@
 -- Parts of a rescue that went on to its end: requests that were done, and records that were read, and written where they were read.
 use Rattle.std.proofs.Common.{arith, ◌≡◌, ◌∙◌, Bool, true, false, true≢false, List, [], ◌∷◌, ◌++◌, refl, sym, ap, subst, inl, inr, append-nil, append_assoc, Option, Result, Ok, Err, ◌+◌, ℕ, length, ap₂}
+use Rattle.std.specs.List.{AllByRecursion}
 use Rattle.flop_base.specs.Shelf.{Files}
 use Rattle.flop_base.specs.declared.key.Chrn.{Chrn}
 use Rattle.flop_base.specs.declared.answers.Code.{Code}
@@ -21,7 +22,7 @@ use Rattle.sector_model.specs.Texts.{is_refusal}
 use Rattle.sector_model.specs.Runs.{Taken}
 use Rattle.sector_model.specs.Plays.{World}
 use Rattle.sector_model.specs.declared.reply.Reply.TheVariants as reply
-use Rattle.sector_model.specs.Orders.{read_refusal}
+use Rattle.sector_model.specs.Orders.{read_refusal, IsDeviceRefusal}
 use Rattle.sector_model.specs.Stations.{StationState}
 use Rattle.scripts.specs.Scripts.{Script, RunsScript}
 use Rattle.scripts.specs.Parts.{carries, may_starve, through}
@@ -168,17 +169,17 @@ pub data FollowRun (key : Chrn) (called : Result Bool Code) (lines : List LogLin
     (new : World) (ended : Status) : Type 0 where
   Writes : (deleted : Bool) → called ≡ Ok deleted → RunsScript (carries (write_of key deleted) (λ none. rest lines)) old course new ended
       → FollowRun key called lines rest old course new ended
-  Logs : (cause : Code) → called ≡ Err cause → RunsScript (rest (lines ++ (record { key = key; code = cause }) ∷ [])) old course new ended
+  Logs : (cause : Code) → called ≡ Err cause → IsDeviceRefusal cause → RunsScript (rest (lines ++ (record { key = key; code = cause }) ∷ [])) old course new ended
       → FollowRun key called lines rest old course new ended
   GivesUp : (cause : Code) → called ≡ Err cause → course ≡ [] → new.files ≡ old.files → FollowRun key called lines rest old course new ended
   Starves : new.files ≡ old.files → ended ≡ status.NoMemory → FollowRun key called lines rest old course new ended
 
 module _ (key : Chrn) (lines : List LogLine) (rest : List LogLine → Script) (old : World) (course : List Taken) (new : World) (ended : Status) where
-  logs : (cause : Code) → RunsScript (may_starve (λ none. rest (lines ++ (record { key = key; code = cause }) ∷ []))) old course new ended
+  logs : (cause : Code) → IsDeviceRefusal cause → RunsScript (may_starve (λ none. rest (lines ++ (record { key = key; code = cause }) ∷ []))) old course new ended
       → FollowRun key (Err cause) lines rest old course new ended
   unfolding may_starve
-  logs cause (inl runs) = Logs cause refl runs
-  logs cause (inr none) = Starves (ap (λ (w : World). w.files) none.1) none.2
+  logs cause device (inl runs) = Logs cause refl device runs
+  logs cause device (inr none) = Starves (ap (λ (w : World). w.files) none.1) none.2
 
   gives : (cause : Code) → RunsScript (gives_up key (reason.Driver cause)) old course new ended → FollowRun key (Err cause) lines rest old course new ended
   gives cause runs = let last = last_run _ _ old course new ended runs in GivesUp cause refl last.0 last.1.files
@@ -188,11 +189,11 @@ module _ (key : Chrn) (lines : List LogLine) (rest : List LogLine → Script) (o
   unfolding follows does_next
   follow_run (Ok true) runs = Writes true refl runs
   follow_run (Ok false) runs = Writes false refl runs
-  follow_run (Err code.NoMark) runs = logs code.NoMark runs
-  follow_run (Err code.NotFound) runs = logs code.NotFound runs
-  follow_run (Err code.Overrun) runs = logs code.Overrun runs
-  follow_run (Err code.BadCrc) runs = logs code.BadCrc runs
-  follow_run (Err code.Seek) runs = logs code.Seek runs
+  follow_run (Err code.NoMark) runs = logs code.NoMark tt runs
+  follow_run (Err code.NotFound) runs = logs code.NotFound tt runs
+  follow_run (Err code.Overrun) runs = logs code.Overrun tt runs
+  follow_run (Err code.BadCrc) runs = logs code.BadCrc tt runs
+  follow_run (Err code.Seek) runs = logs code.Seek tt runs
   follow_run (Err code.BadRequest) runs = gives code.BadRequest runs
   follow_run (Err code.Protected) runs = gives code.Protected runs
   follow_run (Err code.Changed) runs = gives code.Changed runs
@@ -262,9 +263,14 @@ abbrev pub behind_step : {asked : Request} {rest : Reply → State → Script} {
     → IsAnswered asked rest old course new ended → World
 behind_step {old = old} run = with_report run.taken.after run.files old.report
 
+-- each line has a refusal of the drive
+abbrev pub AreRefusals : List LogLine → Type 0
+AreRefusals lines = AllByRecursion (λ (line : LogLine). IsDeviceRefusal line.code) lines
+
 -- the records were gone through, and the log is what it was, with their lines
 abbrev pub RescuesKeys : List Chrn → List LogLine → Known (List LogLine)
-RescuesKeys keys lines old course found mid = GoesKeys keys old course mid × (found ≡ lines ++ log_of course) × (mid.report ≡ old.report)
+RescuesKeys keys lines old course found mid =
+    GoesKeys keys old course mid × (found ≡ lines ++ log_of course) × (mid.report ≡ old.report) × AreRefusals (log_of course)
 
 module _ (rest : List LogLine → Script) (new : World) (ended : Status) (whole : IsEndStatus ended) where
   -- how the keys behind the first one go on
@@ -304,15 +310,16 @@ module _ (rest : List LogLine → Script) (new : World) (ended : Status) (whole 
             (Ok deleted, run.files, is, (write.files, record { asked = write.asked_is; done = one.fine; step = write.step }, all.knows.0)),
             all.knows.1 ∙ ap (λ (row : List LogLine). lines ++ row) same,
             all.knows.2,
+            subst AreRefusals same all.knows.3,
           );
           left = all.left;
         }
 
     -- its line came behind the log
-    logged : (run : Run) (cause : Code) → IsRead key (Err cause) old run.taken run.files → IsNotStopped run.later
+    logged : (run : Run) (cause : Code) → IsDeviceRefusal cause → IsRead key (Err cause) old run.taken run.files → IsNotStopped run.later
         → RunsScript (Rest (lines ++ (record { key = key; code = cause }) ∷ [])) (behind_step run) run.later new ended
         → Passed (RescuesKeys (key ∷ keys) lines) rest old course new ended
-    logged run cause is later runs =
+    logged run cause device is later runs =
         let line : LogLine = record { key = key; code = cause } in
         let all = next (lines ++ line ∷ []) (behind_step run) run.later later runs in
         let here = line_of_refused key cause run.taken is.asked is.answered in
@@ -326,6 +333,7 @@ module _ (rest : List LogLine → Script) (new : World) (ended : Status) (whole 
             (Err cause, run.files, is, all.knows.0),
             all.knows.1 ∙ append_assoc lines (line ∷ []) (log_of all.one) ∙ ap (λ (row : List LogLine). lines ++ (row ++ log_of all.one)) (sym here),
             all.knows.2,
+            subst (λ (row : List LogLine). AreRefusals (row ++ log_of all.one)) (sym here) (device, all.knows.3),
           );
           left = all.left;
         }
@@ -335,8 +343,8 @@ module _ (rest : List LogLine → Script) (new : World) (ended : Status) (whole 
         → IsNotStopped run.later → Passed (RescuesKeys (key ∷ keys) lines) rest old course new ended
     by_next run called is (Writes deleted same runs) later =
         wrote run deleted (subst (λ (c : Result Bool Code). IsRead key c old run.taken run.files) same is) later runs
-    by_next run called is (Logs cause same runs) later =
-        logged run cause (subst (λ (c : Result Bool Code). IsRead key c old run.taken run.files) same is) later runs
+    by_next run called is (Logs cause same device runs) later =
+        logged run cause device (subst (λ (c : Result Bool Code). IsRead key c old run.taken run.files) same is) later runs
     by_next run called is (GivesUp cause same nothing stays) later =
         absurd (true≢false (sym (ap is_refusal (is.answered ∙ ap read_reply same))
         ∙ fine [] run.taken (run.course_is ∙ ap (λ (row : List Taken). run.taken ∷ row) nothing)))
@@ -353,7 +361,7 @@ pub keys_gone : (keys : List Chrn) (lines : List LogLine) (rest : List LogLine �
     → IsEndStatus ended → IsNotStopped course → RunsScript (through rescues keys lines rest) old course new ended
     → Passed (RescuesKeys keys lines) rest old course new ended
 unfolding through rescues
-keys_gone [] lines rest old course new ended whole fine runs = at_once lines runs ((refl, refl), sym (append-nil lines), refl)
+keys_gone [] lines rest old course new ended whole fine runs = at_once lines runs ((refl, refl), sym (append-nil lines), refl, tt)
 keys_gone (key ∷ keys) lines rest old course new ended whole fine runs =
     let follow = λ (answer : Reply) (after : State). follows key answer lines (λ now. through rescues keys now rest) in
     by_read rest new ended whole key keys (λ more now later sound next. keys_gone keys more rest now later new ended whole sound next) lines old course fine

@@ -37,6 +37,8 @@ mod Gone
 pub mod RescueRecords
 mod Telling
 mod RescueGiven
+mod RescueLog
+pub mod StoredFiles
 mod RescueOpening
 pub mod Whole
 mod RescueSteps

@@ -171,7 +171,7 @@ module _ (to log : List ℕ) where
               behind run lines lines run.step.0.files (no_line lines run.taken fine)
               (call_in_order (write_of key deleted) (λ from then told after answer step. (write_does key deleted from then told after answer step).0) lines
               (rest lines) (next lines) (behind_step run) run.later new ended named_then more)
-          by_next called answered (Logs cause is more) =
+          by_next called answered (Logs cause is device more) =
               let line = line_of_refused key cause run.taken run.asked_is (answered ∙ ap read_reply is) in
               let now = lines ++ (record { key = key; code = cause }) ∷ [] in
               behind run lines now run.step.0.files (ap (λ (row : List LogLine). lines ++ row) line)

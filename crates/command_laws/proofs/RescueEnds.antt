@@ -43,7 +43,7 @@ use Rattle.command_laws.proofs.SectorRequests.{AnyDisk, has_data, made_ready, bl
 use Rattle.command_laws.proofs.CommandEnds.{IsCopying, fresh_memory}
 use Rattle.command_laws.proofs.RescueOpening.{opening, formats_carried, begins_new}
 use Rattle.command_laws.proofs.RescueRecords.{all_standard}
-use Rattle.command_laws.proofs.Whole.{GoesThrough, fell_opened, goes_through, saves_same}
+use Rattle.command_laws.proofs.Whole.{GoesThrough, new_diskette, fell_opened, goes_through, saves_same}
 use Rattle.command_laws.proofs.RescueSteps.{IsSaving, StandsOnBoth, HasRecordsBut, formats_go, records_go, unstopped, none_found}
 
 -- ---- The script.
@@ -153,21 +153,25 @@ module _ (from to log : List ℕ) (old new : World) (course : List Taken) (files
       let second = faultless.second in
       let begun = begins_new from to disk files old.state p.opened.state p.opened.files p.top image p.opens (fresh_memory old.state.station begins.fresh)
       (omega (arith, fell.second, second.0), omega (arith, fell.second, second.1)) in
-      let saves = saves_same from to log disk None files old course new status.AllOk there image p begun.0 differ begun.1 (inl begun.2)
-      faultless.first second readable.regular fine in
+      let saves = saves_same from to log disk None files old course new status.AllOk there image p disk begun.0 differ begun.1
+      (new_diskette disk disk begun.0 begun.2) (inl begun.2.laid) faultless.first second readable.regular fine in
       let keys = standard_keys disk.rate disk.cylinders disk.heads in
       record {
         between = stored (Some files) to (file_of saves.final);
         disk_stored = record {
           copied = saves.final;
+          protected = saves.shape.protected;
           regular = saves.regular;
-          cylinders = saves.cylinders ∙ begun.3.0;
-          rate = saves.rate ∙ begun.3.1;
+          cylinders = saves.shape.cylinders;
+          rate = saves.shape.rate;
           sectors = each_standard (HaveSameSector disk saves.final) disk (recursion_from_All (HaveSameSector disk saves.final) keys saves.sectors);
           files = refl;
         };
+        valid = saves.valid;
+        laid = saves.laid;
         log_stored = saves.files_are;
         disk_there = saves.disk_there;
+        image = saves.stands saves.valid;
         log_there = saves.log_there;
       }
 

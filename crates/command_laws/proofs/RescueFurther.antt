@@ -42,7 +42,7 @@ use Rattle.command_laws.proofs.SectorRequests.{has_data}
 use Rattle.command_laws.proofs.CommandEnds.{fresh_memory}
 use Rattle.command_laws.proofs.RescueOpening.{opening, begins_again}
 use Rattle.command_laws.proofs.RescueRecords.{IsAsked, asked_all}
-use Rattle.command_laws.proofs.Whole.{GoesThrough, goes_through, saves_same}
+use Rattle.command_laws.proofs.Whole.{GoesThrough, same_diskette, goes_through, saves_same}
 use Rattle.command_laws.proofs.RescueSteps.{StandsOnBoth, records_go, unstopped, none_found}
 
 -- ---- The script.
@@ -84,10 +84,10 @@ module _ (disk : Disk) (key : Chrn) (regular : IsRegularDisk disk) (there : HasK
             })) (key_is key size) on_track,
       )
 
-asked_stand : (disk target : Disk) (heads : ℕ) (keys : List Chrn) → IsRegularDisk disk → IsRegularDisk target → AllByRecursion (IsAsked disk heads) keys
+asked_stand : (disk target : Disk) (keys : List Chrn) → IsRegularDisk disk → IsRegularDisk target → AllByRecursion (IsAsked disk) keys
     → AllByRecursion (HasKey disk) keys → AllByRecursion (HasKey target) keys → AllByRecursion (StandsOnBoth disk target) keys
-asked_stand disk target heads [] regular other asked has takes = tt
-asked_stand disk target heads (key ∷ keys) regular other asked has takes = (
+asked_stand disk target [] regular other asked has takes = tt
+asked_stand disk target (key ∷ keys) regular other asked has takes = (
   record {
     size = asked.0.size;
     track = (on_track disk key regular has.0).track;
@@ -95,7 +95,7 @@ asked_stand disk target heads (key ∷ keys) regular other asked has takes = (
     field = has_data disk key has.0.0 regular has.0.1 has.0.2;
     other = some_there target key other takes.0 asked.0.size;
   },
-  asked_stand disk target heads keys regular other asked.1 has.1 takes.1,
+  asked_stand disk target keys regular other asked.1 has.1 takes.1,
 )
 
 -- the script is no last line
@@ -133,7 +133,7 @@ module _ (disk target : Disk) (files : Files) (to log : List ℕ) (lines : List 
   unfolding rescue_found rescues_all may_starve prepares prepares_old acknowledges_both
   further_goes old put =
       let keys = logged_keys lines in
-      let all = asked_stand disk target 2 keys regular takes.regular (asked_all disk files log (Some lines) few_cylinders few_heads there)
+      let all = asked_stand disk target keys regular takes.regular (asked_all disk files log (Some lines) few_cylinders few_heads there)
       (recursion_from_All (HasKey disk) keys has) (recursion_from_All (HasKey target) keys takes.sectors) in
       let rest = through rescues keys [] (λ lines. carries (request.Eject 1) (λ still. stores_log log (length keys) lines)) in
       goes_carries (λ new. IsPutBehind target old new) (request.Insert 1 to) _ old (second_done to files target old other put.empty put.files_are)
@@ -164,17 +164,21 @@ module _ (from to log : List ℕ) (old new : World) (course : List Taken) (files
       let same : asked ≡ lines = cc is in
       let has = begins_again from to disk target files old.state p.opened.state p.opened.files p.top image other takes.regular p.opens
       (fresh_memory old.state.station begins.fresh) in
-      let saves = saves_same from to log disk (Some asked) files old course new status.AllOk there image p target differ has
-      (inl (λ c h track few. takes.laid c h track)) faultless.first faultless.second regular fine in
+      let saves = saves_same from to log disk (Some asked) files old course new status.AllOk there image p target target differ has
+      (same_diskette disk target asked) (inl takes.laid) faultless.first faultless.second regular fine in
       subst (λ (row : List LogLine). StoresRestAndLog disk target (logged_keys row) to log (Some files) new.files) same (record {
         saved = saves.final;
+        protected = saves.shape.protected ∙ takes.protected;
+        valid = saves.valid;
         regular = saves.regular;
-        cylinders = saves.cylinders;
-        rate = saves.rate;
+        laid = saves.laid takes.laid;
+        cylinders = saves.shape.cylinders;
+        rate = saves.shape.rate;
         sectors = saves.sectors;
         others = saves.others;
         files = saves.files_are;
         disk_there = saves.disk_there;
+        image = saves.stands;
         log_there = saves.log_there;
       })
 

@@ -98,14 +98,14 @@ module _ (disk : Disk) where
         size = ap (λ (s : StationState). length s.memory) drive.becomes ∙ hand.size;
       }
 
-  pub keys_give : (sure : Type 0) (heads : ℕ) (keys : List Chrn) (old : World) (course : List Taken) (new : World) → GoesKeys keys old course new
-      → AllByRecursion (IsAsked disk heads) keys → IsAtHand old.state.station
+  pub keys_give : (sure : Type 0) (keys : List Chrn) (old : World) (course : List Taken) (new : World) → GoesKeys keys old course new
+      → AllByRecursion (IsAsked disk) keys → IsAtHand old.state.station
       → (sure → IsSure disk old.state.station.counters new.state.station.counters) → (other : Chrn) (deleted : Bool) (content : List ℕ)
       → SomeStep (Gave other deleted content) course → IsGivenOf sure other deleted content
-  keys_give sure heads [] old course new goes asked hand calm other deleted content some =
+  keys_give sure [] old course new goes asked hand calm other deleted content some =
       absurd (subst (SomeStep (Gave other deleted content)) goes.0 some)
-  keys_give sure heads (key ∷ keys) old [] new goes asked hand calm other deleted content some = absurd some
-  keys_give sure heads (key ∷ keys) old (read ∷ later) new (Err cause, files, is, goes) asked hand calm other deleted content some =
+  keys_give sure (key ∷ keys) old [] new goes asked hand calm other deleted content some = absurd some
+  keys_give sure (key ∷ keys) old (read ∷ later) new (Err cause, files, is, goes) asked hand calm other deleted content some =
       let mid = with_report read.after files old.report in
       let fell = call_fell old.state read.after old.files files is.call in
       let calms = λ (s : sure). sure_parts disk old.state.station.counters read.after.station.counters new.state.station.counters fell
@@ -113,11 +113,11 @@ module _ (disk : Disk) where
       elim some [
         | inl here ↦ read_gives sure key other (Err cause) old read files asked.0.size is hand (λ s. (calms s).0) deleted content here
         | inr there ↦
-            keys_give sure heads keys mid later new goes asked.1 (read_at_hand key (Err cause) old read files asked.0.size is hand)
+            keys_give sure keys mid later new goes asked.1 (read_at_hand key (Err cause) old read files asked.0.size is hand)
             (λ s. (calms s).1) other deleted content there
       ]
-  keys_give sure heads (key ∷ keys) old (read ∷ []) new (Ok mark, files, is, goes) asked hand calm other deleted content some = absurd goes
-  keys_give sure heads (key ∷ keys) old (read ∷ write ∷ later) new (Ok mark, files, is, (more, wrote, goes)) asked hand calm other deleted content some =
+  keys_give sure (key ∷ keys) old (read ∷ []) new (Ok mark, files, is, goes) asked hand calm other deleted content some = absurd goes
+  keys_give sure (key ∷ keys) old (read ∷ write ∷ later) new (Ok mark, files, is, (more, wrote, goes)) asked hand calm other deleted content some =
       let mid = with_report read.after files old.report in
       let next = with_report write.after more old.report in
       let now = write_at_hand key mark mid write more wrote (read_at_hand key (Ok mark) old read files asked.0.size is hand) in
@@ -130,5 +130,5 @@ module _ (disk : Disk) where
       elim some [
         | inl here ↦ read_gives sure key other (Ok mark) old read files asked.0.size is hand (λ s. (first s).0) deleted content here
         | inr (inl here) ↦ absurd (write_no_read key other mark here.address (sym wrote.asked ∙ here.asked))
-        | inr (inr there) ↦ keys_give sure heads keys next later new goes asked.1 now (λ s. (second s).1) other deleted content there
+        | inr (inr there) ↦ keys_give sure keys next later new goes asked.1 now (λ s. (second s).1) other deleted content there
       ]

@@ -1,7 +1,7 @@
 -- What comes before the records of a rescue: both diskettes are put in and made ready.
 use Rattle.std.proofs.Common.{true≢false, ◌↔◌, arith, ◌≡◌, ◌∙◌, ◌≤◌, ℕ, List, ◌∷◌, ◌++◌, refl, ap, Option, Some, Bool, true, false, [], subst, sym, inl, inr, length, ◌<◌}
 use Rattle.std.specs.List.{list_all}
-use Rattle.std.specs.Prelude.{if◌then◌else◌, ◌⊎◌}
+use Rattle.std.specs.Prelude.{if◌then◌else◌}
 use Rattle.flop_base.specs.Shelf.{Files}
 use Rattle.flop_base.specs.declared.answers.Rate.{Rate}
 use Rattle.flop_base.specs.declared.answers.Rate.TheVariants.{R500, R250}
@@ -35,16 +35,15 @@ use Rattle.command_laws.proofs.Steps.{and_both, keeps_drives, splits, NeverFell,
 use Rattle.command_laws.specs.Requests.{Track, tracks_of, format_each}
 use Rattle.command_laws.proofs.Formatted.{blank_keeps}
 use Rattle.command_laws.proofs.Verified.{one_image, image_ranges}
-use Rattle.command_laws.proofs.Copied.{laid_still}
 use Rattle.command_laws.proofs.Sectors.{track_laid}
 use Rattle.command_laws.proofs.TrackParts.{tracks_part}
-use Rattle.command_laws.proofs.Tracks.{Among, among_all, among_only}
-use Rattle.command_laws.proofs.BlankDisk.{blank_regular}
+use Rattle.command_laws.proofs.Tracks.{Among, among_only}
+use Rattle.command_laws.proofs.BlankDisk.{blank_regular, blank_fields}
 use Rattle.command_laws.proofs.Reading.{Holds}
 use Rattle.rescue_commands.specs.Rescue.{acknowledges_both, prepares_old, prepares_new, prepares}
-use Rattle.command_laws.specs.Rescued.{is_write}
+use Rattle.command_laws.specs.Rescued.{is_write, HasLaidFields, HasShapeOf}
 use Rattle.command_laws.proofs.Gone.{carries_all}
-use Rattle.command_laws.proofs.RescueRecords.{AreLaid}
+use Rattle.command_laws.proofs.RescueRecords.{still_laid, shape_itself, shape_both, alike_shape}
 
 -- ---- its requests
 
@@ -152,6 +151,8 @@ pub record IsFresh (shape : Shape) (disk : Disk) : Type 0 where
   pub cylinders : disk.cylinders ≡ shape.cylinders
   pub rate : disk.rate ≡ shape.rate
   pub words : disk.words_per_track ≡ words_at shape.rate
+  pub shape_is : HasShapeOf (blank_of shape.cylinders shape.rate) disk
+  pub laid : HasLaidFields disk
   pub tracks : (c h : ℕ) → HasTrack disk c h ↔ (c < shape.cylinders × h < 2)
 
 -- the other disk: that of an earlier run, or a fresh one
@@ -196,6 +197,8 @@ second_put to shape false old new told after answer step done =
         cylinders = refl;
         rate = refl;
         words = refl;
+        shape_is = shape_itself (blank_of shape.cylinders shape.rate);
+        laid = blank_fields shape.cylinders shape.rate;
         tracks = λ c h. (λ had. had, λ inside. inside);
       };
       medium = fresh.medium;
@@ -342,7 +345,7 @@ pub record LaysTracks (at : Rate) (source : Disk) (tracks : List Track) (disk : 
   pub final : Disk
   pub ready : IsReady at source final new
   pub alike : AreAlike disk final
-  pub laid : (c h : ℕ) → HasTrack disk c h → (Among tracks c h ⊎ IsLaid (track_of disk c h)) → IsLaid (track_of final c h)
+  pub laid : HasLaidFields disk → HasLaidFields final
   pub names : new.names ≡ old.names
   pub files : after ≡ told
 
@@ -355,7 +358,7 @@ lays_tracks rate source [] disk old new told after course all has ready faultles
       final = disk;
       ready = subst (λ (s : State). IsReady rate source disk s) (sym same.0) ready;
       alike = alike_itself disk ready.valid;
-      laid = λ c h had which. elim which [ inl among ↦ absurd among | inr laid ↦ laid ];
+      laid = λ had. had;
       names = ap (λ (s : State). s.names) same.0;
       files = same.1;
     }
@@ -380,7 +383,7 @@ lays_tracks rate source (track ∷ later) disk old new told after course all has
       final = rest.final;
       ready = rest.ready;
       alike = alike_both disk made.next rest.final alike rest.alike;
-      laid = λ c h had which. rest.laid c h ((alike_tracks disk made.next c h alike).0 had) (laid_still rate b g later disk made.next made.keeps fresh c h had which);
+      laid = λ had. rest.laid (still_laid disk made.next b g made.keeps had fresh);
       names = rest.names ∙ made.names;
       files = rest.files ∙ made.files;
     }
@@ -435,15 +438,16 @@ pub record HasOther (start : Disk) (to : List ℕ) (files : Files) (state : Stat
   pub named : in_bay state.names 1 ≡ Some to
   pub files_are : told ≡ Some files
 
--- it has the cylinders and the rate of the other
-abbrev pub HasShapeOf : Disk → Disk → Type 0
-HasShapeOf disk start = (start.cylinders ≡ disk.cylinders) × (start.rate ≡ disk.rate)
+-- a new one has the shape of a blank one, and Laid fields
+pub record IsNew (disk start : Disk) : Type 0 where
+  pub shape : HasShapeOf (blank_of disk.cylinders disk.rate) start
+  pub valid : IsDisk start
+  pub laid : HasLaidFields start
 
--- a new one, each track of which is Laid
 pub begins_new : (from to : List ℕ) (disk : Disk) (files : Files) (old new : State) (after : Option Files) (course : List Taken)
     → IsImageOf (Some files) from disk
     → DoesAll (opening from to (shape_of disk) false) old (Some files) course new after → length old.station.memory ≡ user_bytes
-    → IsFaultless 1 old.station.counters new.station.counters → (start : Disk) × HasOther start to files new after × AreLaid disk.heads start × HasShapeOf disk start
+    → IsFaultless 1 old.station.counters new.station.counters → (start : Disk) × HasOther start to files new after × IsNew disk start
 begins_new from to disk files old new after course image all size faultless =
     let it = are_open from to disk files false old new after course image all in
     let such = it.such in
@@ -471,10 +475,12 @@ begins_new from to disk files old new after course image all size faultless =
       named = ap (λ (n : Two (Option (List ℕ))). in_bay n 1) lays.names ∙ it.named;
       files_are = lays.files ∙ it.files_are;
     } in
-    let laid : AreLaid disk.heads lays.final = λ c h track few.
-    let had = (alike_tracks it.target lays.final c h lays.alike).1 track in
-    lays.laid c h had (inl (among_all disk.cylinders disk.heads c h ((such.tracks c h).0 had).0 few)) in
-    (lays.final, there, laid, (lays.alike.cylinders ∙ such.cylinders, lays.alike.rate ∙ such.rate))
+    let new_one : IsNew disk lays.final = record {
+      shape = shape_both (blank_of disk.cylinders disk.rate) it.target lays.final such.shape_is (alike_shape it.target lays.final lays.alike);
+      valid = lays.ready.valid;
+      laid = lays.laid such.laid;
+    } in
+    (lays.final, there, new_one)
 
 -- that of an earlier run
 pub begins_again : (from to : List ℕ) (disk target : Disk) (files : Files) (old new : State) (after : Option Files) (course : List Taken)

@@ -8,7 +8,7 @@ use Rattle.flop_base.specs.Shelf.{Files, file_at}
 use Rattle.flop_base.specs.Standard.{sectors_at}
 use Rattle.flop_base.specs.declared.key.Chrn.{Chrn}
 use Rattle.flop_base.specs.declared.answers.Code.{Code}
-use Rattle.raw_image.specs.Disk.{Disk, HasTrack, track_of}
+use Rattle.raw_image.specs.Disk.{Disk, IsDisk, HasTrack, track_of}
 use Rattle.flop_base.specs.Memory.{user_bytes, bytes_from}
 use Rattle.flop_base.specs.Counters.{IsFaultless}
 use Rattle.flop_base.specs.Bays.{Two, in_bay}
@@ -21,7 +21,7 @@ use Rattle.floppy_requests.specs.declared.request.Request.TheVariants as request
 use Rattle.sector_map.specs.Standard.{standard_keys as disk_keys}
 use Rattle.sector_map.specs.Changes.{Change, Written, IsChange}
 use Rattle.sector_map.specs.Disks.{Entry, IsOnMap, IsRegularDisk}
-use Rattle.sector_map.specs.KeptDisks.{KeepsTracks}
+use Rattle.sector_map.specs.KeptDisks.{AreAlike, KeepsTracks}
 use Rattle.sector_map.proofs.Changed.{change_keeps_tracks}
 use Rattle.sector_map.proofs.KeptTracks.{alike_tracks}
 use Rattle.sector_map.proofs.RegularTracks.{key_cylinder}
@@ -49,7 +49,7 @@ use Rattle.rescue.specs.declared.line.LogLine.{LogLine}
 use Rattle.rescue.proofs.OrderLemmas.{standard_rises, logged_rises}
 use Rattle.rescue_commands.specs.Logs.{IsLogFound, most_log_bytes}
 use Rattle.rescue_commands.specs.Rescue.{asked_keys}
-use Rattle.command_laws.specs.Rescued.{IsLogged, IsSaved, WasNotRead, entry_at, is_write, count_writes, line_at, log_of, IsTidyWrite, IsTidyFor, AreTidy}
+use Rattle.command_laws.specs.Rescued.{IsLogged, IsSaved, WasNotRead, entry_at, is_write, count_writes, line_at, log_of, IsTidyWrite, IsTidyFor, AreTidy, HasLaidFields, BringsUpNoMark, HasShapeOf}
 use Rattle.command_laws.proofs.Gone.{GoesKeys, keys_fell, write_fell, line_of_refused, line_of_done, read_done, write_no_read, write_writes, read_keeps, call_fell, gave, gave_reads}
 
 -- ---- each once
@@ -87,11 +87,10 @@ rising_distinct (key ∷ later) pairs = (
 
 -- ---- which they are
 
--- a key that is asked for: on a cylinder and a head of a drive, with a record of the disk's rate; and below so many heads
-pub record IsAsked (disk : Disk) (heads : ℕ) (key : Chrn) : Type 0 where
+-- a key that is asked for: on a cylinder and a head of a drive, with a record of the disk's rate
+pub record IsAsked (disk : Disk) (key : Chrn) : Type 0 where
   pub cylinder : key.c ≤ 79
   pub side : key.h ≤ 1
-  pub head : key.h < heads
   pub sector : (1 ≤ key.r) × (key.r ≤ sectors_at disk.rate)
   pub size : key.n ≡ 2
 
@@ -107,37 +106,34 @@ found_log files log sectors lines found = go (file_at files log) found
     go None there = absurd there
     go (Some text) there = there.1.0
 
--- all records of the disk have its heads, and those of a log two
-abbrev pub heads_for : Disk → Option (List LogLine) → ℕ
-heads_for disk None = disk.heads
-heads_for disk (Some lines) = 2
-
 pub asked_all : (disk : Disk) (files : Files) (log : List ℕ) (found : Option (List LogLine)) → disk.cylinders ≤ 80 → disk.heads ≤ 2
-    → IsLogFound (Some files) log (sectors_at disk.rate) found → AllByRecursion (IsAsked disk (heads_for disk found)) (asked_keys (shape_of disk) found)
+    → IsLogFound (Some files) log (sectors_at disk.rate) found → AllByRecursion (IsAsked disk) (asked_keys (shape_of disk) found)
 asked_all disk files log None few_cylinders few_heads found =
     let keys = standard_keys disk.rate disk.cylinders disk.heads in
-    recursion_from_All (IsAsked disk disk.heads) keys (All-weaker (IsStandardKey disk) (IsAsked disk disk.heads) (λ key is. record {
+    recursion_from_All (IsAsked disk) keys (All-weaker (IsStandardKey disk) (IsAsked disk) (λ key is. record {
       cylinder = omega (arith, is.track.0, few_cylinders);
       side = omega (arith, is.track.1, few_heads);
-      head = is.track.1;
       sector = is.sector;
       size = is.size;
     }) keys (all_standard disk))
 asked_all disk files log (Some lines) few_cylinders few_heads found =
-    recursion_from_All (IsAsked disk 2) (logged_keys lines) (All-map (IsAsked disk 2) (λ (line : LogLine). line.key) lines
-    (All-weaker (IsLogLine (sectors_at disk.rate)) (λ (line : LogLine). IsAsked disk 2 line.key) (λ line is. record {
+    recursion_from_All (IsAsked disk) (logged_keys lines) (All-map (IsAsked disk) (λ (line : LogLine). line.key) lines
+    (All-weaker (IsLogLine (sectors_at disk.rate)) (λ (line : LogLine). IsAsked disk line.key) (λ line is. record {
       cylinder = is.cylinder;
       side = is.head;
-      head = omega (arith, is.head);
       sector = (is.first, is.last);
       size = is.size;
     }) lines (found_log files log (sectors_at disk.rate) lines found).each))
 
+pub asked_rises : (disk : Disk) (files : Files) (log : List ℕ) (found : Option (List LogLine))
+    → IsLogFound (Some files) log (sectors_at disk.rate) found → AllPairs IsBefore (asked_keys (shape_of disk) found)
+asked_rises disk files log None found = standard_rises disk.rate disk.cylinders disk.heads
+asked_rises disk files log (Some lines) found =
+    logged_rises (sectors_at disk.rate) lines (found_log files log (sectors_at disk.rate) lines found)
+
 pub asked_distinct : (disk : Disk) (files : Files) (log : List ℕ) (found : Option (List LogLine))
     → IsLogFound (Some files) log (sectors_at disk.rate) found → AreDistinct (asked_keys (shape_of disk) found)
-asked_distinct disk files log None found = rising_distinct _ (standard_rises disk.rate disk.cylinders disk.heads)
-asked_distinct disk files log (Some lines) found =
-    rising_distinct _ (logged_rises (sectors_at disk.rate) lines (found_log files log (sectors_at disk.rate) lines found))
+asked_distinct disk files log found there = rising_distinct _ (asked_rises disk files log found there)
 
 -- ---- the records in a course
 
@@ -220,13 +216,26 @@ keys_counted (key ∷ keys) old (read ∷ write ∷ later) new (Ok deleted, file
 
 -- ---- changes of a disk
 
--- the tracks of these heads are Laid
-abbrev pub AreLaid : ℕ → Disk → Type 0
-AreLaid heads disk = (c h : ℕ) → HasTrack disk c h → h < heads → IsLaid (track_of disk c h)
+pub shape_itself : (disk : Disk) → HasShapeOf disk disk
+shape_itself disk = record { protected = refl; cylinders = refl; heads = refl; rate = refl; words_per_track = refl }
 
--- no write of a course brings up an address mark: its tracks are Laid, or each write is Tidy
-abbrev pub IsGuarded : ℕ → Disk → State → List Taken → Type 0
-IsGuarded heads disk state course = AreLaid heads disk ⊎ AreTidy state course
+pub shape_both : (disk middle after : Disk) → HasShapeOf disk middle → HasShapeOf middle after → HasShapeOf disk after
+shape_both disk middle after first second = record {
+  protected = second.protected ∙ first.protected;
+  cylinders = second.cylinders ∙ first.cylinders;
+  heads = second.heads ∙ first.heads;
+  rate = second.rate ∙ first.rate;
+  words_per_track = second.words_per_track ∙ first.words_per_track;
+}
+
+pub alike_shape : (disk after : Disk) → AreAlike disk after → HasShapeOf disk after
+alike_shape disk after alike = record {
+  protected = alike.protected;
+  cylinders = alike.cylinders;
+  heads = alike.heads;
+  rate = alike.rate;
+  words_per_track = alike.words_per_track;
+}
 
 -- the disk of a list of changes that isn't empty has an address field for the first of them
 first_change : (written : Written) (disk : Disk) (earlier : List Change) (last : Change) (after : Disk)
@@ -264,16 +273,23 @@ goes_to_field key address deleted disk old new called regular drive ok faultless
       rate = sym done.same_rate ∙ same_rate written disk drive.changes done.disk reach;
     }
 
-module _ (heads : ℕ) (disk next : Disk) (c h : ℕ) (keeps : KeepsTracks disk c h next) where
-  still_laid : AreLaid heads disk → IsLaid (track_of next c h) → AreLaid heads next
-  still_laid laid here b g has few =
+-- where one track was replaced by a Laid one, each address field still is on a Laid track
+module _ (disk next : Disk) (c h : ℕ) (keeps : KeepsTracks disk c h next) where
+  elsewhere_laid : HasLaidFields disk → (b g p : ℕ) (key : Chrn) → HasTrack disk b g → (b ≡ c → g ≡ h → ⊥) → IsAddressAt (track_of next b g) p key
+      → IsLaid (track_of next b g)
+  elsewhere_laid laid b g p key had other address =
+      let same = keeps.others b g had other in
+      subst IsLaid (sym same) (laid b g p key had (subst (λ (t : List ℕ). IsAddressAt t p key) same address))
+
+  pub still_laid : HasLaidFields disk → IsLaid (track_of next c h) → HasLaidFields next
+  still_laid laid here b g p key has address =
       let had = (alike_tracks disk next b g keeps.alike).1 has in
       elim (cases_eq b c) [
         | inl same_c ↦ elim (cases_eq g h) [
           | inl same_h ↦ subst (λ k. IsLaid (track_of next k g)) (sym same_c) (subst (λ k. IsLaid (track_of next c k)) (sym same_h) here)
-          | inr other ↦ subst IsLaid (sym (keeps.others b g had (λ _ e. other e))) (laid b g had few)
+          | inr other ↦ elsewhere_laid laid b g p key had (λ _ e. other e) address
         ]
-        | inr other ↦ subst IsLaid (sym (keeps.others b g had (λ e _. other e))) (laid b g had few)
+        | inr other ↦ elsewhere_laid laid b g p key had (λ e _. other e) address
       ]
 
 -- ---- the write
@@ -289,15 +305,16 @@ tidy_write key true state tidy = tidy
 tidy_write key false state tidy = tidy
 
 -- what it made of the disk in bay 1
-pub record SavesKey (heads : ℕ) (disk : Disk) (key : Chrn) (deleted : Bool) (old : State) (told : Option Files) (new : State) (after : Option Files) (later : List Taken) : Type 0 where
+pub record SavesKey (disk : Disk) (key : Chrn) (deleted : Bool) (old : State) (told : Option Files) (new : State) (after : Option Files) (later : List Taken) : Type 0 where
   pub place : ℕ
   pub wrote : WritesHere 1 disk key place 0x10000 deleted old.station new.station
-  pub guarded : IsGuarded heads wrote.next new later
+  pub laid : HasLaidFields disk → HasLaidFields wrote.next
+  pub unmarked : BringsUpNoMark wrote.next new later
   pub memory : new.station.memory ≡ old.station.memory
   pub names : new.names ≡ old.names
   pub files : after ≡ told
 
-module _ (tidy : AllTidy) (heads : ℕ) (disk : Disk) (key : Chrn) (deleted : Bool) (old new : State) (called : Result (Unit {0}) Code) (regular : IsRegularDisk disk) (size : length old.station.memory ≡ user_bytes) (sized : key.n ≡ 2) (head : key.h < heads) (drive : WritesDrive (written_from old.station key 0x10000 deleted) 1 old.station called new.station) (ok : IsOk called) (faultless : IsFaultless 1 old.station.counters new.station.counters) (medium : (bay_of old.station 1).medium ≡ Some disk) where
+module _ (tidy : AllTidy) (disk : Disk) (key : Chrn) (deleted : Bool) (old new : State) (called : Result (Unit {0}) Code) (regular : IsRegularDisk disk) (size : length old.station.memory ≡ user_bytes) (sized : key.n ≡ 2) (drive : WritesDrive (written_from old.station key 0x10000 deleted) 1 old.station called new.station) (ok : IsOk called) (faultless : IsFaultless 1 old.station.counters new.station.counters) (medium : (bay_of old.station 1).medium ≡ Some disk) where
   abbrev content : List ℕ
   content = bytes_from old.station.memory 0x10000 (content_size key.n)
 
@@ -317,43 +334,49 @@ module _ (tidy : AllTidy) (heads : ℕ) (disk : Disk) (key : Chrn) (deleted : Bo
       writes_here 1 key 0x10000 deleted disk regular went.has went.place went.address old.station new.station neat called drive ok
       faultless medium went.rate
 
+  laid_after : (neat : IsTidy (track_of disk key.c key.h) went.place deleted content) → HasLaidFields disk → HasLaidFields (here neat).next
+  laid_after neat laid =
+      let on = laid key.c key.h went.place key went.has went.address in
+      let still = subst IsLaid (sym (here neat).window) (written_laid (track_of disk key.c key.h) went.place deleted content on field) in
+      still_laid disk (here neat).next key.c key.h (here neat).keeps laid still
+
   saves : (told after : Option Files) (later : List Taken) (neat : IsTidy (track_of disk key.c key.h) went.place deleted content)
-      → IsDriverCall old told new after → IsGuarded heads (here neat).next new later → SavesKey heads disk key deleted old told new after later
-  saves told after later neat call guarded = record {
+      → IsDriverCall old told new after → BringsUpNoMark (here neat).next new later → SavesKey disk key deleted old told new after later
+  saves told after later neat call unmarked = record {
     place = went.place;
     wrote = here neat;
-    guarded = guarded;
+    laid = laid_after neat;
+    unmarked = unmarked;
     memory = ap (λ (s : StationState). s.memory) drive.becomes;
     names = call.names;
     files = call.files;
   }
 
-  pub guarded_saves : (told after : Option Files) (later : List Taken) → IsDriverCall old told new after
-      → (AreLaid heads disk ⊎ (IsTidyWrite old.station 1 key 0x10000 deleted × AreTidy new later))
-      → SavesKey heads disk key deleted old told new after later
-  guarded_saves told after later call (inl laid) =
-      let on = laid key.c key.h went.has head in
+  pub unmarked_saves : (told after : Option Files) (later : List Taken) → IsDriverCall old told new after
+      → (HasLaidFields disk ⊎ (IsTidyWrite old.station 1 key 0x10000 deleted × AreTidy new later))
+      → SavesKey disk key deleted old told new after later
+  unmarked_saves told after later call (inl laid) =
+      let on = laid key.c key.h went.place key went.has went.address in
       let neat = tidy (track_of disk key.c key.h) went.place deleted content on field in
-      let still = subst IsLaid (sym (here neat).window) (written_laid (track_of disk key.c key.h) went.place deleted content on field) in
-      saves told after later neat call (inl (still_laid heads disk (here neat).next key.c key.h (here neat).keeps laid still))
-  guarded_saves told after later call (inr (first, rest)) =
+      saves told after later neat call (inl (laid_after neat laid))
+  unmarked_saves told after later call (inr (first, rest)) =
       saves told after later (first disk key.c went.place medium went.has went.address) call (inr rest)
 
-pub saves_key : (tidy : AllTidy) (heads : ℕ) (disk : Disk) (key : Chrn) (deleted : Bool) (old : State) (told : Option Files) (taken : Taken)
+pub saves_key : (tidy : AllTidy) (disk : Disk) (key : Chrn) (deleted : Bool) (old : State) (told : Option Files) (taken : Taken)
     (after : Option Files) (later : List Taken)
-    → IsRegularDisk disk → length old.station.memory ≡ user_bytes → key.n ≡ 2 → key.h < heads → taken.asked ≡ write_of key deleted
+    → IsRegularDisk disk → length old.station.memory ≡ user_bytes → key.n ≡ 2 → taken.asked ≡ write_of key deleted
     → Step (write_of key deleted) old told taken.answer taken.after after → is_refusal taken.answer ≡ false
     → IsFaultless 1 old.station.counters taken.after.station.counters → (bay_of old.station 1).medium ≡ Some disk
-    → IsGuarded heads disk old (taken ∷ later) → SavesKey heads disk key deleted old told taken.after after later
-saves_key tidy heads disk key deleted old told taken after later regular size sized head asked step done faultless medium guarded =
+    → BringsUpNoMark disk old (taken ∷ later) → SavesKey disk key deleted old told taken.after after later
+saves_key tidy disk key deleted old told taken after later regular size sized asked step done faultless medium unmarked =
     let call = write_does key deleted old taken.after told after taken.answer step in
     let ok = ok_called call.1.0 taken.answer call.1.1 done in
     let drive = reached (write_refusal old.station 1 key 0x10000) call.1.0 old.station taken.after.station call.1.2 ok in
-    let both : AreLaid heads disk ⊎ (IsTidyWrite old.station 1 key 0x10000 deleted × AreTidy taken.after later) = elim guarded [
+    let both : HasLaidFields disk ⊎ (IsTidyWrite old.station 1 key 0x10000 deleted × AreTidy taken.after later) = elim unmarked [
       | inl laid ↦ inl laid
       | inr neat ↦ inr (tidy_write key deleted old (subst (λ (q : Request). IsTidyFor old q) asked neat.0), neat.1)
     ] in
-    guarded_saves tidy heads disk key deleted old taken.after call.1.0 regular size sized head drive ok faultless medium told after later call.0 both
+    unmarked_saves tidy disk key deleted old taken.after call.1.0 regular size sized drive ok faultless medium told after later call.0 both
 
 -- ---- the records, one after the other
 
@@ -363,20 +386,21 @@ pub record SavesKeys (whole : List Taken) (lines : List LogLine) (keys : List Ch
   pub final : Disk
   pub medium : (bay_of new.state.station 1).medium ≡ Some final
   pub regular : IsRegularDisk final
-  pub cylinders : final.cylinders ≡ disk.cylinders
-  pub rate : final.rate ≡ disk.rate
+  pub shape : HasShapeOf disk final
+  pub valid : IsDisk disk → IsDisk final
+  pub laid : HasLaidFields disk → HasLaidFields final
   pub names : new.state.names ≡ old.state.names
   pub files : new.files ≡ old.files
   pub settled : AllByRecursion (λ key. IsLogged whole lines key ⊎ IsSaved whole final key) keys
   pub others : (entry : Entry) → WasNotRead course entry.key → IsOnMap disk entry ↔ IsOnMap final entry
 
--- the rest of a course is guarded too
-guard_later : (heads : ℕ) (disk : Disk) (old : State) (first : Taken) (later : List Taken) → IsGuarded heads disk old (first ∷ later)
-    → IsGuarded heads disk first.after later
-guard_later heads disk old first later (inl laid) = inl laid
-guard_later heads disk old first later (inr neat) = inr neat.1
+-- nor does the rest of a course bring up a mark
+unmarked_later : (disk : Disk) (old : State) (first : Taken) (later : List Taken) → BringsUpNoMark disk old (first ∷ later)
+    → BringsUpNoMark disk first.after later
+unmarked_later disk old first later (inl laid) = inl laid
+unmarked_later disk old first later (inr neat) = inr neat.1
 
-module _ (tidy : AllTidy) (source : Disk) (heads : ℕ) (whole : List Taken) (lines : List LogLine) where
+module _ (tidy : AllTidy) (source : Disk) (whole : List Taken) (lines : List LogLine) where
   -- the steps and the lines of a course are among those of the longer one
   pub record IsPart (course : List Taken) : Type 1 where
     pub steps : (P : Taken → Type 0) → SomeStep P course → SomeStep P whole
@@ -389,35 +413,37 @@ module _ (tidy : AllTidy) (source : Disk) (heads : ℕ) (whole : List Taken) (li
   }
 
   pub saves_keys : (keys : List Chrn) (disk : Disk) (old : World) (course : List Taken) (new : World) → GoesKeys keys old course new → IsPart course
-      → AllByRecursion (IsAsked source heads) keys → AreDistinct keys → IsRegularDisk disk → length old.state.station.memory ≡ user_bytes
-      → (bay_of old.state.station 1).medium ≡ Some disk → IsGuarded heads disk old.state course
+      → AllByRecursion (IsAsked source) keys → AreDistinct keys → IsRegularDisk disk → length old.state.station.memory ≡ user_bytes
+      → (bay_of old.state.station 1).medium ≡ Some disk → BringsUpNoMark disk old.state course
       → IsFaultless 1 old.state.station.counters new.state.station.counters → SavesKeys whole lines keys disk old course new
-  saves_keys [] disk old course new goes part asked distinct regular size medium guarded faultless = record {
+  saves_keys [] disk old course new goes part asked distinct regular size medium unmarked faultless = record {
     final = disk;
     medium = ap (λ (w : World). (bay_of w.state.station 1).medium) goes.1 ∙ medium;
     regular = regular;
-    cylinders = refl;
-    rate = refl;
+    shape = shape_itself disk;
+    valid = λ is. is;
+    laid = λ is. is;
     names = ap (λ (w : World). w.state.names) goes.1;
     files = ap (λ (w : World). w.files) goes.1;
     settled = tt;
     others = λ entry unread. (λ on. on, λ on. on);
   }
-  saves_keys (key ∷ keys) disk old [] new goes part asked distinct regular size medium guarded faultless = absurd goes
-  saves_keys (key ∷ keys) disk old (read ∷ later) new (Err cause, files, is, goes) part asked distinct regular size medium guarded faultless =
+  saves_keys (key ∷ keys) disk old [] new goes part asked distinct regular size medium unmarked faultless = absurd goes
+  saves_keys (key ∷ keys) disk old (read ∷ later) new (Err cause, files, is, goes) part asked distinct regular size medium unmarked faultless =
       let keeps = read_keeps key old.state.station read.after.station (Err cause) asked.0.size size is.reads in
       let fell = call_fell old.state read.after old.files files is.call in
       let still = ap (λ (bays : Two Bay). (in_bay bays 1).medium) keeps.bays ∙ medium in
       let all = saves_keys keys disk (with_report read.after files old.report) later new goes (part_later read later part) asked.1 distinct.1 regular
-      (keeps.size ∙ size) still (guard_later heads disk old.state read later guarded) (omega (arith, fell.second, faultless.0), faultless.1) in
+      (keeps.size ∙ size) still (unmarked_later disk old.state read later unmarked) (omega (arith, fell.second, faultless.0), faultless.1) in
       let line : LogLine = record { key = key; code = cause } in
       let here = line_of_refused key cause read is.asked is.answered in
       record {
         final = all.final;
         medium = all.medium;
         regular = all.regular;
-        cylinders = all.cylinders;
-        rate = all.rate;
+        shape = all.shape;
+        valid = all.valid;
+        laid = all.laid;
         names = all.names ∙ is.call.names;
         files = all.files ∙ is.call.files;
         settled = (
@@ -430,25 +456,25 @@ module _ (tidy : AllTidy) (source : Disk) (heads : ℕ) (whole : List Taken) (li
         );
         others = λ entry unread. all.others entry (λ deleted content some. unread deleted content (inr some));
       }
-  saves_keys (key ∷ keys) disk old (read ∷ []) new (Ok deleted, files, is, goes) part asked distinct regular size medium guarded faultless = absurd goes
+  saves_keys (key ∷ keys) disk old (read ∷ []) new (Ok deleted, files, is, goes) part asked distinct regular size medium unmarked faultless = absurd goes
   saves_keys (key ∷ keys) disk old (read ∷ write ∷ later) new
-      (Ok deleted, files, is, (more, wrote, goes)) part asked distinct regular size medium guarded faultless =
+      (Ok deleted, files, is, (more, wrote, goes)) part asked distinct regular size medium unmarked faultless =
       let mid = with_report read.after files old.report in
       let next = with_report write.after more old.report in
       let keeps = read_keeps key old.state.station read.after.station (Ok deleted) asked.0.size size is.reads in
       let fell_read = call_fell old.state read.after old.files files is.call in
       let fell_write = write_fell key deleted mid next write more refl wrote in
       let there = keys_fell keys next later new goes in
-      let guard = guard_later heads disk old.state read (write ∷ later) guarded in
+      let none_yet = unmarked_later disk old.state read (write ∷ later) unmarked in
       let still = ap (λ (bays : Two Bay). (in_bay bays 1).medium) keeps.bays ∙ medium in
       let calm : IsFaultless 1 mid.state.station.counters next.state.station.counters =
       (omega (arith, fell_read.second, there.second, faultless.0), omega (arith, there.second, faultless.1)) in
-      let one = saves_key tidy heads disk key deleted read.after files write more later regular
-      (keeps.size ∙ size) asked.0.size asked.0.head wrote.asked wrote.step
-      wrote.done calm still guard in
+      let one = saves_key tidy disk key deleted read.after files write more later regular
+      (keeps.size ∙ size) asked.0.size wrote.asked wrote.step
+      wrote.done calm still none_yet in
       let all = saves_keys keys one.wrote.next next later new goes (part_later write later (part_later read (write ∷ later) part))
       asked.1 distinct.1 one.wrote.regular
-      (ap (λ (m : List ℕ). length m) one.memory ∙ keeps.size ∙ size) one.wrote.medium one.guarded
+      (ap (λ (m : List ℕ). length m) one.memory ∙ keeps.size ∙ size) one.wrote.medium one.unmarked
       (omega (arith, fell_read.second, fell_write.second, faultless.0), faultless.1) in
       let content = bytes_from read.after.station.memory 0x10000 (content_size key.n) in
       let given = gave key deleted read is.asked is.answered in
@@ -458,8 +484,9 @@ module _ (tidy : AllTidy) (source : Disk) (heads : ℕ) (whole : List Taken) (li
         final = all.final;
         medium = all.medium;
         regular = all.regular;
-        cylinders = all.cylinders ∙ one.wrote.keeps.alike.cylinders;
-        rate = all.rate ∙ one.wrote.keeps.alike.rate;
+        shape = shape_both disk one.wrote.next all.final (alike_shape disk one.wrote.next one.wrote.keeps.alike) all.shape;
+        valid = λ is. all.valid one.wrote.keeps.alike.valid;
+        laid = λ had. all.laid (one.laid had);
         names = all.names ∙ one.names ∙ is.call.names;
         files = all.files ∙ one.files ∙ is.call.files;
         settled = (

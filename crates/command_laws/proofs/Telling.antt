@@ -51,7 +51,7 @@ pub record TellsKey (disk : Disk) (count : ℕ) (key : Chrn) (called : Result Bo
   pub holds : Holds disk count new
 
 -- a key of no track
-module _ (disk : Disk) (heads count : ℕ) (key : Chrn) (asked : IsAsked disk heads key) (none : HasTrack disk key.c key.h → ⊥) (old new : StationState)
+module _ (disk : Disk) (count : ℕ) (key : Chrn) (asked : IsAsked disk key) (none : HasTrack disk key.c key.h → ⊥) (old new : StationState)
     (holds : Holds disk count old) (quiet : IsUndisturbed 0 old.counters new.counters) (fell : NeverFell old.counters new.counters) where
   nothing : HasNothing (met (bay_of old 0) key.c key.h)
   nothing =
@@ -110,9 +110,9 @@ lines_more key look failed rest refused lines later all told here there =
     ∙ ap lines_of (sym (told_more key look rest))
     ∙ ap failing_lines (sym all)
 
-module _ (disk : Disk) (few_cylinders : disk.cylinders ≤ 80) (few_heads : disk.heads ≤ 2) (unmistaken : IsUnmistaken disk) (heads count : ℕ) where
+module _ (disk : Disk) (few_cylinders : disk.cylinders ≤ 80) (few_heads : disk.heads ≤ 2) (unmistaken : IsUnmistaken disk) (count : ℕ) where
   -- what the read of a record told
-  read_tells : (key : Chrn) (called : Result Bool Code) (old : World) (read : Taken) (files : Option Files) → IsAsked disk heads key
+  read_tells : (key : Chrn) (called : Result Bool Code) (old : World) (read : Taken) (files : Option Files) → IsAsked disk key
       → IsRead key called old read files → Holds disk count old.state.station
       → IsUndisturbed 0 old.state.station.counters read.after.station.counters → TellsKey disk count key called read.after.station
   read_tells key called old read files asked is holds quiet = elim (cases_lt key.c disk.cylinders) [
@@ -124,7 +124,7 @@ module _ (disk : Disk) (few_cylinders : disk.cylinders ≤ 80) (few_heads : disk
       fell = call_fell old.state read.after old.files files is.call
 
       off : (HasTrack disk key.c key.h → ⊥) → TellsKey disk count key called read.after.station
-      off none = off_disk disk heads count key asked none old.state.station read.after.station holds quiet fell called is.reads
+      off none = off_disk disk count key asked none old.state.station read.after.station holds quiet fell called is.reads
 
       on_disk : HasTrack disk key.c key.h → TellsKey disk count key called read.after.station
       on_disk has =
@@ -153,7 +153,7 @@ module _ (disk : Disk) (few_cylinders : disk.cylinders ≤ 80) (few_heads : disk
       (ap (λ (s : State). bay_of s.station 0) same ∙ ap (λ (s : StationState). bay_of s 0) drive.becomes) faults
 
   pub tells_keys : (keys : List Chrn) (failed : List (Chrn × Look)) (old : World) (course : List Taken) (new : World) → GoesKeys keys old course new
-      → AllByRecursion (IsAsked disk heads) keys → AreFailing disk keys failed → Holds disk count old.state.station
+      → AllByRecursion (IsAsked disk) keys → AreFailing disk keys failed → Holds disk count old.state.station
       → IsUndisturbed 0 old.state.station.counters new.state.station.counters → log_of course ≡ failing_lines failed
   tells_keys [] failed old course new goes asked failing holds quiet = ap log_of goes.0 ∙ ap failing_lines (sym failing)
   tells_keys (key ∷ keys) failed old [] new goes asked failing holds quiet = absurd goes

@@ -1,20 +1,15 @@
 -- Rescues, by the status with which they end: what is stored and told, and when the log is exactly the keys that aren't found.
-use Rattle.std.proofs.Common.{◌≡◌, ◌∙◌, List, [], ◌∷◌, ◌++◌, ℕ, length, ap, subst, inl, inr, append-nil, Option, Some, arith, ◌+◌, Bool, true, false, true≢false, refl, sym, append_assoc, ◌↔◌, None, ◌≢◌, ◌-◌, cond}
+use Rattle.std.proofs.Common.{◌≡◌, ◌∙◌, List, [], ◌∷◌, ◌++◌, ℕ, length, ap, subst, inl, inr, append-nil, Option, Some, arith, ◌+◌, Bool, true, false, true≢false, refl, sym, append_assoc, ◌↔◌, None, ◌≢◌, ◌≤◌, ◌-◌}
 use Rattle.std.specs.Prelude.{is_some, ◌⊎◌, Contains, IfSome, All}
 use Rattle.std.specs.List.{list_all}
 use Rattle.std.proofs.lemmas.List.Elements.{All-from_recursion, All-weaker}
-use Rattle.std.specs.FinMap as fin
-use Rattle.std.specs.Cmp.Lexicographic.{slice_cmp, nat_list_cmp_total}
-use Rattle.std.specs.Ordering.{nat_cmp, eq_by_cmp}
-use Rattle.std.proofs.lemmas.Cmp.{eq_by_cmp_equiv}
-use Rattle.std.proofs.lemmas.Map.Views.{tells_apart}
 use Rattle.flop_base.specs.Shelf.{Files, stored, file_at}
 use Rattle.flop_base.specs.Sink.{grown}
 use Rattle.flop_base.specs.Standard.{sectors_at}
 use Rattle.flop_base.specs.declared.answers.Status.{Status}
 use Rattle.flop_base.specs.declared.answers.Status.TheVariants as status
 use Rattle.flop_base.specs.declared.key.Chrn.{Chrn}
-use Rattle.raw_image.specs.Disk.{Disk}
+use Rattle.raw_image.specs.Disk.{Disk, IsDisk}
 use Rattle.raw_image.specs.Image.{file_of}
 use Rattle.flop_base.specs.Bays.{Two, in_bay}
 use Rattle.flop_base.specs.Counters.{IsFaultless, IsUndisturbed}
@@ -47,16 +42,18 @@ use Rattle.command_laws.specs.Verified.{IsUnmistaken}
 use Rattle.command_laws.proofs.Reading.{quiet_parts}
 use Rattle.command_laws.proofs.Verified.{image_ranges}
 use Rattle.rescue.specs.Course.{outcome_status}
-use Rattle.rescue.specs.Log.{log_text}
+use Rattle.rescue.specs.Log.{IsLog, log_text}
 use Rattle.rescue.specs.declared.line.LogLine.{LogLine}
 use Rattle.rescue.specs.declared.outcome.Outcome.{Outcome}
-use Rattle.rescue_commands.specs.Logs.{IsLogFound, IsFound}
+use Rattle.rescue_commands.specs.Logs.{IsLogFound, IsFound, most_log_bytes}
 use Rattle.rescue_commands.specs.Rescue.{rescues, asked_keys, outcome_of, last_text, rescues_all, stores_log, rescue_found, rescue_rest, Rescues}
 use Rattle.rescue_commands.proofs.Rests.{by_rest}
-use Rattle.command_laws.specs.Rescued.{IsNotStopped, count_writes, IsLogged, IsSaved, IsSettled, WasNotRead, HasLaidTracks, HasTarget, KeepsEntries, outcome_in, IsRescue, LogsNotFound, WasRefused, log_of, line_at, AreTidy}
-use Rattle.command_laws.proofs.Gone.{later_fine, not_refused, carried, GoesKeys, keys_gone, Fell, fell_both, keys_fell, line_of_done, gave_reads, never_both}
-use Rattle.command_laws.proofs.RescueOpening.{opening, ready_requests, second_request, formats_for, prepares_carried, HasOther, begins_new, begins_again, holds_first, first_in, is_plain, plain_facts, plain_keep, opening_plain}
-use Rattle.command_laws.proofs.RescueRecords.{heads_for, asked_all, asked_distinct, IsGuarded, IsPart, SavesKeys, saves_keys, ReadsKey, some_apart, keys_read, keys_counted, index_of}
+use Rattle.command_laws.specs.Rescued.{IsNotStopped, count_writes, IsLogged, IsSaved, IsSettled, WasNotRead, HasLaidFields, BringsUpNoMark, HasTarget, diskette_for, HasShapeOf, StillHolds, KeepsEntries, outcome_in, IsRescue, LogsNotFound, WasRefused, log_of, line_at, AreTidy}
+use Rattle.command_laws.proofs.Gone.{later_fine, not_refused, carried, GoesKeys, keys_gone, AreRefusals, Fell, fell_both, keys_fell, line_of_done, gave_reads, never_both}
+use Rattle.command_laws.proofs.RescueOpening.{opening, ready_requests, second_request, formats_for, prepares_carried, HasOther, IsNew, begins_new, begins_again, holds_first, first_in, is_plain, plain_facts, plain_keep, opening_plain}
+use Rattle.command_laws.proofs.RescueRecords.{asked_all, asked_distinct, shape_itself, shape_both, IsPart, SavesKeys, saves_keys, ReadsKey, some_apart, keys_read, keys_counted, index_of}
+use Rattle.command_laws.proofs.RescueLog.{logs_again}
+use Rattle.command_laws.proofs.StoredFiles.{stores_both, log_under, image_there, log_stands}
 use Rattle.command_laws.proofs.RescueGiven.{IsAtHand, IsGivenOf, keys_give}
 use Rattle.command_laws.proofs.Telling.{tells_keys}
 
@@ -123,6 +120,7 @@ pub record GoesThrough (requests : List Request) (keys : List Chrn) (log : List 
   pub goes : GoesKeys keys opened body rescued
   pub ejects : DoesAll (request.Eject 1 ∷ []) rescued.state rescued.files last ejected.state ejected.files
   pub report : ejected.report ≡ old.report
+  pub refused : AreRefusals (log_of body)
   pub left : List Taken
   pub stores : StoresLog log (length keys) (log_of body) ejected left new ended
 
@@ -150,6 +148,7 @@ goes_on requests keys log files old course new ended whole fine told one =
       goes = two.knows.0;
       ejects = did_all (request.Eject 1 ∷ []) two.mid three.one three.mid three.knows;
       report = three.knows.report ∙ two.knows.2 ∙ one.knows.report;
+      refused = two.knows.3;
       left = three.two;
       stores = subst (λ (row : List LogLine). StoresLog log (length keys) row three.mid three.two new ended) two.knows.1 last;
     }
@@ -247,29 +246,25 @@ some_either P [] two some = inr some
 some_either P (taken ∷ one) two (inl here) = inl (inl here)
 some_either P (taken ∷ one) two (inr there) = elim (some_either P one two there) [ inl first ↦ inl (inr first) | inr second ↦ inr second ]
 
--- ---- files
+-- ---- the other diskette
 
-abbrev same_name : List ℕ → List ℕ → Bool
-same_name = eq_by_cmp (slice_cmp nat_cmp)
+-- where the records are saved to, in the beginning: a new diskette with Laid fields, or that of an earlier run
+pub record IsDiskette (disk target : Disk) (found : Option (List LogLine)) (start : Disk) : Type 0 where
+  pub shape : HasShapeOf (diskette_for found disk target) start
+  pub valid : StillHolds IsDisk found target start
+  pub laid : StillHolds HasLaidFields found target start
 
-told_apart : (a b : List ℕ) → a ≢ b → same_name a b ≡ false
-told_apart a b differ = go (same_name a b) (λ same. tells_apart (fin.slice_cmp-IsAntisymmetric fin.nat_cmp-IsAntisymmetric) a b same)
-  where
-    go : (t : Bool) → (t ≡ true → a ≡ b) → t ≡ false
-    go true same = absurd (differ (same refl))
-    go false same = refl
+pub new_diskette : (disk target start : Disk) → IsNew disk start → IsDiskette disk target None start
+new_diskette disk target start is = record { shape = is.shape; valid = is.valid; laid = is.laid }
 
-at_stored : (files : Files) (name bytes other : List ℕ)
-    → file_at (fin.insert files name bytes) other ≡ cond (same_name other name) (Some bytes) (file_at files other)
-at_stored files name bytes other = fin.get-insert nat_list_cmp_total files name bytes other
+pub same_diskette : (disk target : Disk) (lines : List LogLine) → IsDiskette disk target (Some lines) target
+same_diskette disk target lines = record { shape = shape_itself target; valid = λ is. is; laid = λ is. is }
 
--- what was stored last stands there
-last_there : (files : Files) (name bytes : List ℕ) → file_at (fin.insert files name bytes) name ≡ Some bytes
-last_there files name bytes = at_stored files name bytes name ∙ ap (λ (t : Bool). cond t (Some bytes) (file_at files name)) ((eq_by_cmp_equiv nat_list_cmp_total).refl name)
-
--- other names have what they had
-other_there : (files : Files) (name bytes other : List ℕ) → other ≢ name → file_at (fin.insert files name bytes) other ≡ file_at files other
-other_there files name bytes other differ = at_stored files name bytes other ∙ ap (λ (t : Bool). cond t (Some bytes) (file_at files other)) (told_apart other name differ)
+-- what it keeps it has in the end, too
+holds_on : (Such : Disk → Type 0) (found : Option (List LogLine)) (target start final : Disk) → (Such start → Such final) → StillHolds Such found target start
+    → StillHolds Such found target final
+holds_on Such None target start final keeps such = keeps such
+holds_on Such (Some lines) target start final keeps such = λ had. keeps (such had)
 
 -- ---- what is stored
 
@@ -282,16 +277,11 @@ tidy_later : (old new : State) (told after : Option Files) (one two : List Taken
 tidy_later old new told after [] two run tidy = subst (λ (s : State). AreTidy s two) (sym run.0) tidy
 tidy_later old new told after (taken ∷ one) two run tidy = tidy_later taken.after new run.0 after one two run.2 tidy.1
 
-stores_both : (files : Files) (to log disk lines : List ℕ) (after : Option Files) → to ≢ log → after ≡ stored (stored (Some files) to disk) log lines
-    → IfSome after (λ files. file_at files to ≡ Some disk) × IfSome after (λ files. file_at files log ≡ Some lines)
-stores_both files to log disk lines after differ is =
-    subst (λ (f : Option Files). IfSome f (λ files. file_at files to ≡ Some disk) × IfSome f (λ files. file_at files log ≡ Some lines)) (sym is)
-    (other_there (fin.insert files to disk) log lines to differ ∙ last_there files to disk, last_there (fin.insert files to disk) log lines)
-
-log_under : (before : Option Files) (log lines : List ℕ) (after : Option Files) → after ≡ stored before log lines
-    → IfSome after (λ files. file_at files log ≡ Some lines)
-log_under None log lines after is = subst (λ (f : Option Files). IfSome f (λ files. file_at files log ≡ Some lines)) (sym is) tt
-log_under (Some files) log lines after is = subst (λ (f : Option Files). IfSome f (λ files. file_at files log ≡ Some lines)) (sym is) (last_there files log lines)
+-- a part of a run brings up no mark where the whole doesn't
+unmarked_part : (old new : State) (told after : Option Files) (one two last : List Taken) (disk : Disk) → Run old told one new after
+    → BringsUpNoMark disk old (one ++ (two ++ last)) → BringsUpNoMark disk new two
+unmarked_part old new told after one two last disk run (inl laid) = inl laid
+unmarked_part old new told after one two last disk run (inr tidy) = inr (tidy_first new two last (tidy_later old new told after one (two ++ last) run tidy))
 
 same_outcome : (course : List Taken) (asked : ℕ) → count_writes course + length (log_of course) ≡ asked
     → outcome_of asked (log_of course) ≡ outcome_in course asked
@@ -358,6 +348,14 @@ module _ (from to log : List ℕ) (disk : Disk) (found : Option (List LogLine)) 
   pub fell_opened : Fell p.opened new
   fell_opened = fell_both p.opened p.rescued new (keys_fell keys p.opened p.body p.rescued p.goes) fell_rescued
 
+  -- what isn't asked for wasn't read
+  unread : (key : Chrn) → (Contains keys key → ⊥) → WasNotRead course key
+  unread key never deleted content some =
+      let reads = keys_read keys (asked_distinct disk files log found there) p.opened p.body p.rescued p.goes in
+      let gave = gave_reads key deleted content in
+      let at = index_of key keys (reads.only key (some_apart _ (ReadsKey key) p.body gave (inner _ key gave some))) in
+      never (at.0, at.1, at.2 key)
+
   module _ (target start : Disk) (has : HasOther start to files p.opened.state p.opened.files)
       (saves : SavesKeys course (log_of course) keys start p.opened p.body p.rescued) where
     disk_stored : p.ejected.files ≡ stored (Some files) to (file_of saves.final)
@@ -391,7 +389,7 @@ module _ (from to log : List ℕ) (disk : Disk) (found : Option (List LogLine)) 
           medium = first_in from to disk files (is_some found) old.state p.opened.state p.opened.files p.top image p.opens;
           size = has.size;
         } in
-        keys_give disk sure (heads_for disk found) keys p.opened p.body p.rescued p.goes (asked_all disk files log found few.0 few.1 there) hand calm
+        keys_give disk sure keys p.opened p.body p.rescued p.goes (asked_all disk files log found few.0 few.1 there) hand calm
         key deleted content (inner _ key (gave_reads key deleted content) some)
 
     is_stored : new.files ≡ stored (stored (Some files) to (file_of saves.final)) log (log_text (log_of course))
@@ -399,8 +397,18 @@ module _ (from to log : List ℕ) (disk : Disk) (found : Option (List LogLine)) 
         p.stores.stores ∙ ap (λ (f : Option Files). stored f log (log_text (log_of p.body))) disk_stored
         ∙ ap (λ (row : List LogLine). stored (stored (Some files) to (file_of saves.final)) log (log_text row)) (sym log_is)
 
-    is_rescue : to ≢ log → KeepsEntries found course target saves.final → IsRescue disk target to log files old course new ended
-    is_rescue differ keeps =
+    -- the next run finds the new log
+    log_again : IfSome new.files (λ files. file_at files log ≡ Some (log_text (log_of course)))
+        → IsLogFound new.files log (sectors_at disk.rate) (Some (log_of course))
+    log_again stands =
+        let few = image_ranges files from disk image in
+        let is = logs_again disk files log few.0 few.1 found there p.opened p.body p.rescued p.goes p.refused in
+        let at_end = subst (λ (row : List LogLine). IsLog (sectors_at disk.rate) row × (length (log_text row) ≤ most_log_bytes)) (sym log_is) is in
+        log_stands new.files log (sectors_at disk.rate) (log_of course) stands at_end.0 at_end.1
+
+    is_rescue : to ≢ log → IsDiskette disk target found start → KeepsEntries found course target saves.final
+        → IsRescue disk target to log files old course new ended
+    is_rescue differ begun keeps =
         let asked = length keys in
         let text = log_text (log_of course) in
         let lines = sym log_is in
@@ -411,11 +419,17 @@ module _ (from to log : List ℕ) (disk : Disk) (found : Option (List LogLine)) 
           there = there;
           stores = record {
             saved = saves.final;
+            shape = shape_both (diskette_for found disk target) start saves.final begun.shape saves.shape;
+            valid = holds_on IsDisk found target start saves.final saves.valid begun.valid;
             regular = saves.regular;
+            laid = holds_on HasLaidFields found target start saves.final saves.laid begun.laid;
             stores = is_stored;
             disk_there = both.0;
+            image = λ valid. image_there new.files to saves.final both.0 valid;
             log_there = both.1;
+            log_found = log_again both.1;
             settled = All-weaker _ (IsSettled course saves.final (log_of course)) settles keys (All-from_recursion _ keys saves.settled);
+            unasked = unread;
             kept = keeps;
             given = λ key deleted content some. (given_of ⊥ (λ never. absurd never) key deleted content some).field;
           };
@@ -443,68 +457,64 @@ module _ (from to log : List ℕ) (disk : Disk) (found : Option (List LogLine)) 
         (saved.deleted, saved.content, given.sector tt, (saved.place, found.0, saved.entry.address, found.1, found.2))
 
   -- the records are saved to the other disk, as it is in the beginning
-  saves_all : (start : Disk) → HasOther start to files p.opened.state p.opened.files → IsGuarded (heads_for disk found) start p.opened.state p.body
+  saves_all : (start : Disk) → HasOther start to files p.opened.state p.opened.files → BringsUpNoMark start p.opened.state p.body
       → IsFaultless 1 old.state.station.counters new.state.station.counters → SavesKeys course (log_of course) keys start p.opened p.body p.rescued
-  saves_all start has guarded faultless =
+  saves_all start has unmarked faultless =
       let fell = fell_rescued in
       let few = image_ranges files from disk image in
-      let part : IsPart laid_tidy disk (heads_for disk found) course (log_of course) p.body = record {
+      let part : IsPart laid_tidy disk course (log_of course) p.body = record {
         steps = outer;
         lines_are = λ line some. subst (λ (row : List LogLine). Contains row line) (sym log_is) some;
       } in
-      saves_keys laid_tidy disk (heads_for disk found) course (log_of course) keys start p.opened p.body p.rescued p.goes part
+      saves_keys laid_tidy disk course (log_of course) keys start p.opened p.body p.rescued p.goes part
       (asked_all disk files log found few.0 few.1 there) (asked_distinct disk files log found there)
-      has.regular has.size has.medium guarded (omega (arith, fell_top.second, fell.second, faultless.0), omega (arith, fell.second, faultless.1))
-
-  -- what isn't asked for wasn't read
-  unread : (key : Chrn) → (Contains keys key → ⊥) → WasNotRead course key
-  unread key never deleted content some =
-      let reads = keys_read keys (asked_distinct disk files log found there) p.opened p.body p.rescued p.goes in
-      let gave = gave_reads key deleted content in
-      let at = index_of key keys (reads.only key (some_apart _ (ReadsKey key) p.body gave (inner _ key gave some))) in
-      never (at.0, at.1, at.2 key)
+      has.regular has.size has.medium unmarked (omega (arith, fell_top.second, fell.second, faultless.0), omega (arith, fell.second, faultless.1))
 
   -- where nothing was refused, and no drive had a fault, a disk with the same sectors for the asked keys is stored, and then an empty log
-  pub record SavesSame (start : Disk) : Type 0 where
+  pub record SavesSame (target start : Disk) : Type 0 where
     pub final : Disk
+    pub shape : HasShapeOf (diskette_for found disk target) final
+    pub valid : StillHolds IsDisk found target final
     pub regular : IsRegularDisk final
-    pub cylinders : final.cylinders ≡ start.cylinders
-    pub rate : final.rate ≡ start.rate
+    pub laid : StillHolds HasLaidFields found target final
     pub sectors : All (HaveSameSector disk final) keys
     pub others : (entry : Entry) → (Contains keys entry.key → ⊥) → IsOnMap start entry ↔ IsOnMap final entry
     pub files_are : new.files ≡ stored (stored (Some files) to (file_of final)) log (log_text [])
     pub disk_there : IfSome new.files (λ files. file_at files to ≡ Some (file_of final))
+    pub stands : IsDisk final → IsImageOf new.files to final
     pub log_there : IfSome new.files (λ files. file_at files log ≡ Some (log_text []))
 
-  pub saves_same : (start : Disk) → to ≢ log → HasOther start to files p.opened.state p.opened.files
-      → IsGuarded (heads_for disk found) start p.opened.state p.body → IsFaultless 0 old.state.station.counters new.state.station.counters
-      → IsFaultless 1 old.state.station.counters new.state.station.counters → IsRegularDisk disk → has_refusal course ≡ false → SavesSame start
-  saves_same start differ has guarded first second regular fine =
-      let saves = saves_all start has guarded second in
+  pub saves_same : (target start : Disk) → to ≢ log → HasOther start to files p.opened.state p.opened.files → IsDiskette disk target found start
+      → BringsUpNoMark start p.opened.state p.body → IsFaultless 0 old.state.station.counters new.state.station.counters
+      → IsFaultless 1 old.state.station.counters new.state.station.counters → IsRegularDisk disk → has_refusal course ≡ false → SavesSame target start
+  saves_same target start differ has begun unmarked first second regular fine =
+      let saves = saves_all start has unmarked second in
       let none = done_lines course fine in
       let is = is_stored start start has saves ∙ ap (λ (row : List LogLine). stored (stored (Some files) to (file_of saves.final)) log (log_text row)) none in
       let both = stores_both files to log (file_of saves.final) (log_text []) new.files differ is in
       record {
         final = saves.final;
+        shape = shape_both (diskette_for found disk target) start saves.final begun.shape saves.shape;
+        valid = holds_on IsDisk found target start saves.final saves.valid begun.valid;
         regular = saves.regular;
-        cylinders = saves.cylinders;
-        rate = saves.rate;
+        laid = holds_on HasLaidFields found target start saves.final saves.laid begun.laid;
         sectors = All-weaker _ (HaveSameSector disk saves.final) (same_sector start start has saves regular first none) keys
             (All-from_recursion _ keys saves.settled);
         others = λ entry never. saves.others entry (λ deleted content some. unread entry.key never deleted content (outer _ some));
         files_are = is;
         disk_there = both.0;
+        stands = λ valid. image_there new.files to saves.final both.0 valid;
         log_there = both.1;
       }
 
-  pub rescued : (target start : Disk) → to ≢ log → HasOther start to files p.opened.state p.opened.files
-      → IsGuarded (heads_for disk found) start p.opened.state p.body
+  pub rescued : (target start : Disk) → to ≢ log → HasOther start to files p.opened.state p.opened.files → IsDiskette disk target found start
+      → BringsUpNoMark start p.opened.state p.body
       → IsFaultless 1 old.state.station.counters new.state.station.counters
       → ((final : Disk) → ((entry : Entry) → WasNotRead course entry.key → IsOnMap start entry ↔ IsOnMap final entry) → KeepsEntries found course target final)
       → IsRescue disk target to log files old course new ended
-  rescued target start differ has guarded faultless keeps =
-      let saves = saves_all start has guarded faultless in
-      is_rescue target start has saves differ (keeps saves.final
+  rescued target start differ has begun unmarked faultless keeps =
+      let saves = saves_all start has unmarked faultless in
+      is_rescue target start has saves differ begun (keeps saves.final
       (λ entry unread. saves.others entry (λ deleted content some. unread deleted content (outer _ some))))
 
   -- the log is exactly the records that aren't found
@@ -520,7 +530,7 @@ module _ (from to log : List ℕ) (disk : Disk) (found : Option (List LogLine)) 
         there = there;
         log_there = log_under p.ejected.files log (log_text (log_of course)) new.files
             (p.stores.stores ∙ ap (λ (row : List LogLine). stored p.ejected.files log (log_text row)) (sym log_is));
-        exactly = λ failed failing. log_is ∙ tells_keys disk few.0 few.1 unmistaken (heads_for disk found) first.0 keys failed
+        exactly = λ failed failing. log_is ∙ tells_keys disk few.0 few.1 unmistaken first.0 keys failed
             p.opened p.body p.rescued p.goes (asked_all disk files log found few.0 few.1 there) failing first.1 calm.0;
       }
 
@@ -542,35 +552,13 @@ rescue_stores from to log disk target files old course new ended rescues whole f
         let fell = fell_opened from to log disk None files old course new ended there image p in
         let begins = begins_new from to disk files old.state p.opened.state p.opened.files p.top image p.opens size
         (omega (arith, fell.second, faultless.0), omega (arith, fell.second, faultless.1)) in
-        rescued from to log disk None files old course new ended there image p target begins.0 differ begins.1 (inl begins.2) faultless (λ final others. tt)
+        rescued from to log disk None files old course new ended there image p target begins.0 differ begins.1
+        (new_diskette disk target begins.0 begins.2) (inl begins.2.laid) faultless (λ final others. tt)
     go (Some lines) there other p =
         let has = begins_again from to disk target files old.state p.opened.state p.opened.files p.top image other.image other.regular p.opens size in
-        let whole_tidy = subst (λ (row : List Taken). AreTidy old.state row) p.is other.tidy in
-        let later = tidy_later old.state p.opened.state (Some files) p.opened.files p.top (p.body ++ p.last) p.opens.run whole_tidy in
-        rescued from to log disk (Some lines) files old course new ended there image p target target differ has
-        (inr (tidy_first p.opened.state p.body p.last later)) faultless (λ final others. others)
-
--- the same, where each track of the other disk is Laid
-pub rescue_stores_laid : (from to log : List ℕ) (disk target : Disk) (files : Files) (old : World) (course : List Taken) (new : World) (ended : Status)
-    → Rescues from to log old course new ended → IsEndStatus ended → IsNotStopped course → to ≢ log → old.files ≡ Some files → IsImageOf (Some files) from disk
-    → length old.state.station.memory ≡ user_bytes → IsFaultless 1 old.state.station.counters new.state.station.counters
-    → IsImageOf (Some files) to target → IsRegularDisk target → HasLaidTracks target → IsRescue disk target to log files old course new ended
-rescue_stores_laid from to log disk target files old course new ended rescues whole fine differ told image size faultless other regular laid =
-    let all = goes_through from to log disk files old course new ended whole fine told rescues image in
-    go all.found all.there all.goes
-  where
-    go : (found : Option (List LogLine)) → IsLogFound (Some files) log (sectors_at disk.rate) found
-        → GoesThrough (opening from to (shape_of disk) (is_some found)) (asked_keys (shape_of disk) found) log files old course new ended
-        → IsRescue disk target to log files old course new ended
-    go None there p =
-        let fell = fell_opened from to log disk None files old course new ended there image p in
-        let begins = begins_new from to disk files old.state p.opened.state p.opened.files p.top image p.opens size
-        (omega (arith, fell.second, faultless.0), omega (arith, fell.second, faultless.1)) in
-        rescued from to log disk None files old course new ended there image p target begins.0 differ begins.1 (inl begins.2) faultless (λ final others. tt)
-    go (Some lines) there p =
-        let has = begins_again from to disk target files old.state p.opened.state p.opened.files p.top image other regular p.opens size in
-        rescued from to log disk (Some lines) files old course new ended there image p target target differ has
-        (inl (λ c h track few. laid c h track)) faultless (λ final others. others)
+        let all = subst (λ (row : List Taken). BringsUpNoMark target old.state row) p.is other.unmarked in
+        rescued from to log disk (Some lines) files old course new ended there image p target target differ has (same_diskette disk target lines)
+        (unmarked_part old.state p.opened.state (Some files) p.opened.files p.top p.body p.last target p.opens.run all) faultless (λ final others. others)
 
 pub rescue_logs : (from to log : List ℕ) (disk : Disk) (files : Files) (old : World) (course : List Taken) (new : World) (ended : Status)
     → Rescues from to log old course new ended → IsEndStatus ended → IsNotStopped course → old.files ≡ Some files → IsImageOf (Some files) from disk

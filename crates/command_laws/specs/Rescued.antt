@@ -6,7 +6,7 @@ use Rattle.flop_base.specs.Standard.{sectors_at}
 use Rattle.flop_base.specs.declared.key.Chrn.{Chrn}
 use Rattle.flop_base.specs.declared.answers.Code.{Code}
 use Rattle.flop_base.specs.declared.answers.Status.{Status}
-use Rattle.raw_image.specs.Disk.{Disk, HasTrack, track_of}
+use Rattle.raw_image.specs.Disk.{Disk, IsDisk, HasTrack, track_of}
 use Rattle.raw_image.specs.Image.{file_of}
 use Rattle.flop_base.specs.Memory.{bytes_from}
 use Rattle.track_model.specs.declared.Look.{Look}
@@ -21,7 +21,7 @@ use Rattle.sector_model.specs.declared.reply.Reply.{Reply}
 use Rattle.sector_model.specs.declared.reply.Reply.TheVariants as reply
 use Rattle.sector_model.specs.declared.reply.Reason.TheVariants as reason
 use Rattle.sector_model.specs.States.{State}
-use Rattle.sector_model.specs.Steps.{IsImageOf}
+use Rattle.sector_model.specs.Steps.{IsImageOf, blank_of}
 use Rattle.sector_model.specs.Texts.{is_refusal}
 use Rattle.sector_model.specs.Runs.{Taken}
 use Rattle.sector_model.specs.Plays.{World}
@@ -77,15 +77,19 @@ AreTidy state (taken ∷ later) = IsTidyFor state taken.asked × AreTidy taken.a
 abbrev pub IsNotStopped : List Taken → Type 0
 IsNotStopped course = (before : List Taken) (last : Taken) → course ≡ before ++ last ∷ [] → is_refusal last.answer ≡ false
 
--- the other diskette, as it is loaded where there is a log: the image of a regular disk, each write to which is Tidy
+-- each address field of the disk is on a Laid track: no write to it brings up an address mark, however short it stops
+abbrev pub HasLaidFields : Disk → Type 0
+HasLaidFields disk = (c h p : ℕ) (key : Chrn) → HasTrack disk c h → IsAddressAt (track_of disk c h) p key → IsLaid (track_of disk c h)
+
+-- no write of a course to the disk brings up an address mark: its address fields are on Laid tracks, or each write is Tidy
+abbrev pub BringsUpNoMark : Disk → State → List Taken → Type 0
+BringsUpNoMark disk old course = HasLaidFields disk ⊎ AreTidy old course
+
+-- the other diskette, as it is loaded where there is a log: the image of a regular disk, on which no write brings up an address mark
 pub record IsTarget (to : List ℕ) (target : Disk) (files : Files) (old : State) (course : List Taken) : Type 0 where
   pub image : IsImageOf (Some files) to target
   pub regular : IsRegularDisk target
-  pub tidy : AreTidy old course
-
--- each track of the disk is Laid: no write to it brings up an address mark, however short it stops
-abbrev pub HasLaidTracks : Disk → Type 0
-HasLaidTracks disk = (c h : ℕ) → HasTrack disk c h → IsLaid (track_of disk c h)
+  pub unmarked : BringsUpNoMark target old course
 
 -- where there is a log, the other diskette is such a one
 abbrev pub HasTarget : Option (List LogLine) → List ℕ → Disk → Files → State → List Taken → Type 0
@@ -138,6 +142,26 @@ KeepsEntries None course target saved = Unit {0}
 KeepsEntries (Some lines) course target saved =
     (entry : Entry) → WasNotRead course entry.key → IsOnMap target entry ↔ IsOnMap saved entry
 
+-- ---- The diskette that is stored, by the one that it was.
+
+-- what is written to: a blank diskette of the first one's cylinders and rate where there was no log, and else the other one
+abbrev pub diskette_for : Option (List LogLine) → Disk → Disk → Disk
+diskette_for None disk target = blank_of disk.cylinders disk.rate
+diskette_for (Some lines) disk target = target
+
+-- a disk has the protection, the cylinders, the heads, the rate and the words per track of another
+pub record HasShapeOf (disk after : Disk) : Type 0 where
+  pub protected : after.protected ≡ disk.protected
+  pub cylinders : after.cylinders ≡ disk.cylinders
+  pub heads : after.heads ≡ disk.heads
+  pub rate : after.rate ≡ disk.rate
+  pub words_per_track : after.words_per_track ≡ disk.words_per_track
+
+-- it holds of the new diskette where there was no log, and else it still holds if it did
+abbrev pub StillHolds : (Disk → Type 0) → Option (List LogLine) → Disk → Disk → Type 0
+StillHolds Such None target saved = Such saved
+StillHolds Such (Some lines) target saved = Such target → Such saved
+
 -- ---- What is stored and told.
 
 -- the request writes a record
@@ -166,14 +190,21 @@ abbrev pub GivesFields : Disk → List Taken → Type 0
 GivesFields disk course =
     (key : Chrn) (deleted : Bool) (content : List ℕ) → SomeStep (Gave key deleted content) course → IsFieldOf disk key deleted content
 
--- the other diskette was stored under its name, then the new log under its own, and no other file changed
+-- the other diskette was stored under its name, then the new log under its own, and no other file changed; the next run finds both: a
+-- regular disk of the same shape, with Laid fields if it is new or had them, and a log
 pub record StoresRescue (disk target : Disk) (found : Option (List LogLine)) (to log : List ℕ) (files : Files) (course : List Taken) (new : World) : Type 0 where
   pub saved : Disk
+  pub shape : HasShapeOf (diskette_for found disk target) saved
+  pub valid : StillHolds IsDisk found target saved
   pub regular : IsRegularDisk saved
+  pub laid : StillHolds HasLaidFields found target saved
   pub stores : new.files ≡ stored (stored (Some files) to (file_of saved)) log (log_text (log_of course))
   pub disk_there : IfSome new.files (λ files. file_at files to ≡ Some (file_of saved))
+  pub image : IsDisk saved → IsImageOf new.files to saved
   pub log_there : IfSome new.files (λ files. file_at files log ≡ Some (log_text (log_of course)))
+  pub log_found : IsLogFound new.files log (sectors_at disk.rate) (Some (log_of course))
   pub settled : All (IsSettled course saved (log_of course)) (asked_keys (shape_of disk) found)
+  pub unasked : (key : Chrn) → (Contains (asked_keys (shape_of disk) found) key → ⊥) → WasNotRead course key
   pub kept : KeepsEntries found course target saved
   pub given : GivesFields disk course
 

@@ -16,8 +16,8 @@ ghost use Rattle.command_laws.specs.EndsComplete.{BeginsSound, EndsWellOrOutside
 
 /// A law: where no drive of a fresh station can have a fault any more and no DMA request can wait too long, a rescue with no log yet
 /// ends well, unless the shelf, the sink or memory fails, if the first name has the image of a regular disk that has each of its
-/// standard keys: no request of it is refused. A disk with the same standard sectors is stored under the second name then, and an
-/// empty log under the third, which is another name.
+/// standard keys: no request of it is refused. A disk with the same standard sectors, on Laid tracks, is stored under the second name
+/// then, and an empty log under the third, which is another name.
 pub fn new_rescue_ends_well(_from: &str, _to: &str, _log: &str)
     ensures { (old new : World) (ended : Status) (files : Files) (disk : Disk)
         → BeginsSound old → old.files ≡ Some files → IsImageOf (Some files) _from.now disk → IsReadable disk

@@ -20,7 +20,9 @@ ghost use Rattle.command_laws.specs.Rescued.{IsNotStopped, HasTarget, IsRescue};
 /// the content that its read gave, and never in both; whatever faults the drive of bay 0 had, these are those of an intact
 /// field of the record on the first disk; the last line counts those on the disk, and all. Where there was a log, all
 /// other sectors of the disk stay as they were, if that disk was regular, and no address mark could come up in a write that stopped
-/// short; where there was none, this is so by itself. The disk is stored first, and then the log.
+/// short, since its address fields are on Laid tracks, or each write was Tidy; where there was none, this is so by itself. The disk is
+/// stored first, and then the log, and the next run finds both as it asks for them: a regular disk, unprotected, of the first disk's
+/// cylinders and rate and with Laid fields if it is new, and else as the other one was; and a log.
 pub fn rescue_settles_each_record(_from: &str, _to: &str, _log: &str)
     ensures { (old new : World) (course : List Taken) (ended : Status) (files : Files) (disk target : Disk)
         → Rescues _from.now _to.now _log.now old course new ended → IsEndStatus ended

@@ -231,11 +231,14 @@ counted_answered Such old new status.BadWords shelf sink ends such = ends
 
 pub int13_ends : (name : List ℕ) (spares : List DriveCounts) (old new : Stand) (ended : Status) (files : Files) (text : List ℕ) (lines : List CallLine)
     → old.desk.desk.files ≡ Some files → IsText (Some files) name text → calls_of text ≡ Ok lines
-    → InsertsDisks (IsDiskFile (Some files)) (both None) (requests_among lines) → RanOver (Some (form.Int13 name)) spares old new ended
-    → EndsAnswered (AnswersCalls name old.desk.desk new.desk.desk ended) old new ended
+    → InsertsDisks (IsDiskFile (Some files)) (both None) (requests_among lines) → (ran : RanOver (Some (form.Int13 name)) spares old new ended)
+    → EndsAnswered (AnswersCalls name (world ran.runs.start old.desk.desk.files old.desk.desk.report) ran.runs.runs.course
+    (world ran.runs.last new.desk.desk.files new.desk.desk.report) ended) old new ended
 int13_ends name spares old new ended files text lines told is spells inserts ran =
     let over = ran.runs in
-    counted_answered (AnswersCalls name old.desk.desk new.desk.desk ended) old new ended ran.shelf_faults ran.sink_faults (go over.runs.does)
+    let first = world over.start old.desk.desk.files old.desk.desk.report in
+    let last = world over.last new.desk.desk.files new.desk.desk.report in
+    counted_answered (AnswersCalls name first over.runs.course last ended) old new ended ran.shelf_faults ran.sink_faults (go over.runs.does)
     (λ whole. int13_answers name spares old.board new.board old.desk.desk new.desk.desk ended over whole)
   where
     go : DoesOrStarves (form.Int13 name) (world ran.runs.start old.desk.desk.files old.desk.desk.report) ran.runs.runs.course

@@ -1,5 +1,5 @@
 -- What a text of calls of INT 13h tells.
-use Rattle.std.proofs.Common.{◌≡◌, ◌∙◌, ℕ, List, Result, Ok, Err, Some, refl, subst, inl, inr}
+use Rattle.std.proofs.Common.{◌≡◌, ◌∙◌, ℕ, List, Result, Ok, Err, Some, refl, subst}
 use Rattle.flop_base.specs.declared.answers.Status.{Status}
 use Rattle.flop_base.specs.declared.answers.Status.TheVariants as status
 use Rattle.flop_base.specs.Counters.{DriveCounts}
@@ -12,17 +12,17 @@ use Rattle.bios_commands.specs.Rounds.{Breaks, AtStop, AtPut}
 use Rattle.bios_commands.specs.Courses.{ServesCalls, There, Missing, TooLong, Faulty, Starved, ServesParsed, ServesLines, Through, Broken, EndStopped}
 use Rattle.archive_commands.specs.Files.{Desk}
 use Rattle.floppy_words.specs.declared.form.Form.TheVariants as form
+use Rattle.floppy_forms.specs.Programs.{DoesOrStarves, AsAsked, StarvesWords}
 use Rattle.floppy_forms.specs.Rounds.{world}
 use Rattle.floppy_tools.specs.Machines.{RunsOver}
 use Rattle.command_laws.specs.VerifyRuns.{IsEndStatus}
 use Rattle.command_laws.proofs.VerifyRun.{not_put}
 use Rattle.program_laws.specs.Answered.{AnswersCalls}
-use Rattle.program_laws.proofs.OfForms.{form_done}
 use Rattle.program_laws.proofs.Plays.{put_end, no_stop_end, no_end}
 
 module _ (name : List ℕ) (old : World) (course : List Taken) (new : World) (ended : Status) (whole : IsEndStatus ended) where
   abbrev Answered : Type 0
-  Answered = AnswersCalls name (record { files = old.files; report = old.report }) (record { files = new.files; report = new.report }) ended
+  Answered = AnswersCalls name old course new ended
 
   lines_answered : (text : List ℕ) (lines : List CallLine) → IsText old.files name text → calls_of text ≡ Ok lines → ServesLines lines old course new ended → Answered
   lines_answered text lines told spells (Through is) = record {
@@ -32,7 +32,8 @@ module _ (name : List ℕ) (old : World) (course : List Taken) (new : World) (en
     spelled = spells;
     rounds = is.rounds;
     each = is.served.all;
-    done = (old.state, is.mid.state, is.mid.files, is.kept, is.served.served);
+    ran = is.course_is;
+    done = record { mid = is.mid.state; files = is.mid.files; kept = is.kept; rounds_are = is.served.served; stored = is.stored };
     report = is.report ∙ is.served.report;
     status = is.status;
   }
@@ -55,9 +56,13 @@ module _ (name : List ℕ) (old : World) (course : List Taken) (new : World) (en
   calls_answered (Faulty nothing idle) = absurd (no_end status.FileFault ended whole idle.status (λ e. e))
   calls_answered (Starved nothing idle) = absurd (no_end status.NoMemory ended whole idle.status (λ e. e))
 
+does_answered : (name : List ℕ) (old : World) (course : List Taken) (new : World) (ended : Status) → IsEndStatus ended
+    → DoesOrStarves (form.Int13 name) old course new ended → AnswersCalls name old course new ended
+does_answered name old course new ended whole (AsAsked does) = calls_answered name old course new ended whole does
+does_answered name old course new ended whole (StarvesWords nothing idle) = absurd (subst IsEndStatus idle.status whole)
+
 pub int13_answers : (name : List ℕ) (spares : List DriveCounts) (old new : Board) (before after : Desk) (ended : Status)
-    → RunsOver (Some (form.Int13 name)) old spares before new after ended → IsEndStatus ended → AnswersCalls name before after ended
-int13_answers name spares old new before after ended over whole = elim (form_done (form.Int13 name) old spares before new after ended over) [
-  | inl runs ↦ calls_answered name (world over.start before.files before.report) runs.course (world over.last after.files after.report) ended whole runs.does
-  | inr starved ↦ absurd (subst IsEndStatus starved whole)
-]
+    → (over : RunsOver (Some (form.Int13 name)) old spares before new after ended) → IsEndStatus ended
+    → AnswersCalls name (world over.start before.files before.report) over.runs.course (world over.last after.files after.report) ended
+int13_answers name spares old new before after ended over whole =
+    does_answered name (world over.start before.files before.report) over.runs.course (world over.last after.files after.report) ended whole over.runs.does

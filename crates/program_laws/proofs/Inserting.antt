@@ -1,8 +1,6 @@
 -- What stands in the bays and under their names in a run: the files of disks stay the files of disks.
-use Rattle.std.proofs.Common.{arith, ◌≡◌, ◌∙◌, ◌+◌, ◌*◌, ◌≤◌, ℕ, Bool, true, false, true≢false, cond, List, [], ◌∷◌, length, take, drop, Option, Some, None, Ok, refl, ap, sym, subst, inl}
-use Rattle.std.specs.Prelude.{◌==◌, is_some, IsSomeAnd, MatchOption, if◌then◌else◌}
-use Rattle.std.proofs.lemmas.List.{length-take, length-drop}
-use Rattle.std.proofs.lemmas.Nat.{mul-le}
+use Rattle.std.proofs.Common.{◌≡◌, ◌∙◌, ◌≤◌, ℕ, Bool, true, false, true≢false, cond, List, [], ◌∷◌, length, Option, Some, None, Ok, refl, ap, sym, subst, inl}
+use Rattle.std.specs.Prelude.{◌==◌, ◌&&◌, not, is_some, IsSomeAnd, MatchOption, if◌then◌else◌}
 use Rattle.std.specs.Ordering.{nat_cmp, eq_by_cmp}
 use Rattle.std.proofs.lemmas.Cmp.{eq_by_cmp_equiv}
 use Rattle.std.specs.Cmp.Lexicographic.{slice_cmp, nat_list_cmp_total}
@@ -10,9 +8,7 @@ use Rattle.std.specs.FinMap as fin
 use Rattle.flop_base.specs.Shelf.{Files, file_at, stored}
 use Rattle.flop_base.specs.declared.answers.Code.TheVariants as code
 use Rattle.raw_image.specs.Disk.{Disk, IsDisk}
-use Rattle.raw_image.specs.Words.{bytes_of}
 use Rattle.raw_image.specs.Image.{image_of, file_of}
-use Rattle.raw_image.proofs.Pairs.{length-bytes_of}
 use Rattle.raw_image.proofs.Images.{image_again}
 use Rattle.flop_base.specs.Bays.{Two, in_bay, with_bay}
 use Rattle.sector_map.specs.Changes.{Change, Written}
@@ -25,21 +21,13 @@ use Rattle.sector_model.specs.Writes.{Reaches, ChangesDisk}
 use Rattle.sector_model.specs.Formats.{Lays, LaysDisk}
 use Rattle.sector_model.specs.Steps.{IsImageOf, unless_bad, most_image_bytes}
 use Rattle.command_laws.proofs.Verified.{one_image}
+use Rattle.command_laws.proofs.StoredFiles.{file_fits}
 use Rattle.program_laws.specs.Inserted.{IsDiskText, IsDiskFile, Names}
 
 -- ---- files
 
-length-file : (d : Disk) → length (file_of d) ≡ 14 + 2 * length d.words
-length-file d =
-    let front : length (take 14 (file_of d)) ≡ 14 = refl in
-    let back : length (drop 14 (file_of d)) ≡ length (bytes_of d.words) = refl in
-    omega (arith, front, back, length-take 14 (file_of d), length-drop 14 (file_of d), length-bytes_of d.words)
-
 pub file_text : (d : Disk) → IsDisk d → IsDiskText (file_of d) d
-file_text d valid =
-    let tracks = mul-le d.cylinders d.heads 80 2 valid.cylinders.1 valid.heads.1 in
-    let words = mul-le (d.cylinders * d.heads) d.words_per_track 160 16384 (omega (arith, tracks)) valid.words_per_track.1 in
-    (omega (arith, length-file d, valid.count, words), (valid, inl refl))
+file_text d valid = (file_fits d valid, (valid, inl refl))
 
 pub file_stored : (files : Files) (name bytes other : List ℕ)
     → file_at (fin.insert files name bytes) other ≡ cond (eq_by_cmp (slice_cmp nat_cmp) other name) (Some bytes) (file_at files other)
@@ -173,10 +161,11 @@ pub record IsKept (Holds : List ℕ → Type 0) (names : Names) (state : State) 
 
 -- by the order of refusals: a medium goes in, or nothing changes
 pub choose : {P : Type 0} {Q : Reason → Type 0} (F : Names → Type 0) (names put : Names) (good loaded : Bool)
-    → MatchOption (unless_bad good (if loaded then Some reason.Busy else None)) P Q → (good ≡ true → P → F put) → ((cause : Reason) → Q cause → F names)
+    → MatchOption (unless_bad good (if loaded then Some reason.Busy else None)) P Q → (good ≡ true → loaded ≡ false → P → F put)
+    → ((cause : Reason) → Q cause → F names)
     → F (if good then (if loaded then names else put) else names)
 choose F names put true true holds done refused = refused reason.Busy holds
-choose F names put true false holds done refused = done refl holds
+choose F names put true false holds done refused = done refl refl holds
 choose F names put false loaded holds done refused = refused (reason.Driver code.BadRequest) holds
 
 -- or one comes out
@@ -186,6 +175,15 @@ pub choose_out : {P : Type 0} {Q : Reason → Type 0} (F : Names → Type 0) (na
 choose_out F names put true true holds done refused = done holds
 choose_out F names put true false holds done refused = refused reason.Empty (λ a b. true≢false (sym b)) holds
 choose_out F names put false loaded holds done refused = refused (reason.Driver code.BadRequest) (λ a b. true≢false (sym a)) holds
+
+-- a medium that isn't refused goes into a free bay
+pub goes_in : (good loaded : Bool) → unless_bad good (if loaded then Some reason.Busy else None) ≡ None → (good && not loaded) ≡ true
+goes_in true true e = absurd (cc e)
+goes_in true false e = refl
+goes_in false loaded e = absurd (cc e)
+
+pub both_free : (good loaded : Bool) → good ≡ true → loaded ≡ false → (good && not loaded) ≡ true
+both_free good loaded e f = rw (e, f) refl
 
 pub not_loaded : (good loaded : Bool) (next : Option Reason) → unless_bad good (if loaded then Some reason.Busy else next) ≡ None → loaded ≡ false
 not_loaded true true next e = absurd (cc e)

@@ -28,7 +28,7 @@ use Rattle.command_laws.proofs.Prepared.{blank_valid}
 use Rattle.command_laws.proofs.Steps.{and_both}
 use Rattle.program_laws.specs.Inserted.{IsDiskFile, Names, named_by, IsStoredBy, HoldsBy, InsertsDisk}
 use Rattle.program_laws.proofs.Stepping.{either, either_is}
-use Rattle.program_laws.proofs.Inserting.{IsHeld, AreHeld, IsKept, held_in, held_with, held_still, held_none, held_is, named_loaded, reach_held, lays_held, stored_last, stored_still, inserted_disk, choose, choose_out, not_loaded}
+use Rattle.program_laws.proofs.Inserting.{IsHeld, AreHeld, IsKept, held_in, held_with, held_still, held_none, held_is, named_loaded, reach_held, lays_held, stored_last, stored_still, inserted_disk, choose, choose_out, both_free, not_loaded}
 
 -- the request neither puts a medium in nor takes one out, nor exchanges a drive
 abbrev pub keeps_media : Request → Bool
@@ -144,7 +144,7 @@ module _ (Holds : List ℕ → Type 0) (names : Names) (old : State) (told : Opt
 
   -- ---- media that go in and out
 
-  loaded_is : (at : ℕ) → is_loaded old at ≡ is_some (in_bay names at)
+  pub loaded_is : (at : ℕ) → is_loaded old at ≡ is_some (in_bay names at)
   loaded_is at = named_loaded (in_bay names at) (bay_of old.station at).medium (here at)
 
   abbrev Behind : Request → State → Option Files → Names → Type 0
@@ -192,15 +192,16 @@ module _ (Holds : List ℕ → Type 0) (names : Names) (old : State) (told : Opt
       let least = and_both _ _ most.0 in
       went_in asked new after at name (blank_of count rate) none (blank_valid count rate (leb-true 1 count least.1) (leb-true count 80 most.1)) named becomes still
 
-  insert_kept : (at : ℕ) (name : List ℕ) (answer : Reply) (new : State) (after : Option Files) → Holds name
+  insert_kept : (at : ℕ) (name : List ℕ) (answer : Reply) (new : State) (after : Option Files) → InsertsDisk Holds names (request.Insert at name)
       → Step (request.Insert at name) old told answer new after → Behind (request.Insert at name) new after (named_by names (request.Insert at name))
   insert_kept at name answer new after known step =
       let asked = request.Insert at name in
       by_load asked new after at (is_bay at) (with_bay names at (Some name))
       (choose (Behind asked new after) names (with_bay names at (Some name)) (is_bay at) (is_loaded old at) step
-      (λ good does.
+      (λ good empty does.
       let put = does.2 in
-      let is = subst (λ (f : Option Files). IsDiskFile f name) kept.told_is (kept.holds name known) in
+      let holds = known (both_free (is_bay at) (is_some (in_bay names at)) good (sym (loaded_is at) ∙ empty)) in
+      let is = subst (λ (f : Option Files). IsDiskFile f name) kept.told_is (kept.holds name holds) in
       let valid = inserted_disk kept.files name put.0 is (subst (λ (f : Option Files). IsImageOf f name put.0) kept.told_is put.1) in
       went_in asked new after at name put.0 (λ other none. none) valid put.2.names put.2.exchanged.becomes does.1)
       (λ cause refused. behind asked new after (λ other none. none) (same_kept new after refused.same refused.files)))
@@ -249,20 +250,20 @@ module _ (Holds : List ℕ → Type 0) (names : Names) (old : State) (told : Opt
       (held_none (in_bay names at) (bay_of old.station at).medium empty (here at)) does.2 does.1))
       (λ cause refused. behind asked new after (λ other none. none) (same_kept new after refused.same refused.files))
 
-  pub step_kept : (asked : Request) (answer : Reply) (new : State) (after : Option Files) → InsertsDisk Holds asked → Step asked old told answer new after
+  pub step_kept : (asked : Request) (answer : Reply) (new : State) (after : Option Files) → InsertsDisk Holds names asked → Step asked old told answer new after
       → Behind asked new after (named_by names asked)
   step_kept (request.Insert at name) answer new after known step = insert_kept at name answer new after known step
   step_kept (request.Blank at name count) answer new after known step =
       let asked = request.Blank at name count in
       by_load asked new after at (is_blank_request at count) (with_bay names at (Some name))
       (choose (Behind asked new after) names (with_bay names at (Some name)) (is_blank_request at count) (is_loaded old at) step
-      (λ good does. blank_kept asked new after at count R500 name (λ other none. none) good does.2.names does.2.exchanged.becomes does.1)
+      (λ good empty does. blank_kept asked new after at count R500 name (λ other none. none) good does.2.names does.2.exchanged.becomes does.1)
       (λ cause refused. behind asked new after (λ other none. none) (same_kept new after refused.same refused.files)))
   step_kept (request.BlankDd at name count) answer new after known step =
       let asked = request.BlankDd at name count in
       by_load asked new after at (is_blank_request at count) (with_bay names at (Some name))
       (choose (Behind asked new after) names (with_bay names at (Some name)) (is_blank_request at count) (is_loaded old at) step
-      (λ good does. blank_kept asked new after at count R250 name (λ other none. none) good does.2.names does.2.exchanged.becomes does.1)
+      (λ good empty does. blank_kept asked new after at count R250 name (λ other none. none) good does.2.names does.2.exchanged.becomes does.1)
       (λ cause refused. behind asked new after (λ other none. none) (same_kept new after refused.same refused.files)))
   step_kept (request.Eject at) answer new after known step = eject_kept at answer new after step
   step_kept (request.Unit at) answer new after known step = unit_kept at answer new after step

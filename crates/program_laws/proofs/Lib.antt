@@ -14,6 +14,7 @@ pub mod Plays
 mod Replies
 mod RescueStatus
 mod Rescues
+mod JobSettled
 mod Stepping
 mod Inserting
 mod KeptSteps
@@ -21,6 +22,7 @@ mod Protected
 mod ProtectedCalls
 mod ProtectedJobs
 mod PlayStatus
+mod PortStatus
 mod CallStatus
 mod RescueAgain
 pub mod Telling

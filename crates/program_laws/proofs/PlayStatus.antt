@@ -1,6 +1,6 @@
 -- The status of a job, and how a text of calls ends, where each file that is put in is the file of a disk.
 use Rattle.std.proofs.Common.{arith, ◌≡◌, ◌∙◌, ◌<◌, ◌≤◌, ℕ, List, [], ◌∷◌, ◌++◌, length, Option, Some, None, Result, Ok, Err, ap, sym, subst}
-use Rattle.std.specs.Prelude.{IsSomeAnd}
+use Rattle.std.specs.Prelude.{◌&&◌, not, Bool, true, IsSomeAnd}
 use Rattle.flop_base.specs.Shelf.{Files, file_at}
 use Rattle.flop_base.specs.declared.answers.Status.{Status}
 use Rattle.raw_image.specs.Disk.{Disk}
@@ -14,13 +14,14 @@ use Rattle.sector_model.specs.declared.reply.Stop.TheVariants as stop
 use Rattle.sector_model.specs.Stations.{IsFresh}
 use Rattle.sector_model.specs.States.{State}
 use Rattle.floppy_requests.specs.declared.request.Request.TheVariants as request
-use Rattle.sector_model.specs.Steps.{StopsAt, StopCause, IsImageOf, IsBadImage, IsLonger, IsAbsent, most_image_bytes}
+use Rattle.sector_model.specs.Orders.{is_bay}
+use Rattle.sector_model.specs.Steps.{StopsAt, StopCause, IsImageOf, IsBadImage, IsLonger, IsAbsent, refusal_of, is_loaded, most_image_bytes}
 use Rattle.sector_model.specs.Runs.{Taken, Run, requests_of, has_refusal, IsEndStop}
 use Rattle.sector_model.specs.Plays.{World, Plays, There, Missing, TooLong, Faulty, Starved, PlaysParsed, PlaysRequests, Played, Stopped, BrokenOff, EndStopped, IsText, most_job_bytes}
 use Rattle.program_laws.specs.Inserted.{IsDiskFile, Names, named_by, HoldsBy, InsertsDisk, InsertsDisks}
 use Rattle.program_laws.proofs.Telling.{EndsBy, whole_by, put_by, prints_by, end_by}
-use Rattle.program_laws.proofs.Inserting.{IsKept, AreHeld, file_image}
-use Rattle.program_laws.proofs.KeptSteps.{step_kept}
+use Rattle.program_laws.proofs.Inserting.{IsKept, AreHeld, file_image, goes_in}
+use Rattle.program_laws.proofs.KeptSteps.{loaded_is, step_kept}
 
 -- ---- what can stop a request
 
@@ -53,12 +54,15 @@ never_absent files name disk image absent = go (file_at files name) image absent
 
 -- none but the outside stops a request that puts the file of a disk in
 pub kept_stop : (Holds : List ℕ → Type 0) (names : Names) (old : State) (told : Option Files) → IsKept Holds names old told → (asked : Request)
-    (cause : Stop) (new : State) (after : Option Files) → InsertsDisk Holds asked → StopsAt asked old told cause new after → IsEndStop cause
+    (cause : Stop) (new : State) (after : Option Files) → InsertsDisk Holds names asked → StopsAt asked old told cause new after → IsEndStop cause
 kept_stop Holds names old told kept asked cause new after known stops = go cause stops.cause
   where
     there : (name : List ℕ) → ((bay : ℕ) × (asked ≡ request.Insert bay name)) → IsDiskFile (Some kept.files) name
     there name is =
-        let holds = subst (InsertsDisk Holds) is.1 known in
+        let bay = is.0 in
+        let free = goes_in (is_bay bay) (is_loaded old bay) (subst (λ (q : Request). refusal_of old q ≡ None) is.1 stops.taken) in
+        let open_bay = subst (λ (b : Bool). (is_bay bay && not b) ≡ true) (loaded_is Holds names old told kept bay) free in
+        let holds = subst (InsertsDisk Holds names) is.1 known open_bay in
         subst (λ (f : Option Files). IsDiskFile f name) kept.told_is (kept.holds name holds)
 
     go : (cause : Stop) → StopCause told asked cause → IsEndStop cause

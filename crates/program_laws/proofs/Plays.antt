@@ -1,5 +1,5 @@
 -- What a job tells.
-use Rattle.std.proofs.Common.{◌≡◌, ◌∙◌, ℕ, Bool, List, [], ◌∷◌, ◌++◌, length, map, Option, Result, Ok, Err, Some, None, refl, ap, sym, subst, inl, inr}
+use Rattle.std.proofs.Common.{◌≡◌, ◌∙◌, ℕ, Bool, List, [], ◌∷◌, ◌++◌, length, Option, Result, Ok, Err, Some, None, refl, ap, sym, subst}
 use Rattle.std.specs.Prelude.{◌||◌, IsSomeAnd, ◌≤◌}
 use Rattle.std.specs.List.{list_any}
 use Rattle.std.proofs.lemmas.List.{length-map}
@@ -11,22 +11,18 @@ use Rattle.flop_base.specs.Counters.{DriveCounts}
 use Rattle.pc_bus.specs.Boards.{Board}
 use Rattle.floppy_requests.specs.Texts.{job_of}
 use Rattle.floppy_requests.specs.declared.request.Request.{Request}
-use Rattle.sector_model.specs.declared.reply.Reply.{Reply}
 use Rattle.sector_model.specs.declared.reply.Stop.{Stop}
 use Rattle.sector_model.specs.Texts.{reply_text, is_refusal, stop_status}
 use Rattle.sector_model.specs.Runs.{Taken, requests_of, course_text, has_refusal}
 use Rattle.sector_model.specs.Plays.{World, Plays, There, Missing, TooLong, Faulty, Starved, PlaysParsed, PlaysRequests, Played, Stopped, BrokenOff, EndStopped, Prints, Whole, Part, IsText, most_job_bytes, whole_status}
 use Rattle.archive_commands.specs.Files.{Desk}
 use Rattle.floppy_words.specs.declared.form.Form.TheVariants as form
+use Rattle.floppy_forms.specs.Programs.{DoesOrStarves, AsAsked, StarvesWords}
 use Rattle.floppy_forms.specs.Rounds.{world}
 use Rattle.floppy_tools.specs.Machines.{RunsOver}
 use Rattle.command_laws.specs.VerifyRuns.{IsEndStatus}
 use Rattle.command_laws.proofs.VerifyRun.{not_put, not_stop}
-use Rattle.program_laws.specs.Answered.{AnswersJob, replies_text}
-use Rattle.program_laws.proofs.OfForms.{form_done}
-
-abbrev answers_of : List Taken → List Reply
-answers_of course = map (λ taken. taken.answer) course
+use Rattle.program_laws.specs.Answered.{AnswersJob, replies_text, answers_of}
 
 told_replies : (course : List Taken) → course_text course ≡ replies_text (requests_of course) (answers_of course)
 told_replies [] = refl
@@ -56,12 +52,14 @@ text_there files job text told = go (file_at files job) told
 module _ (job : List ℕ) (files : Files) (old : World) (course : List Taken) (new : World) (ended : Status) (whole : IsEndStatus ended)
     (told : old.files ≡ Some files) where
   requests_answered : (text : List ℕ) (requests : List Request) → file_at files job ≡ Some text → job_of text ≡ Ok requests
-      → PlaysRequests requests old course new ended
-      → AnswersJob job (record { files = old.files; report = old.report }) (record { files = new.files; report = new.report }) ended
+      → PlaysRequests requests old course new ended → AnswersJob job old course new ended
   requests_answered text requests there spells (Played is) = record {
     requests = requests;
     spelled = record { files = files; text = text; tells = told; there = there; spells = spells };
+    done = record { mid = is.mid; files = is.files; run = is.run; stored = is.stored };
+    asked = sym is.all;
     answers = answers_of course;
+    given = refl;
     each = length-map course (λ (taken : Taken). taken.answer) ∙ sym (length-map course (λ (taken : Taken). taken.asked))
         ∙ sym (ap (λ (row : List Request). length row) is.all);
     report = is.report ∙ ap (λ (t : List ℕ). grown old.report t) (told_replies course
@@ -74,13 +72,11 @@ module _ (job : List ℕ) (files : Files) (old : World) (course : List Taken) (n
   requests_answered text requests there spells (EndStopped is) = absurd (no_stop_end is.cause ended whole is.status)
 
   parsed_answered : (text : List ℕ) (parsed : Result (List Request) ℕ) → file_at files job ≡ Some text → job_of text ≡ parsed
-      → PlaysParsed parsed old course new ended
-      → AnswersJob job (record { files = old.files; report = old.report }) (record { files = new.files; report = new.report }) ended
+      → PlaysParsed parsed old course new ended → AnswersJob job old course new ended
   parsed_answered text (Ok requests) there spells plays = requests_answered text requests there spells plays
   parsed_answered text (Err line) there spells tells = absurd (no_end status.BadJob ended whole (put_end _ _ _ _ ended whole tells.tells.prints) (λ e. e))
 
-  job_answered : Plays job old course new ended
-      → AnswersJob job (record { files = old.files; report = old.report }) (record { files = new.files; report = new.report }) ended
+  job_answered : Plays job old course new ended → AnswersJob job old course new ended
   job_answered (There is) =
       parsed_answered is.text (job_of is.text) (text_there files job is.text (subst (λ (f : Option Files). IsText f job is.text) told is.told)) refl is.plays
   job_answered (Missing absent tells) = absurd (no_end status.Absent ended whole (put_end _ _ _ _ ended whole tells.tells.prints) (λ e. e))
@@ -88,9 +84,14 @@ module _ (job : List ℕ) (files : Files) (old : World) (course : List Taken) (n
   job_answered (Faulty nothing idle) = absurd (no_end status.FileFault ended whole idle.status (λ e. e))
   job_answered (Starved nothing idle) = absurd (no_end status.NoMemory ended whole idle.status (λ e. e))
 
+does_answered : (job : List ℕ) (files : Files) (old : World) (course : List Taken) (new : World) (ended : Status) → IsEndStatus ended
+    → old.files ≡ Some files → DoesOrStarves (form.Play job) old course new ended → AnswersJob job old course new ended
+does_answered job files old course new ended whole told (AsAsked does) = job_answered job files old course new ended whole told does
+does_answered job files old course new ended whole told (StarvesWords nothing idle) = absurd (subst IsEndStatus idle.status whole)
+
 pub play_answers : (job : List ℕ) (spares : List DriveCounts) (old new : Board) (before after : Desk) (ended : Status) (files : Files)
-    → RunsOver (Some (form.Play job)) old spares before new after ended → IsEndStatus ended → before.files ≡ Some files → AnswersJob job before after ended
-play_answers job spares old new before after ended files over whole told = elim (form_done (form.Play job) old spares before new after ended over) [
-  | inl runs ↦ job_answered job files (world over.start before.files before.report) runs.course (world over.last after.files after.report) ended whole told runs.does
-  | inr starved ↦ absurd (subst IsEndStatus starved whole)
-]
+    → (over : RunsOver (Some (form.Play job)) old spares before new after ended) → IsEndStatus ended → before.files ≡ Some files
+    → AnswersJob job (world over.start before.files before.report) over.runs.course (world over.last after.files after.report) ended
+play_answers job spares old new before after ended files over whole told =
+    does_answered job files (world over.start before.files before.report) over.runs.course (world over.last after.files after.report) ended whole told
+    over.runs.does

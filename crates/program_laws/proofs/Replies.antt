@@ -34,7 +34,7 @@ use Rattle.floppy_requests.specs.declared.request.Request.{Request}
 use Rattle.sector_model.specs.Plays.{IsText}
 use Rattle.std.proofs.Common.{Ok}
 
-counted_by : (refused : Bool) (old new : Stand) (ended : Status) → Blames (ended ≡ status.FileFault) old.desk.shelf_faults new.desk.shelf_faults
+pub counted_by : (refused : Bool) (old new : Stand) (ended : Status) → Blames (ended ≡ status.FileFault) old.desk.shelf_faults new.desk.shelf_faults
     → BlamesAlone (ended ≡ status.SinkFault) old.desk.sink_faults new.desk.sink_faults → EndsBy refused ended → EndsByReplies refused old new ended
 counted_by refused old new status.AllOk shelf sink ends = ends
 counted_by refused old new status.NoMemory shelf sink ends = tt

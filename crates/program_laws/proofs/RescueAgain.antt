@@ -35,7 +35,7 @@ use Rattle.program_laws.proofs.RescueStatus.{records_by, behind}
 
 -- ---- a file that is there is put in
 
-stop_here : (files : Files) (name : List ℕ) (disk : Disk) (bay : ℕ) (cause : Stop) → IsImageOf (Some files) name disk
+pub stop_here : (files : Files) (name : List ℕ) (disk : Disk) (bay : ℕ) (cause : Stop) → IsImageOf (Some files) name disk
     → StopCause (Some files) (request.Insert bay name) cause → IsEndStop cause
 stop_here files name disk bay stop.FileFault image is = tt
 stop_here files name disk bay stop.NoMemory image is = tt

@@ -13,7 +13,7 @@ use Rattle.floppy_tools.specs.Machines.{RunsOver}
 use Rattle.rescue.specs.declared.line.LogLine.{LogLine}
 use Rattle.command_laws.specs.Rescued.{log_of, StoresInOrder, Nothing}
 use Rattle.command_laws.proofs.Order.{stores_in_order}
-use Rattle.command_laws.proofs.Whole.{rescue_logs, rescue_stores, rescue_stores_laid}
+use Rattle.command_laws.proofs.Whole.{rescue_logs, rescue_stores}
 use Rattle.sector_map.specs.Disks.{IsRegularDisk}
 use Rattle.command_laws.proofs.CommandEnds.{fresh_memory}
 use Rattle.std.specs.Prelude.{◌≢◌, None, length, IsSomeAnd}
@@ -22,7 +22,7 @@ use Rattle.flop_base.specs.Memory.{user_bytes}
 use Rattle.flop_base.specs.Counters.{IsFaultless}
 use Rattle.sector_model.specs.States.{State}
 use Rattle.rescue_commands.specs.Logs.{IsLogFound}
-use Rattle.command_laws.specs.Rescued.{HasLaidTracks, HasTarget, IsRescue}
+use Rattle.command_laws.specs.Rescued.{BringsUpNoMark, HasTarget, IsTarget, IsRescue}
 use Rattle.std.proofs.Common.{◌≡◌, Option, subst, inl, inr}
 use Rattle.std.specs.Prelude.{IfSome}
 use Rattle.flop_base.specs.Shelf.{Files, file_at}
@@ -94,27 +94,33 @@ settles_by from to log files disk old new course ended (AsAsked does) whole fine
 settles_by from to log files disk old new course ended (StarvesWords nothing idle) whole fine apart told image absent size calm =
     absurd (subst IsEndStatus idle.status whole)
 
--- where there may be a log, and each track of the other disk is Laid
-laid_by : (from to log : List ℕ) (files : Files) (disk target : Disk) (old new : World) (course : List Taken) (ended : Status)
+-- where there may be a log, the other diskette is as that asks for
+this_target : (to : List ℕ) (target : Disk) (files : Files) (old : State) (course : List Taken) → IsTarget to target files old course
+    → (found : Option (List LogLine)) → HasTarget found to target files old course
+this_target to target files old course is None = tt
+this_target to target files old course is (Some lines) = is
+
+again_by : (from to log : List ℕ) (files : Files) (disk target : Disk) (old new : World) (course : List Taken) (ended : Status)
     → DoesOrStarves (form.Rescue from to log) old course new ended → IsEndStatus ended → IsNotToldStopped old.report new.report → to ≢ log
     → old.files ≡ Some files → IsImageOf (Some files) from disk → length old.state.station.memory ≡ user_bytes
-    → IsFaultless 1 old.state.station.counters new.state.station.counters → IsImageOf (Some files) to target → IsRegularDisk target
-    → HasLaidTracks target → IsRescue disk target to log files old course new ended
-laid_by from to log files disk target old new course ended (AsAsked does) whole fine apart told image size calm other regular laid =
-    rescue_stores_laid from to log disk target files old course new ended does whole (rescue_unstopped from to log old new course ended whole fine does)
-    apart told image size calm other regular laid
-laid_by from to log files disk target old new course ended (StarvesWords nothing idle) whole fine apart told image size calm other regular laid =
+    → IsFaultless 1 old.state.station.counters new.state.station.counters → IsTarget to target files old.state course
+    → IsRescue disk target to log files old course new ended
+again_by from to log files disk target old new course ended (AsAsked does) whole fine apart told image size calm other =
+    rescue_stores from to log disk target files old course new ended does whole (rescue_unstopped from to log old new course ended whole fine does)
+    apart told image size calm (λ found there. this_target to target files old.state course other found)
+again_by from to log files disk target old new course ended (StarvesWords nothing idle) whole fine apart told image size calm other =
     absurd (subst IsEndStatus idle.status whole)
 
-pub rescue_settles_laid : (from to log : List ℕ) (spares : List DriveCounts) (old new : Board) (before after : Desk) (ended : Status) (files : Files)
+pub rescue_settles_again : (from to log : List ℕ) (spares : List DriveCounts) (old new : Board) (before after : Desk) (ended : Status) (files : Files)
     (disk target : Disk) → (over : RunsOver (Some (form.Rescue from to log)) old spares before new after ended) → IsEndStatus ended
     → IsNotToldStopped before.report after.report → to ≢ log → before.files ≡ Some files → IsImageOf (Some files) from disk → HadNoFault 1 old new
-    → IsImageOf (Some files) to target → IsRegularDisk target → HasLaidTracks target
+    → IsImageOf (Some files) to target → IsRegularDisk target → BringsUpNoMark target over.start over.runs.course
     → IsRescue disk target to log files (world over.start before.files before.report) over.runs.course (world over.last after.files after.report) ended
-rescue_settles_laid from to log spares old new before after ended files disk target over whole fine apart told image calm other regular laid =
-    laid_by from to log files disk target (world over.start before.files before.report) (world over.last after.files after.report) over.runs.course ended
+rescue_settles_again from to log spares old new before after ended files disk target over whole fine apart told image calm other regular unmarked =
+    again_by from to log files disk target (world over.start before.files before.report) (world over.last after.files after.report) over.runs.course ended
     over.runs.does whole fine apart told image (fresh_memory over.start.station over.set_up.fresh)
-    (faultless_second old new spares over.start.station over.last.station over.set_up.starts over.shows calm) other regular laid
+    (faultless_second old new spares over.start.station over.last.station over.set_up.starts over.shows calm)
+    (record { image = other; regular = regular; unmarked = unmarked })
 
 pub rescue_settles : (from to log : List ℕ) (spares : List DriveCounts) (old new : Board) (before after : Desk) (ended : Status) (files : Files) (disk : Disk)
     → (over : RunsOver (Some (form.Rescue from to log)) old spares before new after ended) → IsEndStatus ended → IsNotToldStopped before.report after.report

@@ -1,6 +1,6 @@
 -- What each step of a run may do to the media in the bays.
 use Rattle.std.proofs.Common.{arith, ◌≡◌, ◌≤◌, ◌∙◌, ℕ, Bool, true, false, true≢false, List, [], ◌∷◌, length, Option, Some, None, Result, Ok, Err, refl, ap, sym, subst, inl, inr, ◌⊎◌}
-use Rattle.std.specs.Prelude.{◌==◌, not, if◌then◌else◌, MatchOption, MatchBool, IsOk, is_some, ◌-◌}
+use Rattle.std.specs.Prelude.{◌==◌, ◌&&◌, not, if◌then◌else◌, MatchOption, MatchBool, IsOk, is_some, ◌-◌}
 use Rattle.std.specs.Option.{option_map_or}
 use Rattle.flop_base.specs.Shelf.{Files}
 use Rattle.flop_base.specs.declared.answers.Code.{Code}
@@ -13,6 +13,7 @@ use Rattle.flop_base.specs.Bays.{Two, in_bay, with_bay}
 use Rattle.flop_base.specs.Counters.{Counters, IsDriven}
 use Rattle.sector_map.specs.Changes.{Change, Written}
 use Rattle.sector_model.specs.declared.reply.Reply.{Reply}
+use Rattle.sector_model.specs.declared.reply.Reply.TheVariants as reply
 use Rattle.sector_model.specs.Stations.{StationState, Bay, bay_of, set_bay, fresh_bay, Becomes, Stays}
 use Rattle.sector_model.specs.States.{State}
 use Rattle.sector_model.specs.Orders.{is_acknowledged, is_protected, write_refusal, format_refusal, rate_refusal, is_bay, is_sector_request, is_format_request, crosses_page, read_refusal, IsRefusedAtOnce}
@@ -24,7 +25,7 @@ use Rattle.sector_model.specs.Steps.{Step, refusal_of, read_reply, reply_of}
 use Rattle.sector_model.specs.Texts.{is_refusal}
 use Rattle.sector_model.specs.Runs.{Taken, Run}
 use Rattle.track_model.specs.Fields.{content_size}
-use Rattle.program_laws.specs.Steps.{EachStep, is_same_bay, exchanges, IsGuarded, KeepsGuarded, ReadsField, IsWrite, WritesField, WritesAlone, KeepsOtherFields}
+use Rattle.program_laws.specs.Steps.{EachStep, is_same_bay, exchanges, has_exchanged, IsGuarded, KeepsGuarded, ReadsField, IsWrite, WritesField, WritesAlone, KeepsOtherFields}
 use Rattle.sector_map.specs.Disks.{IsRegularDisk}
 
 -- ---- bays
@@ -101,6 +102,10 @@ format_open true true false e = (refl, refl)
 unguarded : (station : StationState) (bay : ℕ) → (is_acknowledged station bay ≡ true) × (is_protected station bay ≡ false) → IsGuarded station bay → ⊥
 unguarded station bay is (inl unacknowledged) = true≢false (sym is.0 ∙ unacknowledged)
 unguarded station bay is (inr protected) = true≢false (sym protected ∙ is.1)
+
+-- a refusal isn't done
+not_done : (answer : Reply) → answer ≡ reply.Done → is_refusal answer ≡ true → ⊥
+not_done answer done refused = true≢false (sym refused ∙ ap is_refusal done)
 
 -- a guard is that of the bay, whichever number it has
 guard_at : (station : StationState) (at bay : ℕ) → is_same_bay at bay ≡ true → IsGuarded station bay → IsGuarded station at
@@ -188,10 +193,42 @@ module _ (old : State) (bay : ℕ) (guarded : IsGuarded old.station bay) where
       either (rate_refusal old.station at) step.1.2 (λ does. still_keeps new at _ does.becomes refl) (λ code refused. stays_keeps new refused.stays)
   step_keeps (request.Tries tries) told answer new after step apart = ap (λ (s : StationState). (bay_of s bay).medium) step.2.becomes
 
+  -- a refused request puts nothing in, and takes nothing out
+  refused_keeps : (asked : Request) (told : Option Files) (answer : Reply) (new : State) (after : Option Files) → Step asked old told answer new after
+      → is_refusal answer ≡ true → exchanges bay asked ≡ true → Keeps new
+  refused_keeps (request.Insert at name) told answer new after step e same =
+      either (refusal_of old (request.Insert at name)) step (λ does. absurd (not_done answer does.0 e)) (λ cause refused. stays_keeps new refused.same.stays)
+  refused_keeps (request.Blank at name count) told answer new after step e same =
+      either (refusal_of old (request.Blank at name count)) step (λ does. absurd (not_done answer does.0 e)) (λ cause refused. stays_keeps new refused.same.stays)
+  refused_keeps (request.BlankDd at name count) told answer new after step e same =
+      either (refusal_of old (request.BlankDd at name count)) step (λ does. absurd (not_done answer does.0 e)) (λ cause refused. stays_keeps new refused.same.stays)
+  refused_keeps (request.Eject at) told answer new after step e same =
+      either (refusal_of old (request.Eject at)) step (λ does. absurd (not_done answer does.0 e)) (λ cause refused. stays_keeps new refused.same.stays)
+  refused_keeps (request.Unit at) told answer new after step e same =
+      either (refusal_of old (request.Unit at)) step (λ does. absurd (not_done answer does.0 e)) (λ cause refused. stays_keeps new refused.same.stays)
+  refused_keeps (request.Ack at) told answer new after step e same = absurd (true≢false (sym same))
+  refused_keeps (request.Read at key address) told answer new after step e same = absurd (true≢false (sym same))
+  refused_keeps (request.Write at key address) told answer new after step e same = absurd (true≢false (sym same))
+  refused_keeps (request.WriteDeleted at key address) told answer new after step e same = absurd (true≢false (sym same))
+  refused_keeps (request.Format at c h) told answer new after step e same = absurd (true≢false (sym same))
+  refused_keeps (request.Fill address count byte) told answer new after step e same = absurd (true≢false (sym same))
+  refused_keeps (request.Dump address count) told answer new after step e same = absurd (true≢false (sym same))
+  refused_keeps (request.SetRate at rate) told answer new after step e same = absurd (true≢false (sym same))
+  refused_keeps (request.Tries tries) told answer new after step e same = absurd (true≢false (sym same))
+
+  taken_keeps : (taken : Taken) (told after : Option Files) → Step taken.asked old told taken.answer taken.after after → has_exchanged bay taken ≡ false
+      → Keeps taken.after
+  taken_keeps taken told after step none = go (is_refusal taken.answer) (exchanges bay taken.asked) refl refl none
+    where
+      go : (refused asks : Bool) → is_refusal taken.answer ≡ refused → exchanges bay taken.asked ≡ asks → (not refused && asks) ≡ false → Keeps taken.after
+      go refused false e f apart = step_keeps taken.asked told taken.answer taken.after after step f
+      go true true e f apart = refused_keeps taken.asked told taken.answer taken.after after step e f
+      go false true e f apart = absurd (true≢false apart)
+
 pub each_keeps : (old new : State) (told after : Option Files) (course : List Taken) → Run old told course new after → EachStep KeepsGuarded old course
 each_keeps old new told after [] run = tt
 each_keeps old new told after (taken ∷ later) run = (
-  λ bay apart guarded. step_keeps old bay guarded taken.asked told taken.answer taken.after run.0 run.1 apart,
+  λ bay none guarded. taken_keeps old bay guarded taken told run.0 run.1 none,
   each_keeps taken.after new run.0 after later run.2,
 )
 

@@ -14,6 +14,13 @@ EndsWell Holds old new status.FileFault = Rose old.desk.shelf_faults new.desk.sh
 EndsWell Holds old new status.SinkFault = Rose old.desk.sink_faults new.desk.sink_faults
 EndsWell Holds old new _ = ⊥
 
+-- the outside ended the program: memory couldn't be had, or the shelf or the sink failed, and its faults were counted
+abbrev pub EndsOutside : Stand → Stand → Status → Type 0
+EndsOutside old new status.NoMemory = Unit {0}
+EndsOutside old new status.FileFault = Rose old.desk.shelf_faults new.desk.shelf_faults
+EndsOutside old new status.SinkFault = Rose old.desk.sink_faults new.desk.sink_faults
+EndsOutside old new _ = ⊥
+
 -- the program ended with status 0 or 1, and this holds; or memory couldn't be had; or the shelf or the sink failed, and its faults were
 -- counted
 abbrev pub EndsAnswered : Type 0 → Stand → Stand → Status → Type 0

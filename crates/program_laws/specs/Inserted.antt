@@ -1,5 +1,5 @@
 -- Files that requests put in: which names hold the file of a disk, by what stood there and what is stored.
-use Rattle.std.specs.Prelude.{◌≡◌, ◌≤◌, ◌⊎◌, ℕ, Bool, true, is_some, List, [], ◌∷◌, length, Option, Some, None, IfSome, IsSomeAnd, if◌then◌else◌}
+use Rattle.std.specs.Prelude.{◌≡◌, ◌≤◌, ◌⊎◌, ◌&&◌, ℕ, Bool, true, not, is_some, List, [], ◌∷◌, length, Option, Some, None, IfSome, IsSomeAnd, if◌then◌else◌}
 use Rattle.flop_base.specs.Shelf.{Files, file_at}
 use Rattle.raw_image.specs.Disk.{Disk}
 use Rattle.raw_image.specs.Image.{Spells}
@@ -8,6 +8,8 @@ use Rattle.floppy_requests.specs.declared.request.Request.{Request}
 use Rattle.floppy_requests.specs.declared.request.Request.TheVariants as request
 use Rattle.floppy_jobs.specs.declared.calls.CallLine.{CallLine}
 use Rattle.floppy_jobs.specs.declared.calls.CallLine.TheVariants as call
+use Rattle.floppy_jobs.specs.declared.ports.PortLine.{PortLine}
+use Rattle.floppy_jobs.specs.declared.ports.PortLine.TheVariants as port
 use Rattle.sector_model.specs.Orders.{is_bay}
 use Rattle.sector_model.specs.Steps.{is_blank_request, most_image_bytes}
 
@@ -44,18 +46,32 @@ IsStoredBy names _ name = ⊥
 abbrev pub HoldsBy : (List ℕ → Type 0) → Names → Request → List ℕ → Type 0
 HoldsBy Holds names asked name = Holds name ⊎ IsStoredBy names asked name
 
--- what a request puts in, is the file of a disk
-abbrev pub InsertsDisk : (List ℕ → Type 0) → Request → Type 0
-InsertsDisk Holds (request.Insert bay name) = Holds name
-InsertsDisk Holds _ = Unit {0}
+-- a medium can be put into a bay: there is such a bay, and none is in
+abbrev pub is_free : Names → ℕ → Bool
+is_free names bay = is_bay bay && not (is_some (in_bay names bay))
+
+-- what a request puts in, is the file of a disk; where it has to be refused it puts nothing in, and loads nothing
+abbrev pub InsertsDisk : (List ℕ → Type 0) → Names → Request → Type 0
+InsertsDisk Holds names (request.Insert bay name) = is_free names bay ≡ true → Holds name
+InsertsDisk Holds names _ = Unit {0}
 
 -- each file that requests put in is the file of a disk, or was stored by one of them before
 abbrev pub InsertsDisks : (List ℕ → Type 0) → Names → List Request → Type 0
 InsertsDisks Holds names [] = Unit {0}
-InsertsDisks Holds names (asked ∷ later) = InsertsDisk Holds asked × InsertsDisks (HoldsBy Holds names asked) (named_by names asked) later
+InsertsDisks Holds names (asked ∷ later) = InsertsDisk Holds names asked × InsertsDisks (HoldsBy Holds names asked) (named_by names asked) later
 
 -- the requests among lines of calls: a call of INT 13h puts nothing in, and takes nothing out
 abbrev pub requests_among : List CallLine → List Request
 requests_among [] = []
 requests_among (call.Job asked ∷ later) = asked ∷ requests_among later
 requests_among (call.Call ax bx cx dx es ∷ later) = requests_among later
+
+-- the requests among lines of port accesses: media that are put in, and that are taken out
+abbrev pub media_among : List PortLine → List Request
+media_among [] = []
+media_among (port.In number ∷ later) = media_among later
+media_among (port.Out number value ∷ later) = media_among later
+media_among (port.Wait steps ∷ later) = media_among later
+media_among (port.Irq ∷ later) = media_among later
+media_among (port.Insert bay name ∷ later) = request.Insert bay name ∷ media_among later
+media_among (port.Eject bay ∷ later) = request.Eject bay ∷ media_among later

@@ -1,5 +1,5 @@
 -- What each step of a run may do to the media in the bays, and what a read and a write that were done have done.
-use Rattle.std.specs.Prelude.{◌≡◌, ◌≤◌, ◌⊎◌, ℕ, ◌==◌, Bool, true, false, not, List, [], ◌∷◌, length, Some, Result, if◌then◌else◌}
+use Rattle.std.specs.Prelude.{◌≡◌, ◌≤◌, ◌⊎◌, ◌&&◌, ℕ, ◌==◌, Bool, true, false, not, List, [], ◌∷◌, length, Some, Result, if◌then◌else◌}
 use Rattle.flop_base.specs.declared.answers.Code.{Code}
 use Rattle.flop_base.specs.declared.key.Chrn.{Chrn}
 use Rattle.floppy_requests.specs.declared.request.Request.{Request}
@@ -47,10 +47,14 @@ exchanges bay (request.Tries tries) = false
 abbrev pub IsGuarded : StationState → ℕ → Type 0
 IsGuarded station bay = (is_acknowledged station bay ≡ false) ⊎ (is_protected station bay ≡ true)
 
--- the medium of such a bay is the same after a step, unless the step exchanges it
+-- a step did: its request wasn't refused, as it is where its bay is above 1
+abbrev pub has_exchanged : ℕ → Taken → Bool
+has_exchanged bay taken = not (is_refusal taken.answer) && exchanges bay taken.asked
+
+-- the medium of such a bay is the same after a step, unless the step exchanged it
 abbrev pub KeepsGuarded : State → Taken → Type 0
 KeepsGuarded old taken =
-    (bay : ℕ) → exchanges bay taken.asked ≡ false → IsGuarded old.station bay
+    (bay : ℕ) → has_exchanged bay taken ≡ false → IsGuarded old.station bay
     → (bay_of taken.after.station bay).medium ≡ (bay_of old.station bay).medium
 
 -- a read that was done gave an intact field of its key; and each read sent at most as many data commands as attempts are set

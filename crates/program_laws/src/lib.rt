@@ -10,7 +10,9 @@ mod flat;
 mod format;
 mod guarded;
 mod play;
+mod ports;
 mod rescued;
+mod settled;
 mod status;
 mod steps;
 mod verify;
@@ -28,10 +30,12 @@ pub use flat::{disk_of_a_flat_file, flat_file_of_a_disk};
 pub use format::{format_of_a_disk, formatdd_of_a_disk};
 pub use guarded::{protected_disk_stays, protected_disk_stays_by_job, protected_disk_stays_called};
 pub use play::{calls_are_answered, job_is_answered};
+pub use ports::ports_status;
 pub use rescued::{
     further_rescue_settles_each_record, new_rescue_settles_each_record, rescue_logs_the_rest,
     rescue_stores_in_order,
 };
+pub use settled::job_answers_are_settled;
 pub use status::{
     copy_status, exercise_status, export_status, format_status, formatdd_status,
     further_rescue_status, import_status, int13_status, new_rescue_status, play_status,

@@ -6,22 +6,28 @@ ghost use Rattle.flop_base.specs.Counters.{DriveCounts};
 ghost use Rattle.pc_bus.specs.Boards.{Board};
 ghost use Rattle.archive_commands.specs.Files.{Desk};
 ghost use Rattle.floppy_words.specs.declared.form.Form.TheVariants as form;
+ghost use Rattle.floppy_forms.specs.Rounds.{world};
 ghost use Rattle.floppy_tools.specs.Machines.{RunsOver};
 ghost use Rattle.command_laws.specs.VerifyRuns.{IsEndStatus};
 ghost use Rattle.program_laws.specs.Answered.{AnswersCalls, AnswersJob};
 
-/// A law: where `play JOB` ends with status 0 or 1, JOB is a job, each of its requests had a reply, these are told in their order,
-/// and the status is 1 where some is a refusal, and else 0.
+/// A law: where `play JOB` ends with status 0 or 1, JOB is a job, its requests are those of the form's run, from the session that was set
+/// up to the machine that comes back; the replies of that run are told in their order, and the status is 1 where some is a refusal, and
+/// else 0.
 pub fn job_is_answered(_job: &str)
     ensures { (spares : List DriveCounts) (old new : Board) (before after : Desk) (ended : Status) (files : Files)
-        → RunsOver (Some (form.Play _job.now)) old spares before new after ended → IsEndStatus ended
-        → before.files ≡ Some files → AnswersJob _job.now before after ended }
+        (over : RunsOver (Some (form.Play _job.now)) old spares before new after ended) → IsEndStatus ended
+        → before.files ≡ Some files
+        → AnswersJob _job.now (world over.start before.files before.report) over.runs.course
+        (world over.last after.files after.report) ended }
 {}
 
-/// A law: where `int13 FILE` ends with status 0 or 1, FILE is a text of calls, each of its lines was done, what they print is told in
-/// their order, and the status is 1 where some counts as a refusal, and else 0.
+/// A law: where `int13 FILE` ends with status 0 or 1, FILE is a text of calls, each of its lines was done, from the session that was set up
+/// to the machine that comes back, their requests are those of the form's run, what they print is told in their order, and the status is
+/// 1 where some counts as a refusal, and else 0.
 pub fn calls_are_answered(_file: &str)
     ensures { (spares : List DriveCounts) (old new : Board) (before after : Desk) (ended : Status)
-        → RunsOver (Some (form.Int13 _file.now)) old spares before new after ended → IsEndStatus ended
-        → AnswersCalls _file.now before after ended }
+        (over : RunsOver (Some (form.Int13 _file.now)) old spares before new after ended) → IsEndStatus ended
+        → AnswersCalls _file.now (world over.start before.files before.report) over.runs.course
+        (world over.last after.files after.report) ended }
 {}

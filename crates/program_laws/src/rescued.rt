@@ -16,7 +16,7 @@ ghost use Rattle.floppy_words.specs.declared.form.Form.TheVariants as form;
 ghost use Rattle.floppy_forms.specs.Rounds.{world};
 ghost use Rattle.floppy_tools.specs.Machines.{RunsOver};
 ghost use Rattle.rescue.specs.declared.line.LogLine.{LogLine};
-ghost use Rattle.command_laws.specs.Rescued.{StoresInOrder, HasLaidTracks, IsRescue};
+ghost use Rattle.command_laws.specs.Rescued.{StoresInOrder, BringsUpNoMark, IsRescue};
 ghost use Rattle.sector_map.specs.Disks.{IsRegularDisk};
 
 /// A law: however `rescue FROM TO LOG` ends, it has stored nothing, or a disk under TO alone, or that and then a log under LOG.
@@ -54,14 +54,16 @@ pub fn new_rescue_settles_each_record(_from: &str, _to: &str, _log: &str)
         (world over.last after.files after.report) ended }
 {}
 
-/// A law: so it is where a log may be there, and TO is the image of a regular disk each of whose tracks is Laid: asked for are the records
-/// of the log, and all other entries of that disk stay.
+/// A law: so it is where a log may be there, and TO is the image of a regular disk on which no write of the run brings up an address mark,
+/// since its address fields are on Laid tracks, or each write is Tidy: asked for are the records of the log, and all other entries of that
+/// disk stay. Either run leaves what a next one asks for: the image of a regular disk, whose fields are on Laid tracks if it was new or
+/// they were, and a log.
 pub fn further_rescue_settles_each_record(_from: &str, _to: &str, _log: &str)
     ensures { (spares : List DriveCounts) (old new : Board) (before after : Desk) (ended : Status) (files : Files) (disk target : Disk)
         (over : RunsOver (Some (form.Rescue _from.now _to.now _log.now)) old spares before new after ended) → IsEndStatus ended
         → IsNotToldStopped before.report after.report → _to.now ≢ _log.now
         → before.files ≡ Some files → IsImageOf (Some files) _from.now disk → HadNoFault 1 old new
-        → IsImageOf (Some files) _to.now target → IsRegularDisk target → HasLaidTracks target
+        → IsImageOf (Some files) _to.now target → IsRegularDisk target → BringsUpNoMark target over.start over.runs.course
         → IsRescue disk target _to.now _log.now files (world over.start before.files before.report) over.runs.course
         (world over.last after.files after.report) ended }
 {}

@@ -9,6 +9,7 @@ ghost use Rattle.sector_model.specs.Runs.{has_refusal};
 ghost use Rattle.sector_model.specs.Steps.{IsImageOf};
 ghost use Rattle.flat_commands.specs.FlatFiles.{IsFlatFile};
 ghost use Rattle.floppy_words.specs.declared.form.Form.TheVariants as form;
+ghost use Rattle.floppy_forms.specs.Rounds.{world};
 ghost use Rattle.floppy_tools.specs.Performed.{Stand, RanOver};
 ghost use Rattle.flop_base.specs.Bays.{both};
 ghost use Rattle.flop_base.specs.Standard.{sectors_at};
@@ -94,8 +95,8 @@ pub fn further_rescue_status(_from: &str, _to: &str, _log: &str)
         → EndsByReplies (has_refusal ran.runs.runs.course) old new ended }
 {}
 
-/// A law: so does `play JOB`, where JOB is a job of at most 4,194,304 bytes, and each file that it inserts is the file of a disk, or was
-/// stored by one of its ejects before.
+/// A law: so does `play JOB`, where JOB is a job of at most 4,194,304 bytes, and each file that it inserts, where the insert doesn't have
+/// to be refused, is the file of a disk, or was stored by one of its ejects before.
 pub fn play_status(_job: &str)
     ensures { (spares : List DriveCounts) (old new : Stand) (ended : Status) (files : Files) (text : List ℕ) (requests : List Request)
         → old.desk.desk.files ≡ Some files → IsText (Some files) _job.now text → job_of text ≡ Ok requests
@@ -104,13 +105,14 @@ pub fn play_status(_job: &str)
         → EndsByReplies (has_refusal ran.runs.runs.course) old new ended }
 {}
 
-/// A law: `int13 FILE`, where FILE is a text of calls of at most 4,194,304 bytes, and each file that its requests insert is the file of a
-/// disk, or was stored by one of their ejects before, ends with status 0 or 1, and then has answered its calls, with status 1 where
+/// A law: `int13 FILE`, where FILE is a text of calls of at most 4,194,304 bytes, and each file that its requests insert, where that
+/// doesn't have to be refused, is the file of a disk, or was stored by one of their ejects before, ends with status 0 or 1, and then has answered its calls, with status 1 where
 /// something counts as a refusal, unless memory couldn't be had, or the shelf or the sink failed, and counted it.
 pub fn int13_status(_file: &str)
     ensures { (spares : List DriveCounts) (old new : Stand) (ended : Status) (files : Files) (text : List ℕ) (lines : List CallLine)
         → old.desk.desk.files ≡ Some files → IsText (Some files) _file.now text → calls_of text ≡ Ok lines
         → InsertsDisks (IsDiskFile (Some files)) (both None) (requests_among lines)
-        → RanOver (Some (form.Int13 _file.now)) spares old new ended
-        → EndsAnswered (AnswersCalls _file.now old.desk.desk new.desk.desk ended) old new ended }
+        → (ran : RanOver (Some (form.Int13 _file.now)) spares old new ended)
+        → EndsAnswered (AnswersCalls _file.now (world ran.runs.start old.desk.desk.files old.desk.desk.report) ran.runs.runs.course
+        (world ran.runs.last new.desk.desk.files new.desk.desk.report) ended) old new ended }
 {}

@@ -12,7 +12,7 @@ ghost use Rattle.floppy_tools.specs.Machines.{RunsOver};
 ghost use Rattle.program_laws.specs.Steps.{EachStep, KeepsGuarded, ReadsField, WritesField, KeepsOtherFields};
 
 /// A law: in each step of a run the medium of a bay that isn't acknowledged, or that has a protected medium, stays as it is, unless
-/// the step exchanges it.
+/// the step exchanged it: its request puts a medium into that bay, takes one out, or exchanges its drive, and wasn't refused.
 pub fn steps_keep_guarded_media()
     ensures { (old new : State) (told after : Option Files) (course : List Taken)
         → Run old told course new after → EachStep KeepsGuarded old course }

@@ -1,0 +1,88 @@
+-- Files behind a store: what stands under each name, and when it is the image of a disk, or a log.
+use Rattle.std.proofs.Common.{arith, ◌≡◌, ◌≢◌, ◌∙◌, ◌+◌, ◌*◌, ◌≤◌, ℕ, Bool, true, false, cond, List, length, take, drop, Option, Some, None, Ok, refl, sym, ap, subst, inl}
+use Rattle.std.specs.Prelude.{IfSome, IsSomeAnd}
+use Rattle.std.proofs.lemmas.List.{length-take, length-drop}
+use Rattle.std.proofs.lemmas.Nat.{mul-le}
+use Rattle.std.specs.FinMap as fin
+use Rattle.std.specs.Cmp.Lexicographic.{slice_cmp, nat_list_cmp_total}
+use Rattle.std.specs.Ordering.{nat_cmp, eq_by_cmp}
+use Rattle.std.proofs.lemmas.Cmp.{eq_by_cmp_equiv}
+use Rattle.std.proofs.lemmas.Map.Views.{tells_apart}
+use Rattle.flop_base.specs.Shelf.{Files, file_at, stored}
+use Rattle.raw_image.specs.Disk.{Disk, IsDisk}
+use Rattle.raw_image.specs.Words.{bytes_of}
+use Rattle.raw_image.specs.Image.{image_of, file_of}
+use Rattle.raw_image.proofs.Pairs.{length-bytes_of}
+use Rattle.raw_image.proofs.Images.{image_again}
+use Rattle.sector_model.specs.Steps.{IsImageOf, most_image_bytes}
+use Rattle.rescue.specs.Log.{IsLog, log_text}
+use Rattle.rescue.specs.declared.line.LogLine.{LogLine}
+use Rattle.rescue_commands.specs.Logs.{IsLogFound, most_log_bytes}
+
+-- ---- names
+
+abbrev same_name : List ℕ → List ℕ → Bool
+same_name = eq_by_cmp (slice_cmp nat_cmp)
+
+told_apart : (a b : List ℕ) → a ≢ b → same_name a b ≡ false
+told_apart a b differ = go (same_name a b) (λ same. tells_apart (fin.slice_cmp-IsAntisymmetric fin.nat_cmp-IsAntisymmetric) a b same)
+  where
+    go : (t : Bool) → (t ≡ true → a ≡ b) → t ≡ false
+    go true same = absurd (differ (same refl))
+    go false same = refl
+
+at_stored : (files : Files) (name bytes other : List ℕ)
+    → file_at (fin.insert files name bytes) other ≡ cond (same_name other name) (Some bytes) (file_at files other)
+at_stored files name bytes other = fin.get-insert nat_list_cmp_total files name bytes other
+
+-- what was stored last stands there
+last_there : (files : Files) (name bytes : List ℕ) → file_at (fin.insert files name bytes) name ≡ Some bytes
+last_there files name bytes = at_stored files name bytes name ∙ ap (λ (t : Bool). cond t (Some bytes) (file_at files name)) ((eq_by_cmp_equiv nat_list_cmp_total).refl name)
+
+-- other names have what they had
+other_there : (files : Files) (name bytes other : List ℕ) → other ≢ name → file_at (fin.insert files name bytes) other ≡ file_at files other
+other_there files name bytes other differ = at_stored files name bytes other ∙ ap (λ (t : Bool). cond t (Some bytes) (file_at files other)) (told_apart other name differ)
+
+pub stores_both : (files : Files) (to log disk lines : List ℕ) (after : Option Files) → to ≢ log → after ≡ stored (stored (Some files) to disk) log lines
+    → IfSome after (λ files. file_at files to ≡ Some disk) × IfSome after (λ files. file_at files log ≡ Some lines)
+stores_both files to log disk lines after differ is =
+    subst (λ (f : Option Files). IfSome f (λ files. file_at files to ≡ Some disk) × IfSome f (λ files. file_at files log ≡ Some lines)) (sym is)
+    (other_there (fin.insert files to disk) log lines to differ ∙ last_there files to disk, last_there (fin.insert files to disk) log lines)
+
+pub log_under : (before : Option Files) (log lines : List ℕ) (after : Option Files) → after ≡ stored before log lines
+    → IfSome after (λ files. file_at files log ≡ Some lines)
+log_under None log lines after is = subst (λ (f : Option Files). IfSome f (λ files. file_at files log ≡ Some lines)) (sym is) tt
+log_under (Some files) log lines after is = subst (λ (f : Option Files). IfSome f (λ files. file_at files log ≡ Some lines)) (sym is) (last_there files log lines)
+
+-- ---- images
+
+length-file : (d : Disk) → length (file_of d) ≡ 14 + 2 * length d.words
+length-file d =
+    let front : length (take 14 (file_of d)) ≡ 14 = refl in
+    let back : length (drop 14 (file_of d)) ≡ length (bytes_of d.words) = refl in
+    omega (arith, front, back, length-take 14 (file_of d), length-drop 14 (file_of d), length-bytes_of d.words)
+
+-- the file of a disk is no longer than an image may be
+pub file_fits : (d : Disk) → IsDisk d → length (file_of d) ≤ most_image_bytes
+file_fits d valid =
+    let tracks = mul-le d.cylinders d.heads 80 2 valid.cylinders.1 valid.heads.1 in
+    let words = mul-le (d.cylinders * d.heads) d.words_per_track 160 16384 (omega (arith, tracks)) valid.words_per_track.1 in
+    omega (arith, length-file d, valid.count, words)
+
+-- where the file of a disk stands, its image does
+pub image_there : (told : Option Files) (name : List ℕ) (d : Disk) → IfSome told (λ files. file_at files name ≡ Some (file_of d)) → IsDisk d
+    → IsImageOf told name d
+image_there None name d there valid = tt
+image_there (Some files) name d there valid =
+    subst (λ (o : Option (List ℕ)). IsSomeAnd o (λ bytes. (length bytes ≤ most_image_bytes) × (image_of bytes ≡ Ok d))) (sym there)
+    (file_fits d valid, image_again (file_of d) d (valid, inl refl))
+
+-- ---- logs
+
+-- where the text of a log stands, the log is found, if it isn't too long
+pub log_stands : (told : Option Files) (log : List ℕ) (sectors : ℕ) (lines : List LogLine) → IfSome told (λ files. file_at files log ≡ Some (log_text lines))
+    → IsLog sectors lines → length (log_text lines) ≤ most_log_bytes → IsLogFound told log sectors (Some lines)
+log_stands None log sectors lines there is fits = tt
+log_stands (Some files) log sectors lines there is fits =
+    subst (λ (o : Option (List ℕ)). IsSomeAnd o (λ text. (length text ≤ most_log_bytes) × (IsLog sectors lines × (text ≡ log_text lines)))) (sym there)
+    (fits, (is, refl))
