@@ -1,7 +1,7 @@
 //! Runs the library on one diskette: a flat file makes its medium, a read of several sectors is saved in its middle and goes on
 //! twice, two sectors are written, a desk has a single one, and the program takes the file in on a shelf.
 //!
-//! Each step that comes out as it should is printed. The first that doesn't ends the program with status 1.
+//! What comes out as it should is printed. The first step that doesn't ends the program with status 1.
 #![tactic(auto)]
 
 mod files;
@@ -51,14 +51,26 @@ fn read_four(
 ) -> Result<([u8; 7], [u8; 7]), Trouble> {
     send(controller, &READ);
     let begun = read_on(alloc, controller, &[], 700)?;
+    must(begun.stayed)?;
     let mut twin = twin_of(alloc, controller)?;
-    let first = read_on(alloc, controller, &begun.bytes, usize::MAX)?;
-    let second = read_on(alloc, &mut twin, &begun.bytes, usize::MAX)?;
-    must(begun.stayed && first.stayed && second.stayed)?;
+    must_go_on_alike(alloc, controller, &mut twin, &begun.bytes, flat)?;
+    Ok((results(controller), results(&mut twin)))
+}
+
+/// Both go on with the read of which these bytes have passed, and have to end alike, with the file's bytes.
+fn must_go_on_alike(
+    alloc: Global,
+    controller: &mut Controller,
+    twin: &mut Controller,
+    passed: &[u8],
+    flat: &[u8],
+) -> Result<(), Trouble> {
+    let first = read_on(alloc, controller, passed, usize::MAX)?;
+    let second = read_on(alloc, twin, passed, usize::MAX)?;
+    must(first.stayed && second.stayed)?;
     must(first.bytes == second.bytes && first.lines == second.lines)?;
     // Records 17 and 18 of head 0, and behind them 1 and 2 of head 1, begin at (17 - 1) * 512.
-    must_be(&first.bytes, flat.get(8_192..10_240))?;
-    Ok((results(controller), results(&mut twin)))
+    must_be(&first.bytes, flat.get(8_192..10_240))
 }
 
 /// These bytes have to be those.
@@ -93,6 +105,28 @@ fn must_hold(alloc: Global, controller: &Controller, flat: &[u8]) -> Result<(), 
     }
 }
 
+/// What came of all that is done at the controller, and of the sector at the desk.
+struct Told {
+    read: [u8; 7],
+    read_by_twin: [u8; 7],
+    written: [u8; 7],
+    deleted: bool,
+}
+
+/// All but the shelf. No line is printed while a controller is there.
+fn work(alloc: Global, flat: &[u8]) -> Result<Told, Trouble> {
+    let mut controller = set_up(alloc, medium_of(alloc, flat)?)?;
+    let (read, read_by_twin) = read_four(alloc, &mut controller, flat)?;
+    let written = write_two(alloc, &mut controller, flat)?;
+    let deleted = use_desk(alloc, controller.eject(0))?;
+    Ok(Told {
+        read,
+        read_by_twin,
+        written,
+        deleted,
+    })
+}
+
 fn print_results(rt: &impl Print, told: [u8; 7]) -> io::Result<()> {
     print!(rt; "results")?;
     for byte in told {
@@ -101,26 +135,25 @@ fn print_results(rt: &impl Print, told: [u8; 7]) -> io::Result<()> {
     println!(rt; "")
 }
 
-fn main(rt: HostRuntime) -> Result<(), Trouble> {
-    let alloc = rt.alloc();
-    let flat = flat_bytes(alloc)?;
-    let mut controller = set_up(alloc, medium_of(alloc, &flat)?)?;
+fn print_told(rt: &impl Print, told: &Told) -> io::Result<()> {
     println!(rt; "a flat file makes a medium, which gives it back")?;
-    let (first, second) = read_four(alloc, &mut controller, &flat)?;
     println!(rt; "READ DATA of four sectors is saved behind 700 bytes, and restored")?;
     println!(rt; "both give the bytes of the file, with INT and DRQ alike")?;
     println!(rt; "drive and medium stay, as is seen at each step")?;
     // Head 1, and no error; the key is that behind record 2 of head 1.
-    print_results(&rt, first)?;
-    print_results(&rt, second)?;
-    let told = write_two(alloc, &mut controller, &flat)?;
+    print_results(rt, told.read)?;
+    print_results(rt, told.read_by_twin)?;
     println!(rt; "WRITE DATA of two sectors changes no others")?;
     // Head 1, and no error; the key is that behind record 1 of head 1.
-    print_results(&rt, told)?;
-    let Some(medium) = controller.eject(0) else {
-        return Err(Trouble::Differs);
-    };
-    let deleted = use_desk(alloc, medium)?;
-    println!(rt; "a desk writes a sector and reads it back, deleted {deleted}")?;
+    print_results(rt, told.written)?;
+    let deleted = told.deleted;
+    println!(rt; "a desk writes a sector and reads it back, deleted {deleted}")
+}
+
+fn main(rt: HostRuntime) -> Result<(), Trouble> {
+    let alloc = rt.alloc();
+    let flat = flat_bytes(alloc)?;
+    let told = work(alloc, &flat)?;
+    print_told(&rt, &told)?;
     use_shelf(&rt, alloc, &flat)
 }

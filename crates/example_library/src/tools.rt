@@ -23,9 +23,16 @@ fn set_desk(alloc: Global, medium: Medium) -> Result<SectorDesk, Trouble> {
     Ok(desk)
 }
 
-/// Writes a sector at a desk and reads it back; tells whether it is marked deleted.
-pub(crate) fn use_desk(alloc: Global, medium: Medium) -> Result<bool, Trouble> {
+/// Writes a sector of this medium at a desk and reads it back; tells whether it is marked deleted.
+pub(crate) fn use_desk(alloc: Global, medium: Option<Medium>) -> Result<bool, Trouble> {
+    let Some(medium) = medium else {
+        return Err(Trouble::Differs);
+    };
     let mut desk = set_desk(alloc, medium)?;
+    try_sector(&mut desk)
+}
+
+fn try_sector(desk: &mut SectorDesk) -> Result<bool, Trouble> {
     let given = [0x5A; 512];
     let mut found = [0; 512];
     desk.write(0, KEY, &given, false)?;
