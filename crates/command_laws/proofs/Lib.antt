@@ -14,7 +14,7 @@ pub mod PutIn
 mod Ranges
 pub mod Reading
 mod DiskRecords
-mod Sectors
+pub mod Sectors
 pub mod Steps
 mod TrackParts
 mod Tracks

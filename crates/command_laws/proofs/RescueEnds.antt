@@ -131,7 +131,7 @@ from_flat P f a (suc n) all k least below =
     ]
 
 -- what holds of all standard keys holds of each
-each_standard : (P : Chrn → Type 0) (disk : Disk) → AllByRecursion P (standard_keys disk.rate disk.cylinders disk.heads) → (key : Chrn)
+pub each_standard : (P : Chrn → Type 0) (disk : Disk) → AllByRecursion P (standard_keys disk.rate disk.cylinders disk.heads) → (key : Chrn)
     → IsStandardKey disk key → P key
 unfolding standard_keys cylinder_keys track_keys
 each_standard P disk all key standard =

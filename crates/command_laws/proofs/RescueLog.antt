@@ -1,11 +1,11 @@
 -- The new log of a rescue: its lines are of some of the records that were asked for, in their order, so that the next run finds a log.
 use Rattle.std.proofs.Common.{arith, ◌≡◌, ◌∙◌, ◌+◌, ◌*◌, ◌/◌, ◌%◌, ◌≤◌, ℕ, suc, true, lit<, All, List, [], ◌∷◌, ◌++◌, length, length-append, refl, sym, ap, subst, inl, inr, Option, Some, None, Ok, Err}
-use Rattle.std.specs.Prelude.{◌⊎◌, IsSomeAnd}
+use Rattle.std.specs.Prelude.{◌⊎◌, Contains, IsSomeAnd}
 use Rattle.std.specs.List.{AllByRecursion, AllPairs}
 use Rattle.std.specs.Fmt.{decimal}
 use Rattle.std.proofs.lemmas.Fmt.{hex_one_digit, length-decimal-le}
 use Rattle.std.proofs.lemmas.Nat.{mul-le}
-use Rattle.std.proofs.lemmas.List.Elements.{All-from_recursion, recursion_from_All}
+use Rattle.std.proofs.lemmas.List.Elements.{All-from_recursion, recursion_from_All, All-map, All-contains_itself}
 use Rattle.std.proofs.lemmas.List.Kept.{AllPairs-cons}
 use Rattle.flop_base.specs.Shelf.{Files, file_at}
 use Rattle.flop_base.specs.Standard.{sectors_at}
@@ -58,6 +58,15 @@ all_of P [] lines are all = subst (AllByRecursion (λ (line : LogLine). P line.k
 all_of P (key ∷ keys) lines (inl are) all = all_of P keys lines are all.1
 all_of P (key ∷ keys) lines (inr (line, later, is, same, are)) all =
     subst (AllByRecursion (λ (line : LogLine). P line.key)) (sym is) (subst P (sym same) all.0, all_of P keys later are all.1)
+
+-- none but of these keys
+pub only_of : (keys : List Chrn) (old : World) (course : List Taken) (new : World) → GoesKeys keys old course new
+    → All (Contains keys) (logged_keys (log_of course))
+only_of keys old course new goes =
+    let each = recursion_from_All (Contains keys) keys (All-contains_itself keys) in
+    All-map (Contains keys) (λ (line : LogLine). line.key) (log_of course)
+    (All-from_recursion (λ (line : LogLine). Contains keys line.key) (log_of course)
+    (all_of (Contains keys) keys (log_of course) (lines_are_of keys old course new goes) each))
 
 -- each record is before all later ones
 abbrev Rising : List LogLine → Type 0

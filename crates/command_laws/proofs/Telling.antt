@@ -10,7 +10,7 @@ use Rattle.flop_base.specs.declared.answers.Code.TheVariants as code
 use Rattle.raw_image.specs.Disk.{Disk, HasTrack, track_of}
 use Rattle.flop_base.specs.Counters.{IsUndisturbed, faults_of}
 use Rattle.track_model.specs.declared.Look.{Look}
-use Rattle.track_model.specs.declared.Look.TheVariants.{NoMark}
+use Rattle.track_model.specs.declared.Look.TheVariants.{Found, NoMark}
 use Rattle.track_model.proofs.Unique.{one_look_for}
 use Rattle.floppy_requests.specs.declared.request.Request.TheVariants as request
 use Rattle.sector_map.specs.Disks.{LookOn}
@@ -31,7 +31,7 @@ use Rattle.command_laws.proofs.Looks.{rose_by}
 use Rattle.command_laws.proofs.Reading.{Holds, not_refused, reaches, bays_stay, holds_on, key_is, one_read, quiet_parts, told_more}
 use Rattle.command_laws.proofs.Steps.{NeverFell, ok_called, reached}
 use Rattle.rescue.specs.declared.line.LogLine.{LogLine}
-use Rattle.command_laws.specs.Rescued.{failing_lines, line_at, log_of}
+use Rattle.command_laws.specs.Rescued.{failing_lines, line_at, log_of, IsNotFound}
 use Rattle.command_laws.proofs.Gone.{call_fell, line_of_refused, line_of_done, read_done, IsRead, IsWrite, GoesKeys, fell_both, write_fell, keys_fell}
 use Rattle.command_laws.proofs.RescueRecords.{IsAsked, write_does}
 
@@ -151,6 +151,41 @@ module _ (disk : Disk) (few_cylinders : disk.cylinders ≤ 80) (few_heads : disk
       let faults : faults_of new.state.station.counters 0 ≡ count = omega (arith, was, fell.first, fell.stalls, quiet.together) in
       holds_on disk count old.state.station new.state.station holds
       (ap (λ (s : State). bay_of s.station 0) same ∙ ap (λ (s : StationState). bay_of s 0) drive.becomes) faults
+
+  -- what is logged isn't found
+  pub lost_keys : (keys : List Chrn) (old : World) (course : List Taken) (new : World) → GoesKeys keys old course new
+      → AllByRecursion (IsAsked disk) keys → Holds disk count old.state.station
+      → IsUndisturbed 0 old.state.station.counters new.state.station.counters
+      → AllByRecursion (λ (line : LogLine). IsNotFound disk line.key) (log_of course)
+  lost_keys [] old course new goes asked holds quiet =
+      subst (λ (row : List Taken). AllByRecursion (λ (line : LogLine). IsNotFound disk line.key) (log_of row)) (sym goes.0) tt
+  lost_keys (key ∷ keys) old [] new goes asked holds quiet = absurd goes
+  lost_keys (key ∷ keys) old (read ∷ later) new (Err cause, files, is, goes) asked holds quiet =
+      let mid = with_report read.after files old.report in
+      let here = call_fell old.state read.after old.files files is.call in
+      let parts = quiet_parts old.state.station.counters read.after.station.counters new.state.station.counters here
+      (keys_fell keys mid later new goes) quiet in
+      let tells = read_tells key (Err cause) old read files asked.0 is holds parts.0 in
+      let not_found : IsNotFound disk key = λ deleted place on. absurd (cc (tells.told ∙ ap (told_of key) (sym (tells.one (Found deleted place) on)))) in
+      subst (λ (row : List LogLine). AllByRecursion (λ (line : LogLine). IsNotFound disk line.key) (row ++ log_of later))
+      (sym (line_of_refused key cause read is.asked is.answered))
+      (not_found, lost_keys keys mid later new goes asked.1 tells.holds parts.1)
+  lost_keys (key ∷ keys) old (read ∷ []) new (Ok deleted, files, is, goes) asked holds quiet = absurd goes
+  lost_keys (key ∷ keys) old (read ∷ write ∷ later) new (Ok deleted, files, is, (more, wrote, goes)) asked holds quiet =
+      let mid = with_report read.after files old.report in
+      let next = with_report write.after more old.report in
+      let fell = write_fell key deleted mid next write more refl wrote in
+      let there = keys_fell keys next later new goes in
+      let here = call_fell old.state read.after old.files files is.call in
+      let parts = quiet_parts old.state.station.counters read.after.station.counters new.state.station.counters here
+      (fell_both mid next new fell there) quiet in
+      let last = quiet_parts read.after.station.counters write.after.station.counters new.state.station.counters fell there parts.1 in
+      let tells = read_tells key (Ok deleted) old read files asked.0 is holds parts.0 in
+      let now = write_holds key deleted mid next write more refl wrote tells.holds last.0 in
+      let none : line_at read.asked read.answer ≡ [] = line_of_done read.asked read.answer (ap is_refusal is.answered ∙ read_done deleted) in
+      let also : line_at write.asked write.answer ≡ [] = line_of_done write.asked write.answer wrote.done in
+      let same : log_of later ≡ log_of (read ∷ write ∷ later) = rw (none, also) refl in
+      subst (AllByRecursion (λ (line : LogLine). IsNotFound disk line.key)) same (lost_keys keys next later new goes asked.1 now last.1)
 
   pub tells_keys : (keys : List Chrn) (failed : List (Chrn × Look)) (old : World) (course : List Taken) (new : World) → GoesKeys keys old course new
       → AllByRecursion (IsAsked disk) keys → AreFailing disk keys failed → Holds disk count old.state.station

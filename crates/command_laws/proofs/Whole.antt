@@ -2,7 +2,7 @@
 use Rattle.std.proofs.Common.{◌≡◌, ◌∙◌, List, [], ◌∷◌, ◌++◌, ℕ, length, ap, subst, inl, inr, append-nil, Option, Some, arith, ◌+◌, Bool, true, false, true≢false, refl, sym, append_assoc, ◌↔◌, None, ◌≢◌, ◌≤◌, ◌-◌}
 use Rattle.std.specs.Prelude.{is_some, ◌⊎◌, Contains, IfSome, All}
 use Rattle.std.specs.List.{list_all}
-use Rattle.std.proofs.lemmas.List.Elements.{All-from_recursion, All-weaker}
+use Rattle.std.proofs.lemmas.List.Elements.{All-from_recursion, All-map, All-weaker}
 use Rattle.flop_base.specs.Shelf.{Files, stored, file_at}
 use Rattle.flop_base.specs.Sink.{grown}
 use Rattle.flop_base.specs.Standard.{sectors_at}
@@ -41,21 +41,21 @@ use Rattle.command_laws.proofs.Marks.{some_first, some_second}
 use Rattle.command_laws.specs.Verified.{IsUnmistaken}
 use Rattle.command_laws.proofs.Reading.{quiet_parts}
 use Rattle.command_laws.proofs.Verified.{image_ranges}
-use Rattle.rescue.specs.Course.{outcome_status}
+use Rattle.rescue.specs.Course.{logged_keys, outcome_status}
 use Rattle.rescue.specs.Log.{IsLog, log_text}
 use Rattle.rescue.specs.declared.line.LogLine.{LogLine}
 use Rattle.rescue.specs.declared.outcome.Outcome.{Outcome}
 use Rattle.rescue_commands.specs.Logs.{IsLogFound, IsFound, most_log_bytes}
 use Rattle.rescue_commands.specs.Rescue.{rescues, asked_keys, outcome_of, last_text, rescues_all, stores_log, rescue_found, rescue_rest, Rescues}
 use Rattle.rescue_commands.proofs.Rests.{by_rest}
-use Rattle.command_laws.specs.Rescued.{IsNotStopped, count_writes, IsLogged, IsSaved, IsSettled, WasNotRead, HasLaidFields, BringsUpNoMark, HasTarget, diskette_for, HasShapeOf, StillHolds, KeepsEntries, outcome_in, IsRescue, LogsNotFound, WasRefused, log_of, line_at, AreTidy}
+use Rattle.command_laws.specs.Rescued.{IsNotStopped, count_writes, IsLogged, IsSaved, IsSettled, WasNotRead, HasLaidFields, BringsUpNoMark, HasTarget, diskette_for, HasShapeOf, StillHolds, KeepsEntries, outcome_in, IsRescue, IsNotFound, LogsNotFound, WasRefused, log_of, line_at, AreTidy}
 use Rattle.command_laws.proofs.Gone.{later_fine, not_refused, carried, GoesKeys, keys_gone, AreRefusals, Fell, fell_both, keys_fell, line_of_done, gave_reads, never_both}
 use Rattle.command_laws.proofs.RescueOpening.{opening, ready_requests, second_request, formats_for, prepares_carried, HasOther, IsNew, begins_new, begins_again, holds_first, first_in, is_plain, plain_facts, plain_keep, opening_plain}
 use Rattle.command_laws.proofs.RescueRecords.{asked_all, asked_distinct, shape_itself, shape_both, IsPart, SavesKeys, saves_keys, ReadsKey, some_apart, keys_read, keys_counted, index_of}
-use Rattle.command_laws.proofs.RescueLog.{logs_again}
+use Rattle.command_laws.proofs.RescueLog.{logs_again, only_of}
 use Rattle.command_laws.proofs.StoredFiles.{stores_both, log_under, image_there, log_stands}
 use Rattle.command_laws.proofs.RescueGiven.{IsAtHand, IsGivenOf, keys_give}
-use Rattle.command_laws.proofs.Telling.{tells_keys}
+use Rattle.command_laws.proofs.Telling.{lost_keys, tells_keys}
 
 -- ---- the new log
 
@@ -429,6 +429,7 @@ module _ (from to log : List ℕ) (disk : Disk) (found : Option (List LogLine)) 
             log_there = both.1;
             log_found = log_again both.1;
             settled = All-weaker _ (IsSettled course saves.final (log_of course)) settles keys (All-from_recursion _ keys saves.settled);
+            asked = subst (λ (row : List LogLine). All (Contains keys) (logged_keys row)) lines (only_of keys p.opened p.body p.rescued p.goes);
             unasked = unread;
             kept = keeps;
             given = λ key deleted content some. (given_of ⊥ (λ never. absurd never) key deleted content some).field;
@@ -530,6 +531,10 @@ module _ (from to log : List ℕ) (disk : Disk) (found : Option (List LogLine)) 
         there = there;
         log_there = log_under p.ejected.files log (log_text (log_of course)) new.files
             (p.stores.stores ∙ ap (λ (row : List LogLine). stored p.ejected.files log (log_text row)) (sym log_is));
+        lost = subst (λ (row : List LogLine). All (IsNotFound disk) (logged_keys row)) (sym log_is)
+            (All-map (IsNotFound disk) (λ (line : LogLine). line.key) (log_of p.body)
+            (All-from_recursion (λ (line : LogLine). IsNotFound disk line.key) (log_of p.body)
+            (lost_keys disk few.0 few.1 unmistaken first.0 keys p.opened p.body p.rescued p.goes (asked_all disk files log found few.0 few.1 there) first.1 calm.0)));
         exactly = λ failed failing. log_is ∙ tells_keys disk few.0 few.1 unmistaken first.0 keys failed
             p.opened p.body p.rescued p.goes (asked_all disk files log found few.0 few.1 there) failing first.1 calm.0;
       }

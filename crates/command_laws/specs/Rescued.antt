@@ -10,13 +10,14 @@ use Rattle.raw_image.specs.Disk.{Disk, IsDisk, HasTrack, track_of}
 use Rattle.raw_image.specs.Image.{file_of}
 use Rattle.flop_base.specs.Memory.{bytes_from}
 use Rattle.track_model.specs.declared.Look.{Look}
+use Rattle.track_model.specs.declared.Look.TheVariants.{Found}
 use Rattle.track_model.specs.Fields.{IsAddressAt, content_size}
 use Rattle.track_model.specs.Windows.{IsTidy}
 use Rattle.track_model.specs.Laid.{IsLaid}
 use Rattle.floppy_requests.specs.declared.request.Request.{Request}
 use Rattle.floppy_requests.specs.declared.request.Request.TheVariants as request
 use Rattle.sector_map.specs.Failing.{AreFailing}
-use Rattle.sector_map.specs.Disks.{Entry, IsOnMap, IsRegularDisk}
+use Rattle.sector_map.specs.Disks.{Entry, IsOnMap, IsRegularDisk, LookOn}
 use Rattle.sector_model.specs.declared.reply.Reply.{Reply}
 use Rattle.sector_model.specs.declared.reply.Reply.TheVariants as reply
 use Rattle.sector_model.specs.declared.reply.Reason.TheVariants as reason
@@ -29,7 +30,7 @@ use Rattle.sector_model.specs.Stations.{StationState, bay_of}
 use Rattle.floppy_session.specs.Shapes.{shape_of}
 use Rattle.command_laws.specs.Copied.{SomeStep, Gave, IsFieldOf}
 use Rattle.command_laws.specs.Verified.{all_told_of}
-use Rattle.rescue.specs.Course.{read_of, outcome_status}
+use Rattle.rescue.specs.Course.{read_of, logged_keys, outcome_status}
 use Rattle.rescue.specs.Log.{log_text}
 use Rattle.rescue.specs.declared.line.LogLine.{LogLine}
 use Rattle.rescue.specs.declared.outcome.Outcome.{Outcome}
@@ -204,6 +205,7 @@ pub record StoresRescue (disk target : Disk) (found : Option (List LogLine)) (to
   pub log_there : IfSome new.files (λ files. file_at files log ≡ Some (log_text (log_of course)))
   pub log_found : IsLogFound new.files log (sectors_at disk.rate) (Some (log_of course))
   pub settled : All (IsSettled course saved (log_of course)) (asked_keys (shape_of disk) found)
+  pub asked : All (Contains (asked_keys (shape_of disk) found)) (logged_keys (log_of course))
   pub unasked : (key : Chrn) → (Contains (asked_keys (shape_of disk) found) key → ⊥) → WasNotRead course key
   pub kept : KeepsEntries found course target saved
   pub given : GivesFields disk course
@@ -220,6 +222,10 @@ pub record IsRescue (disk target : Disk) (to log : List ℕ) (files : Files) (ol
   pub stores : StoresRescue disk target found to log files course new
   pub tells : TellsRescue (length (asked_keys (shape_of disk) found)) old course new ended
 
+-- no look for the record finds it on the disk
+abbrev pub IsNotFound : Disk → Chrn → Type 0
+IsNotFound disk key = (deleted : Bool) (place : ℕ) → LookOn disk key (Found deleted place) → ⊥
+
 -- the new log is the asked records that aren't found, in their order
 pub record LogsNotFound (disk : Disk) (log : List ℕ) (files : Files) (course : List Taken) (new : World) : Type 0 where
   pub found : Option (List LogLine)
@@ -227,6 +233,7 @@ pub record LogsNotFound (disk : Disk) (log : List ℕ) (files : Files) (course :
   pub log_there : IfSome new.files (λ files. file_at files log ≡ Some (log_text (log_of course)))
   pub exactly : (failed : List (Chrn × Look)) → AreFailing disk (asked_keys (shape_of disk) found) failed
       → log_of course ≡ failing_lines failed
+  pub lost : All (IsNotFound disk) (logged_keys (log_of course))
 
 -- nothing was stored, or the other diskette alone, or that and then the new log
 pub data StoresInOrder (to log : List ℕ) (lines : List LogLine) (told after : Option Files) : Type 0 where

@@ -14,6 +14,7 @@ pub mod Plays
 mod Replies
 mod RescueStatus
 mod Rescues
+mod RescuesInTurn
 mod JobSettled
 mod Stepping
 mod Inserting

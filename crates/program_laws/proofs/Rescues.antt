@@ -19,11 +19,11 @@ use Rattle.command_laws.proofs.CommandEnds.{fresh_memory}
 use Rattle.std.specs.Prelude.{◌≢◌, None, length, IsSomeAnd}
 use Rattle.flop_base.specs.Standard.{sectors_at}
 use Rattle.flop_base.specs.Memory.{user_bytes}
-use Rattle.flop_base.specs.Counters.{IsFaultless}
+use Rattle.flop_base.specs.Counters.{IsFaultless, IsUndisturbed}
 use Rattle.sector_model.specs.States.{State}
 use Rattle.rescue_commands.specs.Logs.{IsLogFound}
 use Rattle.command_laws.specs.Rescued.{BringsUpNoMark, HasTarget, IsTarget, IsRescue}
-use Rattle.std.proofs.Common.{◌≡◌, Option, subst, inl, inr}
+use Rattle.std.proofs.Common.{◌≡◌, Option, subst}
 use Rattle.std.specs.Prelude.{IfSome}
 use Rattle.flop_base.specs.Shelf.{Files, file_at}
 use Rattle.raw_image.specs.Disk.{Disk}
@@ -35,7 +35,6 @@ use Rattle.command_laws.specs.VerifyRuns.{IsEndStatus}
 use Rattle.program_laws.specs.Disturbed.{HadNoFault, HadNoStall}
 use Rattle.program_laws.specs.Stored.{StoresLogOf}
 use Rattle.program_laws.specs.Told.{IsNotToldStopped}
-use Rattle.program_laws.proofs.OfForms.{form_done}
 use Rattle.program_laws.proofs.OnBoards.{undisturbed_first, faultless_second}
 use Rattle.program_laws.proofs.Unstopped.{rescue_unstopped}
 
@@ -59,20 +58,33 @@ log_stored disk log files course new logs = record {
       subst (λ (lines : List LogLine). IfSome new.files (λ files. file_at files log ≡ Some (log_text lines))) (logs.exactly failed failing) logs.log_there;
 }
 
+logs_by : (from to log : List ℕ) (files : Files) (disk : Disk) (old : World) (course : List Taken) (new : World) (ended : Status)
+    → DoesOrStarves (form.Rescue from to log) old course new ended → IsEndStatus ended → IsNotToldStopped old.report new.report
+    → old.files ≡ Some files → IsImageOf (Some files) from disk → IsUndisturbed 0 old.state.station.counters new.state.station.counters
+    → IsUnmistaken disk → LogsNotFound disk log files course new
+logs_by from to log files disk old course new ended (AsAsked does) whole fine told image quiet unmistaken =
+    rescue_logs from to log disk files old course new ended does whole (rescue_unstopped from to log old new course ended whole fine does) told image quiet
+    unmistaken
+logs_by from to log files disk old course new ended (StarvesWords nothing idle) whole fine told image quiet unmistaken =
+    absurd (subst IsEndStatus idle.status whole)
+
+pub rescue_loses : (from to log : List ℕ) (spares : List DriveCounts) (old new : Board) (before after : Desk) (ended : Status) (files : Files) (disk : Disk)
+    → (over : RunsOver (Some (form.Rescue from to log)) old spares before new after ended) → IsEndStatus ended
+    → IsNotToldStopped before.report after.report → before.files ≡ Some files → IsImageOf (Some files) from disk → HadNoFault 0 old new
+    → HadNoStall old new → IsUnmistaken disk
+    → LogsNotFound disk log files over.runs.course (world over.last after.files after.report)
+rescue_loses from to log spares old new before after ended files disk over whole fine told image calm quick unmistaken =
+    logs_by from to log files disk (world over.start before.files before.report) over.runs.course (world over.last after.files after.report) ended
+    over.runs.does whole fine told image
+    (undisturbed_first old new spares over.start.station over.last.station over.set_up.starts over.shows calm quick) unmistaken
+
 pub rescue_logs_rest : (from to log : List ℕ) (spares : List DriveCounts) (old new : Board) (before after : Desk) (ended : Status) (files : Files) (disk : Disk)
     → RunsOver (Some (form.Rescue from to log)) old spares before new after ended → IsEndStatus ended → IsNotToldStopped before.report after.report
     → before.files ≡ Some files → IsImageOf (Some files) from disk → HadNoFault 0 old new → HadNoStall old new → IsUnmistaken disk
     → StoresLogOf disk log files after.files
 rescue_logs_rest from to log spares old new before after ended files disk over whole fine told image calm quick unmistaken =
-    let first = world over.start before.files before.report in
-    let last = world over.last after.files after.report in
-    let quiet = undisturbed_first old new spares over.start.station over.last.station over.set_up.starts over.shows calm quick in
-    elim (form_done (form.Rescue from to log) old spares before new after ended over) [
-      | inl runs ↦ log_stored disk log files runs.course last
-          (rescue_logs from to log disk files first runs.course last ended runs.does whole
-          (rescue_unstopped from to log first last runs.course ended whole fine runs.does) told image quiet unmistaken)
-      | inr starved ↦ absurd (subst IsEndStatus starved whole)
-    ]
+    log_stored disk log files over.runs.course (world over.last after.files after.report)
+    (rescue_loses from to log spares old new before after ended files disk over whole fine told image calm quick unmistaken)
 
 -- where no file has the log's name, nothing is asked of the other diskette
 no_target : (to log : List ℕ) (disk : Disk) (files : Files) (old : State) (course : List Taken) (sectors : ℕ) → file_at files log ≡ None

@@ -6,4 +6,5 @@ pub mod Answered
 pub mod Made
 pub mod Steps
 pub mod Inserted
+pub mod InTurn
 pub mod Guarded
