@@ -106,6 +106,7 @@ fn must_hold(alloc: Global, controller: &Controller, flat: &[u8]) -> Result<(), 
 }
 
 /// What came of all that is done at the controller, and of the sector at the desk.
+#[derive(Drop)]
 struct Told {
     read: [u8; 7],
     read_by_twin: [u8; 7],
