@@ -1,12 +1,12 @@
 // A guest at the ports of the controller, with a DMA channel of its own.
-use crate::trouble::Trouble;
+use crate::trouble::{Trouble, must};
 use std::alloc::Global;
 use telwyddus::NoMemory;
-use telwyddus::controller::{PlainDrive, Sequencer};
+use telwyddus::controller::{Chip, PlainDrive};
 use telwyddus::disk::Medium;
 
-/// The controller that takes commands of several sectors, with two drives that have no faults.
-pub(crate) type Controller = Sequencer<PlainDrive>;
+/// The whole controller, with two drives that have no faults.
+pub(crate) type Controller = Chip<PlainDrive>;
 
 const DOR: u16 = 0x3F2;
 
@@ -22,7 +22,7 @@ const FOUR_SECTORS: usize = 2048;
 
 /// A controller that awaits commands, with this medium at speed in drive 0, and the heads over cylinder 0.
 pub(crate) fn set_up(alloc: Global, medium: Medium) -> Result<Controller, Trouble> {
-    let mut controller = Sequencer::new(alloc, PlainDrive::new(), PlainDrive::new())?;
+    let mut controller = Chip::new(alloc, PlainDrive::new(), PlainDrive::new())?;
     // An empty bay takes it.
     let _refused = controller.insert(0, medium);
     start(&mut controller);
@@ -66,6 +66,24 @@ pub(crate) fn results(controller: &mut Controller) -> [u8; 7] {
         *result = controller.read(DATA);
     }
     results
+}
+
+/// The ten bytes of DUMPREG.
+pub(crate) fn dump(controller: &mut Controller) -> [u8; 10] {
+    send(controller, &[0x0E]);
+    let mut registers = [0; 10];
+    for register in registers.iter_mut() {
+        *register = controller.read(DATA);
+    }
+    registers
+}
+
+/// A command that ends with INT, whatever it finds.
+pub(crate) fn end(controller: &mut Controller, command: &[u8]) -> Result<[u8; 7], Trouble> {
+    send(controller, command);
+    controller.run(100_000);
+    must(controller.int())?;
+    Ok(results(controller))
 }
 
 /// A read on its way: what the channel took, and what was seen between two device steps.

@@ -10,7 +10,7 @@ mod tools;
 mod trouble;
 
 use files::{flat_bytes, must_give, replace};
-use guest::{Controller, give_all, read_on, results, send, set_up};
+use guest::{Controller, dump, end, give_all, read_on, results, send, set_up};
 use std::alloc::Global;
 use std::io;
 use telwyddus::disk::{Medium, flat_medium};
@@ -24,6 +24,9 @@ const READ: [u8; 9] = [0xE6, 0x00, 0, 0, 17, 2, 18, 0x1B, 0xFF];
 
 /// WRITE DATA with MT and MFM, from record 18 on: behind it comes record 1 of head 1.
 const WRITE: [u8; 9] = [0xC5, 0x00, 0, 0, 18, 2, 18, 0x1B, 0xFF];
+
+/// READ DATA of 16,384 bytes, which no field of a medium has.
+const REFUSED: [u8; 9] = [0x46, 0x00, 0, 0, 1, 7, 18, 0x1B, 0xFF];
 
 /// The medium of a flat file, which gives the file back.
 fn medium_of(alloc: Global, flat: &[u8]) -> Result<Medium, Trouble> {
@@ -111,6 +114,8 @@ struct Told {
     read: [u8; 7],
     read_by_twin: [u8; 7],
     written: [u8; 7],
+    refused: [u8; 7],
+    registers: [u8; 10],
     deleted: bool,
 }
 
@@ -119,16 +124,20 @@ fn work(alloc: Global, flat: &[u8]) -> Result<Told, Trouble> {
     let mut controller = set_up(alloc, medium_of(alloc, flat)?)?;
     let (read, read_by_twin) = read_four(alloc, &mut controller, flat)?;
     let written = write_two(alloc, &mut controller, flat)?;
+    let refused = end(&mut controller, &REFUSED)?;
+    let registers = dump(&mut controller);
     let deleted = use_desk(alloc, controller.eject(0))?;
     Ok(Told {
         read,
         read_by_twin,
         written,
+        refused,
+        registers,
         deleted,
     })
 }
 
-fn print_results(rt: &impl Print, told: [u8; 7]) -> io::Result<()> {
+fn print_results(rt: &impl Print, told: &[u8]) -> io::Result<()> {
     print!(rt; "results")?;
     for byte in told {
         print!(rt; " {byte:02X}")?;
@@ -142,11 +151,17 @@ fn print_told(rt: &impl Print, told: &Told) -> io::Result<()> {
     println!(rt; "both give the bytes of the file, with INT and DRQ alike")?;
     println!(rt; "drive and medium stay, as is seen at each step")?;
     // Head 1, and no error; the key is that behind record 2 of head 1.
-    print_results(rt, told.read)?;
-    print_results(rt, told.read_by_twin)?;
+    print_results(rt, &told.read)?;
+    print_results(rt, &told.read_by_twin)?;
     println!(rt; "WRITE DATA of two sectors changes no others")?;
     // Head 1, and no error; the key is that behind record 1 of head 1.
-    print_results(rt, told.written)?;
+    print_results(rt, &told.written)?;
+    // Address marks pass, and no sector of this size: ND, with the key as it was sent.
+    println!(rt; "READ DATA of size code 7 ends with INT")?;
+    print_results(rt, &told.refused)?;
+    // Each drive at cylinder 0, no SPECIFY, EOT 18, no LOCK, the FIFO off, no PRETRK.
+    println!(rt; "DUMPREG gives ten bytes")?;
+    print_results(rt, &told.registers)?;
     let deleted = told.deleted;
     println!(rt; "a desk writes a sector and reads it back, deleted {deleted}")
 }

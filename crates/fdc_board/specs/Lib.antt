@@ -1,4 +1,5 @@
 pub mod WordTimes
 pub mod Boards
 pub mod History
+pub mod Senses
 pub mod Saving

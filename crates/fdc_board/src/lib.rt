@@ -7,6 +7,7 @@
 mod bays;
 mod board;
 mod rates;
+mod senses;
 mod whole;
 
 pub use board::FdcBoard;

@@ -2,4 +2,5 @@ pub mod Opcodes
 pub mod Transfers
 pub mod Fronts
 pub mod Moves
+pub mod Senses
 pub mod Saving

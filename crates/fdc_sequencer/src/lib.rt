@@ -10,6 +10,7 @@ mod moving;
 mod opcode;
 mod ports;
 mod saving;
+mod senses;
 mod sequencer;
 mod stage;
 mod transfer;

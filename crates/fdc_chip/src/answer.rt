@@ -1,0 +1,105 @@
+// What the host reads behind a command.
+ghost use Rattle.std.specs.Prelude.{◌≡◌, ◌≤◌, get_or, length};
+ghost use Rattle.fdc_chip.specs.Answers.{register_bytes, answer_bytes, is_of_data};
+
+use crate::settings::Settings;
+use fdc_commands::Results;
+
+/// What a port gives that has nothing to give.
+pub(crate) const NOTHING: u8 = 0xFF;
+
+/// LOCK in the eighth byte of DUMPREG.
+const LOCK: u8 = 0x80;
+
+/// EIS, EFIFO, POLL and FIFOTHR in the ninth.
+const OPTIONS: u8 = 0x7F;
+
+/// What DUMPREG gives.
+#[derive(Clone, Copy, PartialEq, Eq, Debug)]
+pub struct Registers {
+    /// The present cylinder numbers of drives 0 to 3.
+    pub first: u8,
+    pub second: u8,
+    pub third: u8,
+    pub fourth: u8,
+    pub settings: Settings,
+}
+
+/// What the host reads behind a command.
+#[derive(Clone, Copy, PartialEq, Eq, Debug)]
+pub enum Answer {
+    /// One byte.
+    Byte { byte: u8 },
+    /// ST0 and the present cylinder number.
+    Sensed { status: u8, cylinder: u8 },
+    /// The seven bytes of a data command.
+    Results { results: Results },
+    /// The ten bytes of DUMPREG.
+    Registers { registers: Registers },
+}
+
+/// A byte of some, FF where there is none.
+fn nth(bytes: &[u8], at: u8) -> u8
+    ensures { result ≡ get_or bytes.now at 0xFF }
+{
+    match bytes.get(usize::from(at)) {
+        Some(byte) => *byte,
+        None => NOTHING,
+    }
+}
+
+impl Registers {
+    /// The ten bytes (82077AA data sheet, DUMPREG).
+    fn bytes(self) -> [u8; 10]
+        ensures { result ≡ register_bytes self }
+    {
+        let settings = self.settings;
+        let lock = if settings.locked { LOCK } else { 0 };
+        [
+            self.first,
+            self.second,
+            self.third,
+            self.fourth,
+            settings.step_rate,
+            settings.head_load,
+            settings.last_sector,
+            lock | settings.perpendicular,
+            settings.options & OPTIONS,
+            settings.precompensation,
+        ]
+    }
+}
+
+impl Answer {
+    /// The byte behind so many, FF where there is none.
+    pub(crate) fn byte(self, read: u8) -> u8
+        ensures { result ≡ get_or (answer_bytes self) read 0xFF }
+    {
+        match self {
+            Answer::Byte { byte } => nth(&[byte], read),
+            Answer::Sensed { status, cylinder } => nth(&[status, cylinder], read),
+            Answer::Results { results } => nth(&results.bytes(), read),
+            Answer::Registers { registers } => nth(&registers.bytes(), read),
+        }
+    }
+
+    /// How many bytes it has.
+    pub(crate) fn count(self) -> u8
+        ensures count { result ≡ length (answer_bytes self) }
+        ensures most { result ≤ 10 }
+    {
+        match self {
+            Answer::Byte { .. } => 1,
+            Answer::Sensed { .. } => 2,
+            Answer::Results { .. } => 7,
+            Answer::Registers { .. } => 10,
+        }
+    }
+
+    /// Whether it is a data command's, whose first byte lets INT fall.
+    pub(crate) fn is_of_data(self) -> bool
+        ensures { result ≡ is_of_data self }
+    {
+        matches!(self, Answer::Results { .. })
+    }
+}

@@ -1,0 +1,117 @@
+// The bays, and what a front end shows: as behind.
+ghost use Rattle.std.specs.Prelude.{◌≡◌, ◌≤◌, ◌-◌, ◌+◌, ◌%◌, ◌↔◌, IfErr, OnOk, IsErr, IsSome, IsTrue, IsBitSet};
+ghost use Rattle.std.specs.Option.{option_copied};
+ghost use Rattle.drive_model.specs.Drive.{Becomes, loaded, unloaded, forgotten};
+ghost use Rattle.fdc_board.specs.Boards.{controller_of, drive_at};
+ghost use Rattle.fdc_board.specs.WordTimes.{nanoseconds};
+ghost use Rattle.fdc_core.specs.State.{dor_of, data_rate};
+ghost use Rattle.fdc_sequencer.specs.Fronts.{board_of};
+ghost use Rattle.fdc_chip.specs.Chips.{chip_state, behind_of, KeepsChip};
+
+use crate::chip::Chip;
+use drive_model::Inspect;
+use raw_image::Medium;
+
+impl<D: Inspect> Chip<D> {
+    /// Puts a medium into a bay, of which no word was replaced yet. Where one is in already, the new one is given back.
+    pub fn insert(&mut self, bay: u8, medium: Medium) -> Result<(), Medium>
+        requires { bay ≤ 1 }
+        ensures keeps { KeepsChip (chip_state D.state self.old) (chip_state D.state self.new) }
+        ensures other { drive_at (chip_state D.state self.new).front.board (1 - bay) ≡ drive_at (chip_state D.state self.old).front.board (1 - bay) }
+        ensures refused { IsErr result ↔ IsSome (drive_at (chip_state D.state self.old).front.board bay).medium }
+        ensures ok { OnOk result (Becomes (loaded medium (drive_at (chip_state D.state self.old).front.board bay))
+            (drive_at (chip_state D.state self.old).front.board bay) (drive_at (chip_state D.state self.new).front.board bay)) }
+        ensures err { IfErr result (λ back. (back ≡ medium)
+            × Becomes (drive_at (chip_state D.state self.old).front.board bay) (drive_at (chip_state D.state self.old).front.board bay) (drive_at (chip_state D.state self.new).front.board bay)) }
+    {
+        self.behind.insert(bay, medium)
+    }
+
+    /// Takes the medium out of a bay. It is still told whether a word of it was replaced.
+    pub fn eject(&mut self, bay: u8) -> Option<Medium>
+        requires { bay ≤ 1 }
+        ensures keeps { KeepsChip (chip_state D.state self.old) (chip_state D.state self.new) }
+        ensures other { drive_at (chip_state D.state self.new).front.board (1 - bay) ≡ drive_at (chip_state D.state self.old).front.board (1 - bay) }
+        ensures medium { result ≡ (drive_at (chip_state D.state self.old).front.board bay).medium }
+        ensures becomes { Becomes (unloaded (drive_at (chip_state D.state self.old).front.board bay))
+            (drive_at (chip_state D.state self.old).front.board bay) (drive_at (chip_state D.state self.new).front.board bay) }
+    {
+        self.behind.eject(bay)
+    }
+
+    /// The medium in a bay, which stays there.
+    pub fn medium(&self, bay: u8) -> Option<&Medium>
+        requires { bay ≤ 1 }
+        ensures { option_copied result ≡ (drive_at (chip_state D.state self.now).front.board bay).medium }
+    {
+        self.behind.medium(bay)
+    }
+
+    /// Whether a word of the medium in a bay was replaced since it was put in, or since that was last forgotten. Of a medium
+    /// that was taken out it is still told.
+    pub fn is_written(&self, bay: u8) -> bool
+        requires { bay ≤ 1 }
+        ensures { result ≡ (drive_at (chip_state D.state self.now).front.board bay).replaced }
+    {
+        self.behind.is_written(bay)
+    }
+
+    /// Forgets that a word of the medium in a bay was replaced, as a front end does once it has stored the medium.
+    pub fn forget_written(&mut self, bay: u8)
+        requires { bay ≤ 1 }
+        ensures keeps { KeepsChip (chip_state D.state self.old) (chip_state D.state self.new) }
+        ensures other { drive_at (chip_state D.state self.new).front.board (1 - bay) ≡ drive_at (chip_state D.state self.old).front.board (1 - bay) }
+        ensures forgotten { drive_at (chip_state D.state self.new).front.board bay ≡ forgotten (drive_at (chip_state D.state self.old).front.board bay) }
+    {
+        self.behind.forget_written(bay);
+    }
+
+    /// Tells what `is_written` does, and forgets it.
+    pub fn take_written(&mut self, bay: u8) -> bool
+        requires { bay ≤ 1 }
+        ensures was { result ≡ (drive_at (chip_state D.state self.old).front.board bay).replaced }
+        ensures keeps { KeepsChip (chip_state D.state self.old) (chip_state D.state self.new) }
+        ensures other { drive_at (chip_state D.state self.new).front.board (1 - bay) ≡ drive_at (chip_state D.state self.old).front.board (1 - bay) }
+        ensures forgotten { drive_at (chip_state D.state self.new).front.board bay ≡ forgotten (drive_at (chip_state D.state self.old).front.board bay) }
+    {
+        self.behind.take_written(bay)
+    }
+
+    /// The cylinder under the heads of the drive in a bay, 0 to 82.
+    pub fn cylinder(&self, bay: u8) -> u8
+        requires { bay ≤ 1 }
+        ensures { result ≡ (drive_at (chip_state D.state self.now).front.board bay).cylinder }
+    {
+        self.behind.cylinder(bay)
+    }
+
+    /// Whether the write gate of the drive in a bay is open.
+    pub fn is_gate_open(&self, bay: u8) -> bool
+        requires { bay ≤ 1 }
+        ensures { result ≡ (drive_at (chip_state D.state self.now).front.board bay).gate }
+    {
+        self.behind.is_gate_open(bay)
+    }
+
+    /// Whether DOR turns the motor of the drive in a bay on.
+    pub fn is_motor_on(&self, bay: u8) -> bool
+        requires { bay ≤ 1 }
+        ensures { IsTrue result ↔ IsBitSet (dor_of (controller_of (board_of (behind_of self.now)))) (4 + bay) }
+    {
+        self.behind.is_motor_on(bay)
+    }
+
+    /// The drive that DOR selects: those of bays 2 and 3 are absent.
+    pub fn selected(&self) -> u8
+        ensures { result ≡ dor_of (controller_of (board_of (behind_of self.now))) % 4 }
+    {
+        self.behind.selected()
+    }
+
+    /// The nanoseconds of a word time at the rate that was chosen last.
+    pub fn word_time(&self) -> u32
+        ensures { result ≡ nanoseconds (data_rate (controller_of (board_of (behind_of self.now)))) }
+    {
+        self.behind.word_time()
+    }
+}

@@ -1,0 +1,96 @@
+// The codes of the commands.
+ghost use Rattle.std.specs.Prelude.{◌≡◌, ◌≤◌};
+ghost use Rattle.fdc_chip.specs.Codes.{has_bit, code_of, parameters};
+
+/// A command by its code (82077AA data sheet, command set). Without MFM it is about FM, in which no medium is recorded here.
+#[derive(Clone, Copy, PartialEq, Eq, Debug)]
+pub(crate) enum Code {
+    ReadTrack { mfm: bool },
+    Specify,
+    SenseDrive,
+    /// READ DATA, READ DELETED DATA, WRITE DATA and WRITE DELETED DATA.
+    Transfer { mfm: bool },
+    Recalibrate,
+    SenseInterrupt,
+    ReadId { mfm: bool },
+    FormatTrack { mfm: bool },
+    DumpRegisters,
+    Seek,
+    RelativeSeek { inward: bool },
+    Version,
+    Perpendicular,
+    Configure,
+    Lock { on: bool },
+    Verify { mfm: bool },
+}
+
+/// MT, or DIR's and LOCK's high bit.
+pub(crate) const MULTITRACK: u8 = 0x80;
+
+/// MFM.
+const MFM: u8 = 0x40;
+
+/// SK.
+pub(crate) const SKIP: u8 = 0x20;
+
+/// Which command it is.
+const COMMAND: u8 = 0x1F;
+
+/// Whether a bit is set.
+pub(crate) fn has_bit(byte: u8, bit: u8) -> bool
+    ensures { result ≡ has_bit byte bit }
+{
+    byte & bit != 0
+}
+
+impl Code {
+    /// The command of a code, if there is one. READ ID has no MT and SK, and is taken with these.
+    pub(crate) fn of(byte: u8) -> Option<Code>
+        ensures { result ≡ code_of byte }
+    {
+        let mfm = has_bit(byte, MFM);
+        let multitrack = has_bit(byte, MULTITRACK);
+        let skip = has_bit(byte, SKIP);
+        match byte & COMMAND {
+            0x02 if !multitrack && !skip => Some(Code::ReadTrack { mfm }),
+            0x03 if byte == 0x03 => Some(Code::Specify),
+            0x04 if byte == 0x04 => Some(Code::SenseDrive),
+            0x05 | 0x09 if !skip => Some(Code::Transfer { mfm }),
+            0x06 | 0x0C => Some(Code::Transfer { mfm }),
+            0x07 if byte == 0x07 => Some(Code::Recalibrate),
+            0x08 if byte == 0x08 => Some(Code::SenseInterrupt),
+            0x0A => Some(Code::ReadId { mfm }),
+            0x0D if !multitrack && !skip => Some(Code::FormatTrack { mfm }),
+            0x0E if byte == 0x0E => Some(Code::DumpRegisters),
+            0x0F if byte == 0x0F => Some(Code::Seek),
+            0x0F if multitrack && !skip => Some(Code::RelativeSeek { inward: mfm }),
+            0x10 if byte == 0x10 => Some(Code::Version),
+            0x12 if byte == 0x12 => Some(Code::Perpendicular),
+            0x13 if byte == 0x13 => Some(Code::Configure),
+            0x14 if !mfm && !skip => Some(Code::Lock { on: multitrack }),
+            0x16 => Some(Code::Verify { mfm }),
+            _ => None,
+        }
+    }
+
+    /// How many bytes follow the code.
+    pub(crate) fn parameters(self) -> u8
+        ensures count { result ≡ parameters self }
+        ensures longest { result ≤ 8 }
+    {
+        match self {
+            Code::SenseInterrupt
+            | Code::DumpRegisters
+            | Code::Version
+            | Code::Lock { .. } => 0,
+            Code::SenseDrive
+            | Code::Recalibrate
+            | Code::ReadId { .. }
+            | Code::Perpendicular => 1,
+            Code::Specify | Code::Seek | Code::RelativeSeek { .. } => 2,
+            Code::Configure => 3,
+            Code::FormatTrack { .. } => 5,
+            Code::Transfer { .. } | Code::ReadTrack { .. } | Code::Verify { .. } => 8,
+        }
+    }
+}

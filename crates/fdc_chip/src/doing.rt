@@ -1,0 +1,261 @@
+// What a whole command does.
+ghost use Rattle.std.specs.Prelude.{◌≡◌};
+ghost use Rattle.fdc_sequencer.specs.Fronts.{front_state};
+ghost use Rattle.fdc_chip.specs.Chips.{chip_state, behind_of, KeepsRest};
+ghost use Rattle.fdc_chip.specs.Doing.{Sends, SendsOn, drained_one, drained, moves_heads, told, ready, sensing, specified, configured, configuring, dumped, locked, made_perpendicular, relative_target, Asks, Obeys, AttendsTo, Attends, needs_heads};
+ghost use Rattle.fdc_chip.specs.Interrupts.{cylinder_of};
+
+use crate::answer::{Answer, Registers};
+use crate::chip::Chip;
+use crate::code::Code;
+use crate::order::Order;
+use crate::settings::Settings;
+use crate::stage::{Stage, Task};
+use drive_model::Inspect;
+
+/// MSR where it is read.
+pub(crate) const STATUS: u16 = 0x3F4;
+
+/// The data port.
+pub(crate) const DATA: u16 = 0x3F5;
+
+/// The only result byte of a command that is invalid.
+const INVALID: u8 = 0x80;
+
+/// The result byte of VERSION: an enhanced controller.
+const ENHANCED: u8 = 0x90;
+
+/// The seek bits of MSR.
+const SEEKING: u8 = 0x0F;
+
+/// LOCK in the byte that tells it.
+const LOCKED: u8 = 0x10;
+
+/// All of CONFIGURE's options but EIS.
+const WITHOUT_IMPLIED_SEEK: u8 = 0x3F;
+
+impl Code {
+    /// Whether it needs what stands behind, which takes no command while heads move.
+    fn needs_heads(self) -> bool
+        ensures { result ≡ needs_heads self }
+    {
+        match self {
+            Code::Specify
+            | Code::SenseInterrupt
+            | Code::Version
+            | Code::Perpendicular
+            | Code::DumpRegisters
+            | Code::Lock { .. } => false,
+            _ => true,
+        }
+    }
+}
+
+/// Where a RELATIVE SEEK goes.
+fn relative_target(inward: bool, cylinder: u8, count: u8) -> u8
+    ensures { result ≡ relative_target inward cylinder count }
+{
+    if inward {
+        cylinder.saturating_add(count)
+    } else {
+        cylinder.saturating_sub(count)
+    }
+}
+
+impl<D: Inspect> Chip<D> {
+    /// Gives bytes to what stands behind.
+    pub(crate) fn send(&mut self, bytes: &[u8])
+        ensures { SendsOn bytes.now (chip_state D.state self.old) (chip_state D.state self.new) }
+    {
+        for byte in bytes {
+            self.behind.write(DATA, *byte);
+        }
+    }
+
+    /// The host reads this.
+    pub(crate) fn tell(&mut self, answer: Answer)
+        ensures { chip_state D.state self.new ≡ told answer (chip_state D.state self.old) }
+    {
+        self.stage = Stage::Telling { answer, read: 0 };
+    }
+
+    /// Takes over a result of a seek or poll that is pending behind.
+    fn drain_one(&mut self)
+        ensures { chip_state D.state self.new ≡ drained_one (chip_state D.state self.old) }
+    {
+        if let Some((status, cylinder)) = self.behind.sense() {
+            self.interrupts.keep(status, cylinder);
+        }
+    }
+
+    /// Takes over all.
+    pub(crate) fn drain(&mut self)
+        ensures { chip_state D.state self.new ≡ drained (chip_state D.state self.old) }
+    {
+        for _drive in 0..4u8 {
+            self.drain_one();
+        }
+    }
+
+    /// Whether heads move.
+    fn moves_heads(&mut self) -> bool
+        ensures moves { result ≡ moves_heads (chip_state D.state self.old).front }
+        ensures same { chip_state D.state self.new ≡ chip_state D.state self.old }
+    {
+        self.behind.read(STATUS) & SEEKING != 0
+    }
+
+    /// A whole command came, of this code if there is one.
+    pub(crate) fn attend_to(&mut self, code: Option<Code>)
+        ensures { AttendsTo code (chip_state D.state self.old) (chip_state D.state self.new) }
+    {
+        match code {
+            Some(code) => self.attend(code),
+            None => self.tell(Answer::Byte { byte: INVALID }),
+        }
+    }
+
+    /// A whole command is done, or held while heads move.
+    fn attend(&mut self, code: Code)
+        ensures { Attends code (chip_state D.state self.old) (chip_state D.state self.new) }
+    {
+        self.drain();
+        if code.needs_heads() && self.moves_heads() {
+            self.stage = Stage::Held;
+            return;
+        }
+        self.obey(code);
+    }
+
+    /// Does a command.
+    fn obey(&mut self, code: Code)
+        ensures { Obeys code (chip_state D.state self.old) (chip_state D.state self.new) }
+    {
+        let order = self.order;
+        let Order { unit, key, .. } = order;
+        match code {
+            Code::Specify => self.specify(),
+            Code::SenseDrive => self.ask(&[0x04, unit]),
+            Code::SenseInterrupt => self.sense_interrupt(),
+            Code::Recalibrate => self.move_heads(&[0x07, unit]),
+            Code::Seek => self.move_heads(&[0x0F, unit, key.c]),
+            Code::RelativeSeek { inward } => self.seek_from_here(inward),
+            Code::Version => self.tell(Answer::Byte { byte: ENHANCED }),
+            Code::Perpendicular => self.make_perpendicular(),
+            Code::Configure => self.configure(),
+            Code::DumpRegisters => self.dump_registers(),
+            Code::Lock { on } => self.lock(on),
+            Code::ReadId { mfm } => self.read_id(mfm),
+            Code::FormatTrack { mfm } => self.format(mfm),
+            Code::Transfer { mfm } => self.transfer(mfm, Task::Sent, order),
+            Code::Verify { mfm } => self.verify(mfm),
+            Code::ReadTrack { mfm } => self.read_track(mfm),
+        }
+    }
+
+    /// SPECIFY. What stands behind always moves bytes by DMA.
+    fn specify(&mut self)
+        ensures { chip_state D.state self.new ≡ specified (chip_state D.state self.old) }
+    {
+        self.settings = Settings {
+            step_rate: self.order.unit,
+            head_load: self.order.key.c,
+            ..self.settings
+        };
+        self.stage = Stage::Ready;
+    }
+
+    /// A command that is answered by a byte behind.
+    fn ask(&mut self, bytes: &[u8])
+        ensures { Asks bytes.now (chip_state D.state self.old) (chip_state D.state self.new) }
+    {
+        self.send(bytes);
+        let byte = self.behind.read(DATA);
+        self.tell(Answer::Byte { byte });
+    }
+
+    /// SENSE INTERRUPT.
+    fn sense_interrupt(&mut self)
+        ensures { chip_state D.state self.new ≡ sensing (chip_state D.state self.old) }
+    {
+        let answer = match self.interrupts.sense() {
+            Some((status, cylinder)) => Answer::Sensed { status, cylinder },
+            None => Answer::Byte { byte: INVALID },
+        };
+        self.tell(answer);
+    }
+
+    /// A command whose heads move behind.
+    fn move_heads(&mut self, bytes: &[u8])
+        ensures { SendsOn bytes.now (ready (chip_state D.state self.old)) (chip_state D.state self.new) }
+    {
+        self.stage = Stage::Ready;
+        self.send(bytes);
+    }
+
+    /// RELATIVE SEEK.
+    fn seek_from_here(&mut self, inward: bool)
+        ensures { Obeys (Code.RelativeSeek inward) (chip_state D.state self.old) (chip_state D.state self.new) }
+    {
+        let Order { unit, key, .. } = self.order;
+        let target = relative_target(inward, self.interrupts.cylinder(unit), key.c);
+        self.move_heads(&[0x0F, unit, target]);
+    }
+
+    /// PERPENDICULAR MODE, which has no effect at these rates but on what DUMPREG gives.
+    fn make_perpendicular(&mut self)
+        ensures { chip_state D.state self.new ≡ made_perpendicular (chip_state D.state self.old) }
+    {
+        self.settings = self.settings.with_perpendicular(self.order.unit);
+        self.stage = Stage::Ready;
+    }
+
+    /// CONFIGURE. Implied seeks are told behind with each command.
+    fn configure(&mut self)
+        ensures { Obeys Code.Configure (chip_state D.state self.old) (chip_state D.state self.new) }
+    {
+        let key = self.order.key;
+        self.settings = Settings {
+            options: key.c,
+            precompensation: key.h,
+            forgotten: false,
+            ..self.settings
+        };
+        self.stage = Stage::Ready;
+        self.configure_behind(key.c, key.h);
+    }
+
+    /// Tells CONFIGURE behind.
+    pub(crate) fn configure_behind(&mut self, options: u8, precompensation: u8)
+        ensures { SendsOn (configuring options precompensation) (chip_state D.state self.old) (chip_state D.state self.new) }
+    {
+        self.send(&[0x13, 0, options & WITHOUT_IMPLIED_SEEK, precompensation]);
+    }
+
+    /// DUMPREG.
+    fn dump_registers(&mut self)
+        ensures { chip_state D.state self.new ≡ dumped (chip_state D.state self.old) }
+    {
+        let registers = Registers {
+            first: self.interrupts.cylinder(0),
+            second: self.interrupts.cylinder(1),
+            third: self.interrupts.cylinder(2),
+            fourth: self.interrupts.cylinder(3),
+            settings: self.settings,
+        };
+        self.tell(Answer::Registers { registers });
+    }
+
+    /// LOCK and UNLOCK.
+    fn lock(&mut self, on: bool)
+        ensures { chip_state D.state self.new ≡ locked on (chip_state D.state self.old) }
+    {
+        self.settings = Settings {
+            locked: on,
+            ..self.settings
+        };
+        self.tell(Answer::Byte {
+            byte: if on { LOCKED } else { 0 },
+        });
+    }
+}

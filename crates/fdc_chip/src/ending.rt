@@ -1,0 +1,153 @@
+// How what is executed behind ends, and what comes of it.
+ghost use Rattle.std.specs.Prelude.{◌≡◌, ◌==◌, not};
+ghost use Rattle.fdc_sequencer.specs.Fronts.{Front, front_state};
+ghost use Rattle.fdc_chip.specs.Chips.{chip_state, behind_of, with_front};
+ghost use Rattle.fdc_chip.specs.Ending.{behind_one, byte_behind, results_behind, results_taken, has_results, told_results, is_not_found, unit_of, cylinder_bits, with_cylinder_passed, refusal, EndsSent, Ends, MayEnd};
+
+use crate::answer::Answer;
+use crate::chip::Chip;
+use crate::doing::{DATA, STATUS};
+use crate::stage::{Stage, Task};
+use drive_model::Inspect;
+use fdc_commands::Results;
+use fdc_registers::{Flags, Msr, St0, St1, St2};
+use flop_base::Chrn;
+
+/// The head and the drive in ST0.
+const UNIT: u8 = 0x07;
+
+/// READ ID with MFM.
+const READ_ID: u8 = 0x4A;
+
+/// The cylinder of tracks that are marked bad.
+const BAD: u8 = 0xFF;
+
+/// WC and BC, where another cylinder passes than the wanted one.
+fn cylinder_bits(wanted: u8, passed: u8) -> St2
+    ensures { result.0 ≡ cylinder_bits wanted passed }
+{
+    if wanted == passed {
+        St2(0)
+    } else if passed == BAD {
+        St2::WRONG_CYLINDER.union(St2::BAD_CYLINDER)
+    } else {
+        St2::WRONG_CYLINDER
+    }
+}
+
+/// The results of a sector that wasn't found, once READ ID was looking.
+fn with_cylinder_passed(first: Results, passed: Results) -> Results
+    ensures { result ≡ with_cylinder_passed first passed }
+{
+    if passed.st1.bits() != 0 {
+        return first;
+    }
+    Results {
+        st2: first.st2.union(cylinder_bits(first.key.c, passed.key.c)),
+        ..first
+    }
+}
+
+/// The results in place of a command that this medium can't have. `marks` says that address marks pass.
+fn refusal(unit: u8, key: Chrn, marks: bool) -> Results
+    ensures { result ≡ refusal unit key marks }
+{
+    Results {
+        st0: St0(unit & UNIT).union(St0::ABNORMAL),
+        st1: if marks {
+            St1::NO_DATA
+        } else {
+            St1::MISSING_MARK
+        },
+        st2: St2(0),
+        key,
+    }
+}
+
+impl<D: Inspect> Chip<D> {
+    /// Whether results wait behind.
+    fn has_results(&mut self) -> bool
+        ensures waits { result ≡ has_results (chip_state D.state self.old).front }
+        ensures same { chip_state D.state self.new ≡ chip_state D.state self.old }
+    {
+        let wait = Msr::RQM.union(Msr::DIO).bits();
+        self.behind.read(STATUS) & wait == wait
+    }
+
+    /// The next of them.
+    fn next_result(&mut self) -> u8
+        ensures byte { result ≡ byte_behind (chip_state D.state self.old).front }
+        ensures after { chip_state D.state self.new ≡ with_front (behind_one (chip_state D.state self.old).front) (chip_state D.state self.old) }
+    {
+        self.behind.read(DATA)
+    }
+
+    /// Takes all seven.
+    fn take_results(&mut self) -> Results
+        ensures results { result ≡ results_behind (chip_state D.state self.old).front }
+        ensures after { chip_state D.state self.new ≡ with_front (results_taken (chip_state D.state self.old).front) (chip_state D.state self.old) }
+    {
+        let st0 = St0(self.next_result());
+        let st1 = St1(self.next_result());
+        let st2 = St2(self.next_result());
+        let c = self.next_result();
+        let h = self.next_result();
+        let r = self.next_result();
+        let n = self.next_result();
+        Results {
+            st0,
+            st1,
+            st2,
+            key: Chrn { c, h, r, n },
+        }
+    }
+
+    /// The host reads results, and INT rises.
+    pub(crate) fn tell_results(&mut self, results: Results)
+        ensures { chip_state D.state self.new ≡ told_results results (chip_state D.state self.old) }
+    {
+        self.interrupts.set_line(true);
+        self.tell(Answer::Results { results });
+    }
+
+    /// Takes the results of what was executed behind for a task, where they wait.
+    pub(crate) fn may_end(&mut self, task: Task)
+        ensures { MayEnd task (chip_state D.state self.old) (chip_state D.state self.new) }
+    {
+        if self.has_results() {
+            let results = self.take_results();
+            self.end(task, results);
+        }
+    }
+
+    /// What comes of them.
+    fn end(&mut self, task: Task, results: Results)
+        ensures { Ends task results (chip_state D.state self.old) (chip_state D.state self.new) }
+    {
+        match task {
+            Task::Sent => self.end_sent(results),
+            Task::Sought { results: first } => {
+                self.tell_results(with_cylinder_passed(first, results));
+            }
+            Task::Refused { unit, key, mfm } => {
+                self.tell_results(refusal(unit, key, mfm && results.st1.bits() == 0));
+            }
+            Task::Verify { .. } => self.tell_results(results),
+            Task::Track { track } => self.end_part(track, results),
+        }
+    }
+
+    /// The command that was sent ended: where its sector wasn't found it is looked which cylinder passes.
+    fn end_sent(&mut self, results: Results)
+        ensures { EndsSent (is_not_found results) results (chip_state D.state self.old) (chip_state D.state self.new) }
+    {
+        if results.st1.bits() != St1::NO_DATA.bits() {
+            self.tell_results(results);
+            return;
+        }
+        self.stage = Stage::Busy {
+            task: Task::Sought { results },
+        };
+        self.send(&[READ_ID, results.st0.bits() & UNIT]);
+    }
+}

@@ -1,0 +1,130 @@
+// Device steps.
+ghost use Rattle.std.specs.Prelude.{◌≡◌, ◌≤◌, true, false};
+ghost use Rattle.fdc_sequencer.specs.Fronts.{front_state, interrupts_outside};
+ghost use Rattle.fdc_chip.specs.Chips.{chip_state, behind_of, interrupts_chip, asks_chip};
+ghost use Rattle.fdc_chip.specs.Steps.{Swallows, SwallowsAll, Follows, FollowsTask, StepsChip, RunsChipWith, RunsChip};
+ghost use Rattle.fdc_chip.specs.declared.stage.Stage.TheVariants.{Ready};
+
+use crate::chip::Chip;
+use crate::code::Code;
+use crate::stage::{Stage, Task};
+use drive_model::Inspect;
+
+/// The bytes that the FIFO has at most.
+const DEPTH: u8 = 16;
+
+impl<D: Inspect> Chip<D> {
+    /// One device step: that of what stands behind, and where something ended in it, what comes of that.
+    pub fn step(&mut self)
+        ensures { StepsChip (chip_state D.state self.old) (chip_state D.state self.new) }
+    {
+        self.behind.step();
+        self.follow();
+    }
+
+    /// What is done behind a step.
+    fn follow(&mut self)
+        ensures { Follows self.old.stage (chip_state D.state self.old) (chip_state D.state self.new) }
+    {
+        match self.stage {
+            Stage::Ready => {
+                if self.behind.int() {
+                    self.drain();
+                }
+            }
+            Stage::Held => self.attend_to(Code::of(self.order.code)),
+            Stage::Busy { task } => self.follow_task(task),
+            Stage::Telling { .. } => {}
+        }
+    }
+
+    /// The same while something is executed behind.
+    fn follow_task(&mut self, task: Task)
+        ensures { FollowsTask task (chip_state D.state self.old) (chip_state D.state self.new) }
+    {
+        if let Task::Verify { left } = task {
+            self.swallow_all(left);
+        }
+        self.may_end(task);
+    }
+
+    /// Takes the bytes of a VERIFY that are asked for, of so many that are left.
+    fn swallow_all(&mut self, left: u32)
+        ensures { SwallowsAll left (chip_state D.state self.old) (chip_state D.state self.new) }
+    {
+        let mut now = left;
+        for _place in 0..DEPTH {
+            now = self.swallow(now);
+        }
+        self.stage = Stage::Busy {
+            task: Task::Verify { left: now },
+        };
+    }
+
+    /// Takes one, and behind the last tells the terminal count.
+    fn swallow(&mut self, left: u32) -> u32
+        ensures swallows { Swallows left (chip_state D.state self.old).front result (chip_state D.state self.new).front }
+        ensures rest { chip_state D.state self.new ≡ record (chip_state D.state self.old) { front = (chip_state D.state self.new).front } }
+    {
+        match self.behind.dack_read() {
+            None => left,
+            Some(_byte) => {
+                if left == 1 {
+                    self.behind.tc();
+                }
+                left.saturating_sub(1)
+            }
+        }
+    }
+
+    /// Device steps until the interrupt line or the request line changes, at most `most`, and how many were made.
+    pub fn run(&mut self, most: u32) -> u32
+        ensures { RunsChip most (chip_state D.state self.old) result (chip_state D.state self.new) }
+    {
+        let int = self.int();
+        let drq = self.drq();
+        let mut made = 0;
+        while made < most {
+            made += self.advance(most - made);
+            if !self.has_lines(int, drq) {
+                return made;
+            }
+        }
+        most
+    }
+
+    /// At least one device step, `most` at most, and none behind one in which a line changes; tells how many.
+    fn advance(&mut self, most: u32) -> u32
+        requires { 1 ≤ most }
+        ensures some { 1 ≤ result }
+        ensures few { result ≤ most }
+        ensures runs { RunsChipWith (interrupts_chip (chip_state D.state self.old)) (asks_chip (chip_state D.state self.old)) result
+            (chip_state D.state self.old) (chip_state D.state self.new) }
+    {
+        match self.stage {
+            Stage::Ready if !self.interrupts.is_up() && !self.behind.int() => {
+                self.advance_ready(most)
+            }
+            _ => {
+                self.step();
+                1
+            }
+        }
+    }
+
+    /// The same while nothing is under way and INT is down, where many steps are made at once.
+    fn advance_ready(&mut self, most: u32) -> u32
+        requires some { 1 ≤ most }
+        requires ready { self.old.stage ≡ Ready }
+        requires down { self.old.interrupts.line ≡ false }
+        requires quiet { interrupts_outside (chip_state D.state self.old).front ≡ false }
+        ensures some { 1 ≤ result }
+        ensures few { result ≤ most }
+        ensures runs { RunsChipWith (interrupts_chip (chip_state D.state self.old)) (asks_chip (chip_state D.state self.old)) result
+            (chip_state D.state self.old) (chip_state D.state self.new) }
+    {
+        let made = self.behind.run(most);
+        self.follow();
+        made
+    }
+}

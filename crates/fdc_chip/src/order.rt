@@ -1,0 +1,94 @@
+// The bytes of a command, as they come.
+ghost use Rattle.std.specs.Prelude.{◌≡◌};
+ghost use Rattle.fdc_chip.specs.Orders.{blank, with_byte, order_bytes};
+
+use flop_base::Chrn;
+
+/// The bytes of a command, named as in those that have nine: a shorter command has the first of them.
+#[derive(Clone, Copy, PartialEq, Eq, Debug)]
+pub struct Order {
+    pub code: u8,
+    /// The head in bit 2 and the drive in bits 1 and 0; in bit 7 whether a VERIFY counts its sectors.
+    pub unit: u8,
+    pub key: Chrn,
+    /// EOT: the number of the track's last sector.
+    pub last_sector: u8,
+    pub gap: u8,
+    /// DTL, or the sectors of a VERIFY that counts them.
+    pub length: u8,
+}
+
+impl Order {
+    /// No byte came.
+    pub(crate) fn blank() -> Order
+        ensures { result ≡ blank }
+    {
+        Order {
+            code: 0,
+            unit: 0,
+            key: Chrn {
+                c: 0,
+                h: 0,
+                r: 0,
+                n: 0,
+            },
+            last_sector: 0,
+            gap: 0,
+            length: 0,
+        }
+    }
+
+    /// With the byte at a place, counted from 0.
+    pub(crate) fn with(self, place: u8, byte: u8) -> Order
+        ensures { result ≡ with_byte place byte self }
+    {
+        let key = self.key;
+        match place {
+            0 => Order { code: byte, ..self },
+            1 => Order { unit: byte, ..self },
+            2 => Order {
+                key: Chrn { c: byte, ..key },
+                ..self
+            },
+            3 => Order {
+                key: Chrn { h: byte, ..key },
+                ..self
+            },
+            4 => Order {
+                key: Chrn { r: byte, ..key },
+                ..self
+            },
+            5 => Order {
+                key: Chrn { n: byte, ..key },
+                ..self
+            },
+            6 => Order {
+                last_sector: byte,
+                ..self
+            },
+            7 => Order { gap: byte, ..self },
+            _ => Order {
+                length: byte,
+                ..self
+            },
+        }
+    }
+
+    /// The nine bytes.
+    pub(crate) fn bytes(self) -> [u8; 9]
+        ensures { result ≡ order_bytes self }
+    {
+        let Chrn { c, h, r, n } = self.key;
+        [
+            self.code,
+            self.unit,
+            c,
+            h,
+            r,
+            n,
+            self.last_sector,
+            self.gap,
+            self.length,
+        ]
+    }
+}

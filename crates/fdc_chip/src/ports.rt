@@ -1,0 +1,212 @@
+// Ports.
+ghost use Rattle.std.specs.Prelude.{◌≡◌, ◌==◌, ◌&&◌};
+ghost use Rattle.fdc_sequencer.specs.Fronts.{value_outside};
+ghost use Rattle.fdc_chip.specs.Chips.{chip_state, status_of, stage_bits, execution_bits, port_bits};
+ghost use Rattle.fdc_chip.specs.Ports.{ReadsChip, ReadsAt, PassesOut, byte_told, WritesChip, TakesByte, Collects, may_come, with_next, PassesIn, is_whole};
+
+use crate::answer::{Answer, NOTHING};
+use crate::chip::Chip;
+use crate::code::Code;
+use crate::doing::{DATA, STATUS};
+use crate::interrupts::Interrupts;
+use crate::stage::Stage;
+use drive_model::Inspect;
+use fdc_core::Fdc;
+use fdc_registers::{Flags, Msr};
+
+/// The seek bits of MSR.
+const SEEKING: u8 = 0x0F;
+
+/// The bits of MSR by which a byte is asked for at the data port.
+fn port_bits(asked: bool, to_memory: bool) -> Msr
+    ensures { result.0 ≡ port_bits asked to_memory }
+{
+    match (asked, to_memory) {
+        (true, true) => Msr::RQM.union(Msr::DIO),
+        (true, false) => Msr::RQM,
+        _ => Msr(0),
+    }
+}
+
+/// The bits of MSR while a command is executed.
+fn execution_bits(by_port: bool, asked: bool, to_memory: bool) -> Msr
+    ensures { result.0 ≡ execution_bits by_port asked to_memory }
+{
+    if by_port {
+        Msr::BUSY
+            .union(Msr::NON_DMA)
+            .union(port_bits(asked, to_memory))
+    } else {
+        Msr::BUSY
+    }
+}
+
+/// Whether so many bytes are a whole command; one of a code that there isn't is.
+fn is_whole(count: u8, code: Option<Code>) -> bool
+    ensures { result ≡ is_whole count code }
+{
+    match code {
+        None => true,
+        Some(code) => code.parameters() + 1 <= count,
+    }
+}
+
+impl<D: Inspect> Chip<D> {
+    /// Reads a port, 3F0 to 3F7.
+    pub fn read(&mut self, port: u16) -> u8
+        ensures { ReadsChip port (chip_state D.state self.old) result (chip_state D.state self.new) }
+    {
+        match port {
+            STATUS => self.status(),
+            DATA => self.give_byte(),
+            _ => self.behind.read(port),
+        }
+    }
+
+    /// The main status register.
+    fn status(&mut self) -> u8
+        ensures value { result ≡ status_of (chip_state D.state self.old) }
+        ensures same { chip_state D.state self.new ≡ chip_state D.state self.old }
+    {
+        let seeks = Msr(self.interrupts.seek_bits());
+        self.stage_bits().union(seeks).bits()
+    }
+
+    /// Its bits by what is under way.
+    fn stage_bits(&mut self) -> Msr
+        ensures value { result.0 ≡ stage_bits self.old.stage (chip_state D.state self.old) }
+        ensures same { chip_state D.state self.new ≡ chip_state D.state self.old }
+    {
+        match self.stage {
+            Stage::Ready => {
+                let begun = if self.count == 0 { Msr(0) } else { Msr::BUSY };
+                Msr(self.behind.read(STATUS)).union(begun)
+            }
+            Stage::Held => Msr(self.behind.read(STATUS) & SEEKING).union(Msr::BUSY),
+            Stage::Busy { task } => {
+                let asked = task.passes_bytes() && self.behind.drq();
+                execution_bits(
+                    self.settings.is_by_port(),
+                    asked,
+                    self.behind.to_memory(),
+                )
+            }
+            Stage::Telling { .. } => Msr::RQM.union(Msr::DIO).union(Msr::BUSY),
+        }
+    }
+
+    /// The next byte of an answer, or of the command in execution.
+    fn give_byte(&mut self) -> u8
+        ensures { ReadsAt self.old.stage (chip_state D.state self.old) result (chip_state D.state self.new) }
+    {
+        match self.stage {
+            Stage::Telling { answer, read } => {
+                self.tell_next(answer, read);
+                answer.byte(read)
+            }
+            _ => {
+                if self.passes_by_port() {
+                    self.pass_out()
+                } else {
+                    NOTHING
+                }
+            }
+        }
+    }
+
+    /// A byte of an answer is read.
+    fn tell_next(&mut self, answer: Answer, read: u8)
+        ensures { chip_state D.state self.new ≡ byte_told answer read (chip_state D.state self.old) }
+    {
+        if answer.is_of_data() && read == 0 {
+            self.interrupts.set_line(false);
+        }
+        self.stage = if u16::from(answer.count()) <= u16::from(read) + 1 {
+            Stage::Ready
+        } else {
+            Stage::Telling {
+                answer,
+                read: read + 1,
+            }
+        };
+    }
+
+    /// A byte of the command in execution.
+    fn pass_out(&mut self) -> u8
+        ensures { PassesOut (chip_state D.state self.old) result (chip_state D.state self.new) }
+    {
+        match self.behind.dack_read() {
+            Some(byte) => byte,
+            None => NOTHING,
+        }
+    }
+
+    /// Writes a port, 3F0 to 3F7.
+    pub fn write(&mut self, port: u16, value: u8)
+        ensures { WritesChip port value (chip_state D.state self.old) (chip_state D.state self.new) }
+    {
+        if port == DATA {
+            self.take_byte(value);
+            return;
+        }
+        if Fdc::is_reset_by(port, value) {
+            self.stage = Stage::Ready;
+            self.count = 0;
+            self.interrupts = Interrupts::new();
+            self.settings = self.settings.reset();
+        }
+        self.behind.write(port, value);
+    }
+
+    /// A byte is written to the data port.
+    fn take_byte(&mut self, byte: u8)
+        ensures { TakesByte self.old.stage byte (chip_state D.state self.old) (chip_state D.state self.new) }
+    {
+        match self.stage {
+            Stage::Ready => {
+                if self.may_come() {
+                    self.add_byte(byte);
+                    self.collect();
+                }
+            }
+            _ => {
+                if self.passes_by_port() {
+                    self.pass_in(byte);
+                }
+            }
+        }
+    }
+
+    /// Whether a byte of a command may come.
+    fn may_come(&self) -> bool
+        ensures { result ≡ may_come (chip_state D.state self.now) }
+    {
+        self.count != 0 || self.behind.is_ready()
+    }
+
+    /// A byte of a command comes.
+    fn add_byte(&mut self, byte: u8)
+        ensures { chip_state D.state self.new ≡ with_next byte (chip_state D.state self.old) }
+    {
+        self.order = self.order.with(self.count, byte);
+        self.count = self.count.wrapping_add(1);
+    }
+
+    /// The command is done, once its bytes are whole.
+    fn collect(&mut self)
+        ensures { Collects (chip_state D.state self.old) (chip_state D.state self.new) }
+    {
+        let code = Code::of(self.order.code);
+        if is_whole(self.count, code) {
+            self.count = 0;
+            self.attend_to(code);
+        }
+    }
+
+    /// A byte of the command in execution.
+    fn pass_in(&mut self, byte: u8)
+        ensures { PassesIn byte (chip_state D.state self.old) (chip_state D.state self.new) }
+    {
+        self.behind.dack_write(byte);
+    }
+}

@@ -1,0 +1,272 @@
+// Data commands: those that this medium can have are given behind, and a search takes the place of others.
+ghost use Rattle.std.specs.Prelude.{◌≡◌, ◌≤◌, ◌*◌};
+ghost use Rattle.fdc_sequencer.specs.Transfers.{size_of};
+ghost use Rattle.fdc_chip.specs.Chips.{chip_state};
+ghost use Rattle.fdc_chip.specs.Doing.{SendsOn, Begins, Remembers, Refuses, BeginsReadId, Formats, FormatsIf, Transfers, TransfersIf, Verifies, ReadsTrack, with_last, implies, sought_if, is_size, no_key, sectors_to, sectors_verified, verifying, track_begun, absent_key, reading_one};
+ghost use Rattle.fdc_chip.specs.Orders.{order_bytes};
+
+use crate::chip::Chip;
+use crate::code::{MULTITRACK, SKIP, has_bit};
+use crate::order::Order;
+use crate::settings::Settings;
+use crate::stage::{Place, Stage, Task, Track};
+use drive_model::Inspect;
+use fdc_registers::{St1, St2};
+use flop_base::Chrn;
+
+/// READ DATA with MFM.
+const READ_DATA: u8 = 0x46;
+
+/// READ ID with MFM.
+const READ_ID: u8 = 0x4A;
+
+/// FORMAT TRACK with MFM.
+const FORMAT_TRACK: u8 = 0x4D;
+
+/// The head and the drive in the second byte of a command.
+const UNIT: u8 = 0x07;
+
+/// The head.
+const HEAD: u8 = 0x04;
+
+/// EC in the second byte of VERIFY: it counts its sectors.
+const COUNTS: u8 = 0x80;
+
+/// The key where none was sent.
+const NO_KEY: Chrn = Chrn {
+    c: 0,
+    h: 0,
+    r: 0,
+    n: 0,
+};
+
+/// Whether a field of this medium can have a size code.
+pub(crate) fn is_size(n: u8) -> bool
+    ensures { result ≡ is_size n }
+{
+    1 <= n && n <= 6
+}
+
+/// The sectors of a track from one on, to the last.
+fn sectors_to(last: u8, r: u8) -> u32
+    ensures count { result ≡ sectors_to last r }
+    ensures most { result ≤ 256 }
+{
+    (u32::from(last) + 256 - u32::from(r)) % 256 + 1
+}
+
+impl Order {
+    /// The sectors of a VERIFY.
+    fn sectors_verified(self) -> u32
+        ensures count { result ≡ sectors_verified self }
+        ensures most { result ≤ 512 }
+    {
+        if has_bit(self.unit, COUNTS) {
+            return if self.length == 0 {
+                256
+            } else {
+                u32::from(self.length)
+            };
+        }
+        let here = sectors_to(self.last_sector, self.key.r);
+        if has_bit(self.code, MULTITRACK) && !has_bit(self.unit, HEAD) {
+            here + sectors_to(self.last_sector, 1)
+        } else {
+            here
+        }
+    }
+
+    /// The bytes of a VERIFY.
+    fn bytes_verified(self) -> u32
+        ensures { result ≡ sectors_verified self * size_of self.key.n }
+    {
+        let sectors = self.sectors_verified();
+        match self.key.n {
+            1 => sectors * 256,
+            2 => sectors * 512,
+            3 => sectors * 1024,
+            4 => sectors * 2048,
+            5 => sectors * 4096,
+            6 => sectors * 8192,
+            _ => sectors * 128,
+        }
+    }
+
+    /// The READ DATA of a VERIFY.
+    fn verifying(self) -> Order
+        ensures { result ≡ verifying self }
+    {
+        Order {
+            code: READ_DATA | self.code & (MULTITRACK | SKIP),
+            unit: self.unit & UNIT,
+            ..self
+        }
+    }
+
+    /// The READ DATA of a sector alone, with its gap and length.
+    pub(crate) fn reading_one(self, key: Chrn) -> Order
+        ensures { order_bytes result ≡ reading_one self.unit key self.gap self.length }
+    {
+        Order {
+            code: READ_DATA,
+            key,
+            last_sector: key.r,
+            ..self
+        }
+    }
+}
+
+impl Track {
+    /// A READ TRACK begins.
+    fn of(order: Order) -> Track
+        ensures { result ≡ track_begun order }
+    {
+        Track {
+            unit: order.unit,
+            key: order.key,
+            left: if order.last_sector == 0 {
+                256
+            } else {
+                u16::from(order.last_sector)
+            },
+            place: Place::Index,
+            counted: false,
+            met: false,
+            st1: St1(0),
+            st2: St2(0),
+        }
+    }
+}
+
+impl<D: Inspect> Chip<D> {
+    /// A command of this task begins: INT falls, the pending result of its drive goes, and these bytes are given behind.
+    fn begin(&mut self, task: Task, seeks: bool, bytes: &[u8])
+        ensures { Begins task seeks bytes.now (chip_state D.state self.old) (chip_state D.state self.new) }
+    {
+        self.behind.strap_seeks(seeks);
+        self.stage = Stage::Busy { task };
+        let unit = self.order.unit;
+        self.interrupts.forget(unit);
+        self.remember();
+        self.send(bytes);
+    }
+
+    /// Tells behind what LOCK kept over a reset.
+    fn remember(&mut self)
+        ensures { Remembers (chip_state D.state self.old) (chip_state D.state self.new) }
+    {
+        if !self.settings.forgotten {
+            return;
+        }
+        let Settings {
+            options,
+            precompensation,
+            ..
+        } = self.settings;
+        self.settings = Settings {
+            forgotten: false,
+            ..self.settings
+        };
+        self.configure_behind(options, precompensation);
+    }
+
+    /// A command that this medium can't have: an address mark is looked for in its place, as the chip would.
+    fn refuse(&mut self, key: Chrn, mfm: bool)
+        ensures { Refuses key mfm (chip_state D.state self.old) (chip_state D.state self.new) }
+    {
+        let unit = self.order.unit;
+        self.begin(Task::Refused { unit, key, mfm }, false, &[READ_ID, unit]);
+    }
+
+    /// READ ID.
+    pub(crate) fn read_id(&mut self, mfm: bool)
+        ensures { BeginsReadId mfm (chip_state D.state self.old) (chip_state D.state self.new) }
+    {
+        if mfm {
+            let unit = self.order.unit;
+            self.begin(Task::Sent, false, &[READ_ID, unit]);
+        } else {
+            self.refuse(NO_KEY, false);
+        }
+    }
+
+    /// What DUMPREG gives of a data command.
+    fn note(&mut self, last_sector: u8)
+        ensures { chip_state D.state self.new ≡ with_last last_sector (chip_state D.state self.old) }
+    {
+        self.settings = Settings {
+            last_sector,
+            ..self.settings
+        };
+    }
+
+    /// FORMAT TRACK.
+    pub(crate) fn format(&mut self, mfm: bool)
+        ensures { Formats mfm (chip_state D.state self.old) (chip_state D.state self.new) }
+    {
+        let Order { unit, key, .. } = self.order;
+        self.note(key.h);
+        if mfm && is_size(key.c) {
+            self.begin(
+                Task::Sent,
+                false,
+                &[FORMAT_TRACK, unit, key.c, key.h, key.r, key.n],
+            );
+        } else {
+            self.refuse(NO_KEY, mfm);
+        }
+    }
+
+    /// Whether seeks are implied.
+    fn implies_seeks(&self) -> bool
+        ensures { result ≡ implies (chip_state D.state self.now) }
+    {
+        self.strapped || self.settings.implies_seeks()
+    }
+
+    /// A command of sectors, done behind by the bytes of another.
+    pub(crate) fn transfer(&mut self, mfm: bool, task: Task, order: Order)
+        ensures { Transfers mfm task (order_bytes order) (chip_state D.state self.old) (chip_state D.state self.new) }
+    {
+        let Order {
+            unit,
+            key,
+            last_sector,
+            ..
+        } = self.order;
+        self.note(last_sector);
+        if !mfm || !is_size(key.n) {
+            self.refuse(key, mfm);
+            return;
+        }
+        let seeks = self.implies_seeks();
+        if seeks {
+            self.interrupts.set_cylinder(unit, key.c);
+        }
+        self.begin(task, seeks, &order.bytes());
+    }
+
+    /// VERIFY.
+    pub(crate) fn verify(&mut self, mfm: bool)
+        ensures { Verifies mfm (chip_state D.state self.old) (chip_state D.state self.new) }
+    {
+        let order = self.order;
+        let left = order.bytes_verified();
+        self.transfer(mfm, Task::Verify { left }, order.verifying());
+    }
+
+    /// READ TRACK. It begins with a search that ends with the index.
+    pub(crate) fn read_track(&mut self, mfm: bool)
+        ensures { ReadsTrack mfm (chip_state D.state self.old) (chip_state D.state self.new) }
+    {
+        let order = self.order;
+        let absent = Chrn {
+            c: order.key.c,
+            h: 0xFF,
+            r: 0xFF,
+            n: 6,
+        };
+        let track = Track::of(order);
+        self.transfer(mfm, Task::Track { track }, order.reading_one(absent));
+    }
+}

@@ -1,0 +1,32 @@
+-- The controller behind, for a layer in front of the sequencer that keeps the results of seeks itself.
+use Rattle.std.specs.Prelude.{ℕ, Bool, false, Option, None}
+use Rattle.fdc_board.specs.Senses.{pending_result, after_result}
+use Rattle.fdc_core.specs.Whole.{is_idle}
+use Rattle.fdc_core.specs.declared.controller.Fdc.{Fdc}
+use Rattle.fdc_sequencer.specs.Fronts.{Front, with_controller}
+use Rattle.fdc_sequencer.specs.declared.stage.Stage.{Stage}
+use Rattle.fdc_sequencer.specs.declared.stage.Stage.TheVariants.{Through}
+
+-- no command of several sectors is under way, and the controller takes the first byte of a command
+abbrev pub is_ready_at : Stage → Fdc → Bool
+is_ready_at Through fdc = is_idle fdc
+is_ready_at _ fdc = false
+
+abbrev pub is_ready : Front → Bool
+is_ready front = is_ready_at front.stage front.board.controller
+
+-- the result that SENSE INTERRUPT would give
+abbrev pub pending_at : Stage → Fdc → Option (ℕ × ℕ)
+pending_at Through fdc = pending_result fdc
+pending_at _ fdc = None
+
+abbrev pub pending_outside : Front → Option (ℕ × ℕ)
+pending_outside front = pending_at front.stage front.board.controller
+
+-- once it was taken
+abbrev pub sensed_at : Stage → Front → Front
+sensed_at Through old = record old { board = with_controller (after_result old.board.controller) old.board }
+sensed_at _ old = old
+
+abbrev pub sensed_outside : Front → Front
+sensed_outside old = sensed_at old.stage old
