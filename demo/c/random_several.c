@@ -32,7 +32,7 @@ static Guest several, single;
 static uint8_t flat[FLAT], image[IMAGE], disk[SMALL], one[SMALL], other[SMALL];
 static uint8_t given[MOST + 512], taken[MOST + 512], spare[512];
 static uint8_t is_deleted[CYLINDERS][2][19];
-static unsigned long differences, sectors, passed_over, ends[6];
+static unsigned long differences, sectors, passed_over, damaged, ends[6];
 static uint64_t state;
 
 static unsigned below(unsigned bound) {
@@ -147,17 +147,18 @@ static void reckon(const Command *command_sent, uint8_t *place, Wanted *wanted) 
             ends[0]++;
             return;
         }
-        int failed = (single.result[0] & 0xC0) != 0, has_field = !(single.result[1] & 0x05);
+        int has_bad_check = (single.result[1] & 0x20) != 0, failed = (single.result[0] & 0xC0) != 0 && !(over && has_bad_check);
         if (!over) wanted->passed += single.passed;
         if (failed) {
             ends[1]++;
-            tell(wanted, &at, &at, 0x40, single.result[1], single.result[2] | (met || (over && has_field) ? 0x40 : 0));
+            tell(wanted, &at, &at, 0x40, single.result[1], single.result[2] | (met ? 0x40 : 0));
             return;
         }
         sectors++;
         passed_over += over;
+        damaged += has_bad_check;
         met |= wrong;
-        if (!is_write(&at)) need(((single.result[2] & 0x40) != 0) == mark_at(&at), "the mark is the one that was written");
+        if (!is_write(&at) && !has_bad_check) need(((single.result[2] & 0x40) != 0) == mark_at(&at), "the mark is the one that was written");
         behind = at;
         go_on(&behind);
         if ((!over && wanted->passed == at.count) || (wrong && !skips)) {
@@ -253,8 +254,8 @@ int main(int count, char **words) {
         try_one(i);
         if (i % 50 == 49 || i == commands - 1) compare_images(i);
     }
-    printf("%lu commands of %lu sectors, %lu of which were passed over: %lu ended with the count, %lu at the other mark, %lu with EN, %lu failed, %lu invalid\n", commands,
-        sectors, passed_over, ends[2], ends[3], ends[4], ends[1], ends[0]);
+    printf("%lu commands of %lu sectors, %lu of which were passed over, %lu with a bad check: %lu ended with the count, %lu at the other mark, %lu with EN, %lu failed, %lu invalid\n",
+        commands, sectors, passed_over, damaged, ends[2], ends[3], ends[4], ends[1], ends[0]);
     printf("%lu differences\n", differences);
     MUST(telwyddus_controller_free(&several.controller));
     MUST(telwyddus_controller_free(&single.controller));

@@ -96,6 +96,14 @@ static const Case marks[] = {
     {"READ DELETED with MT", {READ_DELETED | MT, 0, 10, 0, 17, 2, 18, GAP}, 4 * 512, 4 * 512, {0x04, 0, 0, 10, 1, 3, 2}},
 };
 
+/* Where the deleted sector's data are damaged. */
+static const Case bad_checks[] = {
+    {"SK 1, its check is bad: it is passed over all the same", {READ | SK, 0, 9, 0, 3, 2, 18, GAP}, 5 * 512, 5 * 512, {0x00, 0, 0x40, 9, 0, 9, 2}},
+    {"and where it is the last", {READ | SK, 0, 9, 0, 5, 2, 5, GAP}, 512, 0, {0x40, 0x80, 0x40, 9, 0, 5, 2}},
+    {"SK 0, its check is bad: DE", {READ, 0, 9, 0, 3, 2, 18, GAP}, 6 * 512, 3 * 512, {0x40, 0x20, 0x20, 9, 0, 5, 2}},
+    {"READ DELETED of it, SK 1: DE", {READ_DELETED | SK, 0, 9, 0, 5, 2, 18, GAP}, 512, 512, {0x40, 0x20, 0x20, 9, 0, 5, 2}},
+};
+
 static int is_all(const uint8_t *bytes, size_t count, uint8_t value) {
     for (size_t i = 0; i < count; i++)
         if (bytes[i] != value) return 0;
@@ -124,6 +132,16 @@ static void writes(void) {
     try_one(&beyond);
 }
 
+/* Another disk is put in, which is the same but for a cell of the data of sector 5 on cylinder 9, head 0. */
+static void damage(void) {
+    telwyddus_tray tray = {0};
+    image_of(&guest, image, IMAGE);
+    image[14 + 9 * 2 * 25000 + (146 + 682 * 4 + 44 + 16 + 300) * 2 + 1] ^= 0x01;
+    MUST(telwyddus_controller_eject(&guest.controller, 0, &tray));
+    MUST(telwyddus_tray_free(&tray));
+    insert(&guest, image, IMAGE);
+}
+
 static void deleted(void) {
     static const Case one = {"WRITE DELETED", {WRITE_DELETED, 0, 9, 0, 5, 2, 18, GAP}, 512, 512, {0x00, 0, 0, 9, 0, 6, 2}};
     static const Case four = {"WRITE DELETED with MT", {WRITE_DELETED | MT, 0, 10, 0, 17, 2, 18, GAP}, 4 * 512, 4 * 512, {0x04, 0, 0, 10, 1, 3, 2}};
@@ -133,6 +151,11 @@ static void deleted(void) {
     TRY(marks);
     try_one(&marks[1]);
     check(is_sector(buffer, 9, 0, 3) && is_sector(buffer + 512, 9, 0, 4) && is_sector(buffer + 1024, 9, 0, 6) && is_sector(buffer + 2048, 9, 0, 8), "without the bytes of the one that is passed over");
+    damage();
+    TRY(bad_checks);
+    memset(buffer, 0x5D, 512);
+    try_one(&one);
+    try_one(&marks[4]);
 }
 
 /* ---- refusals, seeks, resets, media */

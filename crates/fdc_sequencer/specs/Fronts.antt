@@ -137,7 +137,7 @@ told_if false old = old
 -- a sector of which no byte has passed
 abbrev pub moving_of : Transfer → Bool → Bool → MovingSector
 moving_of transfer counted passed_over =
-    record { transfer = transfer; left = size_of transfer.key.n; counted = counted; passed_over = passed_over }
+    record { transfer = transfer; left = size_of transfer.key.n; counted = counted; passed_over = passed_over; skipped = false }
 
 -- the controller executes its own command for the sector, or the host reads what it answers in place of that
 abbrev pub begun_if : Bool → Transfer → Bool → Bool → BoardState → Front → Front

@@ -2,12 +2,12 @@
 use Rattle.std.specs.Prelude.{◌≡◌, ◌≤◌, ℕ, zero, suc, Bool, true, false, not, ◌==◌, ◌&&◌, ◌||◌, Option, Some, None, if◌then◌else◌}
 use Rattle.fdc_seek.specs.Seeking.{has_ended_seek}
 use Rattle.fdc_stages.specs.declared.ending.Ending.{Ending}
-use Rattle.fdc_stages.specs.declared.ending.Ending.TheVariants.{Done, NoCount}
+use Rattle.fdc_stages.specs.declared.ending.Ending.TheVariants.{Done, BadCheck, NoCount}
 use Rattle.fdc_commands.specs.declared.results.Results.{Results}
 use Rattle.fdc_core.specs.Whole.{ending_told, given_up, mark_of, without_seek}
 use Rattle.fdc_board.specs.Boards.{BoardState, StepsBoard}
 use Rattle.fdc_sequencer.specs.Fronts.{Front, with_controller, told_if, BeginsSector, interrupts_outside, asks_outside}
-use Rattle.fdc_sequencer.specs.Transfers.{next_of, is_last, is_other, is_skipping, results_told, size_of}
+use Rattle.fdc_sequencer.specs.Transfers.{next_of, is_last, is_other, other_mark, is_skipping, results_told, size_of}
 use Rattle.fdc_sequencer.specs.declared.stage.Moving.{Moving as MovingSector}
 use Rattle.fdc_sequencer.specs.declared.stage.Stage.{Stage}
 use Rattle.fdc_sequencer.specs.declared.stage.Stage.TheVariants.{Seeking, Moving, Telling}
@@ -43,7 +43,17 @@ abbrev pub EndsIf : Bool → MovingSector → Bool → Front → Front → Type 
 EndsIf true moving deleted old new = BeginsSector (next_of moving.transfer) false (has_met_other moving deleted) old new
 EndsIf false moving deleted old new = new ≡ record old { stage = Telling (results_behind moving deleted) 0 }
 
--- the controller's own command for a sector ended so
+-- the ending of the controller's own command as the command judges it: a field that is passed over has the mark that isn't wanted,
+-- and its check doesn't count
+abbrev pub judged : MovingSector → Ending → Ending
+judged moving BadCheck = if moving.skipped then Done (other_mark moving.transfer.opcode.operation) else BadCheck
+judged moving ending = ending
+
+abbrev pub judged_if : MovingSector → Option Ending → Option Ending
+judged_if moving None = None
+judged_if moving (Some ending) = Some (judged moving ending)
+
+-- the controller's own command for a sector ended so, as it is judged
 abbrev pub EndsSector : MovingSector → Ending → Front → Front → Type 0
 EndsSector moving (Done deleted) old new = EndsIf (goes_on moving deleted) moving deleted old new
 EndsSector moving ending old new = new ≡ record old { stage = Telling (results_failed moving ending) 0 }
@@ -59,10 +69,10 @@ is_unwanted moving (Some deleted) = let operation = moving.transfer.opcode.opera
 -- the field is passed over: the controller is told the count, and no byte of it passes
 abbrev pub passed_over_if : Bool → MovingSector → Front → Front
 passed_over_if true moving old =
-    record old { board = told_if true old.board; stage = Moving (record moving { left = 0; passed_over = true }) }
+    record old { board = told_if true old.board; stage = Moving (record moving { left = 0; passed_over = true; skipped = true }) }
 passed_over_if false moving old = old
 
--- what the front does behind the controller's step, while a sector is moved
+-- what the front does behind the controller's step, while a sector is moved: its command ended so, as it is judged, or it goes on
 abbrev pub MovesOn : Option Ending → MovingSector → Front → Front → Type 0
 MovesOn (Some ending) moving old new =
     EndsSector moving ending (record old { board = with_controller (given_up old.board.controller) old.board }) new
@@ -76,7 +86,7 @@ SeeksOn false transfer counted old new = new ≡ old
 
 abbrev pub FollowsStep : Stage → Front → Front → Type 0
 FollowsStep (Seeking transfer counted) old new = SeeksOn (has_ended_seek old.board.controller.seeks) transfer counted old new
-FollowsStep (Moving moving) old new = MovesOn (ending_told old.board.controller) moving old new
+FollowsStep (Moving moving) old new = MovesOn (judged_if moving (ending_told old.board.controller)) moving old new
 FollowsStep _ old new = new ≡ old
 
 -- one device step: the board's, and what the front does behind it

@@ -31,7 +31,7 @@ spelled_transfer transfer rest =
 unfoldable pub spelled_moving : Moving → List ℕ → List ℕ
 spelled_moving moving rest =
     spelled_transfer moving.transfer (spelled_word moving.left (spelled_flag moving.counted
-    (spelled_flag moving.passed_over rest)))
+    (spelled_flag moving.passed_over (spelled_flag moving.skipped rest))))
 
 -- what is done in front of the controller
 unfoldable pub spelled_stage : Stage → List ℕ → List ℕ

@@ -91,6 +91,11 @@ is_other (Read true _) deleted = not deleted
 is_other (Read false _) deleted = deleted
 is_other (Write _) deleted = false
 
+-- the mark of the fields that aren't wanted
+abbrev pub other_mark : Operation → Bool
+other_mark (Read deleted _) = not deleted
+other_mark (Write deleted) = not deleted
+
 -- fields of the other mark are passed over
 abbrev pub is_skipping : Operation → Bool
 is_skipping (Read _ skip) = skip

@@ -5,7 +5,7 @@ ghost use Rattle.fdc_core.specs.Whole.{ending_told};
 ghost use Rattle.fdc_seek.specs.Seeking.{has_ended_seek};
 ghost use Rattle.fdc_core.specs.Listening.{is_executing};
 ghost use Rattle.fdc_sequencer.specs.Fronts.{front_state, board_of, told_if, begun_if, BeginsSector, moving_of};
-ghost use Rattle.fdc_sequencer.specs.Moves.{StepsFront, FollowsStep, MovesOn, EndsSector, SeeksOn, passed_over_if, would_go_on, goes_on, is_unwanted, results_behind, results_failed, has_met_other};
+ghost use Rattle.fdc_sequencer.specs.Moves.{StepsFront, FollowsStep, MovesOn, EndsSector, SeeksOn, passed_over_if, would_go_on, goes_on, is_unwanted, judged, judged_if, results_behind, results_failed, has_met_other};
 
 use crate::sequencer::Sequencer;
 use crate::stage::{Moving, Stage};
@@ -45,10 +45,10 @@ impl<D: Inspect> Sequencer<D> {
 
     /// The next sector or the results, where this one ended; else a field whose mark isn't wanted may have been met.
     fn follow_sector(&mut self, moving: Moving)
-        ensures { MovesOn (ending_told (controller_of (board_of self.old))) moving (front_state D.state self.old) (front_state D.state self.new) }
+        ensures { MovesOn (judged_if moving (ending_told (controller_of (board_of self.old)))) moving (front_state D.state self.old) (front_state D.state self.new) }
     {
         match self.board.take_ending() {
-            Some(ending) => self.end_sector(moving, ending),
+            Some(ending) => self.end_sector(moving, moving.judged(ending)),
             None => {
                 if moving.is_unwanted(self.board.mark()) {
                     self.pass_over(moving);
@@ -57,7 +57,7 @@ impl<D: Inspect> Sequencer<D> {
         }
     }
 
-    /// No byte of the field passes.
+    /// No byte of the field passes, and its check doesn't count.
     fn pass_over(&mut self, moving: Moving)
         ensures { front_state D.state self.new ≡ passed_over_if true moving (front_state D.state self.old) }
     {
@@ -66,12 +66,13 @@ impl<D: Inspect> Sequencer<D> {
             moving: Moving {
                 left: 0,
                 passed_over: true,
+                skipped: true,
                 ..moving
             },
         };
     }
 
-    /// The controller's own command for the sector ended so.
+    /// The controller's own command for the sector ended so, as it is judged.
     fn end_sector(&mut self, moving: Moving, ending: Ending)
         ensures { EndsSector moving ending (front_state D.state self.old) (front_state D.state self.new) }
     {
@@ -137,6 +138,7 @@ impl Moving {
             left: transfer.size(),
             counted,
             passed_over,
+            skipped: false,
         }
     }
 
@@ -151,6 +153,18 @@ impl Moving {
                     && self.transfer.is_other(deleted)
                     && self.left == self.transfer.size()
             }
+        }
+    }
+
+    /// The ending of the controller's own command as it is judged: a field that is passed over is done, whatever its check.
+    fn judged(self, ending: Ending) -> Ending
+        ensures { result ≡ judged self ending }
+    {
+        match ending {
+            Ending::BadCheck if self.skipped => Ending::Done {
+                deleted: self.transfer.other_mark(),
+            },
+            _ => ending,
         }
     }
 

@@ -6,7 +6,7 @@ ghost use Rattle.fdc_sequencer.specs.Opcodes.{operation_of, opcode_of, plain_cod
 #[derive(Clone, Copy, PartialEq, Eq, Debug)]
 pub enum Operation {
     /// READ DATA, and READ DELETED DATA where `deleted` marks are wanted. With `skip` (SK) a field of the other mark is
-    /// passed over.
+    /// passed over, whatever its check.
     Read { deleted: bool, skip: bool },
     /// WRITE DATA, and WRITE DELETED DATA.
     Write { deleted: bool },

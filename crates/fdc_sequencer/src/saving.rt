@@ -127,6 +127,7 @@ impl Saved for Moving {
         self.left.save(to);
         self.counted.save(to);
         self.passed_over.save(to);
+        self.skipped.save(to);
     }
 
     #[tactic(auto, unfolding(crate::specs::Saving::spelled_moving))]
@@ -135,11 +136,13 @@ impl Saved for Moving {
         let left = u16::load(from);
         let counted = bool::load(from);
         let passed_over = bool::load(from);
+        let skipped = bool::load(from);
         Moving {
             transfer,
             left,
             counted,
             passed_over,
+            skipped,
         }
     }
 }

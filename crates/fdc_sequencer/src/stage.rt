@@ -12,8 +12,10 @@ pub struct Moving {
     pub left: u16,
     /// The terminal count came.
     pub counted: bool,
-    /// A field of the mark that isn't wanted was passed over before.
+    /// A field of the mark that isn't wanted was passed over, here or before.
     pub passed_over: bool,
+    /// The field of this sector is passed over.
+    pub skipped: bool,
 }
 
 /// What is done in front of the controller.

@@ -1,6 +1,6 @@
 // A command of several sectors, as it stands at one of them.
 ghost use Rattle.std.specs.Prelude.{◌≡◌};
-ghost use Rattle.fdc_sequencer.specs.Transfers.{transfer_of, command_of, next_of, is_last, is_other, is_skipping, results_told, size_of};
+ghost use Rattle.fdc_sequencer.specs.Transfers.{transfer_of, command_of, next_of, is_last, is_other, other_mark, is_skipping, results_told, size_of};
 
 use crate::opcode::{Opcode, Operation};
 use fdc_commands::{Command, Results};
@@ -159,6 +159,15 @@ impl Transfer {
                 ..
             } => wanted != deleted,
             Operation::Write { .. } => false,
+        }
+    }
+
+    /// The mark of the fields that aren't wanted.
+    pub(crate) fn other_mark(self) -> bool
+        ensures { result ≡ other_mark self.opcode.operation }
+    {
+        match self.opcode.operation {
+            Operation::Read { deleted, .. } | Operation::Write { deleted } => !deleted,
         }
     }
 

@@ -1,6 +1,6 @@
 -- From sector to sector: the sectors that are over, and the bytes that passed.
 use Rattle.std.proofs.Common.{◌≡◌, inl, inr, ℕ, zero, suc, ◌+◌, ◌-◌, ◌<◌, nat_lt, Bool, true, false, not, ◌||◌, ◌==◌, if◌then◌else◌, Option, Some, None, List, [], ◌∷◌, ◌++◌, length, replicate, refl, sym, ◌∙◌, ap, subst, arith, append_assoc, append-nil, length-append}
-use Rattle.std.proofs.lemmas.Bool.{and_parts, eqb-false, eqb-true, false≢true, ltb-true, ne_eqb, not-true}
+use Rattle.std.proofs.lemmas.Bool.{and_parts, eq-eqb, eqb-false, eqb-true, false≢true, ltb-true, ne_eqb, not-true}
 use Rattle.std.proofs.lemmas.List.{flat_map_more, length-replicate, nil_from_length}
 use Rattle.std.proofs.lemmas.List.Folds.{list_any-append}
 use Rattle.track_model.specs.Fields.{IsSizeCode, content_size}
@@ -10,13 +10,13 @@ use Rattle.fdc_stages.specs.Writings.{WritesWhole}
 use Rattle.fdc_phases.specs.Heard.{Sent, told_in}
 use Rattle.fdc_phases.specs.Written.{IsContent}
 use Rattle.fdc_sequencer.specs.Moves.{goes_on, has_met_other, would_go_on}
-use Rattle.sequencer_laws.specs.Serving.{Accounts, AreAll, AreLeft, AreMoved, History, IsMoved, IsOfOther, IsWholeField, Means, Part, all_bytes, bytes_moved, bytes_of_parts, has_other, sector_after, sent_of}
+use Rattle.sequencer_laws.specs.Serving.{Accounts, AreLeft, AreMoved, History, IsFieldDone, IsMoved, IsMovedWhole, IsOfOther, IsPassedOver, IsWholeField, Means, Part, all_bytes, bytes_moved, bytes_of_parts, has_other, sector_after, sent_of}
 use Rattle.fdc_sequencer.specs.Transfers.{is_last, is_other, is_skipping, next_cylinder, next_of, next_record, other_head, size_of}
 use Rattle.fdc_sequencer.specs.declared.opcode.Operation.{Operation}
 use Rattle.fdc_sequencer.specs.declared.opcode.Operation.TheVariants.{Read, Write}
 use Rattle.fdc_sequencer.specs.declared.stage.Moving.{Moving as MovingSector}
 use Rattle.fdc_sequencer.specs.declared.transfer.Transfer.{Transfer}
-use Rattle.sequencer_laws.proofs.Known.{MarkGoes}
+use Rattle.sequencer_laws.proofs.Known.{MarkGoes, either_way}
 use Rattle.sequencer_laws.proofs.Started.{size_is, size_some}
 
 -- ---- the sectors
@@ -99,7 +99,7 @@ same_accounts operation met moving past now mark bytes counted was = record {
 left_unmarked : (operation : Operation) (met : Bool) (moving : MovingSector) (mark then_mark : Option Bool) (bytes : List ℕ) → (IsOfOther operation mark → ⊥) → AreLeft operation met moving mark bytes
     → AreLeft operation met moving then_mark bytes
 left_unmarked operation met moving mark then_mark bytes none (inl all) = inl all
-left_unmarked operation met moving mark then_mark bytes none (inr (passed, skips, other, over, empty)) = absurd (none other)
+left_unmarked operation met moving mark then_mark bytes none (inr (skipped, passed, skips, other, over, empty)) = absurd (none other)
 
 -- behind a device step
 pub accounts_on : (operation : Operation) (met : Bool) (moving : MovingSector) (past now : Past) (mark then_mark : Option Bool) → MarkGoes operation (bytes_moved operation past) mark then_mark
@@ -128,9 +128,9 @@ some_left left some = ltb-true 0 left some
 
 pub one_passed : (operation : Operation) (met : Bool) (moving : MovingSector) (mark : Option Bool) (bytes : List ℕ) (byte : ℕ) → nat_lt 0 moving.left ≡ true → AreLeft operation met moving mark bytes
     → AreLeft operation met (record moving { left = moving.left - 1 }) mark (bytes ++ byte ∷ [])
-one_passed operation met moving mark bytes byte some (inl (passed, all)) =
-    let more = length-append bytes (byte ∷ []) in let left = some_left moving.left some in inl (passed, omega arith)
-one_passed operation met moving mark bytes byte some (inr (passed, skips, other, none, empty)) = let left = some_left moving.left some in absurd (omega arith)
+one_passed operation met moving mark bytes byte some (inl (own, passed, all)) =
+    let more = length-append bytes (byte ∷ []) in let left = some_left moving.left some in inl (own, passed, omega arith)
+one_passed operation met moving mark bytes byte some (inr (skipped, passed, skips, other, none, empty)) = let left = some_left moving.left some in absurd (omega arith)
 
 pub not_over : {A : Type 0} (left : ℕ) → nat_lt 0 left ≡ true → left ≡ 0 → A
 not_over left some none = let more = some_left left some in absurd (omega arith)
@@ -147,7 +147,7 @@ pub over_told : (counted : Bool) → true ≡ (counted || true)
 over_told true = refl
 over_told false = refl
 
-no_bytes : (n : ℕ) → IsSizeCode n → content_size n ≡ 0 → ⊥
+pub no_bytes : (n : ℕ) → IsSizeCode n → content_size n ≡ 0 → ⊥
 no_bytes n sized none = eqb-false (size_of n) 0 (size_some n sized) (size_is n sized ∙ none)
 
 -- ---- a sector that is over
@@ -179,12 +179,11 @@ done_written deleted past sent marked missing means sizes =
     let long = means.cause.2.1.size in
     subst (WritesWhole past sent.key deleted) (handed_is past.counted past.taken means.handed missing means.content (sizes ∙ sym long)) means.whole
 
-whole_field : (operation : Operation) (past : Past) (sent : Sent) (marked : Bool) → Means operation past sent (Done marked) → AreAll operation sent.key.n marked (bytes_moved operation past)
+whole_field : (operation : Operation) (past : Past) (sent : Sent) (marked : Bool) → Means operation past sent (Done marked) → length (bytes_moved operation past) ≡ content_size sent.key.n
     → IsWholeField operation past sent.key marked
 whole_field (Read wanted skip) past sent marked means all = means
-whole_field (Write deleted) past sent marked means (inl (wanted, all)) =
+whole_field (Write deleted) past sent marked means all =
     subst (WritesWhole past sent.key deleted) (append-nil past.taken) (done_written deleted past sent marked 0 means (let size = all in omega arith))
-whole_field (Write deleted) past sent marked means (inr (skips, other, none)) = absurd (false≢true skips)
 
 -- a command would go on where the terminal count didn't come, and behind a field of the other mark only where it passes such over
 would_as : (moving : MovingSector) (marked : Bool) → would_go_on moving marked ≡ true
@@ -204,30 +203,73 @@ skips_other : (a b : Bool) → (not a || b) ≡ true → a ≡ true → b ≡ tr
 skips_other true b is other = is
 skips_other false b is other = absurd (false≢true other)
 
--- all its bytes passed, or none
-all_passed : (operation : Operation) (met : Bool) (moving : MovingSector) (past : Past) (mark : Option Bool) (marked : Bool) → (is_other operation marked ≡ true → is_skipping operation ≡ true)
-    → moving.left ≡ 0 → mark ≡ Some marked → Accounts operation met moving past mark → AreAll operation moving.transfer.key.n marked (bytes_moved operation past)
-all_passed operation met moving past mark marked skips over is accounts = by_left (is_other operation marked) refl accounts.bytes
-  where
-    by_left : (b : Bool) → is_other operation marked ≡ b → AreLeft operation met moving mark (bytes_moved operation past) → AreAll operation moving.transfer.key.n marked (bytes_moved operation past)
-    by_left b mark_is (inr (passed, skipping, (other, here, unwanted), none, empty)) =
-        let same : other ≡ marked = cc (here, is) in inr (skipping, ap (is_other operation) (sym same) ∙ unwanted, empty)
-    by_left false mark_is (inl (passed, all)) = inl (mark_is, omega arith)
-    by_left true mark_is (inl (passed, all)) =
-        let empty = ap length (accounts.clean (skips mark_is) (marked, is, mark_is)) in
-        absurd (no_bytes moving.transfer.key.n accounts.sized (omega arith))
+or_true : (c : Bool) → (c || true) ≡ true
+or_true true = refl
+or_true false = refl
 
--- where the command would go on the whole sector was moved
+-- where no byte is left the controller was told the count
+pub over_counted : (operation : Operation) (met : Bool) (moving : MovingSector) (past : Past) (mark : Option Bool) → Accounts operation met moving past mark → moving.left ≡ 0 → past.counted ≡ true
+over_counted operation met moving past mark accounts none =
+    accounts.told ∙ (ap (λ b. moving.counted || b) (eq-eqb moving.left 0 none) ∙ or_true moving.counted)
+
+-- where the terminal count didn't come, no byte is left of a field that is done
+pub nothing_left : (operation : Operation) (met : Bool) (moving : MovingSector) (past : Past) (mark : Option Bool) (marked : Bool) → moving.counted ≡ false → Accounts operation met moving past mark
+    → IsFieldDone moving.skipped operation past (sent_of moving.transfer) marked → moving.left ≡ 0
+nothing_left operation met moving past mark marked uncounted accounts done = by_left accounts.bytes
+  where
+    by_left : AreLeft operation met moving mark (bytes_moved operation past) → moving.left ≡ 0
+    by_left (inl (own, passed, all)) =
+        let at = sent_of moving.transfer in
+        let means : Means operation past at (Done marked) = subst (λ b. IsFieldDone b operation past at marked) own done in
+        eqb-true moving.left 0 (sym (ap (λ b. b || (moving.left == 0)) uncounted) ∙ (sym accounts.told ∙ done_counted operation past at marked means))
+    by_left (inr (skipped, passed, skips, other, none, empty)) = none
+
+-- all its bytes passed
+whole_moved : (operation : Operation) (met : Bool) (moving : MovingSector) (past : Past) (mark : Option Bool) (marked : Bool) → (is_other operation marked ≡ true → is_skipping operation ≡ true)
+    → moving.left ≡ 0 → mark ≡ Some marked → Accounts operation met moving past mark → length (bytes_moved operation past) + moving.left ≡ content_size moving.transfer.key.n
+    → Means operation past (sent_of moving.transfer) (Done marked) → IsMovedWhole operation (record { at = moving.transfer; past = past; marked = marked })
+whole_moved operation met moving past mark marked skips over is accounts sizes means =
+    let size : length (bytes_moved operation past) ≡ content_size moving.transfer.key.n = omega arith in
+    record {
+      field = whole_field operation past (sent_of moving.transfer) marked means size;
+      wanted = either_way (is_other operation marked)
+          (λ other. let empty = ap length (accounts.clean (skips other) (marked, is, other)) in absurd (no_bytes moving.transfer.key.n accounts.sized (omega arith)))
+          (λ wanted. wanted);
+      all = size;
+    }
+
+-- or none
+pub skipped_over : (operation : Operation) (met : Bool) (moving : MovingSector) (past : Past) (mark : Option Bool) (marked : Bool) → mark ≡ Some marked → Accounts operation met moving past mark
+    → IsFieldDone moving.skipped operation past (sent_of moving.transfer) marked → moving.skipped ≡ true → is_skipping operation ≡ true → IsOfOther operation mark → moving.left ≡ 0
+    → bytes_moved operation past ≡ [] → IsPassedOver operation past moving.transfer.key marked
+skipped_over operation met moving past mark marked is accounts done skipped skips (met_mark, here, unwanted) none empty =
+    let same : met_mark ≡ marked = cc (here, is) in
+    record {
+      skips = skips;
+      other = ap (is_other operation) (sym same) ∙ unwanted;
+      found = subst (λ b. IsFieldDone b operation past (sent_of moving.transfer) marked) skipped done;
+      counted = over_counted operation met moving past mark accounts none;
+      none = empty;
+    }
+
+-- where the command would go on the whole sector was moved, or passed over
 pub part_moved : (operation : Operation) (met : Bool) (moving : MovingSector) (past : Past) (mark : Option Bool) (marked : Bool) → moving.transfer.opcode.operation ≡ operation → would_go_on moving marked ≡ true
-    → mark ≡ Some marked → Accounts operation met moving past mark → Means operation past (sent_of moving.transfer) (Done marked)
+    → mark ≡ Some marked → Accounts operation met moving past mark → IsFieldDone moving.skipped operation past (sent_of moving.transfer) marked
     → IsMoved operation (record { at = moving.transfer; past = past; marked = marked })
-part_moved operation met moving past mark marked same would is accounts means =
-    let at = sent_of moving.transfer in
-    let (uncounted, wanted) = would_as moving marked would in
-    let over : moving.left ≡ 0 = eqb-true moving.left 0 (sym (ap (λ b. b || (moving.left == 0)) uncounted) ∙ (sym accounts.told ∙ done_counted operation past at marked means)) in
-    let skips = skips_other (is_other operation marked) (is_skipping operation) (subst (λ o. (not (is_other o marked) || is_skipping o) ≡ true) same wanted) in
-    let all = all_passed operation met moving past mark marked skips over is accounts in
-    record { field = whole_field operation past at marked means all; all = all }
+part_moved operation met moving past mark marked same would is accounts done = by_left accounts.bytes
+  where
+    by_left : AreLeft operation met moving mark (bytes_moved operation past) → IsMoved operation (record { at = moving.transfer; past = past; marked = marked })
+    by_left (inl (own, passed, all)) =
+        let (uncounted, wanted) = would_as moving marked would in
+        let over = nothing_left operation met moving past mark marked uncounted accounts done in
+        let skips = skips_other (is_other operation marked) (is_skipping operation) (subst (λ o. (not (is_other o marked) || is_skipping o) ≡ true) same wanted) in
+        inl (whole_moved operation met moving past mark marked skips over is accounts all (subst (λ b. IsFieldDone b operation past (sent_of moving.transfer) marked) own done))
+    by_left (inr (skipped, passed, skips, other, none, empty)) = inr (skipped_over operation met moving past mark marked is accounts done skipped skips other none empty)
+
+-- a write moved each sector whole
+pub written_whole : (deleted : Bool) (part : Part) → IsMoved (Write deleted) part → IsMovedWhole (Write deleted) part
+written_whole deleted part (inl whole) = whole
+written_whole deleted part (inr over) = absurd (false≢true over.skips)
 
 -- whether a field of the other mark was met, once the sector is over
 pub met_then : (operation : Operation) (met : Bool) (moving : MovingSector) (past : Past) (mark : Option Bool) (marked : Bool) → moving.transfer.opcode.operation ≡ operation → mark ≡ Some marked
@@ -242,7 +284,7 @@ met_then operation met moving past mark marked same is accounts =
     true_both false b c first second = absurd (false≢true first)
 
     by_left : AreLeft operation met moving mark (bytes_moved operation past) → (moving.passed_over || is_other operation marked) ≡ (met || is_other operation marked)
-    by_left (inl (passed, all)) = ap (λ b. b || is_other operation marked) passed
-    by_left (inr (passed, skips, (other, here, unwanted), none, empty)) =
+    by_left (inl (own, passed, all)) = ap (λ b. b || is_other operation marked) passed
+    by_left (inr (skipped, passed, skips, (other, here, unwanted), none, empty)) =
         let these : other ≡ marked = cc (here, is) in
         true_both moving.passed_over met (is_other operation marked) passed (ap (is_other operation) (sym these) ∙ unwanted)

@@ -20,7 +20,7 @@ use Rattle.fdc_board.specs.Boards.{BoardState, StepsBoard, WritesBoard, lines_at
 use Rattle.sequencer_laws.specs.Calls as call
 use Rattle.sequencer_laws.specs.Calls.{Call, Does, Waits, WaitsAt}
 use Rattle.fdc_sequencer.specs.Fronts.{BeginsSector, CollectsAs, Front, GivesAt, PassesAs, Starts, StartsIf, TakesAt, TakesByte, WritesFront, begins_with, begun_if, byte_given, count_told, reset_if}
-use Rattle.fdc_sequencer.specs.Moves.{EndsIf, EndsSector, FollowsStep, MovesOn, SeeksOn, goes_on, is_unwanted, passed_over_if}
+use Rattle.fdc_sequencer.specs.Moves.{EndsIf, EndsSector, FollowsStep, MovesOn, SeeksOn, goes_on, is_unwanted, judged_if, passed_over_if}
 use Rattle.fdc_sequencer.specs.Opcodes.{opcode_of}
 use Rattle.fdc_sequencer.specs.Transfers.{transfer_of}
 use Rattle.fdc_sequencer.specs.declared.opcode.Opcode.{Opcode}
@@ -129,7 +129,7 @@ step_waits Through old between new stage_is waits steps is = at_stage Through ne
 step_waits (Collecting opcode) old between new stage_is waits steps is =
     at_stage (Collecting opcode) new (ap (λ front. front.stage) is ∙ stage_is) (ap (λ front. is_idle front.board.controller) is ∙ board_idle old.board between steps waits)
 step_waits (Seeking at counted) old between new stage_is waits steps follows = seeks_waits (has_ended_seek between.controller.seeks) at counted (record old { board = between }) new stage_is follows
-step_waits (Moving moving) old between new stage_is waits steps follows = moves_waits (ending_told between.controller) moving (record old { board = between }) new stage_is follows
+step_waits (Moving moving) old between new stage_is waits steps follows = moves_waits (judged_if moving (ending_told between.controller)) moving (record old { board = between }) new stage_is follows
 step_waits (Telling results read) old between new stage_is waits steps is = at_stage (Telling results read) new (ap (λ front. front.stage) is ∙ stage_is) tt
 
 -- ---- the channel

@@ -3,6 +3,7 @@
 use Rattle.std.proofs.Common.{◌≡◌, ◌⊎◌, inl, inr, ℕ, zero, suc, ◌+◌, ◌≤◌, Bool, true, false, not, ◌&&◌, ◌==◌, if◌then◌else◌, Option, List, [], ◌∷◌, ◌++◌, refl, sym, ◌∙◌, ap, subst, arith}
 use Rattle.std.proofs.lemmas.Bool.{false≢true, and_parts, eqb-true}
 use Rattle.drive_model.specs.Drive.{DriveState, at_index}
+use Rattle.flop_base.specs.declared.key.Chrn.{Chrn}
 use Rattle.fdc_fifo.specs.Fifo.{Fifo}
 use Rattle.fdc_seek.specs.Seeking.{with_polls}
 use Rattle.fdc_stages.specs.History.{Past}
@@ -42,7 +43,7 @@ use Rattle.fdc_board.specs.Boards.{BoardState, StepsBoard, selected_at}
 use Rattle.sequencer_laws.specs.Serving.{IsNowhere, IsTimeOf, MayMove, PassesAt, StopsAtEnd, bytes_moved}
 use Rattle.fdc_sequencer.specs.declared.opcode.Operation.{Operation}
 use Rattle.fdc_sequencer.specs.declared.opcode.Operation.TheVariants.{Read, Write}
-use Rattle.sequencer_laws.proofs.Marks.{MarkStays, mark_then, step_stays}
+use Rattle.sequencer_laws.proofs.Marks.{EndsBadly, MarkStays, mark_then, step_bad, step_stays}
 
 pub clash : {A : Type 0} (b : Bool) → b ≡ false → b ≡ true → A
 clash b is other = absurd (false≢true (sym is ∙ other))
@@ -58,6 +59,11 @@ abbrev pub MarkGoes : Operation → List ℕ → Option Bool → Option Bool →
 MarkGoes (Read _ _) bytes was now = MarkStays bytes was now
 MarkGoes (Write _) bytes was now = Unit {0}
 
+-- and where it ends with a bad check, the mark of that field was known
+abbrev pub BadGoes : Operation → Past → Chrn → Option Bool → Fdc → Type 0
+BadGoes (Read _ _) past key was new = EndsBadly past key was new
+BadGoes (Write _) past key was new = Unit {0}
+
 -- behind it the same is known, with the word that passed in it added, of which this is known, and the bytes that moved are the same
 pub record KnownOn (operation : Operation) (past : Past) (sent : Sent) (mark : Option Bool) (Is : WordTime → Type 0) (new : Fdc) : Type 0 where
   pub time : WordTime
@@ -66,6 +72,7 @@ pub record KnownOn (operation : Operation) (past : Past) (sent : Sent) (mark : O
   pub counted : (after_time time past).counted ≡ past.counted
   pub moves : MayMove operation (after_time time past) sent new
   pub marks : MarkGoes operation (bytes_moved operation past) mark (mark_then mark new.phase)
+  pub bad : BadGoes operation (after_time time past) sent.key mark new
 
 known_as : (operation : Operation) (past : Past) (sent : Sent) (mark : Option Bool) (Is Was : WordTime → Type 0) (new : Fdc) → ((time : WordTime) → Was time → Is time)
     → KnownOn operation past sent mark Was new → KnownOn operation past sent mark Is new
@@ -76,6 +83,7 @@ known_as operation past sent mark Is Was new goes known = record {
   counted = known.counted;
   moves = known.moves;
   marks = known.marks;
+  bad = known.bad;
 }
 
 -- the poll changes neither the phase nor the rate
@@ -116,6 +124,7 @@ read_on wanted skip past sent phase polls old new index word Is is busy follows 
   counted = refl;
   moves = subst (λ b. MayMove (Read wanted skip) (after_step b index word past) sent new) busy (follows.reads past sent was);
   marks = step_stays past sent index word polls new phase old busy follows was;
+  bad = step_bad past sent index word polls new phase old busy follows was;
 }
 
 -- a reading sees the word under its head, and lets it pass
@@ -205,6 +214,7 @@ module _ (deleted : Bool) (past : Past) (sent : Sent) (mark : Option Bool) where
     counted = time_counted writes.step.does.time past;
     moves = writes.writes past sent deleted (asks, (handed, was));
     marks = tt;
+    bad = tt;
   }
 
   write_in : (phase : Phase) (asking : Bool) (fifo : Fifo) (polls : Fdc) (before after : DriveState) (new : Fdc) → is_executing phase ≡ true → WritesIn phase asking fifo polls before after new
@@ -224,6 +234,7 @@ module _ (deleted : Bool) (past : Past) (sent : Sent) (mark : Option Bool) where
     counted = time_counted time past;
     moves = writes_on time head_drive steps writing old before new does past sent deleted was;
     marks = tt;
+    bad = tt;
   }
 
   -- with its gate open a write goes on in place
@@ -267,6 +278,7 @@ module _ (deleted : Bool) (past : Past) (sent : Sent) (mark : Option Bool) (befo
       moves = subst (MayWrite (stepped past) sent deleted) (sym (is ∙ ap (λ n. after_next head_drive (steps + 1) writing n old) (hears.3 opened)))
           (waits_open deleted past sent mark head_drive steps writing old was);
       marks = tt;
+      bad = tt;
     }
   ]
 

@@ -27,7 +27,7 @@ use Rattle.fdc_core.specs.declared.controller.Fdc.{Fdc}
 use Rattle.fdc_core.specs.declared.controller.Lines.{Lines}
 use Rattle.fdc_board.specs.Boards.{BoardState, StepsBoard, WritesBoard, lines_at, selected_at}
 use Rattle.fdc_sequencer.specs.Fronts.{BeginsSector, CollectsAs, Front, GivesAt, SeeksFirst, Starts, StartsIf, TakesAt, TakesByte, WritesFront, begun_if, byte_given, count_told, passed_one, reset_if, told_if}
-use Rattle.fdc_sequencer.specs.Moves.{EndsIf, EndsSector, FollowsStep, MovesOn, SeeksOn, goes_on, has_met_other, is_unwanted, passed_over_if, results_behind, results_failed, would_go_on}
+use Rattle.fdc_sequencer.specs.Moves.{EndsIf, EndsSector, FollowsStep, MovesOn, SeeksOn, goes_on, has_met_other, is_unwanted, judged_if, passed_over_if, results_behind, results_failed, would_go_on}
 use Rattle.fdc_sequencer.specs.Transfers.{is_last, next_of}
 use Rattle.fdc_sequencer.specs.declared.opcode.Operation.{Operation}
 use Rattle.fdc_sequencer.specs.declared.opcode.Operation.TheVariants.{Read, Write}
@@ -257,7 +257,7 @@ step_lasts n first history (Telling results read) old between new stage_is now w
 step_lasts n first history (Seeking at counted) old between new stage_is now was steps follows stays = seek_lasts n at counted old between new stage_is was steps follows stays
 step_lasts n first history (Moving moving) old between new stage_is (here, counts, carries) was steps follows stays =
     let (fewer, counted) = step_fewer old.board.controller.phase between.controller.phase carries.busy (board_ends old.board between steps) in
-    moves_last n moving old.board.controller was (ending_told between.controller) (record old { board = between }) new stage_is fewer counted stays follows
+    moves_last n moving old.board.controller was (judged_if moving (ending_told between.controller)) (record old { board = between }) new stage_is fewer counted stays follows
 
 -- ---- the channel
 

@@ -20,6 +20,7 @@ use Rattle.fdc_drives.proofs.Fields.{data_field_on, data_mark_back, data_mark_on
 use Rattle.fdc_drives.proofs.Late.{few_led, length_front, turn_of_led}
 use Rattle.fdc_drives.proofs.LateFields.{address_in}
 use Rattle.fdc_drives.proofs.Shifted.{shifted_bytes_at}
+use Rattle.sequencer_laws.specs.Serving.{FindsField}
 
 -- ---- words behind words 0000
 
@@ -61,6 +62,20 @@ module _ (lead : ℕ) (words : List ℕ) where
   bytes_behind b count inside =
       shifted_bytes_at front words (b + 16 * lead) b (64 + 16 * count) (whole_back front lead words b (64 + 16 * count) whole room (omega arith)) (b + 16 * lead + 64) (b + 64) count
       (omega arith) (omega arith) (omega arith)
+
+  -- so does its data field
+  data_field_behind : (p q n : ℕ) (deleted : Bool) → p ≡ p - 16 * lead + 16 * lead → HasDataField front p n q deleted
+      → (q ≡ q - 16 * lead + 16 * lead) × HasDataField words (p - 16 * lead) n (q - 16 * lead) deleted
+  data_field_behind p q n deleted p_is field =
+      let long : length front ≡ lead + length words = length_front lead words in
+      let after = field.first.mark.after in
+      let cells = field.inside in
+      let a = p - 16 * lead in
+      let b = q - 16 * lead in
+      let q_is : q ≡ b + 16 * lead = omega arith in
+      let moved : HasDataField front (a + 16 * lead) n (b + 16 * lead) deleted =
+      subst (λ k. HasDataField front k n (b + 16 * lead) deleted) p_is (subst (λ k. HasDataField front p n k deleted) q_is field) in
+      (q_is, record { coded = field.coded; first = first_behind a b deleted (omega arith) moved.first; inside = omega arith })
 
   -- an address field that has no data field has none without them
   none_behind : (p : ℕ) (key : Chrn) → IsAddressAt front p key → LookAt front p key.n NoData → IsAddressAt words (p - 16 * lead) key × LookAt words (p - 16 * lead) key.n NoData
@@ -185,23 +200,34 @@ bad_front lead (last ∷ earlier) turn p key address look = (p, address, look)
 bad_front lead [] turn p key address (q, (deleted, field), broken) =
     let words = replicate lead 0 ++ turn in
     let (p_is, here) = address_behind lead turn p key address in
-    let long : length words ≡ lead + length turn = length_front lead turn in
-    let after = field.first.mark.after in
-    let cells = field.inside in
-    let a = p - 16 * lead in
+    let (q_is, moved) = data_field_behind lead turn p q key.n deleted p_is field in
     let b = q - 16 * lead in
-    let q_is : q ≡ b + 16 * lead = omega arith in
-    let moved : HasDataField words (a + 16 * lead) key.n (b + 16 * lead) deleted =
-    subst (λ k. HasDataField words k key.n (b + 16 * lead) deleted) p_is (subst (λ k. HasDataField words p key.n k deleted) q_is field) in
-    let bad : LookAt turn a key.n BadCrc = (
+    let bad : LookAt turn (p - 16 * lead) key.n BadCrc = (
       b,
-      (deleted, record { coded = field.coded; first = first_behind lead turn a b deleted (omega arith) moved.first; inside = omega arith }),
+      (deleted, moved),
       λ intact. broken (subst (λ k. IsIntact words k key.n) (sym q_is) (intact_on words lead turn (whole lead turn) (room lead turn) b key.n intact)),
     ) in
-    (a, here, bad)
+    (p - 16 * lead, here, bad)
 
 pub bad_check_late : (lead : ℕ) (late : Past) (key : Chrn) → FindsBadCheck (led lead late) key → FindsBadCheck late key
 bad_check_late lead late key (words, p, has, look) =
     let is = turn_of_led lead late words has.among in
     let (a, here, bad) = bad_front lead is.earlier is.turn p key (subst (λ w. IsAddressAt w p key) is.words_are has.address) (subst (λ w. LookAt w p key.n BadCrc) is.words_are look) in
     (is.turn, a, record { among = is.among; address = here }, bad)
+
+-- ---- a data field, whole or not
+
+field_front : (lead : ℕ) (earlier : List (List ℕ)) (turn : List ℕ) (p q : ℕ) (key : Chrn) (marked : Bool) → IsAddressAt (turn_led lead earlier turn) p key
+    → HasDataField (turn_led lead earlier turn) p key.n q marked → (a : ℕ) × (b : ℕ) × IsAddressAt turn a key × HasDataField turn a key.n b marked
+field_front lead (last ∷ earlier) turn p q key marked address field = (p, q, address, field)
+field_front lead [] turn p q key marked address field =
+    let (p_is, here) = address_behind lead turn p key address in
+    let (q_is, moved) = data_field_behind lead turn p q key.n marked p_is field in
+    (p - 16 * lead, q - 16 * lead, here, moved)
+
+pub field_late : (lead : ℕ) (late : Past) (key : Chrn) (marked : Bool) → FindsField (led lead late) key marked → FindsField late key marked
+field_late lead late key marked (words, p, q, has) =
+    let is = turn_of_led lead late words has.among in
+    let (a, b, here, moved) =
+    field_front lead is.earlier is.turn p q key marked (subst (λ w. IsAddressAt w p key) is.words_are has.address) (subst (λ w. HasDataField w p key.n q marked) is.words_are has.field) in
+    (is.turn, a, b, record { among = is.among; address = here; field = moved })

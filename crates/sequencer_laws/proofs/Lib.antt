@@ -3,6 +3,7 @@ mod Known
 mod Started
 mod Free
 mod Courses
+mod Judged
 mod Served
 mod Outcome
 mod Called

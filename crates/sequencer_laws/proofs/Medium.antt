@@ -34,14 +34,14 @@ use Rattle.fdc_drives.proofs.Fields.{address_heard, data_mark_heard, field_heard
 use Rattle.fdc_drives.proofs.Late.{led_none}
 use Rattle.fdc_drives.proofs.LateFields.{found_late}
 use Rattle.sequencer_laws.proofs.LateHearing.{IsHearingLed, hearing_first, hearing_led, hearing_led_bytes}
-use Rattle.sequencer_laws.proofs.LateLooks.{bad_check_late, between_late, no_field_late, of_field_late}
+use Rattle.sequencer_laws.proofs.LateLooks.{bad_check_late, between_late, field_late, no_field_late, of_field_late}
 use Rattle.fdc_drives.proofs.Looks.{bad_met, no_field_met}
 use Rattle.fdc_drives.proofs.Shifted.{shifted_bytes_at}
 use Rattle.fdc_core.specs.Meaning.{AreOfField}
 use Rattle.sequencer_laws.specs.Outcomes.{PassesOfSector}
 use Rattle.fdc_drives.proofs.Turns.{between_is, turn_heard}
 use Rattle.fdc_sequencer.specs.Fronts.{Front, GivesAt, TakesAt, TakesByte, WritesFront, begun_if, byte_given, count_told, moving_of, passed_one, reset_if, with_controller}
-use Rattle.fdc_sequencer.specs.Moves.{EndsIf, EndsSector, FollowsStep, MovesOn, SeeksOn, goes_on, has_met_other, is_unwanted, passed_over_if, results_behind, results_failed}
+use Rattle.fdc_sequencer.specs.Moves.{EndsIf, EndsSector, FollowsStep, MovesOn, SeeksOn, goes_on, has_met_other, is_unwanted, judged_if, passed_over_if, results_behind, results_failed}
 use Rattle.fdc_sequencer.specs.Transfers.{next_of}
 use Rattle.fdc_sequencer.specs.declared.opcode.Operation.TheVariants.{Read}
 use Rattle.fdc_sequencer.specs.declared.stage.Moving.{Moving as MovingSector}
@@ -49,8 +49,8 @@ use Rattle.fdc_sequencer.specs.declared.stage.Stage.{Stage}
 use Rattle.fdc_sequencer.specs.declared.stage.Stage.TheVariants.{Through, Collecting, Seeking, Moving, Telling}
 use Rattle.fdc_sequencer.specs.declared.transfer.Transfer.{Transfer}
 use Rattle.sequencer_laws.specs.Calls.{AreWithin, Call, Changes, Counts, Does, Gather, Gives, Grows, Reads, Steps, Straps, Takes, Writes}
-use Rattle.sequencer_laws.specs.Media.{AreOnMedium, BeginsOnTrack, HasOnTrack, IsAt, IsAtWhile, IsClean, IsOnMedium, IsReadFrom, Place, StaysIn, TurnsOn, TurnsOnIn, track_under}
-use Rattle.sequencer_laws.specs.Serving.{AreMoved, History, IsMoved, IsOfSector, IsTimeOf, Part, Passes, PassesAt, Serves, ServesAt, history_counted, history_ended, history_given, history_moved, history_passed, history_sought, history_stepped, history_taken, nothing_moved, sector_after, sent_of}
+use Rattle.sequencer_laws.specs.Media.{AreOnMedium, BeginsOnTrack, HasMarkOnTrack, HasOnTrack, IsAt, IsAtWhile, IsClean, IsOnMedium, IsReadFrom, Place, StaysIn, TurnsOn, TurnsOnIn, track_under}
+use Rattle.sequencer_laws.specs.Serving.{AreMoved, FindsField, History, IsMoved, IsOfSector, IsTimeOf, Part, Passes, PassesAt, Serves, ServesAt, history_counted, history_ended, history_given, history_moved, history_passed, history_sought, history_stepped, history_taken, nothing_moved, sector_after, sent_of}
 use Rattle.sequencer_laws.proofs.Courses.{sector_more, sector_opcode}
 
 -- ---- what was heard is of the track
@@ -74,6 +74,17 @@ found_on_track track from past key given marked heard (counted, (turn, p, q, fou
       found.begins,
       found.content,
     )
+
+-- the mark of a field is, whatever its check
+mark_on_track : (track : List ℕ) (from : ℕ) (past : Past) (key : Chrn) (marked : Bool) → IsHeardFrom track from past.turns past.seen → FindsField past key marked → HasMarkOnTrack track key marked
+mark_on_track track from past key marked heard (turn, p, q, has) =
+    let (start, turned, turned_whole) = turn_heard track from past.turns past.seen turn heard has.among in
+    record {
+      spot = p + 16 * start;
+      mark = q + 16 * start;
+      address_field = address_heard track start turn turned p key has.address;
+      data_mark = data_mark_heard track start turn turned p q marked has.field.first.mark;
+    }
 
 -- what was given of a sector whose words were all heard is of the track
 told_on_track : (track : List ℕ) (from : ℕ) (past : Past) (key : Chrn) (given : List ℕ) → IsHeardFrom track from past.turns past.seen → IsWholeFrom track from past.turns past.seen → AreOfField past key given
@@ -299,7 +310,7 @@ module _ (place : Place) (first : Transfer) (wanted skip : Bool) (reads : first.
     passes_hear : (b : Bool) → new ≡ passed_over_if b moving fronted → Hears place first (record history { past = told_in b now }) new
     passes_hear false is = to_moving (record history { past = now }) moving new (ap (λ front. front.stage) is ∙ stage_is) parts here
         (subst (λ front. IsHearingAt place (here_of first history) now (drive_at front.board place.bay)) (sym is) hearing)
-    passes_hear true is = to_moving (record history { past = told_in true now }) (record moving { left = 0; passed_over = true }) new (ap (λ front. front.stage) is) parts here
+    passes_hear true is = to_moving (record history { past = told_in true now }) (record moving { left = 0; passed_over = true; skipped = true }) new (ap (λ front. front.stage) is) parts here
         (subst (λ front. IsHearingAt place (here_of first history) (told_in true now) (drive_at front.board place.bay)) (sym is)
         (told_hearing place (here_of first history) true now (drive_at between place.bay) hearing))
 
@@ -385,7 +396,7 @@ module _ (place : Place) (first : Transfer) (wanted skip : Bool) (reads : first.
       let there = subst (λ a. IsTime time place.rate (head_of a.head_drive) (drive_at old.board place.bay) (drive_at between place.bay)) here
       (subst (λ rate. IsTime time rate (head_of moving.transfer.head_drive) (drive_at old.board place.bay) (drive_at between place.bay)) at.rate is) in
       let on = time_hears wanted skip place (here_of first history) history.past time (drive_at old.board place.bay) (drive_at between place.bay) at.disk (subst (λ o. IsTimeOf o time) same kind) there hearing in
-      moves_hear history moving old between new (after_time time history.past) parts here on stage_is stays at_then (ending_told between.controller) follows
+      moves_hear history moving old between new (after_time time history.past) parts here on stage_is stays at_then (judged_if moving (ending_told between.controller)) follows
 
   -- ---- the channel
 
@@ -553,6 +564,11 @@ module _ (place : Place) (first : Transfer) (wanted skip : Bool) (reads : first.
       found_on_track (track_under place at) was.from was.late at.key past.given marked was.heard
       (found_late was.lead was.late at.key past.given marked (subst (λ (p : Past). FindsSector p at.key past.given marked) was.past_is found))
 
+  heard_field : (at : Transfer) (past : Past) (marked : Bool) → IsHeardAt place at past → FindsField past at.key marked → HasMarkOnTrack (track_under place at) at.key marked
+  heard_field at past marked was finds =
+      mark_on_track (track_under place at) was.from was.late at.key marked was.heard
+      (field_late was.lead was.late at.key marked (subst (λ (p : Past). FindsField p at.key marked) was.past_is finds))
+
   heard_given : (at : Transfer) (past : Past) → IsHeardAt place at past → place.clean ≡ true → AreOfField past at.key past.given → (past.given ≡ []) ⊎ BeginsOnTrack (track_under place at) at.key past.given
   heard_given at past was set given =
       told_on_track (track_under place at) was.from was.late at.key past.given was.heard (was.whole set)
@@ -574,9 +590,11 @@ module _ (place : Place) (first : Transfer) (wanted skip : Bool) (reads : first.
       (bad_check_late was.lead was.late at.key (subst (λ (p : Past). FindsBadCheck p at.key) was.past_is finds))
 
   on_medium : (part : Part) → IsHeardAt place part.at part.past → IsMoved (Read wanted skip) part → IsOnMedium place (Read wanted skip) part
-  on_medium part was moved =
-      let found = heard_found part.at part.past part.marked was moved.field in
-      record { content = found.0; field = found.1; given = elim moved.all [ inl (own, all) ↦ inl (own, found.3 all) | inr passed ↦ inr passed ] }
+  on_medium part was (inl whole) =
+      let found = heard_found part.at part.past part.marked was whole.field in
+      inl (record { wanted = whole.wanted; field = subst (HasOnTrack (track_under place part.at) part.at.key part.marked) (sym (found.3 whole.all)) found.1 })
+  on_medium part was (inr over) =
+      inr (record { skips = over.skips; other = over.other; field = heard_field part.at part.past part.marked was over.found; none = over.none })
 
   all_on_medium : (from : Transfer) (parts : List Part) → AreHeardAt place parts → AreMoved (Read wanted skip) from parts → AreOnMedium place (Read wanted skip) parts
   all_on_medium from [] heard moved = tt
@@ -609,6 +627,7 @@ module _ (place : Place) (first : Transfer) (wanted skip : Bool) (reads : first.
       record {
         parts = parts_on_medium history end hears moved;
         last = λ marked finds. let found = heard_found here past marked was finds in (found.0, found.1, found.2);
+        passed = λ marked finds. heard_field here past marked was finds;
         given = λ set. heard_given here past was set (subst (λ o. IsOfSector o past (sent_of here)) reads of_sector);
         missed = λ set (marks, (between, is, none)). subst (HasNoClear (Some here.key)) (heard_between here past between was set is) none;
         bare = λ set (between, is, none) mark. none (subst HasAddressMark (sym (heard_between here past between was set is)) mark);

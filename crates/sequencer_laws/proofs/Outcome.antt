@@ -13,8 +13,8 @@ use Rattle.fdc_phases.specs.Written.{IsContent}
 use Rattle.fdc_core.specs.declared.controller.Fdc.{Fdc}
 use Rattle.fdc_sequencer.specs.Fronts.{Front}
 use Rattle.fdc_sequencer.specs.Moves.{goes_on, has_met_other, results_behind, results_failed, would_go_on}
-use Rattle.sequencer_laws.specs.Outcomes.{AreBut, EndsSo, HasField, IsFailure, IsFieldWith, PassedWhole, PassesOfSector, ResultsSay, StopsBehind, TellsOther}
-use Rattle.sequencer_laws.specs.Serving.{Accounts, AreLeft, Ends, History, IsLastOne, IsMarkOf, IsMoved, IsOfSector, Means, Part, Serves, ServesAt, bytes_moved, has_other, results_ended, sector_after, sent_of}
+use Rattle.sequencer_laws.specs.Outcomes.{EndsSo, HasField, IsFailure, IsFieldWith, IsJudged, IsMovedBut, PassedWhole, PassesOfSector, ResultsSay, StopsBehind, TellsOther}
+use Rattle.sequencer_laws.specs.Serving.{Accounts, AreLeft, Ends, History, IsFieldDone, IsLastOne, IsMarkOf, IsMoved, IsOfSector, Means, MeansJudged, Part, Serves, ServesAt, bytes_moved, has_other, results_ended, sector_after, sent_of}
 use Rattle.fdc_sequencer.specs.Transfers.{is_last, is_other, is_skipping, next_of, results_told}
 use Rattle.fdc_sequencer.specs.declared.opcode.Operation.{Operation}
 use Rattle.fdc_sequencer.specs.declared.opcode.Operation.TheVariants.{Read, Write}
@@ -22,24 +22,16 @@ use Rattle.fdc_sequencer.specs.declared.stage.Moving.{Moving as MovingSector}
 use Rattle.fdc_sequencer.specs.declared.stage.Stage.{Stage}
 use Rattle.fdc_sequencer.specs.declared.stage.Stage.TheVariants.{Through, Collecting, Seeking, Moving, Telling}
 use Rattle.fdc_sequencer.specs.declared.transfer.Transfer.{Transfer}
-use Rattle.sequencer_laws.proofs.Courses.{done_counted, done_written, met_then, part_moved, sector_opcode, would_uncounted}
+use Rattle.sequencer_laws.proofs.Courses.{done_written, met_then, nothing_left, over_counted, part_moved, sector_opcode, skipped_over, would_uncounted}
+use Rattle.sequencer_laws.proofs.Known.{clash}
 use Rattle.sequencer_laws.proofs.Served.{of_sector}
 
 -- ---- EN comes from in front alone
 
-or_true : (c : Bool) → (c || true) ≡ true
-or_true true = refl
-or_true false = refl
-
--- where no byte is left the controller was told the count
-over_counted : (operation : Operation) (met : Bool) (moving : MovingSector) (past : Past) (mark : Option Bool) → Accounts operation met moving past mark → moving.left ≡ 0 → past.counted ≡ true
-over_counted operation met moving past mark accounts none =
-    accounts.told ∙ (ap (λ b. moving.counted || b) (eq-eqb moving.left 0 none) ∙ or_true moving.counted)
-
 full_over : (operation : Operation) (met : Bool) (moving : MovingSector) (mark : Option Bool) (bytes : List ℕ) → content_size moving.transfer.key.n ≤ length bytes → AreLeft operation met moving mark bytes
     → moving.left ≡ 0
-full_over operation met moving mark bytes full (inl (passed, all)) = omega arith
-full_over operation met moving mark bytes full (inr (passed, skips, other, none, empty)) = none
+full_over operation met moving mark bytes full (inl (own, passed, all)) = omega arith
+full_over operation met moving mark bytes full (inr (skipped, passed, skips, other, none, empty)) = none
 
 -- a write that wasn't told the count took as many bytes as it wrote
 taken_full : (counted : Bool) (taken handed : List ℕ) → counted ≡ false → IsContent counted taken handed → length handed ≤ length taken
@@ -60,21 +52,31 @@ no_count (Write deleted) met moving past mark accounts means =
 
 -- ---- the controller's own command was done
 
-but_left : (operation : Operation) (met : Bool) (moving : MovingSector) (mark : Option Bool) (marked : Bool) (bytes : List ℕ) → mark ≡ Some marked → AreLeft operation met moving mark bytes
-    → AreBut operation moving.transfer.key.n marked moving.left bytes
-but_left operation met moving mark marked bytes is (inl (passed, all)) = inl all
-but_left operation met moving mark marked bytes is (inr (passed, skips, (other, here, unwanted), none, empty)) =
-    let same : other ≡ marked = cc (here, is) in inr (skips, ap (is_other operation) (sym same) ∙ unwanted, none, empty)
+field_with : (operation : Operation) (past : Past) (sent : Sent) (marked : Bool) (missing : ℕ) → Means operation past sent (Done marked) → length (bytes_moved operation past) + missing ≡ content_size sent.key.n
+    → IsFieldWith operation past sent.key marked missing
+field_with (Read wanted skip) past sent marked missing means all = means
+field_with (Write deleted) past sent marked missing means all = done_written deleted past sent marked missing means all
 
-field_with : (operation : Operation) (met : Bool) (moving : MovingSector) (past : Past) (mark : Option Bool) (marked : Bool) → AreLeft operation met moving mark (bytes_moved operation past)
-    → Means operation past (sent_of moving.transfer) (Done marked) → IsFieldWith operation past moving.transfer.key marked moving.left
-field_with (Read wanted skip) met moving past mark marked left means = means
-field_with (Write deleted) met moving past mark marked (inl (passed, all)) means = done_written deleted past (sent_of moving.transfer) marked moving.left means all
-field_with (Write deleted) met moving past mark marked (inr (passed, skips, other, none, empty)) means = absurd (false≢true skips)
+moved_but : (operation : Operation) (met : Bool) (moving : MovingSector) (past : Past) (mark : Option Bool) (marked : Bool) → mark ≡ Some marked → Accounts operation met moving past mark
+    → IsFieldDone moving.skipped operation past (sent_of moving.transfer) marked → IsMovedBut operation past moving.transfer.key marked moving.left
+moved_but operation met moving past mark marked is accounts done = by_left accounts.bytes
+  where
+    by_left : AreLeft operation met moving mark (bytes_moved operation past) → IsMovedBut operation past moving.transfer.key marked moving.left
+    by_left (inl (own, passed, all)) =
+        let at = sent_of moving.transfer in
+        let means : Means operation past at (Done marked) = subst (λ b. IsFieldDone b operation past at marked) own done in
+        inl (field_with operation past at marked moving.left means all, all)
+    by_left (inr (skipped, passed, skips, other, none, empty)) = inr (none, skipped_over operation met moving past mark marked is accounts done skipped skips other none empty)
 
-other_told : (operation : Operation) (met : Bool) (moving : MovingSector) (mark : Option Bool) (bytes : List ℕ) → AreLeft operation met moving mark bytes → TellsOther operation met moving.passed_over
-other_told operation met moving mark bytes (inl (passed, all)) = inl passed
-other_told operation met moving mark bytes (inr (passed, skips, other, none, empty)) = inr (passed, skips)
+-- CM tells of a field that was met before; or this one is passed over
+other_told : (operation : Operation) (met : Bool) (moving : MovingSector) (mark : Option Bool) (bytes : List ℕ) → AreLeft operation met moving mark bytes
+    → (moving.passed_over ≡ met) ⊎ ((moving.passed_over ≡ true) × (is_skipping operation ≡ true))
+other_told operation met moving mark bytes (inl (own, passed, all)) = inl passed
+other_told operation met moving mark bytes (inr (skipped, passed, skips, other, none, empty)) = inr (passed, skips)
+
+before_told : (operation : Operation) (met : Bool) (moving : MovingSector) (mark : Option Bool) (bytes : List ℕ) → moving.skipped ≡ false → AreLeft operation met moving mark bytes → moving.passed_over ≡ met
+before_told operation met moving mark bytes kept (inl (own, passed, all)) = passed
+before_told operation met moving mark bytes kept (inr (skipped, passed, skips, other, none, empty)) = clash moving.skipped kept skipped
 
 unwanted_or : (other skips : Bool) → (not other || skips) ≡ false → (other ≡ true) × (skips ≡ false)
 unwanted_or true skips is = (refl, is)
@@ -84,62 +86,66 @@ module _ (operation : Operation) (met told : Bool) (moving : MovingSector) (past
   abbrev sector : Transfer
   sector = moving.transfer
 
-  stops : (counted : Bool) (marked : Bool) → moving.counted ≡ counted → would_go_on moving marked ≡ false → Means operation past (sent_of sector) (Done marked) → StopsBehind operation told marked moving.left
-  stops true marked is would means = inl (sym counts ∙ is)
-  stops false marked is would means =
+  stops : (counted : Bool) (marked : Bool) → moving.counted ≡ counted → would_go_on moving marked ≡ false → IsFieldDone moving.skipped operation past (sent_of sector) marked → StopsBehind operation told marked moving.left
+  stops true marked is would done = inl (sym counts ∙ is)
+  stops false marked is would done =
       let (other, skips) = unwanted_or (is_other operation marked) (is_skipping operation) (subst (λ o. (not (is_other o marked) || is_skipping o) ≡ false) same
       (sym (ap (λ c. not c && (not (is_other moving.transfer.opcode.operation marked) || is_skipping moving.transfer.opcode.operation)) is) ∙ would)) in
-      let over : moving.left ≡ 0 = eqb-true moving.left 0 (sym (ap (λ b. b || (moving.left == 0)) is) ∙ (sym accounts.told ∙ done_counted operation past (sent_of sector) marked means)) in
-      inr (other, skips, over)
+      inr (other, skips, nothing_left operation met moving past mark marked is accounts done)
 
-  done_so : (would : Bool) (marked : Bool) → would_go_on moving marked ≡ would → goes_on moving marked ≡ false → mark ≡ Some marked → Means operation past (sent_of sector) (Done marked)
+  done_so : (would : Bool) (marked : Bool) → would_go_on moving marked ≡ would → goes_on moving marked ≡ false → mark ≡ Some marked → IsFieldDone moving.skipped operation past (sent_of sector) marked
       → results ≡ results_behind moving marked → EndsSo operation met told sector past results
-  done_so true marked would goes mark_is means are = inr (inl (record {
+  done_so true marked would goes mark_is done are = inr (inl (record {
     marked = marked;
-    moved = part_moved operation met moving past mark marked same would mark_is accounts means;
+    moved = part_moved operation met moving past mark marked same would mark_is accounts done;
     last = not-false (is_last sector) (sym (ap (λ b. b && not (is_last sector)) would) ∙ goes);
     uncounted = sym counts ∙ would_uncounted moving marked would;
     results_are = are ∙ (ap (λ b. if b then results_told NoCount sector.head_drive sector.key (has_met_other moving marked) else results_told (Done false) sector.head_drive (next_of sector).key (has_met_other moving marked)) would
         ∙ ap (results_told NoCount sector.head_drive sector.key) (met_then operation met moving past mark marked same mark_is accounts));
   }))
-  done_so false marked would goes mark_is means are = inl (record {
+  done_so false marked would goes mark_is done are = inl (record {
     marked = marked;
     missing = moving.left;
-    field = field_with operation met moving past mark marked accounts.bytes means;
-    bytes = but_left operation met moving mark marked (bytes_moved operation past) mark_is accounts.bytes;
-    stops = stops moving.counted marked refl would means;
+    moved = moved_but operation met moving past mark marked mark_is accounts done;
+    stops = stops moving.counted marked refl would done;
     results_are = are ∙ (ap (λ b. if b then results_told NoCount sector.head_drive sector.key (has_met_other moving marked) else results_told (Done false) sector.head_drive (next_of sector).key (has_met_other moving marked)) would
         ∙ ap (results_told (Done false) sector.head_drive (next_of sector).key) (met_then operation met moving past mark marked same mark_is accounts));
   })
 
-  fails_so : (ending : Ending) → IsFailure ending → Means operation past (sent_of sector) ending → results ≡ results_failed moving ending → EndsSo operation met told sector past results
-  fails_so ending fails means are = inr (inr (record {
+  fails_so : (ending : Ending) → IsFailure ending → Means operation past (sent_of sector) ending → IsJudged ending operation past sector.key → TellsOther ending operation met moving.passed_over
+      → results ≡ results_failed moving ending → EndsSo operation met told sector past results
+  fails_so ending fails means judged other are = inr (inr (record {
     ending = ending;
     fails = fails;
     means = means;
+    judged = judged;
     of_sector = of_it;
     told = moving.passed_over;
-    other = other_told operation met moving mark (bytes_moved operation past) accounts.bytes;
+    other = other;
     results_are = are;
   }))
 
-  ends_so : (ending : Ending) → Means operation past (sent_of sector) ending → IsLastOne moving ending → IsMarkOf ending mark → results ≡ results_ended moving ending → EndsSo operation met told sector past results
+  tells : (moving.passed_over ≡ met) ⊎ ((moving.passed_over ≡ true) × (is_skipping operation ≡ true))
+  tells = other_told operation met moving mark (bytes_moved operation past) accounts.bytes
+
+  ends_so : (ending : Ending) → MeansJudged ending moving.skipped operation past (sent_of sector) → IsLastOne moving ending → IsMarkOf ending mark → results ≡ results_ended moving ending
+      → EndsSo operation met told sector past results
   ends_so (Done marked) means last mark_is are = done_so (would_go_on moving marked) marked refl last mark_is means are
-  ends_so NoMark means last mark_is are = fails_so NoMark tt means are
-  ends_so NoSector means last mark_is are = fails_so NoSector tt means are
-  ends_so NoField means last mark_is are = fails_so NoField tt means are
-  ends_so BadCheck means last mark_is are = fails_so BadCheck tt means are
-  ends_so Overrun means last mark_is are = fails_so Overrun tt means are
+  ends_so NoMark means last mark_is are = fails_so NoMark tt means tt tells are
+  ends_so NoSector means last mark_is are = fails_so NoSector tt means tt tells are
+  ends_so NoField means last mark_is are = fails_so NoField tt means tt tells are
+  ends_so BadCheck (kept, means, bad) last mark_is are = fails_so BadCheck tt means bad (before_told operation met moving mark (bytes_moved operation past) kept accounts.bytes) are
+  ends_so Overrun means last mark_is are = fails_so Overrun tt means tt tells are
   ends_so NoCount means last mark_is are = absurd (no_count operation met moving past mark accounts means)
-  ends_so Protected means last mark_is are = fails_so Protected tt means are
-  ends_so Late means last mark_is are = fails_so Late tt means are
+  ends_so Protected means last mark_is are = fails_so Protected tt means tt tells are
+  ends_so Late means last mark_is are = fails_so Late tt means tt tells are
 
 ended_so : (operation : Operation) (met told : Bool) (at : Transfer) (past : Past) (results : Results) → at.opcode.operation ≡ operation → Ends operation met told at past results → EndsSo operation met told at past results
 ended_so operation met told at past results same ends =
     subst (λ a. EndsSo operation met told a past results) ends.here
     (ends_so operation met told ends.moving past ends.mark results (ap (λ a. a.opcode.operation) ends.here ∙ same) ends.counted ends.accounts
     (subst (λ a. IsOfSector operation past (sent_of a)) (sym ends.here) ends.of_sector) ends.ending
-    (subst (λ a. Means operation past (sent_of a) ends.ending) (sym ends.here) ends.means) ends.last ends.marked ends.results_are)
+    (subst (λ a. MeansJudged ends.ending ends.moving.skipped operation past (sent_of a)) (sym ends.here) ends.means) ends.last ends.marked ends.results_are)
 
 pub results_say : (first : Transfer) (history : History) (front : Front) (results : Results) (read : ℕ) → Serves first history front → front.stage ≡ Telling results read → ResultsSay first history results
 results_say first history front results read serves is =
@@ -172,11 +178,7 @@ has_field past key marked given (counted, (turn, p, q, found)) all =
     record { turn = turn; p = p; q = q; among = found.among; address = found.address; finds = found.finds; content_is = found.content all }
 
 pub passed_whole : (operation : Operation) (part : Part) → IsMoved operation part → PassedWhole operation part
-passed_whole (Read wanted skip) part moved = elim moved.all [
-  | inl (wanted_is, all) ↦ inl (has_field part.past part.at.key part.marked part.past.given moved.field all)
-  | inr none ↦ inr none
-]
-passed_whole (Write deleted) part moved = elim moved.all [
-  | inl (wanted, all) ↦ (all, moved.field)
-  | inr (skips, other, none) ↦ absurd (false≢true skips)
-]
+passed_whole (Read wanted skip) part (inl whole) = inl (has_field part.past part.at.key part.marked part.past.given whole.field whole.all)
+passed_whole (Read wanted skip) part (inr over) = inr over
+passed_whole (Write deleted) part (inl whole) = (whole.all, whole.field)
+passed_whole (Write deleted) part (inr over) = absurd (false≢true over.skips)

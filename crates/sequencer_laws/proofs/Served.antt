@@ -29,8 +29,8 @@ use Rattle.fdc_core.proofs.Meanings.{read_gives, read_tells}
 use Rattle.fdc_core.proofs.Tellings.{write_tells, writes_window}
 use Rattle.fdc_board.specs.Boards.{BoardState, StepsBoard, WritesBoard, lines_at, selected_at}
 use Rattle.fdc_sequencer.specs.Fronts.{BeginsSector, CollectsAs, Front, GivesAt, GivesFront, GivesMoving, SeeksFirst, Starts, StartsIf, TakesAt, TakesByte, TakesFront, TakesMoving, WritesFront, after_reading, begun_if, byte_given, count_told, moving_of, passed_one, reset_if, told_front, told_if, with_controller}
-use Rattle.fdc_sequencer.specs.Moves.{EndsIf, EndsSector, FollowsStep, MovesOn, SeeksOn, StepsFront, goes_on, has_met_other, is_unwanted, passed_over_if}
-use Rattle.sequencer_laws.specs.Serving.{Accounts, AreLeft, AreMoved, BeginsAt, BeginsWith, Carries, GoesOn, History, IsLastOne, IsFree, IsLeft, IsMarkOf, IsOfOther, IsOfSector, IsRefused, IsTimeOf, KeepsServing, MayMove, Means, Part, Passes, PassesAt, RefusesFirst, Serves, ServesAt, ServesCounted, ServesStep, ServesUnless, StepsTo, bytes_moved, gives_last, has_other, hears_count, history_counted, history_ended, history_given, history_moved, history_passed, history_sought, history_stepped, history_taken, nothing_moved, passed_in, passed_out, results_ended, sector_after, sent_of, still_seeks}
+use Rattle.fdc_sequencer.specs.Moves.{EndsIf, EndsSector, FollowsStep, MovesOn, SeeksOn, StepsFront, goes_on, has_met_other, is_unwanted, judged, judged_if, passed_over_if}
+use Rattle.sequencer_laws.specs.Serving.{Accounts, AreLeft, AreMoved, BeginsAt, BeginsWith, Carries, GoesOn, History, IsFieldDone, IsLastOne, IsFree, IsLeft, IsMarkOf, IsOfOther, IsOfSector, IsRefused, IsTimeOf, KeepsServing, MayMove, Means, MeansJudged, Part, Passes, PassesAt, RefusesFirst, Serves, ServesAt, ServesCounted, ServesStep, ServesUnless, StepsTo, bytes_moved, gives_last, has_other, hears_count, history_counted, history_ended, history_given, history_moved, history_passed, history_sought, history_stepped, history_taken, nothing_moved, passed_in, passed_out, results_ended, sector_after, sent_of, still_seeks}
 use Rattle.fdc_sequencer.specs.Transfers.{is_other, is_skipping, next_of, size_of}
 use Rattle.fdc_sequencer.specs.declared.opcode.Opcode.{Opcode}
 use Rattle.fdc_sequencer.specs.declared.opcode.Operation.{Operation}
@@ -39,9 +39,10 @@ use Rattle.fdc_sequencer.specs.declared.stage.Moving.{Moving as MovingSector}
 use Rattle.fdc_sequencer.specs.declared.stage.Stage.{Stage}
 use Rattle.fdc_sequencer.specs.declared.stage.Stage.TheVariants.{Through, Collecting, Seeking, Moving, Telling}
 use Rattle.fdc_sequencer.specs.declared.transfer.Transfer.{Transfer}
-use Rattle.sequencer_laws.proofs.Known.{KnownOn, MovedOn, bytes_told, clash, either_way, in_on, out_on, port_busy, port_mark, port_on, steps_on}
+use Rattle.sequencer_laws.proofs.Judged.{judges}
+use Rattle.sequencer_laws.proofs.Known.{BadGoes, KnownOn, MovedOn, bytes_told, clash, either_way, in_on, out_on, port_busy, port_mark, port_on, steps_on}
 use Rattle.sequencer_laws.proofs.Free.{answer_sized, first_sized, free_executes, given_free, next_size, port_free, sought_free, step_dma, step_free}
-use Rattle.sequencer_laws.proofs.Marks.{mark_then, then_busy, then_done}
+use Rattle.sequencer_laws.proofs.Marks.{mark_then, then_busy}
 use Rattle.sequencer_laws.proofs.Started.{Begun, answered_idle, begun_busy, begun_carries, seek_answered, size_is, told_carries}
 use Rattle.sequencer_laws.proofs.Courses.{accounts_on, bytes_more, bytes_next, goes_would, met_then, moved_more, none_more, not_over, one_passed, one_told, other_more, over_told, part_moved, sector_more, sector_opcode, would_uncounted}
 
@@ -175,7 +176,7 @@ module _ (first : Transfer) (parts : List Part) (past : Past) (counted : Bool) (
 
   -- the results are told
   tells_on : (now : Past) (mark : Option Bool) (ending : Ending) (new : Front) → bytes_moved operation now ≡ bytes_moved operation past → Accounts operation met moving now mark
-      → IsOfSector operation now (sent_of moving.transfer) → Means operation now (sent_of moving.transfer) ending → IsLastOne moving ending → IsMarkOf ending mark
+      → IsOfSector operation now (sent_of moving.transfer) → MeansJudged ending moving.skipped operation now (sent_of moving.transfer) → IsLastOne moving ending → IsMarkOf ending mark
       → new.stage ≡ Telling (results_ended moving ending) 0 → GoesOn [] false first so_far (record so_far { past = now }) new
   tells_on now mark ending new bytes accounts of_sector means last marked is = (
     bytes_more operation parts past now counted counted [] (bytes ∙ sym (append-nil (bytes_moved operation past))),
@@ -188,7 +189,7 @@ module _ (first : Transfer) (parts : List Part) (past : Past) (counted : Bool) (
         here = here;
         counted = counts;
         ending = ending;
-        means = subst (λ at. Means operation now (sent_of at) ending) here means;
+        means = subst (λ at. MeansJudged ending moving.skipped operation now (sent_of at)) here means;
         last = last;
         mark = mark;
         marked = marked;
@@ -201,13 +202,13 @@ module _ (first : Transfer) (parts : List Part) (past : Past) (counted : Bool) (
 
   -- the next sector begins, for which the controller is free
   next_on : (now : Past) (mark : Option Bool) (marked : Bool) (old new : Front) → IsFree old.board.controller → bytes_moved operation now ≡ bytes_moved operation past → Accounts operation met moving now mark
-      → Means operation now (sent_of moving.transfer) (Done marked) → mark ≡ Some marked → goes_on moving marked ≡ true
+      → IsFieldDone moving.skipped operation now (sent_of moving.transfer) marked → mark ≡ Some marked → goes_on moving marked ≡ true
       → BeginsSector (next_of moving.transfer) false (has_met_other moving marked) old new
       → GoesOn [] false first so_far (history_ended true moving.transfer marked now so_far) new
-  next_on now mark marked old new free bytes accounts means mark_is goes begins =
+  next_on now mark marked old new free bytes accounts done mark_is goes begins =
       let part : Part = record { at = moving.transfer; past = now; marked = marked } in
       let would = goes_would moving marked goes in
-      let more = moved_more operation first parts part were here (part_moved operation met moving now mark marked same_operation would mark_is accounts means) in
+      let more = moved_more operation first parts part were here (part_moved operation met moving now mark marked same_operation would mark_is accounts done) in
       let behind = ap next_of here ∙ sym (sector_more first parts part) in
       let other = met_then operation met moving now mark marked same_operation mark_is accounts ∙ sym (other_more operation parts part) in
       let uncounted = sym (would_uncounted moving marked would) ∙ (counts ∙ none_told counted) in
@@ -219,14 +220,15 @@ module _ (first : Transfer) (parts : List Part) (past : Past) (counted : Bool) (
       ]
 
   ends_if : (b : Bool) (now : Past) (mark : Option Bool) (marked : Bool) (old new : Front) → goes_on moving marked ≡ b → IsFree old.board.controller → bytes_moved operation now ≡ bytes_moved operation past
-      → Accounts operation met moving now mark → IsOfSector operation now (sent_of moving.transfer) → Means operation now (sent_of moving.transfer) (Done marked) → mark ≡ Some marked → EndsIf b moving marked old new
+      → Accounts operation met moving now mark → IsOfSector operation now (sent_of moving.transfer) → IsFieldDone moving.skipped operation now (sent_of moving.transfer) marked → mark ≡ Some marked
+      → EndsIf b moving marked old new
       → GoesOn [] false first so_far (history_ended b moving.transfer marked now so_far) new
-  ends_if true now mark marked old new goes free bytes accounts of_sector means mark_is ends = next_on now mark marked old new free bytes accounts means mark_is goes ends
-  ends_if false now mark marked old new goes free bytes accounts of_sector means mark_is ends =
-      tells_on now mark (Done marked) new bytes accounts of_sector means goes mark_is (ap (λ front. front.stage) ends)
+  ends_if true now mark marked old new goes free bytes accounts of_sector done mark_is ends = next_on now mark marked old new free bytes accounts done mark_is goes ends
+  ends_if false now mark marked old new goes free bytes accounts of_sector done mark_is ends =
+      tells_on now mark (Done marked) new bytes accounts of_sector done goes mark_is (ap (λ front. front.stage) ends)
 
   ends_on : (ending : Ending) (now : Past) (mark : Option Bool) (old new : Front) → IsFree old.board.controller → bytes_moved operation now ≡ bytes_moved operation past → Accounts operation met moving now mark
-      → IsOfSector operation now (sent_of moving.transfer) → Means operation now (sent_of moving.transfer) ending → IsMarkOf ending mark → EndsSector moving ending old new
+      → IsOfSector operation now (sent_of moving.transfer) → MeansJudged ending moving.skipped operation now (sent_of moving.transfer) → IsMarkOf ending mark → EndsSector moving ending old new
       → GoesOn [] false first so_far (history_moved (Some ending) moving mark now so_far) new
   ends_on (Done marked) now mark old new free bytes accounts of_sector means mark_is ends = ends_if (goes_on moving marked) now mark marked old new refl free bytes accounts of_sector means mark_is ends
   ends_on NoMark now mark old new free bytes accounts of_sector means mark_is ends = tells_on now mark NoMark new bytes accounts of_sector means tt tt (ap (λ front. front.stage) ends)
@@ -262,8 +264,8 @@ module _ (first : Transfer) (parts : List Part) (past : Past) (counted : Bool) (
   wanted_passes now mark wanted accounts skips other = by_left accounts.bytes
     where
       by_left : AreLeft operation met moving mark (bytes_moved operation now) → moving.left ≡ 0
-      by_left (inr (passed, skipping, unwanted, none, empty)) = none
-      by_left (inl (passed, all)) =
+      by_left (inr (skipped, passed, skipping, unwanted, none, empty)) = none
+      by_left (inl (own, passed, all)) =
           let empty = ap length (accounts.clean skips other) in
           let same = size_is moving.transfer.key.n accounts.sized in
           let full : moving.left ≡ content_size moving.transfer.key.n = omega arith in
@@ -279,29 +281,18 @@ module _ (first : Transfer) (parts : List Part) (past : Past) (counted : Bool) (
   passes_over true now old new stage_is unwanted bytes moves busy free accounts is =
       let (skips, other, full) = unwanted_is (mark_of old.board.controller) unwanted in
       let empty = accounts.clean skips other in
-      let over : MovingSector = record moving { left = 0; passed_over = true } in
+      let over : MovingSector = record moving { left = 0; passed_over = true; skipped = true } in
       same_sector first parts past (told_in true now) counted false counted [] over new (ap (λ front. front.stage) is) sized were here counts (none_told counted)
       (bytes_told operation true now ∙ (bytes ∙ sym (append-nil (bytes_moved operation past))))
       (subst (λ front. Carries operation met over (told_in true now) front.board.controller) (sym is)
       (told_carries operation met over now old.board.controller moves busy free (record {
         sized = accounts.sized;
-        bytes = inr (refl, skips, other, refl, bytes_told operation true now ∙ empty);
+        bytes = inr (refl, refl, skips, other, refl, bytes_told operation true now ∙ empty);
         clean = λ skipping unwanted. bytes_told operation true now ∙ empty;
         told = over_told moving.counted;
       }) (λ skipping unwanted. refl)))
 
   -- ---- the end of a device step
-
-  done_mark : (ending : Ending) (was : Option Bool) (phase : Phase) → ending_of_phase phase ≡ Some ending → IsMarkOf ending (mark_then was phase)
-  done_mark (Done marked) was phase is = then_done was phase marked is
-  done_mark NoMark was phase is = tt
-  done_mark NoSector was phase is = tt
-  done_mark NoField was phase is = tt
-  done_mark BadCheck was phase is = tt
-  done_mark Overrun was phase is = tt
-  done_mark NoCount was phase is = tt
-  done_mark Protected was phase is = tt
-  done_mark Late was phase is = tt
 
   any_mark : (ending : Ending) (mark other : Option Bool) (now : Past) → history_moved (Some ending) moving mark now so_far ≡ history_moved (Some ending) moving other now so_far
   any_mark (Done marked) mark other now = refl
@@ -316,31 +307,34 @@ module _ (first : Transfer) (parts : List Part) (past : Past) (counted : Bool) (
 
   moves_on : (ending : Option Ending) (now : Past) (was : Option Bool) (old new : Front) → old.stage ≡ Moving moving → ending_told old.board.controller ≡ ending → IsFree old.board.controller
       → bytes_moved operation now ≡ bytes_moved operation past → Accounts operation met moving now (mark_then was old.board.controller.phase)
-      → MayMove operation now (sent_of moving.transfer) old.board.controller → MovesOn ending moving old new
-      → GoesOn [] false first so_far (history_moved ending moving (mark_of old.board.controller) now so_far) new
-  moves_on None now was old new stage_is none free bytes accounts moves does =
+      → MayMove operation now (sent_of moving.transfer) old.board.controller → (is_skipping operation ≡ true → IsOfOther operation was → moving.left ≡ 0)
+      → BadGoes operation now moving.transfer.key was old.board.controller → MovesOn (judged_if moving ending) moving old new
+      → GoesOn [] false first so_far (history_moved (judged_if moving ending) moving (mark_of old.board.controller) now so_far) new
+  moves_on None now was old new stage_is none free bytes accounts moves passes bad does =
       let busy = still_busy operation now (sent_of moving.transfer) old.board.controller moves none in
       passes_over (is_unwanted moving (mark_of old.board.controller)) now old new stage_is refl bytes moves busy free
       (subst (Accounts operation met moving now) (then_busy was old.board.controller.phase busy) accounts) does
-  moves_on (Some ending) now was old new stage_is some free bytes accounts moves does =
-      subst (λ h. GoesOn [] false first so_far h new) (any_mark ending (mark_then was old.board.controller.phase) (mark_of old.board.controller) now)
-      (ends_on ending now (mark_then was old.board.controller.phase) (record old { board = with_controller (given_up old.board.controller) old.board }) new (given_free old.board.controller free) bytes accounts
-      (of_sector operation now (sent_of moving.transfer) old.board.controller moves)
-      (ended_means operation now (sent_of moving.transfer) old.board.controller ending accounts.sized moves some) (done_mark ending was old.board.controller.phase some) does)
+  moves_on (Some ending) now was old new stage_is some free bytes accounts moves passes bad does =
+      let fdc = old.board.controller in
+      let sent = sent_of moving.transfer in
+      let (means, marked) = judges operation met moving now was fdc same_operation accounts passes bad ending some (ended_means operation now sent fdc ending accounts.sized moves some) in
+      subst (λ h. GoesOn [] false first so_far h new) (any_mark (judged moving ending) (mark_then was fdc.phase) (mark_of fdc) now)
+      (ends_on (judged moving ending) now (mark_then was fdc.phase) (record old { board = with_controller (given_up fdc) old.board }) new (given_free fdc free) bytes accounts
+      (of_sector operation now sent fdc moves) means marked does)
 
   -- with whatever word time this is known of the controller
   pub known_moves : (old : Front) (between : BoardState) (new : Front) (Is : WordTime → Type 0) → old.stage ≡ Moving moving → Carries operation met moving past old.board.controller → StepsBoard old.board between
-      → (known : KnownOn operation past (sent_of moving.transfer) (mark_of old.board.controller) Is between.controller) → MovesOn (ending_told between.controller) moving (record old { board = between }) new
-      → GoesOn [] false first so_far (history_moved (ending_told between.controller) moving (mark_of between.controller) (after_time known.time past) so_far) new
+      → (known : KnownOn operation past (sent_of moving.transfer) (mark_of old.board.controller) Is between.controller) → MovesOn (judged_if moving (ending_told between.controller)) moving (record old { board = between }) new
+      → GoesOn [] false first so_far (history_moved (judged_if moving (ending_told between.controller)) moving (mark_of between.controller) (after_time known.time past) so_far) new
   known_moves old between new Is stage_is carries steps known does =
       let was = mark_of old.board.controller in
       let now = after_time known.time past in
       let free = step_free operation past (sent_of moving.transfer) old.board between steps carries.busy carries.moves carries.free in
       moves_on (ending_told between.controller) now was (record old { board = between }) new stage_is refl free known.bytes
-      (accounts_on operation met moving past now was (mark_then was between.controller.phase) known.marks known.bytes known.counted carries.accounts) known.moves does
+      (accounts_on operation met moving past now was (mark_then was between.controller.phase) known.marks known.bytes known.counted carries.accounts) known.moves carries.passes known.bad does
 
   step_moves : (old : Front) (between : BoardState) (new : Front) → old.stage ≡ Moving moving → Carries operation met moving past old.board.controller → StepsBoard old.board between
-      → MovesOn (ending_told between.controller) moving (record old { board = between }) new → StepsTo first so_far old between new
+      → MovesOn (judged_if moving (ending_told between.controller)) moving (record old { board = between }) new → StepsTo first so_far old between new
   step_moves old between new stage_is carries steps does =
       let known = steps_on operation past (sent_of moving.transfer) old.board between steps carries.busy carries.moves in
       record {

@@ -37,7 +37,7 @@ use Rattle.fdc_core.specs.Writing.{WriteDoes, after_next, without_byte}
 use Rattle.fdc_core.specs.declared.controller.Fdc.{Fdc}
 use Rattle.fdc_board.specs.Boards.{BoardState, StepsBoard, WritesBoard, lines_at, selected_at}
 use Rattle.fdc_sequencer.specs.Fronts.{Front, GivesAt, TakesAt, TakesByte, WritesFront, begun_if, byte_given, count_told, moving_of, reset_if, told_front, with_controller}
-use Rattle.fdc_sequencer.specs.Moves.{EndsIf, EndsSector, FollowsStep, MovesOn, SeeksOn, goes_on, is_unwanted, passed_over_if}
+use Rattle.fdc_sequencer.specs.Moves.{EndsIf, EndsSector, FollowsStep, MovesOn, SeeksOn, goes_on, is_unwanted, judged_if, passed_over_if}
 use Rattle.fdc_sequencer.specs.declared.opcode.Operation.{Operation}
 use Rattle.fdc_sequencer.specs.declared.opcode.Operation.TheVariants.{Read, Write}
 use Rattle.fdc_sequencer.specs.declared.stage.Moving.{Moving as MovingSector}
@@ -335,7 +335,7 @@ module _ (first : Transfer) (served history : History) where
   silent_step (Telling results read) time old between new is now was steps follows then_served serves stays =
       record { silent = stage_silent (Telling results read) new (ap (λ f. f.stage) follows ∙ is) tt; parts = refl }
   silent_step (Moving moving) time old between new is (here, counts, carries) (counted, muted) steps follows then_served serves stays =
-      silent_moves history (after_time time history.past) moving counted new (ending_told between.controller) (record old { board = between }) is (step_muted old.board between steps carries.busy muted) follows
+      silent_moves history (after_time time history.past) moving counted new (judged_if moving (ending_told between.controller)) (record old { board = between }) is (step_muted old.board between steps carries.busy muted) follows
   silent_step (Seeking at counted) time old between new is now was steps follows then_served serves stays = by_sought (has_ended_seek between.controller.seeks) follows
     where
       by_busy : (b : Bool) (board : BoardState) (front : Front) → new ≡ begun_if b at counted false board front → IsSilent new

@@ -200,7 +200,7 @@ begun_told false n sized = sym (size_some n sized)
 begun_accounts : (operation : Operation) (met : Bool) (at : Transfer) (counted : Bool) (mark : Option Bool) → IsSizeCode at.key.n → Accounts operation met (moving_of at counted met) (told_in counted new_past) mark
 begun_accounts operation met at counted mark sized = record {
   sized = sized;
-  bytes = inl (refl, ap (λ bytes. length bytes + size_of at.key.n) (none_moved operation counted) ∙ (zero-add (size_of at.key.n) ∙ size_is at.key.n sized));
+  bytes = inl (refl, refl, ap (λ bytes. length bytes + size_of at.key.n) (none_moved operation counted) ∙ (zero-add (size_of at.key.n) ∙ size_is at.key.n sized));
   clean = λ skips other. none_moved operation counted;
   told = begun_told counted at.key.n sized;
 }

@@ -12,7 +12,7 @@ use Rattle.fdc_core.specs.Times.{WordTime, after_time}
 use Rattle.fdc_core.specs.Whole.{ending_told, mark_of}
 use Rattle.fdc_core.specs.declared.controller.Fdc.{Fdc}
 use Rattle.fdc_sequencer.specs.Fronts.{Front}
-use Rattle.fdc_sequencer.specs.Moves.{goes_on, is_unwanted}
+use Rattle.fdc_sequencer.specs.Moves.{goes_on, is_unwanted, judged_if}
 use Rattle.fdc_sequencer.specs.declared.stage.Moving.{Moving as MovingSector}
 use Rattle.fdc_sequencer.specs.declared.stage.Stage.{Stage}
 use Rattle.fdc_sequencer.specs.declared.stage.Stage.TheVariants.{Through, Collecting, Seeking, Moving, Telling}
@@ -101,7 +101,7 @@ stepped_alike (Collecting opcode) time again fdc one other was = was
 stepped_alike (Seeking at counted) time again fdc one other was = sought_alike (has_ended_seek fdc.seeks) counted one other was
 stepped_alike (Telling results read) time again fdc one other was = was
 stepped_alike (Moving moving) time again fdc one other was =
-    moved_alike (ending_told fdc) moving (mark_of fdc) (after_time time one.past) (after_time again other.past) one other (time_same time again one.past other.past was.past) was
+    moved_alike (judged_if moving (ending_told fdc)) moving (mark_of fdc) (after_time time one.past) (after_time again other.past) one other (time_same time again one.past other.past was.past) was
 
 taken_alike : (stage : Stage) (byte : Option ℕ) (one other : History) → IsAlike one other → IsAlike (history_taken stage byte one) (history_taken stage byte other)
 taken_alike Through byte one other was = was

@@ -37,6 +37,7 @@ use Rattle.sequencer_laws.specs.Outcomes.{EndsSo, IsFailure}
 use Rattle.sequencer_laws.specs.Serving.{History, Part, Serves, has_other, history_counted, history_given, history_passed, history_taken, nothing_moved}
 use Rattle.sequencer_laws.specs.Written.{AreWritten, HasFirst, HasWindow, IsDone, IsOverCylinderWhile, IsWrittenTo, KeepsIn, KeepsSpeed, KeepsSpeedWhile, LeavesPut, StaysPut, TellsDone}
 use Rattle.sequencer_laws.proofs.Called.{call_serves}
+use Rattle.sequencer_laws.proofs.Courses.{written_whole}
 use Rattle.sequencer_laws.proofs.Known.{port_same}
 use Rattle.sequencer_laws.proofs.Outcome.{results_say}
 use Rattle.sequencer_laws.proofs.WrittenAlike.{alike_self, alike_written, calls_alike}
@@ -355,10 +356,12 @@ module _ (place : Place) (deleted : Bool) (first : Transfer) (writes : first.opc
   done_whole : (history : History) (results : Results) (disk now : Disk) → ((content : List ℕ) → WritesWhole history.past (here_of first history).key deleted content → HasWindow place deleted (here_of first history) content disk now)
       → EndsSo (Write deleted) (has_other (Write deleted) history.parts) history.counted (here_of first history) history.past results → TellsDone results
       → IsDone place deleted (here_of first history) history.past.taken disk now
-  done_whole history results disk now whole (inl well) told = (well.missing, whole _ well.field)
+  done_whole history results disk now whole (inl well) told = elim well.moved [ inl (field, size) ↦ (well.missing, whole _ field) | inr (none, over) ↦ absurd (false≢true over.skips) ]
   done_whole history results disk now whole (inr (inl uncounted)) told =
       let at = here_of first history in
-      (0, whole _ (subst (WritesWhole history.past at.key deleted) (sym (append-nil history.past.taken)) uncounted.moved.field))
+      let part : Part = record { at = at; past = history.past; marked = uncounted.marked } in
+      let moved = written_whole deleted part uncounted.moved in
+      (0, whole _ (subst (WritesWhole history.past at.key deleted) (sym (append-nil history.past.taken)) moved.field))
   done_whole history results disk now whole (inr (inr fails)) told =
       let at = here_of first history in
       let is = ap (λ r. r.st1.0) fails.results_are ∙ told_st1 fails.ending at.head_drive at.key fails.told in

@@ -24,7 +24,7 @@ use Rattle.fdc_core.specs.Written.{MayWrite}
 use Rattle.fdc_core.specs.declared.controller.Fdc.{Fdc}
 use Rattle.fdc_board.specs.Boards.{BoardState, StepsBoard, drive_at, selected_at}
 use Rattle.fdc_sequencer.specs.Fronts.{Front, begun_if, moving_of, told_if, with_controller}
-use Rattle.fdc_sequencer.specs.Moves.{EndsIf, EndsSector, FollowsStep, MovesOn, SeeksOn, StepsFront, goes_on, has_met_other, is_unwanted, passed_over_if, results_behind, results_failed}
+use Rattle.fdc_sequencer.specs.Moves.{EndsIf, EndsSector, FollowsStep, MovesOn, SeeksOn, StepsFront, goes_on, has_met_other, is_unwanted, judged, judged_if, passed_over_if, results_behind, results_failed}
 use Rattle.fdc_sequencer.specs.Transfers.{is_other, is_skipping, next_of, size_of}
 use Rattle.fdc_sequencer.specs.declared.opcode.Operation.{Operation}
 use Rattle.fdc_sequencer.specs.declared.opcode.Operation.TheVariants.{Write}
@@ -37,8 +37,8 @@ use Rattle.sequencer_laws.specs.Media.{IsClean, Place}
 use Rattle.sequencer_laws.specs.Serving.{AreMoved, History, IsMoved, IsTimeOf, MayMove, Part, Passes, PassesAt, Serves, ServesAt, StopsAtEnd, bytes_moved, history_ended, history_moved, history_sought, history_stepped, sector_after, sent_of}
 use Rattle.sequencer_laws.specs.Written.{AreWritten, HasWindow, IsOverCylinder, IsOverCylinderWhile}
 use Rattle.sequencer_laws.proofs.Called.{call_serves}
-use Rattle.sequencer_laws.proofs.Courses.{sector_more, sector_opcode}
-use Rattle.sequencer_laws.proofs.Known.{KnownOn, MarkGoes, polled_rate, time_counted, time_taken, which_drive}
+use Rattle.sequencer_laws.proofs.Courses.{sector_more, sector_opcode, written_whole}
+use Rattle.sequencer_laws.proofs.Known.{BadGoes, KnownOn, MarkGoes, polled_rate, time_counted, time_taken, which_drive}
 use Rattle.sequencer_laws.proofs.Marks.{mark_then}
 use Rattle.sequencer_laws.proofs.Resting.{idle_medium, idle_rests}
 use Rattle.sequencer_laws.proofs.Served.{known_moves, still_busy}
@@ -201,13 +201,13 @@ module _ (place : Place) (deleted : Bool) (first : Transfer) (writes : first.opc
         }))
 
     -- it is over
-    module _ (ending : Ending) (ended : ending_told between.controller ≡ Some ending) where
+    module _ (told : Ending) (ended : ending_told between.controller ≡ Some told) where
       over_at : (front : Front) → drive_at front.board place.bay ≡ drive_at between place.bay → IsClean place front → SectorOver place deleted moving.transfer now disk (drive_at between place.bay)
       over_at front drive clean =
           sector_over place moving.transfer deleted disk now (drive_at between place.bay) like
-          (subst (λ b. IsAtSector place moving.transfer disk now b (drive_at between place.bay)) (ended_idle between.controller.phase ending ended) sector)
+          (subst (λ b. IsAtSector place moving.transfer disk now b (drive_at between place.bay)) (ended_idle between.controller.phase told ended) sector)
           (subst (IsCleanAt place) drive clean)
-          (ended_has now (sent_of moving.transfer) deleted between.controller.phase between.controller.asking between.controller.fifo ending ended may)
+          (ended_has now (sent_of moving.transfer) deleted between.controller.phase between.controller.asking between.controller.fifo told ended may)
 
       tells_now : (results : Results) → new ≡ record fronted { board = with_controller (given_up between.controller) between; stage = Telling results 0 } → IsNow (record history { past = now }) new
       tells_now results is =
@@ -219,7 +219,7 @@ module _ (place : Place) (deleted : Bool) (first : Transfer) (writes : first.opc
             now = over.now;
             parts = parts;
             left = subst (λ a. HasLeft place deleted a now disk over.now) here over.left;
-            rests = record { medium = ap (λ d. d.medium) drive ∙ over.medium; idle = ap (λ f. is_executing f.board.controller.phase) is ∙ given_up_rests between.controller ending ended };
+            rests = record { medium = ap (λ d. d.medium) drive ∙ over.medium; idle = ap (λ f. is_executing f.board.controller.phase) is ∙ given_up_rests between.controller told ended };
           })
 
       begins_now : (marked passed_over executing : Bool) (then_board : BoardState) (begun_from : Front) → drive_at then_board place.bay ≡ drive_at between place.bay
@@ -238,7 +238,7 @@ module _ (place : Place) (deleted : Bool) (first : Transfer) (writes : first.opc
           to_moving then_history next new stage_now (ap next_of here ∙ sym (sector_more first history.parts part)) (record {
             disk = over.now;
             like = over.like;
-            parts = written_more place deleted history.parts part place.disk disk over.now parts (over.left.whole now.taken moved.field);
+            parts = written_more place deleted history.parts part place.disk disk over.now parts (over.left.whole now.taken (written_whole deleted part moved).field);
             sector = sector_begins place (here_of first then_history) over.now new placed (ap (λ d. d.medium) drive ∙ over.medium) over.like;
           })
 
@@ -249,23 +249,24 @@ module _ (place : Place) (deleted : Bool) (first : Transfer) (writes : first.opc
           (same_drives place.bay between begins.between begins.takes.first begins.takes.second) begins.begun serves
       ends_if false marked serves is = tells_now (results_behind moving marked) is
 
-    ends_now : (ending : Ending) (mark : Option Bool) → ending_told between.controller ≡ Some ending → Serves first (history_moved (Some ending) moving mark now history) new
+    -- as it is judged
+    ends_now : (ending : Ending) (mark : Option Bool) (told : Ending) → ending_told between.controller ≡ Some told → Serves first (history_moved (Some ending) moving mark now history) new
         → EndsSector moving ending (record fronted { board = with_controller (given_up between.controller) between }) new → IsNow (history_moved (Some ending) moving mark now history) new
-    ends_now (Done marked) mark ended serves ends = ends_if (Done marked) ended (goes_on moving marked) marked serves ends
-    ends_now NoMark mark ended serves ends = tells_now NoMark ended (results_failed moving NoMark) ends
-    ends_now NoSector mark ended serves ends = tells_now NoSector ended (results_failed moving NoSector) ends
-    ends_now NoField mark ended serves ends = tells_now NoField ended (results_failed moving NoField) ends
-    ends_now BadCheck mark ended serves ends = tells_now BadCheck ended (results_failed moving BadCheck) ends
-    ends_now Overrun mark ended serves ends = tells_now Overrun ended (results_failed moving Overrun) ends
-    ends_now NoCount mark ended serves ends = tells_now NoCount ended (results_failed moving NoCount) ends
-    ends_now Protected mark ended serves ends = tells_now Protected ended (results_failed moving Protected) ends
-    ends_now Late mark ended serves ends = tells_now Late ended (results_failed moving Late) ends
+    ends_now (Done marked) mark told ended serves ends = ends_if told ended (goes_on moving marked) marked serves ends
+    ends_now NoMark mark told ended serves ends = tells_now told ended (results_failed moving NoMark) ends
+    ends_now NoSector mark told ended serves ends = tells_now told ended (results_failed moving NoSector) ends
+    ends_now NoField mark told ended serves ends = tells_now told ended (results_failed moving NoField) ends
+    ends_now BadCheck mark told ended serves ends = tells_now told ended (results_failed moving BadCheck) ends
+    ends_now Overrun mark told ended serves ends = tells_now told ended (results_failed moving Overrun) ends
+    ends_now NoCount mark told ended serves ends = tells_now told ended (results_failed moving NoCount) ends
+    ends_now Protected mark told ended serves ends = tells_now told ended (results_failed moving Protected) ends
+    ends_now Late mark told ended serves ends = tells_now told ended (results_failed moving Late) ends
 
-    moves_now : (ending : Option Ending) → ending_told between.controller ≡ ending → Serves first (history_moved ending moving (mark_of between.controller) now history) new → MovesOn ending moving fronted new
-        → IsNow (history_moved ending moving (mark_of between.controller) now history) new
+    moves_now : (ending : Option Ending) → ending_told between.controller ≡ ending → Serves first (history_moved (judged_if moving ending) moving (mark_of between.controller) now history) new
+        → MovesOn (judged_if moving ending) moving fronted new → IsNow (history_moved (judged_if moving ending) moving (mark_of between.controller) now history) new
     moves_now None none serves does =
         goes_now (is_unwanted moving (mark_of between.controller)) (never_unwanted deleted moving (mark_of between.controller) same) none does
-    moves_now (Some ending) ended serves does = ends_now ending (mark_of between.controller) ended serves does
+    moves_now (Some ending) ended serves does = ends_now (judged moving ending) (mark_of between.controller) ending ended serves does
 
   moving_step : (history : History) (moving : MovingSector) (old new : Front) (step : StepsFront old new) → old.stage ≡ Moving moving → IsSizeCode first.key.n → AreMoved first.opcode.operation first history.parts
       → ServesAt (Moving moving) first history old.board.controller → NowWritten (Moving moving) place deleted first history old.board → IsOverCylinder place old → (new.stage ≡ Through → ⊥) → IsOverCylinderWhile new.stage place new
@@ -287,10 +288,11 @@ module _ (place : Place) (deleted : Bool) (first : Transfer) (writes : first.opc
         counted = time_counted timed.time history.past;
         moves = subst (λ o. MayMove o now (sent_of moving.transfer) between.controller) (sym writes) timed.may;
         marks = subst (λ o. MarkGoes o (bytes_moved o history.past) (mark_of fdc) (mark_then (mark_of fdc) between.controller.phase)) (sym writes) tt;
+        bad = subst (λ o. BadGoes o now moving.transfer.key (mark_of fdc) between.controller) (sym writes) tt;
       } in
-      let follows : MovesOn (ending_told between.controller) moving (record old { board = between }) new = subst (λ stage. FollowsStep stage (record old { board = between }) new) stage_is step.follows in
+      let follows : MovesOn (judged_if moving (ending_told between.controller)) moving (record old { board = between }) new = subst (λ stage. FollowsStep stage (record old { board = between }) new) stage_is step.follows in
       let same : moving.transfer.opcode.operation ≡ Write deleted = ap (λ opcode. opcode.operation) (ap (λ a. a.opcode) here ∙ sector_opcode (length history.parts) first) ∙ writes in
-      let then_history = history_moved (ending_told between.controller) moving (mark_of between.controller) now history in
+      let then_history = history_moved (judged_if moving (ending_told between.controller)) moving (mark_of between.controller) now history in
       let passed : PassesAt (selected_at old.board) (head_of moving.transfer.head_drive) timed.time old.board between =
       bay_passes place.bay (head_of moving.transfer.head_drive) timed.time old.board between placed.bay placed.selects
       (subst (λ r. IsTime timed.time r (head_of moving.transfer.head_drive) (drive_at old.board place.bay) (drive_at between place.bay)) (sym placed.rate) timed.is, timed.stops) in

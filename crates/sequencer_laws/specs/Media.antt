@@ -23,7 +23,7 @@ use Rattle.fdc_stages.specs.Searches.{HasNoClear}
 use Rattle.track_model.specs.Looks.{HasAddressMark}
 use Rattle.track_model.specs.Bytes.{bytes_at}
 use Rattle.flop_base.specs.Counts.{last_count}
-use Rattle.sequencer_laws.specs.Serving.{History, Part, sector_after}
+use Rattle.sequencer_laws.specs.Serving.{FindsField, History, Part, sector_after}
 
 -- a bay, the medium in its drive, the cylinder under the heads, and the rate that the controller is set to; and where no word is lost,
 -- the drive's faults
@@ -93,17 +93,27 @@ pub record HasOnTrack (track : List ℕ) (key : Chrn) (marked : Bool) (content :
   pub data_mark : IsDataMark track spot mark marked
   pub whole : IsWhole track mark key.n content
 
--- the mark is wanted, and what was given is this content; or it isn't, such fields are passed over, and nothing was given
-abbrev pub GivesAs : Operation → Bool → List ℕ → List ℕ → Type 0
-GivesAs operation marked content given =
-    ((is_other operation marked ≡ false) × (given ≡ content))
-    ⊎ ((is_skipping operation ≡ true) × (is_other operation marked ≡ true) × (given ≡ []))
+-- the track has an address field of the key, and behind it a data mark that says so; the data field may be whole or not
+pub record HasMarkOnTrack (track : List ℕ) (key : Chrn) (marked : Bool) : Type 0 where
+  pub spot : ℕ
+  pub mark : ℕ
+  pub address_field : IsAddressAt track spot key
+  pub data_mark : IsDataMark track spot mark marked
 
--- a sector that is over stands on the medium under its head, with its mark, and what was given of it is its content
-pub record IsOnMedium (place : Place) (operation : Operation) (part : Part) : Type 0 where
-  pub content : List ℕ
-  pub field : HasOnTrack (track_under place part.at) part.at.key part.marked content
-  pub given : GivesAs operation part.marked content part.past.given
+-- a sector that is over, with a mark that is wanted, stands on the medium under its head, and what was given of it is its content
+pub record IsGivenOf (place : Place) (operation : Operation) (part : Part) : Type 0 where
+  pub wanted : is_other operation part.marked ≡ false
+  pub field : HasOnTrack (track_under place part.at) part.at.key part.marked part.past.given
+
+-- or its mark stands there, which isn't wanted, such fields are passed over, and nothing was given
+pub record IsPassedOn (place : Place) (operation : Operation) (part : Part) : Type 0 where
+  pub skips : is_skipping operation ≡ true
+  pub other : is_other operation part.marked ≡ true
+  pub field : HasMarkOnTrack (track_under place part.at) part.at.key part.marked
+  pub none : part.past.given ≡ []
+
+abbrev pub IsOnMedium : Place → Operation → Part → Type 0
+IsOnMedium place operation part = IsGivenOf place operation part ⊎ IsPassedOn place operation part
 
 abbrev pub AreOnMedium : Place → Operation → List Part → Type 0
 AreOnMedium place operation [] = Unit {0}
@@ -125,13 +135,15 @@ pub record BeginsOnTrack (track : List ℕ) (key : Chrn) (bytes : List ℕ) : Ty
   pub rest : List ℕ
   pub bytes_are : bytes_at track (mark + 64) count ≡ bytes ++ rest
 
--- what a read heard and gave is the medium's: of each sector that is over, and of the last where it was found; and where no word is lost
--- it is missed only where the track has no clear address field of its key, or no address mark, or where an address field of its key has
--- no data field, or one that isn't intact
+-- what a read heard and gave is the medium's: of each sector that is over, and of the last where it was found, whole or passed over; and
+-- where no word is lost it is missed only where the track has no clear address field of its key, or no address mark, or where an
+-- address field of its key has no data field, or one that isn't intact
 pub record IsReadFrom (place : Place) (first : Transfer) (history : History) : Type 0 where
   pub parts : AreOnMedium place first.opcode.operation history.parts
   pub last : let at = sector_after (length history.parts) first in
       (marked : Bool) → FindsSector history.past at.key history.past.given marked → LastOnMedium place at history.past marked
+  pub passed : let at = sector_after (length history.parts) first in
+      (marked : Bool) → FindsField history.past at.key marked → HasMarkOnTrack (track_under place at) at.key marked
   pub given : place.clean ≡ true → let at = sector_after (length history.parts) first in
       (history.past.given ≡ []) ⊎ BeginsOnTrack (track_under place at) at.key history.past.given
   pub missed : place.clean ≡ true → let at = sector_after (length history.parts) first in

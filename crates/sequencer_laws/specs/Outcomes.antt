@@ -1,5 +1,5 @@
 -- What the results of a command of several sectors say.
-use Rattle.std.specs.Prelude.{◌≡◌, ◌⊎◌, ℕ, ◌+◌, Bool, true, false, ◌||◌, List, [], ◌++◌, length, replicate}
+use Rattle.std.specs.Prelude.{◌≡◌, ◌⊎◌, ℕ, ◌+◌, Bool, true, false, ◌||◌, List, ◌++◌, length, replicate}
 use Rattle.flop_base.specs.declared.key.Chrn.{Chrn}
 use Rattle.track_model.specs.Fields.{IsAddressAt, content_at, content_size}
 use Rattle.track_model.specs.Looks.{LookAt}
@@ -7,10 +7,10 @@ use Rattle.track_model.specs.declared.Look.TheVariants.{Found}
 use Rattle.fdc_stages.specs.History.{IsTurn, Past}
 use Rattle.fdc_stages.specs.Findings.{FindsSector}
 use Rattle.fdc_stages.specs.declared.ending.Ending.{Ending}
-use Rattle.fdc_stages.specs.declared.ending.Ending.TheVariants.{Done, NoCount}
+use Rattle.fdc_stages.specs.declared.ending.Ending.TheVariants.{BadCheck, Done, NoCount}
 use Rattle.fdc_stages.specs.Writings.{WritesWhole}
 use Rattle.fdc_commands.specs.declared.results.Results.{Results}
-use Rattle.sequencer_laws.specs.Serving.{History, IsMoved, IsOfSector, Means, Part, bytes_moved, has_other, sector_after, sent_of}
+use Rattle.sequencer_laws.specs.Serving.{HasBadField, History, IsMoved, IsOfSector, IsPassedOver, Means, Part, bytes_moved, has_other, sector_after, sent_of}
 use Rattle.fdc_sequencer.specs.Transfers.{is_last, is_other, is_skipping, next_of, results_told}
 use Rattle.fdc_sequencer.specs.declared.opcode.Operation.{Operation}
 use Rattle.fdc_sequencer.specs.declared.opcode.Operation.TheVariants.{Read, Write}
@@ -26,12 +26,11 @@ pub record HasField (past : Past) (key : Chrn) (marked : Bool) (content : List �
   pub finds : LookAt turn p key.n (Found marked (q + 64))
   pub content_is : content ≡ content_at turn (q + 64) key.n
 
--- what passed of a sector that is over: of a read the content of an intact field of the key, or nothing of one that was passed over;
--- of a write what its field was written with
+-- what passed of a sector that is over: of a read the content of an intact field of the key, or nothing of one that was passed over,
+-- whose check is good or bad; of a write what its field was written with
 abbrev pub PassedWhole : Operation → Part → Type 0
 PassedWhole (Read wanted skip) part =
-    HasField part.past part.at.key part.marked part.past.given
-    ⊎ ((skip ≡ true) × (is_other (Read wanted skip) part.marked ≡ true) × (part.past.given ≡ []))
+    HasField part.past part.at.key part.marked part.past.given ⊎ IsPassedOver (Read wanted skip) part.past part.at.key part.marked
 PassedWhole (Write deleted) part =
     (length part.past.taken ≡ content_size part.at.key.n) × WritesWhole part.past part.at.key deleted part.past.taken
 
@@ -40,24 +39,23 @@ abbrev pub IsFieldWith : Operation → Past → Chrn → Bool → ℕ → Type 0
 IsFieldWith (Read _ _) past key marked missing = FindsSector past key past.given marked
 IsFieldWith (Write deleted) past key marked missing = WritesWhole past key deleted (past.taken ++ replicate missing 0)
 
--- so many bytes of it are missing; or none passed of a field that was passed over
-abbrev pub AreBut : Operation → ℕ → Bool → ℕ → List ℕ → Type 0
-AreBut operation n marked missing bytes =
-    (length bytes + missing ≡ content_size n)
-    ⊎ ((is_skipping operation ≡ true) × (is_other operation marked ≡ true) × (missing ≡ 0) × (bytes ≡ []))
+-- so it is, and so many bytes of it are missing; or it was passed over
+abbrev pub IsMovedBut : Operation → Past → Chrn → Bool → ℕ → Type 0
+IsMovedBut operation past key marked missing =
+    (IsFieldWith operation past key marked missing × (length (bytes_moved operation past) + missing ≡ content_size key.n))
+    ⊎ ((missing ≡ 0) × IsPassedOver operation past key marked)
 
 -- the terminal count came; or a field of the mark that isn't wanted was moved whole, where such aren't passed over
 abbrev pub StopsBehind : Operation → Bool → Bool → ℕ → Type 0
 StopsBehind operation counted marked missing =
     (counted ≡ true) ⊎ ((is_other operation marked ≡ true) × (is_skipping operation ≡ false) × (missing ≡ 0))
 
--- IC 00: the last sector was found, or written, the key is that of the sector behind it, and CM tells whether a field of the
--- mark that isn't wanted was met
+-- IC 00: the last sector was found, or written, or passed over, the key is that of the sector behind it, and CM tells whether a field
+-- of the mark that isn't wanted was met
 pub record EndsWell (operation : Operation) (met counted : Bool) (at : Transfer) (past : Past) (results : Results) : Type 0 where
   pub marked : Bool
   pub missing : ℕ
-  pub field : IsFieldWith operation past at.key marked missing
-  pub bytes : AreBut operation at.key.n marked missing (bytes_moved operation past)
+  pub moved : IsMovedBut operation past at.key marked missing
   pub stops : StopsBehind operation counted marked missing
   pub results_are : results ≡ results_told (Done false) at.head_drive (next_of at).key (met || is_other operation marked)
 
@@ -75,18 +73,25 @@ IsFailure (Done _) = ⊥
 IsFailure NoCount = ⊥
 IsFailure _ = Unit {0}
 
--- CM tells whether a field of the mark that isn't wanted was met before; or one was just passed over
-abbrev pub TellsOther : Operation → Bool → Bool → Type 0
-TellsOther operation met told = (told ≡ met) ⊎ ((told ≡ true) × (is_skipping operation ≡ true))
+-- a check that is bad is of a field that isn't passed over
+abbrev pub IsJudged : Ending → Operation → Past → Chrn → Type 0
+IsJudged BadCheck operation past key = HasBadField operation past key
+IsJudged _ operation past key = Unit {0}
+
+-- CM tells whether a field of the mark that isn't wanted was met before; or one was just passed over, whose check isn't judged
+abbrev pub TellsOther : Ending → Operation → Bool → Bool → Type 0
+TellsOther BadCheck operation met told = told ≡ met
+TellsOther _ operation met told = (told ≡ met) ⊎ ((told ≡ true) × (is_skipping operation ≡ true))
 
 -- a failure: this is its cause, whatever passed is of the sector, and the key is as it was sent
 pub record Fails (operation : Operation) (met : Bool) (at : Transfer) (past : Past) (results : Results) : Type 0 where
   pub ending : Ending
   pub fails : IsFailure ending
   pub means : Means operation past (sent_of at) ending
+  pub judged : IsJudged ending operation past at.key
   pub of_sector : IsOfSector operation past (sent_of at)
   pub told : Bool
-  pub other : TellsOther operation met told
+  pub other : TellsOther ending operation met told
   pub results_are : results ≡ results_told ending at.head_drive at.key told
 
 abbrev pub EndsSo : Operation → Bool → Bool → Transfer → Past → Results → Type 0

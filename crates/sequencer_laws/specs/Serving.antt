@@ -3,11 +3,12 @@
 use Rattle.std.specs.Prelude.{◌≡◌, ◌≤◌, ◌⊎◌, ℕ, zero, suc, ◌+◌, ◌-◌, nat_le, Bool, true, false, ◌||◌, ◌==◌, Option, None, Some, List, [], ◌∷◌, ◌++◌, length, flat_map}
 use Rattle.std.specs.List.{list_any}
 use Rattle.flop_base.specs.declared.key.Chrn.{Chrn}
-use Rattle.track_model.specs.Fields.{IsSizeCode, content_size}
-use Rattle.fdc_stages.specs.History.{Past, begun as new_past}
+use Rattle.track_model.specs.Fields.{IsAddressAt, IsSizeCode, content_size}
+use Rattle.track_model.specs.Looks.{HasDataField, IsIntact}
+use Rattle.fdc_stages.specs.History.{IsTurn, Past, begun as new_past}
 use Rattle.fdc_stages.specs.Findings.{FindsSector}
 use Rattle.fdc_stages.specs.declared.ending.Ending.{Ending}
-use Rattle.fdc_stages.specs.declared.ending.Ending.TheVariants.{Done}
+use Rattle.fdc_stages.specs.declared.ending.Ending.TheVariants.{BadCheck, Done}
 use Rattle.fdc_stages.specs.Writings.{WritesWhole}
 use Rattle.fdc_commands.specs.Table.{answer}
 use Rattle.fdc_commands.specs.declared.bytes.Accepted.TheVariants.{Ready}
@@ -29,7 +30,7 @@ use Rattle.fdc_phases.specs.declared.answers.Answer.TheVariants.{Short}
 use Rattle.fdc_core.specs.declared.controller.Fdc.{Fdc}
 use Rattle.fdc_phases.specs.declared.phases.Phase.TheVariants.{Result}
 use Rattle.fdc_sequencer.specs.Fronts.{Front}
-use Rattle.fdc_sequencer.specs.Moves.{StepsFront, goes_on, is_unwanted, results_behind, results_failed}
+use Rattle.fdc_sequencer.specs.Moves.{StepsFront, goes_on, is_unwanted, judged_if, results_behind, results_failed}
 use Rattle.fdc_sequencer.specs.Transfers.{next_of, is_other, is_skipping, transfer_of}
 use Rattle.fdc_sequencer.specs.declared.opcode.Opcode.{Opcode}
 use Rattle.fdc_sequencer.specs.declared.opcode.Operation.{Operation}
@@ -66,6 +67,23 @@ abbrev pub Means : Operation → Past → Sent → Ending → Type 0
 Means (Read _ _) past sent ending = ReadMeans past sent ending
 Means (Write deleted) past sent ending = WriteMeans past sent deleted ending (results_sent ending sent)
 
+-- ---- fields that a read heard
+
+-- a turn has an address field of the key at p, and its data field at q, with this mark
+pub record HasFieldIn (past : Past) (key : Chrn) (marked : Bool) (turn : List ℕ) (p q : ℕ) : Type 0 where
+  pub among : IsTurn past turn
+  pub address : IsAddressAt turn p key
+  pub field : HasDataField turn p key.n q marked
+
+-- some turn has, whatever the data field's check is
+abbrev pub FindsField : Past → Chrn → Bool → Type 0
+FindsField past key marked = (turn : List ℕ) × (p : ℕ) × (q : ℕ) × HasFieldIn past key marked turn p q
+
+-- and the data field isn't whole
+abbrev pub FindsBadField : Past → Chrn → Bool → Type 0
+FindsBadField past key marked =
+    (turn : List ℕ) × (p : ℕ) × (q : ℕ) × HasFieldIn past key marked turn p q × (IsIntact turn q key.n → ⊥)
+
 -- ---- sectors that are over
 
 -- a sector that is over: the command as it stood there, what its own search heard and moved, and the mark of its field
@@ -80,15 +98,23 @@ abbrev pub IsWholeField : Operation → Past → Chrn → Bool → Type 0
 IsWholeField (Read _ _) past key marked = FindsSector past key past.given marked
 IsWholeField (Write deleted) past key marked = WritesWhole past key deleted past.taken
 
--- all bytes of a field with a mark that is wanted; or none of one with the other mark, where such are passed over
-abbrev pub AreAll : Operation → ℕ → Bool → List ℕ → Type 0
-AreAll operation n marked bytes =
-    ((is_other operation marked ≡ false) × (length bytes ≡ content_size n))
-    ⊎ ((is_skipping operation ≡ true) × (is_other operation marked ≡ true) × (bytes ≡ []))
-
-pub record IsMoved (operation : Operation) (part : Part) : Type 0 where
+-- all bytes of a field passed, whose mark is wanted
+pub record IsMovedWhole (operation : Operation) (part : Part) : Type 0 where
   pub field : IsWholeField operation part.past part.at.key part.marked
-  pub all : AreAll operation part.at.key.n part.marked (bytes_moved operation part.past)
+  pub wanted : is_other operation part.marked ≡ false
+  pub all : length (bytes_moved operation part.past) ≡ content_size part.at.key.n
+
+-- or none passed of one with the other mark, where such are passed over: it was found, its check good or bad, and the controller was
+-- told the count
+pub record IsPassedOver (operation : Operation) (past : Past) (key : Chrn) (marked : Bool) : Type 0 where
+  pub skips : is_skipping operation ≡ true
+  pub other : is_other operation marked ≡ true
+  pub found : FindsField past key marked
+  pub counted : past.counted ≡ true
+  pub none : bytes_moved operation past ≡ []
+
+abbrev pub IsMoved : Operation → Part → Type 0
+IsMoved operation part = IsMovedWhole operation part ⊎ IsPassedOver operation part.past part.at.key part.marked
 
 -- the sectors from the first on, one behind the other, and each was moved
 abbrev pub AreMoved : Operation → Transfer → List Part → Type 0
@@ -114,8 +140,9 @@ IsOfOther operation mark = (marked : Bool) × (mark ≡ Some marked) × (is_othe
 -- remembered of fields of the other mark is whether one was met, here or before
 abbrev pub AreLeft : Operation → Bool → MovingSector → Option Bool → List ℕ → Type 0
 AreLeft operation met moving mark bytes =
-    ((moving.passed_over ≡ met) × (length bytes + moving.left ≡ content_size moving.transfer.key.n))
-    ⊎ ((moving.passed_over ≡ true) × (is_skipping operation ≡ true) × IsOfOther operation mark × (moving.left ≡ 0) × (bytes ≡ []))
+    ((moving.skipped ≡ false) × (moving.passed_over ≡ met) × (length bytes + moving.left ≡ content_size moving.transfer.key.n))
+    ⊎ ((moving.skipped ≡ true) × (moving.passed_over ≡ true) × (is_skipping operation ≡ true) × IsOfOther operation mark × (moving.left ≡ 0)
+    × (bytes ≡ []))
 
 -- what is left of the sector, behind such that met the other mark or didn't, once the mark of its own field is known or not
 pub record Accounts (operation : Operation) (met : Bool) (moving : MovingSector) (past : Past) (mark : Option Bool) : Type 0 where
@@ -141,6 +168,24 @@ pub record Carries (operation : Operation) (met : Bool) (moving : MovingSector) 
 
 -- ---- how the command ends
 
+-- with this mark a field is done: one that is passed over was found; of another the controller's ending says so
+abbrev pub IsFieldDone : Bool → Operation → Past → Sent → Bool → Type 0
+IsFieldDone true operation past sent marked = FindsField past sent.key marked
+IsFieldDone false operation past sent marked = Means operation past sent (Done marked)
+
+-- a field that isn't whole has a mark that is wanted, or such as haven't it aren't passed over
+abbrev pub HasBadField : Operation → Past → Chrn → Type 0
+HasBadField (Read wanted skip) past key =
+    (marked : Bool) × FindsBadField past key marked × (skip ≡ true → is_other (Read wanted skip) marked ≡ false)
+HasBadField (Write deleted) past key = Unit {0}
+
+-- what an ending says, as it is judged, of a sector whose field is passed over or isn't
+abbrev pub MeansJudged : Ending → Bool → Operation → Past → Sent → Type 0
+MeansJudged (Done marked) skipped operation past sent = IsFieldDone skipped operation past sent marked
+MeansJudged BadCheck skipped operation past sent =
+    (skipped ≡ false) × Means operation past sent BadCheck × HasBadField operation past sent.key
+MeansJudged ending skipped operation past sent = Means operation past sent ending
+
 -- no sector comes behind this one
 abbrev pub IsLastOne : MovingSector → Ending → Type 0
 IsLastOne moving (Done marked) = goes_on moving marked ≡ false
@@ -156,13 +201,13 @@ abbrev pub results_ended : MovingSector → Ending → Results
 results_ended moving (Done marked) = results_behind moving marked
 results_ended moving ending = results_failed moving ending
 
--- the command ended at this sector, since the controller's own command for it ended so
+-- the command ended at this sector, since the controller's own command for it ended so, as it is judged
 pub record Ends (operation : Operation) (met told : Bool) (at : Transfer) (past : Past) (results : Results) : Type 0 where
   pub moving : MovingSector
   pub here : moving.transfer ≡ at
   pub counted : moving.counted ≡ told
   pub ending : Ending
-  pub means : Means operation past (sent_of at) ending
+  pub means : MeansJudged ending moving.skipped operation past (sent_of at)
   pub last : IsLastOne moving ending
   pub mark : Option Bool
   pub marked : IsMarkOf ending mark
@@ -245,7 +290,8 @@ history_ended true at marked past old =
     record { parts = old.parts ++ record { at = at; past = past; marked = marked } ∷ []; past = new_past; counted = false }
 history_ended false at marked past old = record old { past = past }
 
--- behind a device step of a sector: the controller's own command ended so, or a field that isn't wanted is passed over, or it goes on
+-- behind a device step of a sector: the controller's own command ended so, as it is judged, or a field that isn't wanted is passed
+-- over, or it goes on
 abbrev pub history_moved : Option Ending → MovingSector → Option Bool → Past → History → History
 history_moved (Some (Done marked)) moving mark past old = history_ended (goes_on moving marked) moving.transfer marked past old
 history_moved (Some _) moving mark past old = record old { past = past }
@@ -259,7 +305,8 @@ history_sought false counted old = old
 -- behind a device step in which this passed, once the controller made this of it
 abbrev pub history_stepped : Stage → WordTime → Fdc → History → History
 history_stepped (Seeking at counted) time fdc old = history_sought (has_ended_seek fdc.seeks) counted old
-history_stepped (Moving moving) time fdc old = history_moved (ending_told fdc) moving (mark_of fdc) (after_time time old.past) old
+history_stepped (Moving moving) time fdc old =
+    history_moved (judged_if moving (ending_told fdc)) moving (mark_of fdc) (after_time time old.past) old
 history_stepped _ time fdc old = old
 
 -- behind a byte, and with the last of a sector the controller was told the count

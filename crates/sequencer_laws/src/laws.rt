@@ -43,7 +43,8 @@ pub fn results_say()
         → front.stage ≡ Telling results read → ResultsSay first history results }
 {}
 
-/// What passed of a sector that is over is the whole content of a field; so are as many bytes of the last one as it has.
+/// What passed of a sector that is over is the whole content of a field, or nothing of one that was passed over. As many bytes of the
+/// last one as it has are its content, too.
 pub fn sectors_are_whole()
     ensures parts { (operation : Operation) (part : Part) → IsMoved operation part → PassedWhole operation part }
     ensures last { (past : Past) (key : Chrn) (marked : Bool) (given : List ℕ) → FindsSector past key given marked
