@@ -125,10 +125,9 @@ fn sync_folder(rt: &impl Files) -> io::Result<()> {
 // let it go. That is a failure, but where it has these bytes already.
 fn replace_file(rt: &impl Files, name: &str, bytes: &[u8]) -> io::Result<()> {
     if let Err(refused) = ask_leave(rt, name) {
-        return if has_bytes(rt, name, bytes)? {
-            Ok(())
-        } else {
-            Err(refused)
+        return match has_bytes(rt, name, bytes) {
+            Ok(true) => Ok(()),
+            _ => Err(refused),
         };
     }
     let mode = mode_of(rt, name)?;
