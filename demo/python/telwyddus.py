@@ -4,14 +4,23 @@
         controller.insert(0, tray)
         controller.write(0x3F2, 0x1C)
 
-TELWYDDUS_LIBRARY names the shared library; docs/C.md says how to build it. Each object frees what it holds where its `with` ends.
+TELWYDDUS_LIBRARY names the shared library; without it the one beside this file is taken, as a wheel has it, or the system's. docs/C.md
+says how to build it. Each object frees what it holds where its `with` ends.
 A code other than DONE is raised as the exception of its name. Calls keep the interpreter's lock, so they come one at a time.
 """
 import ctypes
 import enum
 import os
 
-library = ctypes.PyDLL(os.environ.get("TELWYDDUS_LIBRARY", "libtelwyddus.so"))
+
+def found():
+    """Where the shared library is."""
+    name = "libtelwyddus.so"
+    beside = os.path.join(os.path.dirname(os.path.abspath(__file__)), name)
+    return os.environ.get("TELWYDDUS_LIBRARY") or (beside if os.path.isfile(beside) else name)
+
+
+library = ctypes.PyDLL(found())
 
 
 class Refused(Exception):

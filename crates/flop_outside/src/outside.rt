@@ -15,6 +15,9 @@ const PARTS: u16 = 1000;
 // Who may read and write a file where none was before, less what the user's mask takes.
 const NEW_MODE: u32 = 0o666;
 
+// How many bytes of a file are compared at once.
+const PIECE: usize = 4096;
+
 /// The name that a new file has while it is written: `.floppy-part-000` to `.floppy-part-999`.
 /// No job or word of the program says it, since names don't begin with a dot.
 #[derive(Drop)]
@@ -47,6 +50,35 @@ fn mode_of(rt: &impl Files, name: &str) -> io::Result<Option<u32>> {
         Err(error) if error.kind() == ErrorKind::NotFound => Ok(None),
         Err(error) => Err(error),
     }
+}
+
+// Opens what has a name for writing, and leaves it as it is: an error where this user may not write it. Where none has
+// the name, the folder decides. What is no file isn't opened, since a pipe waits for its other end.
+fn ask_leave(rt: &impl Files, name: &str) -> io::Result<()> {
+    if let Ok(old) = fs::metadata(rt, name) {
+        if old.is_file() {
+            OpenOptions::new().write(true).open(rt, name)?;
+        }
+    }
+    Ok(())
+}
+
+// Whether the file under a name has these bytes, and no others.
+fn has_bytes(rt: &impl Files, name: &str, bytes: &[u8]) -> io::Result<bool> {
+    let mut file = fs::open(rt, name)?;
+    let mut piece = [0u8; PIECE];
+    let mut rest = bytes;
+    for _ in 0..u64::MAX {
+        let count = file.read(&mut piece)?;
+        if count == 0 {
+            return Ok(rest.is_empty());
+        }
+        match rest.strip_prefix(&piece[..count]) {
+            Some(behind) => rest = behind,
+            None => return Ok(false),
+        }
+    }
+    Ok(false)
 }
 
 // Opens a file that wasn't there, so it is this call's own: what has the name, another program's new file
@@ -89,8 +121,15 @@ fn sync_folder(rt: &impl Files) -> io::Result<()> {
 }
 
 // Writes a file beside the old one, which it replaces when it is whole. A failure leaves the old one as it was, and
-// takes away the new one, which no other program has.
+// takes away the new one, which no other program has. An old one that may not be written stays: the folder alone would
+// let it go. That is a failure, but where it has these bytes already.
 fn replace_file(rt: &impl Files, name: &str, bytes: &[u8]) -> io::Result<()> {
+    if let Err(refused) = ask_leave(rt, name) {
+        return match has_bytes(rt, name, bytes) {
+            Ok(true) => Ok(()),
+            _ => Err(refused),
+        };
+    }
     let mode = mode_of(rt, name)?;
     let (file, part) = create_part(rt, mode.unwrap_or(NEW_MODE))?;
     let part = part.text()?;
@@ -107,7 +146,7 @@ fn replace_file(rt: &impl Files, name: &str, bytes: &[u8]) -> io::Result<()> {
 }
 
 /// The files of the current folder. A store writes a new file whole and then renames it, so that a failed one leaves
-/// the old file as it was.
+/// the old file as it was. It fails where the old file may not be written and has other bytes.
 #[derive(Drop)]
 pub struct FileShelf<'a, R: Files> {
     rt: &'a R,

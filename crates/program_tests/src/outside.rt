@@ -6,6 +6,8 @@ use flop_base::{
 };
 use flop_outside::{FileShelf, StreamSink};
 use std::fs;
+use std::fs::{OpenOptions, Permissions};
+use std::os::unix::fs::PermissionsExt;
 use std::test::Fail;
 
 #[test]
@@ -104,6 +106,31 @@ fn a_folder_in_a_files_place_is_a_fault(rt: HostRuntime) -> Result<(), Fail> {
     assert_eq!(rt; folder.err(), Some(LoadError::Failed));
     assert_eq!(rt; refused.err(), Some(StoreError::Failed));
     assert_eq!(rt; shelf.faults(), 2);
+    Ok(())
+}
+
+// The superuser may write any file, so what is wanted goes by whether this user may.
+#[test]
+fn a_file_that_may_not_be_written_is_not_replaced(rt: HostRuntime) -> Result<(), Fail> {
+    let name = "floppy-test-kept";
+    let mut shelf = FileShelf::new(&rt);
+    shelf.store(name, b"old")?;
+    fs::set_permissions(&rt, name, Permissions::from_mode(0o444))?;
+    let may_write = OpenOptions::new().write(true).open(&rt, name).is_ok();
+    let same = shelf.store(name, b"old");
+    let refused = shelf.store(name, b"new").err();
+    let loaded = shelf.load(rt.alloc(), name, 5)?;
+    fs::remove_file(&rt, name)?;
+    assert_eq!(rt; same.err(), None);
+    if may_write {
+        assert_eq!(rt; refused, None);
+        assert_eq!(rt; loaded.as_slice(), b"new".as_slice());
+        assert_eq!(rt; shelf.faults(), 0);
+    } else {
+        assert_eq!(rt; refused, Some(StoreError::Failed));
+        assert_eq!(rt; loaded.as_slice(), b"old".as_slice());
+        assert_eq!(rt; shelf.faults(), 1);
+    }
     Ok(())
 }
 

@@ -1,0 +1,83 @@
+"""What the tools here and demo/install have in common: the version, what has been built, and the library made of it."""
+import datetime
+import pathlib
+import re
+import shutil
+import subprocess
+import sys
+
+TOP = pathlib.Path(__file__).resolve().parent.parent
+VERSION = (TOP / "VERSION").read_text(encoding="ascii").strip()
+# What was linked with one library runs with each other one whose version has this first number.
+ABI = VERSION.partition(".")[0]
+SONAME = f"libtelwyddus.so.{ABI}"
+SHARED = f"libtelwyddus.so.{VERSION}"
+PROGRAM = TOP / "crates/floppy/out/floppy"
+ARCHIVE = TOP / "crates/telwyddus_c/out/libtelwyddus_c.a"
+SUMMARY = "The 1.44 MB diskette path of the IBM PC/AT as one machine model, with proofs"
+
+
+def run(*words, **more):
+    """Runs a tool; one that fails, or isn't there, ends this one."""
+    try:
+        return subprocess.run([str(word) for word in words], check=True, universal_newlines=True, **more)
+    except FileNotFoundError as lacking:
+        sys.exit(f"{lacking.filename} absent")
+    except subprocess.CalledProcessError as failed:
+        sys.exit(f"{failed.cmd[0]} ended with status {failed.returncode}")
+
+
+def told(*words, **more):
+    return run(*words, stdout=subprocess.PIPE, **more).stdout
+
+
+def built(path, by):
+    """A file that has to be there."""
+    if not path.is_file():
+        sys.exit(f"{path} isn't built: {by} builds it")
+    return path.resolve()
+
+
+def make_library(archive, work):
+    """Makes the library in a folder, of an archive and c/heap.c: libtelwyddus.a, and the shared one, which shows its calls alone."""
+    heap, static, shared, shown = work / "heap.o", work / "libtelwyddus.a", work / SHARED, work / "shown"
+    run("gcc", "-O2", "-fPIC", "-c", TOP / "c/heap.c", "-o", heap)
+    shutil.copyfile(archive, static)
+    run("ar", "rs", static, heap, stderr=subprocess.DEVNULL)
+    shown.write_text("{ global: telwyddus_*; local: *; };\n")
+    whole = ["-Wl,--whole-archive", archive, "-Wl,--no-whole-archive"]
+    run("gcc", "-shared", f"-Wl,-soname,{SONAME},-z,relro,-z,now,--version-script={shown}", "-o", shared, heap, *whole)
+    return static, shared
+
+
+def pkg_config(prefix, libraries):
+    """The text of telwyddus.pc."""
+    return (f"prefix={prefix}\nlibdir={libraries}\nincludedir=${{prefix}}/include\n\n"
+            f"Name: telwyddus\nDescription: {SUMMARY}\nVersion: {VERSION}\nLibs: -L${{libdir}} -ltelwyddus\nCflags: -I${{includedir}}\n")
+
+
+def changes():
+    """What CHANGELOG.md tells of each version, the newest first: its number, its day, and its points."""
+    found = []
+    for line in (TOP / "CHANGELOG.md").read_text(encoding="utf-8").splitlines():
+        heading = re.fullmatch(r"## (\S+), (\d{4}-\d\d-\d\d)", line)
+        if heading:
+            found.append((heading[1], datetime.date.fromisoformat(heading[2]), []))
+        elif found and line.startswith("- "):
+            found[-1][2].append(line[2:])
+        elif found and line.startswith("  "):
+            found[-1][2][-1] += " " + line.strip()
+    return found
+
+
+def newest():
+    """What CHANGELOG.md tells of this version, with which it has to begin."""
+    found = changes()[0]
+    if found[0] != VERSION:
+        sys.exit(f"CHANGELOG.md begins with {found[0]}, and VERSION has {VERSION}")
+    return found
+
+
+def moment():
+    """The seconds of this version's day, at noon: files get them, so that the same source makes the same packages."""
+    return int(datetime.datetime.combine(newest()[1], datetime.time(12), datetime.timezone.utc).timestamp())
