@@ -44,8 +44,8 @@ pub use status::{
     verify_status,
 };
 pub use steps::{
-    course_is_a_run, steps_keep_guarded_media, steps_keep_other_fields, steps_read_fields,
-    steps_write_fields,
+    course_is_a_run, steps_format_tracks, steps_keep_guarded_media, steps_keep_other_fields,
+    steps_read_fields, steps_send_few_commands, steps_tell_causes, steps_write_fields,
 };
 pub use verify::{verify_finds_all, verify_of_a_disk};
 pub use words::form_of_words_ran;
