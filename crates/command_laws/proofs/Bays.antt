@@ -1,5 +1,5 @@
 -- Which requests that put media in, make bays ready and take media out are done where nothing disturbs them, and what stands behind them.
-use Rattle.std.proofs.Common.{arith, ◌≡◌, ◌∙◌, ◌<◌, ◌≤◌, ℕ, Bool, true, false, true≢false, List, length, refl, sym, ap, subst, inl, inr, Option, Some, None, Result, Ok, Err, IsOk, le-leb}
+use Rattle.std.proofs.Common.{arith, ◌≡◌, ◌∙◌, ◌<◌, ◌≤◌, ℕ, Bool, true, false, true≢false, List, length, refl, sym, ap, subst, inl, inr, Option, Some, None, Result, Ok, Err, IsOk, le-leb, unwrap_or}
 use Rattle.std.specs.Prelude.{◌&&◌, ◌==◌, not, is_some, IsSomeAnd, MatchBool, if◌then◌else◌}
 use Rattle.std.specs.Option.{option_map}
 use Rattle.flop_base.specs.Shelf.{Files, file_at}
@@ -29,7 +29,7 @@ use Rattle.floppy_session.specs.Blanks.{blank_request}
 use Rattle.floppy_session.specs.declared.shape.Shape.{Shape}
 use Rattle.floppy_session.specs.Shapes.{shape_of}
 use Rattle.scripts.specs.Scripts.{Script}
-use Rattle.scripts.specs.Parts.{carries, with_shape, opens, sets_rate, acknowledges}
+use Rattle.scripts.specs.Parts.{carries, no_tracks, shape_at, opens, sets_rate, acknowledges}
 use Rattle.command_laws.proofs.Prepared.{IsBlank, IsAcked, blanks, acks, in_with}
 use Rattle.command_laws.proofs.Reading.{reaches}
 use Rattle.command_laws.proofs.Steps.{keeps_drives}
@@ -279,8 +279,8 @@ opens_goes from files disk rest old image fresh behind =
     } in
     goes_needs (λ new. IsPutIn disk (Some files) new) (request.Insert 0 from) _ (at old (Some files)) done
     (λ answer new put.
-    let told = ap (λ (medium : Option Disk). option_map shape_of medium) put.medium in
-    subst (λ (shape : Option Shape). GoesWell (with_shape shape rest) new) (sym told) (behind new put))
+    let is : shape_at new.state 0 ≡ shape_of disk = ap (λ (medium : Option Disk). unwrap_or (option_map shape_of medium) no_tracks) put.medium in
+    subst (λ (shape : Shape). GoesWell (rest shape) new) (sym is) (behind new put))
 
 -- a disk is in bay 1, and bay 0 is as it was
 pub record IsPutBehind (target : Disk) (old new : Stage) : Type 0 where

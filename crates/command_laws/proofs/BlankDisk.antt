@@ -11,7 +11,7 @@ use Rattle.sector_map.specs.Met.{unrecorded}
 use Rattle.sector_map.specs.MetTracks.{HasNothing}
 use Rattle.sector_map.proofs.MetTracks.{nothing_unrecorded}
 use Rattle.sector_model.specs.Steps.{blank_of}
-use Rattle.command_laws.specs.Rescued.{HasLaidFields}
+use Rattle.command_laws.specs.LaidFields.{HasLaidFields}
 
 -- a track with nothing recorded is regular
 none_regular : (track : List ℕ) (c h : ℕ) → HasNothing track → IsRegular track c h

@@ -136,9 +136,12 @@ same_sectors : (disk : Disk) (to : List ℕ) (old new : Counters) (course : List
     → StoresCopy disk to old told course new after → StoresSameSectors disk to told after
 same_sectors disk to old new course told after sure stores = record {
   copied = stores.copied;
+  valid = stores.valid;
   protected = stores.protected;
   regular = stores.regular;
+  laid = stores.laid_fields;
   cylinders = stores.cylinders;
+  heads = stores.heads;
   rate = stores.rate;
   sectors = λ key standard.
       let given = stores.sectors key.c key.h key.r standard.track standard.sector.0 standard.sector.1 in

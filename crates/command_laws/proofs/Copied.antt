@@ -19,8 +19,10 @@ use Rattle.sector_model.specs.Runs.{Taken}
 use Rattle.command_laws.specs.Done.{DoesAll}
 use Rattle.command_laws.specs.Requests.{Track, copy_track, copy_each, marks_read, write_records, read_records}
 use Rattle.command_laws.specs.Copied.{SomeStep, Gave, HasAsGiven, IsSure, copied_entry}
+use Rattle.command_laws.specs.LaidFields.{HasLaidFields}
 use Rattle.command_laws.proofs.CopiedTrack.{IsReady, copies_track, given_in}
 use Rattle.command_laws.proofs.DiskRecords.{reads_keep, sure_parts}
+use Rattle.command_laws.proofs.LaidDisks.{still_laid}
 use Rattle.command_laws.proofs.Marks.{marks-append, some_first, some_second}
 use Rattle.command_laws.proofs.Steps.{and_both, splits, ends_there, never_fell, keeps_drives}
 use Rattle.command_laws.proofs.Tracks.{Among}
@@ -52,6 +54,7 @@ pub record CopiesTracks (sure : Type 0) (source : Disk) (at : Rate) (tracks : Li
   pub ready : IsReady at source final new
   pub alike : AreAlike disk final
   pub laid : (c h : ℕ) → HasTrack disk c h → (Among tracks c h ⊎ IsLaid (track_of disk c h)) → IsLaid (track_of final c h)
+  pub laid_fields : HasLaidFields disk → HasLaidFields final
   pub sectors : (c h r : ℕ) → HasTrack disk c h → 1 ≤ r → r ≤ sectors_at at → (Among tracks c h ⊎ HasAsGiven sure whole source disk c h r)
       → HasAsGiven sure whole source final c h r
   pub names : new.names ≡ old.names
@@ -105,6 +108,7 @@ copies_each tidy sure source rate [] marks whole disk old new told after course 
       ready = subst (λ (s : State). IsReady rate source disk s) (sym same.0) ready;
       alike = alike_itself disk ready.valid;
       laid = λ c h has which. elim which [ inl among ↦ absurd among | inr laid ↦ laid ];
+      laid_fields = λ had. had;
       sectors = λ c h r has least most which. elim which [ inl among ↦ absurd among | inr given ↦ given ];
       names = ap (λ (s : State). s.names) same.0;
       files = same.1;
@@ -132,6 +136,7 @@ copies_each tidy sure source rate (track ∷ later) marks whole disk old new tol
       ready = rest.ready;
       alike = alike_both disk one.final rest.final alike rest.alike;
       laid = λ c h had which. rest.laid c h ((alike_tracks disk one.final c h alike).0 had) (laid_still rate b g later disk one.final one.keeps one.laid c h had which);
+      laid_fields = λ had. rest.laid_fields (still_laid disk one.final b g one.keeps had one.laid);
       sectors = λ c h r had least most which.
           let given = given_in sure source parts.one whole one.final b g r (part_one b g r) (one.sectors r least most) in
           rest.sectors c h r ((alike_tracks disk one.final c h alike).0 had) least most (given_still rate b g later disk one.final one.keeps sure source whole r given c h which);

@@ -29,7 +29,7 @@ use Rattle.command_laws.specs.Copied.{SomeStep, Gave, IsSure, StoresCopy, Copies
 use Rattle.command_laws.proofs.Copied.{copies_each, copies_keep}
 use Rattle.command_laws.proofs.CopiedTrack.{IsReady, both_fell}
 use Rattle.command_laws.proofs.DiskRecords.{sure_parts}
-use Rattle.command_laws.proofs.BlankDisk.{blank_regular}
+use Rattle.command_laws.proofs.BlankDisk.{blank_regular, blank_fields}
 use Rattle.command_laws.proofs.Tracks.{Among, among_all, among_only}
 use Rattle.command_laws.proofs.Written.{AllTidy}
 
@@ -176,6 +176,7 @@ copies_disk tidy from to disk files old new after course all size faultless =
       words_per_track = copies.alike.words_per_track;
       regular = copies.ready.regular;
       laid = λ c h track. copies.laid c h (blank_has c h track) (inl (among_all disk.cylinders disk.heads c h track.0 track.1));
+      laid_fields = copies.laid_fields (blank_fields disk.cylinders rate);
       sectors = λ c h r track least most. copies.sectors c h r (blank_has c h track) least most (inl (among_all disk.cylinders disk.heads c h track.0 track.1));
       files = end.1 ∙ stores.5 ∙ ap (λ (n : List ℕ). stored body.files n (file_of stores.0)) same_name
           ∙ ap (λ (d : Disk). stored body.files to (file_of d)) same_disk ∙ ap (λ (f : Option Files). stored f to (file_of copies.final)) told;

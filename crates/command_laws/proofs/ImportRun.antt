@@ -40,8 +40,10 @@ use Rattle.sector_model.specs.Steps.{blank_of}
 use Rattle.command_laws.specs.Requests.{write_records}
 use Rattle.command_laws.specs.Formatted.{standard_track, standard_content}
 use Rattle.command_laws.specs.Copied.{copied_entry}
+use Rattle.command_laws.specs.LaidFields.{HasLaidFields}
 use Rattle.command_laws.proofs.Formatting.{one_format}
 use Rattle.command_laws.proofs.DiskRecords.{keys_from}
+use Rattle.command_laws.proofs.LaidDisks.{still_laid}
 use Rattle.command_laws.proofs.Sectors.{track_regular, track_laid, track_sector, HasContent}
 use Rattle.command_laws.proofs.TrackParts.{did_all}
 use Rattle.command_laws.proofs.Written.{AreCopied, HasSome, all_writes, writes_keep}
@@ -54,7 +56,7 @@ use Rattle.floppy_session.specs.Blanks.{blank_request}
 use Rattle.scripts.specs.Scripts.{RunsScript}
 use Rattle.scripts.proofs.Reading.{last_run, prints_status, no_stop_is_ok}
 use Rattle.flat_commands.specs.FlatFiles.{IsFlatFound}
-use Rattle.command_laws.proofs.BlankDisk.{blank_regular}
+use Rattle.command_laws.proofs.BlankDisk.{blank_regular, blank_fields}
 use Rattle.command_laws.proofs.Prepared.{blanks}
 use Rattle.command_laws.proofs.Formatted.{blank_keeps}
 use Rattle.command_laws.specs.Imported.{sector_bytes, HasFlatSector, StoresDisk, StoresImported}
@@ -196,6 +198,7 @@ pub record IsImporting (bytes : List ℕ) (rate : Rate) (name : List ℕ) (told 
   pub bay_rate : (bay_of now.state.station 0).rate ≡ rate
   pub alike : AreAlike (blank_of 80 rate) disk
   pub regular : IsRegularDisk disk
+  pub laid : HasLaidFields disk
   pub size : length now.state.station.memory ≡ user_bytes
   pub named : in_bay now.state.names 0 ≡ Some name
   pub files : now.files ≡ told
@@ -313,6 +316,7 @@ module _ (bytes : List ℕ) (rate : Rate) (name : List ℕ) (told : Option Files
         bay_rate = writes_all.bay_rate ∙ bay_rate;
         alike = alike_both (blank_of 80 rate) disk final holds.alike keeps.alike;
         regular = writes_all.regular;
+        laid = still_laid disk final c h keeps holds.laid writes_all.laid;
         size = ap length writes_all.memory ∙ fills.size;
         named = ap (λ (n : Two (Option (List ℕ))). in_bay n 0) (writes_all.names ∙ fills.names_stay ∙ formats.names) ∙ holds.named;
         files = writes_all.files ∙ fills.files_stay ∙ formats.files ∙ holds.files;
@@ -386,6 +390,7 @@ module _ (bytes name : List ℕ) (rate : Rate) (whole : length bytes ≡ flat_le
           bay_rate = ready.rate;
           alike = alike_itself blank put.valid;
           regular = blank_regular 80 rate;
+          laid = blank_fields 80 rate;
           size = ap length (ready.memory ∙ ap (λ (s : StationState). s.memory) put.becomes) ∙ size;
           named = ap (λ (n : Two (Option (List ℕ))). in_bay n 0) ready.names ∙ ap (λ (n : Two (Option (List ℕ))). in_bay n 0) put.named;
           files = ready.files ∙ put.files;
@@ -412,6 +417,7 @@ module _ (bytes name : List ℕ) (rate : Rate) (whole : length bytes ≡ flat_le
         rate = holds.alike.rate;
         words_per_track = holds.alike.words_per_track;
         regular = holds.regular;
+        laid = holds.laid;
         sectors = λ c h r sector. holds.sectors c h r sector (omega (arith, sector.cylinder, sector.head));
         files = stores.5 ∙ ap (λ (n : List ℕ). stored full.files n (file_of stores.0)) same_name
             ∙ ap (λ (d : Disk). stored full.files name (file_of d)) same_disk

@@ -6,6 +6,7 @@ pub mod CopyRun
 pub mod FormatRun
 mod Formatted
 mod Formatting
+mod LaidDisks
 mod Looks
 mod Marks
 mod DiskOpening
@@ -39,6 +40,7 @@ mod Telling
 mod RescueGiven
 mod RescueLog
 pub mod StoredFiles
+pub mod RescueTargets
 mod RescueOpening
 pub mod Whole
 mod RescueSteps

@@ -1,5 +1,5 @@
 -- What a rescue stores, however it ends, and in which order.
-use Rattle.std.proofs.Common.{◌≡◌, ◌∙◌, ℕ, Bool, true, false, List, [], ◌∷◌, ◌++◌, length, append-nil, append_assoc, sym, ap, subst, inl, inr, Option, Some, None, Result}
+use Rattle.std.proofs.Common.{◌≡◌, ◌∙◌, ℕ, Bool, true, false, List, [], ◌∷◌, ◌++◌, length, append-nil, append_assoc, sym, ap, subst, inl, inr, Option, Some, Result}
 use Rattle.std.specs.Prelude.{is_some}
 use Rattle.flop_base.specs.Shelf.{Files, stored}
 use Rattle.flop_base.specs.declared.key.Chrn.{Chrn}
@@ -15,7 +15,6 @@ use Rattle.floppy_requests.specs.declared.request.Request.{Request}
 use Rattle.floppy_requests.specs.declared.request.Request.TheVariants as request
 use Rattle.sector_model.specs.declared.reply.Reply.{Reply}
 use Rattle.sector_model.specs.declared.reply.Reply.TheVariants as reply
-use Rattle.sector_model.specs.Stations.{bay_of}
 use Rattle.sector_model.specs.States.{State}
 use Rattle.sector_model.specs.Steps.{Step, IsDriverCall, refusal_of, read_reply}
 use Rattle.sector_model.specs.Texts.{is_refusal}
@@ -23,9 +22,8 @@ use Rattle.sector_model.specs.Runs.{Taken}
 use Rattle.sector_model.specs.Plays.{World}
 use Rattle.floppy_session.specs.Blanks.{blank_request}
 use Rattle.floppy_session.specs.declared.shape.Shape.{Shape}
-use Rattle.floppy_session.specs.Shapes.{shape_in}
 use Rattle.scripts.specs.Scripts.{Script, Ends, Fails, RunsScript, StoresLast, IsStored, NotStored}
-use Rattle.scripts.specs.Parts.{needs, carries, may_starve, with_shape, opens, through}
+use Rattle.scripts.specs.Parts.{needs, carries, may_starve, shape_at, opens, through}
 use Rattle.scripts.proofs.Reading.{IsAnswered, AskRun, Answered, Stopped, NeedRun, Done, Refused, Halted, ask_run, need_run, carry_run, last_run, last_failed, last_stored}
 use Rattle.command_laws.specs.Requests.{Track, format_each, tracks_of}
 use Rattle.command_laws.proofs.Steps.{either, done_does}
@@ -237,20 +235,17 @@ module _ (to log : List ℕ) where
       (records_in_order keys rest (λ lines. end_in_order lines asked) []) old course new ended any runs
   found_in_order shape found old course new ended any (inr starved) = Nothing (ap (λ (w : World). w.files) starved.1)
 
-  shape_in_order : (rest : Shape → Script) → ((shape : Shape) → InOrder Any [] (rest shape)) → (there : Option Shape) → InOrder Any [] (with_shape there rest)
-  shape_in_order rest next (Some shape) = next shape
-  shape_in_order rest next None = ends_in_order [] status.AllOk
-
 pub stores_in_order : (from to log : List ℕ) (old new : World) (course : List Taken) (ended : Status) → Rescues from to log old course new ended
     → StoresInOrder to log (log_of course) old.files new.files
 unfolding opens
 stores_in_order from to log old new course ended (answers, are, runs) =
     let rest = λ (shape : Shape). rescue_rest to log shape (answers shape.rate) in
-    need_in_order to log Any Any (request.Insert 0 from) [] (λ answer after. with_shape (shape_in (bay_of after.station 0)) rest)
+    need_in_order to log Any Any (request.Insert 0 from) [] (λ answer after. rest (shape_at after 0))
     (λ before then told after answer step. either (refusal_of before (request.Insert 0 from)) step (λ does. does.1) (λ cause refused. refused.files))
     (λ before then told after answer step fine any. tt)
-    (λ answer after. shape_in_order to log rest
-    (λ shape. by_rest old.files to log shape (InOrder to log Any []) (λ found there. found_in_order to log shape found)
+    (λ answer after.
+    let shape = shape_at after 0 in
+    by_rest old.files to log shape (InOrder to log Any []) (λ found there. found_in_order to log shape found)
     (λ line. ends_in_order to log line status.BadJob) (fails_in_order to log status.FileFault) (fails_in_order to log status.NoMemory)
-    (answers shape.rate) (are shape.rate)) (shape_in (bay_of after.station 0)))
+    (answers shape.rate) (are shape.rate))
     old course new ended tt runs

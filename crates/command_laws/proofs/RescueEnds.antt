@@ -160,15 +160,16 @@ module _ (from to log : List ℕ) (old new : World) (course : List Taken) (files
         between = stored (Some files) to (file_of saves.final);
         disk_stored = record {
           copied = saves.final;
+          valid = saves.valid;
           protected = saves.shape.protected;
           regular = saves.regular;
+          laid = saves.laid;
           cylinders = saves.shape.cylinders;
+          heads = saves.shape.heads;
           rate = saves.shape.rate;
           sectors = each_standard (HaveSameSector disk saves.final) disk (recursion_from_All (HaveSameSector disk saves.final) keys saves.sectors);
           files = refl;
         };
-        valid = saves.valid;
-        laid = saves.laid;
         log_stored = saves.files_are;
         disk_there = saves.disk_there;
         image = saves.stands saves.valid;

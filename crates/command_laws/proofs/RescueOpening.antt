@@ -41,9 +41,11 @@ use Rattle.command_laws.proofs.Tracks.{Among, among_only}
 use Rattle.command_laws.proofs.BlankDisk.{blank_regular, blank_fields}
 use Rattle.command_laws.proofs.Reading.{Holds}
 use Rattle.rescue_commands.specs.Rescue.{acknowledges_both, prepares_old, prepares_new, prepares}
-use Rattle.command_laws.specs.Rescued.{is_write, HasLaidFields, HasShapeOf}
+use Rattle.command_laws.specs.LaidFields.{HasLaidFields}
+use Rattle.command_laws.specs.Rescued.{is_write, HasShapeOf}
 use Rattle.command_laws.proofs.Gone.{carries_all}
-use Rattle.command_laws.proofs.RescueRecords.{still_laid, shape_itself, shape_both, alike_shape}
+use Rattle.command_laws.proofs.LaidDisks.{still_laid}
+use Rattle.command_laws.proofs.RescueRecords.{shape_itself, shape_both, alike_shape}
 
 -- ---- its requests
 

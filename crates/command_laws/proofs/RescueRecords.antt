@@ -3,7 +3,6 @@ use Rattle.std.proofs.Common.{arith, ◌≡◌, ℕ, suc, ◌<◌, ◌≤◌, Al
 use Rattle.std.specs.Prelude.{◌⊎◌, IsSomeAnd, Contains}
 use Rattle.std.specs.List.{AllByRecursion, AllPairs}
 use Rattle.std.proofs.lemmas.List.Elements.{All-map, All-weaker, recursion_from_All, Contains-append_right}
-use Rattle.std.proofs.lemmas.Bool.{cases_eq}
 use Rattle.flop_base.specs.Shelf.{Files, file_at}
 use Rattle.flop_base.specs.Standard.{sectors_at}
 use Rattle.flop_base.specs.declared.key.Chrn.{Chrn}
@@ -21,9 +20,8 @@ use Rattle.floppy_requests.specs.declared.request.Request.TheVariants as request
 use Rattle.sector_map.specs.Standard.{standard_keys as disk_keys}
 use Rattle.sector_map.specs.Changes.{Change, Written, IsChange}
 use Rattle.sector_map.specs.Disks.{Entry, IsOnMap, IsRegularDisk}
-use Rattle.sector_map.specs.KeptDisks.{AreAlike, KeepsTracks}
+use Rattle.sector_map.specs.KeptDisks.{AreAlike}
 use Rattle.sector_map.proofs.Changed.{change_keeps_tracks}
-use Rattle.sector_map.proofs.KeptTracks.{alike_tracks}
 use Rattle.sector_map.proofs.RegularTracks.{key_cylinder}
 use Rattle.sector_model.specs.declared.reply.Reply.{Reply}
 use Rattle.sector_model.specs.Orders.{write_refusal}
@@ -49,7 +47,9 @@ use Rattle.rescue.specs.declared.line.LogLine.{LogLine}
 use Rattle.rescue.proofs.OrderLemmas.{standard_rises, logged_rises}
 use Rattle.rescue_commands.specs.Logs.{IsLogFound, most_log_bytes}
 use Rattle.rescue_commands.specs.Rescue.{asked_keys}
-use Rattle.command_laws.specs.Rescued.{IsLogged, IsSaved, WasNotRead, entry_at, is_write, count_writes, line_at, log_of, IsTidyWrite, IsTidyFor, AreTidy, HasLaidFields, BringsUpNoMark, HasShapeOf}
+use Rattle.command_laws.specs.Rescued.{IsLogged, IsSaved, WasNotRead, entry_at, is_write, count_writes, line_at, log_of, IsTidyWrite, IsTidyFor, AreTidy, BringsUpNoMark, HasShapeOf}
+use Rattle.command_laws.specs.LaidFields.{HasLaidFields}
+use Rattle.command_laws.proofs.LaidDisks.{still_laid}
 use Rattle.command_laws.proofs.Gone.{GoesKeys, keys_fell, write_fell, line_of_refused, line_of_done, read_done, write_no_read, write_writes, read_keeps, call_fell, gave, gave_reads}
 
 -- ---- each once
@@ -272,25 +272,6 @@ goes_to_field key address deleted disk old new called regular drive ok faultless
       address = subst (λ (b : ℕ). IsAddressAt (track_of disk b key.h) place key) cylinder first.2.address;
       rate = sym done.same_rate ∙ same_rate written disk drive.changes done.disk reach;
     }
-
--- where one track was replaced by a Laid one, each address field still is on a Laid track
-module _ (disk next : Disk) (c h : ℕ) (keeps : KeepsTracks disk c h next) where
-  elsewhere_laid : HasLaidFields disk → (b g p : ℕ) (key : Chrn) → HasTrack disk b g → (b ≡ c → g ≡ h → ⊥) → IsAddressAt (track_of next b g) p key
-      → IsLaid (track_of next b g)
-  elsewhere_laid laid b g p key had other address =
-      let same = keeps.others b g had other in
-      subst IsLaid (sym same) (laid b g p key had (subst (λ (t : List ℕ). IsAddressAt t p key) same address))
-
-  pub still_laid : HasLaidFields disk → IsLaid (track_of next c h) → HasLaidFields next
-  still_laid laid here b g p key has address =
-      let had = (alike_tracks disk next b g keeps.alike).1 has in
-      elim (cases_eq b c) [
-        | inl same_c ↦ elim (cases_eq g h) [
-          | inl same_h ↦ subst (λ k. IsLaid (track_of next k g)) (sym same_c) (subst (λ k. IsLaid (track_of next c k)) (sym same_h) here)
-          | inr other ↦ elsewhere_laid laid b g p key had (λ _ e. other e) address
-        ]
-        | inr other ↦ elsewhere_laid laid b g p key had (λ e _. other e) address
-      ]
 
 -- ---- the write
 

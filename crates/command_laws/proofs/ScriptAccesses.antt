@@ -1,5 +1,5 @@
 -- How often a script accesses the station past the driver.
-use Rattle.std.proofs.Common.{arith, ℕ, ◌+◌, ◌≤◌, [], ◌∷◌, refl, ◌≡◌, zero, suc, Bool, true, false, List, ap, inl, inr, get_or, ◌-◌, Some, None}
+use Rattle.std.proofs.Common.{arith, ℕ, ◌+◌, ◌≤◌, [], ◌∷◌, refl, ◌≡◌, zero, suc, Bool, true, false, List, ap, inl, inr, get_or, ◌-◌}
 use Rattle.std.proofs.lemmas.List.Sums.{sum_by-cons}
 use Rattle.floppy_requests.specs.declared.request.Request.{Request}
 use Rattle.floppy_requests.specs.declared.request.Request.TheVariants as request
@@ -16,15 +16,13 @@ use Rattle.flop_base.specs.declared.answers.Rate.TheVariants.{R500, R250}
 use Rattle.flop_base.specs.declared.answers.Status.{Status}
 use Rattle.sector_map.specs.Standard.{key_of}
 use Rattle.sector_model.specs.declared.reply.Reply.TheVariants as reply
-use Rattle.sector_model.specs.Stations.{bay_of}
 use Rattle.sector_model.specs.Texts.{is_refusal}
 use Rattle.sector_model.specs.Runs.{Taken}
 use Rattle.sector_model.specs.Plays.{World}
 use Rattle.floppy_session.specs.Blanks.{blank_request}
 use Rattle.floppy_session.specs.declared.shape.Shape.{Shape}
-use Rattle.floppy_session.specs.Shapes.{shape_in}
 use Rattle.scripts.specs.Scripts.{Script, Ends, Says, Asks, Stores, MayStarve, Fails, RunsScript, StoresLast, IsStored, NotStored, unless_refused}
-use Rattle.scripts.specs.Parts.{Part, asks, says, needs, carries, with_shape, opens, sets_rate, acknowledges, through, each, by_track, formats}
+use Rattle.scripts.specs.Parts.{Part, asks, says, needs, carries, shape_at, opens, sets_rate, acknowledges, through, each, by_track, formats}
 use Rattle.scripts.specs.Leading.{with_report}
 use Rattle.scripts.specs.Records.{record_address}
 use Rattle.disk_commands.specs.Format.{formats_disk, format_script}
@@ -103,11 +101,7 @@ carries_most later n asked rest few most = needs_most later n asked (λ answer a
 opens_most : (n : ℕ) (name : List ℕ) (rest : Shape → Script) → ((shape : Shape) → AsksAtMost n (rest shape)) → AsksAtMost (1 + n) (opens name rest)
 unfolding opens
 opens_most n name rest most =
-    needs_most n (1 + n) (request.Insert 0 name) _ (omega arith) (λ answer after. go (shape_in (bay_of after.station 0)))
-  where
-    go : (shape : _) → AsksAtMost n (with_shape shape rest)
-    go (Some shape) = most shape
-    go None = tt
+    needs_most n (1 + n) (request.Insert 0 name) (λ answer after. rest (shape_at after 0)) (omega arith) (λ answer after. most (shape_at after 0))
 
 -- a part that makes none
 abbrev IsQuiet : {Found : Type 0} → Part Found → Type 0

@@ -49,10 +49,12 @@ stores_both files to log disk lines after differ is =
     subst (λ (f : Option Files). IfSome f (λ files. file_at files to ≡ Some disk) × IfSome f (λ files. file_at files log ≡ Some lines)) (sym is)
     (other_there (fin.insert files to disk) log lines to differ ∙ last_there files to disk, last_there (fin.insert files to disk) log lines)
 
-pub log_under : (before : Option Files) (log lines : List ℕ) (after : Option Files) → after ≡ stored before log lines
-    → IfSome after (λ files. file_at files log ≡ Some lines)
-log_under None log lines after is = subst (λ (f : Option Files). IfSome f (λ files. file_at files log ≡ Some lines)) (sym is) tt
-log_under (Some files) log lines after is = subst (λ (f : Option Files). IfSome f (λ files. file_at files log ≡ Some lines)) (sym is) (last_there files log lines)
+-- what was stored last stands under its name
+pub stands_under : (before : Option Files) (name bytes : List ℕ) (after : Option Files) → after ≡ stored before name bytes
+    → IfSome after (λ files. file_at files name ≡ Some bytes)
+stands_under None name bytes after is = subst (λ (f : Option Files). IfSome f (λ files. file_at files name ≡ Some bytes)) (sym is) tt
+stands_under (Some files) name bytes after is =
+    subst (λ (f : Option Files). IfSome f (λ files. file_at files name ≡ Some bytes)) (sym is) (last_there files name bytes)
 
 -- ---- images
 

@@ -48,12 +48,13 @@ use Rattle.rescue.specs.declared.outcome.Outcome.{Outcome}
 use Rattle.rescue_commands.specs.Logs.{IsLogFound, IsFound, most_log_bytes}
 use Rattle.rescue_commands.specs.Rescue.{rescues, asked_keys, outcome_of, last_text, rescues_all, stores_log, rescue_found, rescue_rest, Rescues}
 use Rattle.rescue_commands.proofs.Rests.{by_rest}
-use Rattle.command_laws.specs.Rescued.{IsNotStopped, count_writes, IsLogged, IsSaved, IsSettled, WasNotRead, HasLaidFields, BringsUpNoMark, HasTarget, diskette_for, HasShapeOf, StillHolds, KeepsEntries, outcome_in, IsRescue, IsNotFound, LogsNotFound, WasRefused, log_of, line_at, AreTidy}
+use Rattle.command_laws.specs.LaidFields.{HasLaidFields}
+use Rattle.command_laws.specs.Rescued.{IsNotStopped, count_writes, IsLogged, IsSaved, IsSettled, WasNotRead, BringsUpNoMark, HasTarget, diskette_for, HasShapeOf, StillHolds, KeepsEntries, outcome_in, IsRescue, IsNotFound, LogsNotFound, WasRefused, log_of, line_at, AreTidy}
 use Rattle.command_laws.proofs.Gone.{later_fine, not_refused, carried, GoesKeys, keys_gone, AreRefusals, Fell, fell_both, keys_fell, line_of_done, gave_reads, never_both}
 use Rattle.command_laws.proofs.RescueOpening.{opening, ready_requests, second_request, formats_for, prepares_carried, HasOther, IsNew, begins_new, begins_again, holds_first, first_in, is_plain, plain_facts, plain_keep, opening_plain}
 use Rattle.command_laws.proofs.RescueRecords.{asked_all, asked_distinct, shape_itself, shape_both, IsPart, SavesKeys, saves_keys, ReadsKey, some_apart, keys_read, keys_counted, index_of}
 use Rattle.command_laws.proofs.RescueLog.{logs_again, only_of}
-use Rattle.command_laws.proofs.StoredFiles.{stores_both, log_under, image_there, log_stands}
+use Rattle.command_laws.proofs.StoredFiles.{stores_both, stands_under, image_there, log_stands}
 use Rattle.command_laws.proofs.RescueGiven.{IsAtHand, IsGivenOf, keys_give}
 use Rattle.command_laws.proofs.Telling.{lost_keys, tells_keys}
 
@@ -529,7 +530,7 @@ module _ (from to log : List ℕ) (disk : Disk) (found : Option (List LogLine)) 
       record {
         found = found;
         there = there;
-        log_there = log_under p.ejected.files log (log_text (log_of course)) new.files
+        log_there = stands_under p.ejected.files log (log_text (log_of course)) new.files
             (p.stores.stores ∙ ap (λ (row : List LogLine). stored p.ejected.files log (log_text row)) (sym log_is));
         lost = subst (λ (row : List LogLine). All (IsNotFound disk) (logged_keys row)) (sym log_is)
             (All-map (IsNotFound disk) (λ (line : LogLine). line.key) (log_of p.body)

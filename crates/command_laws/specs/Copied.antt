@@ -17,6 +17,7 @@ use Rattle.sector_model.specs.Runs.{Taken}
 use Rattle.sector_model.specs.States.{State}
 use Rattle.sector_model.specs.Steps.{IsImageOf}
 use Rattle.command_laws.specs.Done.{DoesAll}
+use Rattle.command_laws.specs.LaidFields.{HasLaidFields}
 use Rattle.command_laws.specs.Requests.{mark_of, marks_read, copy_requests}
 
 -- some step of a course
@@ -66,8 +67,8 @@ HasAsGiven sure course source copied c h r =
     × IsFieldOf source (key_of c h r) deleted content
 
 -- the copy of a disk was stored under this name, and no other file changed: a regular disk of the same cylinders and rate,
--- with two heads, that has each standard key of the other disk with the mark and the content that the read gave; its tracks
--- are Laid
+-- with two heads, that has each standard key of the other disk with the mark and the content that the read gave; the tracks
+-- that the other disk has are Laid, and so is each track with an address field
 pub record StoresCopy (disk : Disk) (to : List ℕ) (old : Counters) (told : Option Files) (course : List Taken) (new : Counters) (after : Option Files) : Type 0 where
   pub copied : Disk
   pub valid : IsDisk copied
@@ -78,6 +79,7 @@ pub record StoresCopy (disk : Disk) (to : List ℕ) (old : Counters) (told : Opt
   pub words_per_track : copied.words_per_track ≡ words_at disk.rate
   pub regular : IsRegularDisk copied
   pub laid : (c h : ℕ) → HasTrack disk c h → IsLaid (track_of copied c h)
+  pub laid_fields : HasLaidFields copied
   pub sectors : (c h r : ℕ) → HasTrack disk c h → 1 ≤ r → r ≤ sectors_at disk.rate
       → HasAsGiven (IsSure disk old new) course disk copied c h r
   pub files : after ≡ stored told to (file_of copied)

@@ -14,7 +14,7 @@ use Rattle.sector_model.specs.Steps.{IsImageOf}
 use Rattle.sector_model.specs.Plays.{World}
 use Rattle.sector_model.specs.Ties.{HasNothingLeft}
 use Rattle.rescue.specs.Log.{log_text}
-use Rattle.command_laws.specs.Rescued.{HasLaidFields}
+use Rattle.command_laws.specs.LaidFields.{HasLaidFields}
 use Rattle.command_laws.specs.Verified.{IsStandardKey}
 
 -- a session begins before the first request of its station, and nothing is left there that could go wrong
@@ -45,23 +45,24 @@ HaveSameSector disk copied key =
     (deleted : Bool) × (content : List ℕ) × IsSector (track_of disk key.c key.h) key deleted content
     × IsSector (track_of copied key.c key.h) key deleted content
 
--- a regular disk of the cylinders and the rate of this one, unprotected, with each of its standard sectors, was stored under a name,
--- and no other file changed
+-- a regular disk of the cylinders and the rate of this one and two heads, unprotected and with Laid fields, with each of its standard
+-- sectors, was stored under a name, and no other file changed
 pub record StoresSameSectors (disk : Disk) (to : List ℕ) (told after : Option Files) : Type 0 where
   pub copied : Disk
+  pub valid : IsDisk copied
   pub protected : copied.protected ≡ false
   pub regular : IsRegularDisk copied
+  pub laid : HasLaidFields copied
   pub cylinders : copied.cylinders ≡ disk.cylinders
+  pub heads : copied.heads ≡ 2
   pub rate : copied.rate ≡ disk.rate
   pub sectors : (key : Chrn) → IsStandardKey disk key → HaveSameSector disk copied key
   pub files : after ≡ stored told to (file_of copied)
 
--- such a disk, with Laid fields, was stored under one name, and then an empty log under the other; each file stands under its name
+-- such a disk was stored under one name, and then an empty log under the other; each file stands under its name
 pub record StoresSameAndLog (disk : Disk) (to log : List ℕ) (told after : Option Files) : Type 0 where
   pub between : Option Files
   pub disk_stored : StoresSameSectors disk to told between
-  pub valid : IsDisk disk_stored.copied
-  pub laid : HasLaidFields disk_stored.copied
   pub log_stored : after ≡ stored between log (log_text [])
   pub disk_there : IfSome after (λ files. file_at files to ≡ Some (file_of disk_stored.copied))
   pub image : IsImageOf after to disk_stored.copied

@@ -10,6 +10,7 @@ use Rattle.sector_map.specs.Disks.{IsOnMap, IsRegularDisk}
 use Rattle.flat_image.specs.Flat.{IsSector, sector_place}
 use Rattle.flat_commands.specs.FlatFiles.{IsFlatFile}
 use Rattle.command_laws.specs.Copied.{copied_entry}
+use Rattle.command_laws.specs.LaidFields.{HasLaidFields}
 
 -- the bytes of a sector in a flat file with so many sectors on each track
 abbrev pub sector_bytes : List ℕ → ℕ → ℕ → ℕ → ℕ → List ℕ
@@ -21,7 +22,7 @@ HasFlatSector bytes sectors disk c h r =
     (place : ℕ) × IsOnMap disk (copied_entry c h r place false (sector_bytes bytes sectors c h r))
 
 -- a disk of these bytes was stored under a name, and no other file changed: a regular disk of this rate, of 80 cylinders and two
--- heads, that has each sector of the flat file
+-- heads, with Laid fields, that has each sector of the flat file
 pub record StoresDisk (bytes name : List ℕ) (at : Rate) (told after : Option Files) : Type 0 where
   pub disk : Disk
   pub valid : IsDisk disk
@@ -31,6 +32,7 @@ pub record StoresDisk (bytes name : List ℕ) (at : Rate) (told after : Option F
   pub rate : disk.rate ≡ at
   pub words_per_track : disk.words_per_track ≡ words_at at
   pub regular : IsRegularDisk disk
+  pub laid : HasLaidFields disk
   pub sectors : (c h r : ℕ) → IsSector (sectors_at at) c h r → HasFlatSector bytes (sectors_at at) disk c h r
   pub files : after ≡ stored told name (file_of disk)
 

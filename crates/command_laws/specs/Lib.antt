@@ -2,9 +2,11 @@ pub mod Requests
 pub mod Done
 pub mod Formatted
 pub mod Verified
+pub mod LaidFields
 pub mod Copied
 pub mod VerifyRuns
 pub mod EndsComplete
+pub mod Targets
 pub mod Accesses
 pub mod Imported
 pub mod Exported

@@ -13,7 +13,6 @@ use Rattle.track_model.specs.declared.Look.{Look}
 use Rattle.track_model.specs.declared.Look.TheVariants.{Found}
 use Rattle.track_model.specs.Fields.{IsAddressAt, content_size}
 use Rattle.track_model.specs.Windows.{IsTidy}
-use Rattle.track_model.specs.Laid.{IsLaid}
 use Rattle.floppy_requests.specs.declared.request.Request.{Request}
 use Rattle.floppy_requests.specs.declared.request.Request.TheVariants as request
 use Rattle.sector_map.specs.Failing.{AreFailing}
@@ -29,6 +28,7 @@ use Rattle.sector_model.specs.Plays.{World}
 use Rattle.sector_model.specs.Stations.{StationState, bay_of}
 use Rattle.floppy_session.specs.Shapes.{shape_of}
 use Rattle.command_laws.specs.Copied.{SomeStep, Gave, IsFieldOf}
+use Rattle.command_laws.specs.LaidFields.{HasLaidFields}
 use Rattle.command_laws.specs.Verified.{all_told_of}
 use Rattle.rescue.specs.Course.{read_of, logged_keys, outcome_status}
 use Rattle.rescue.specs.Log.{log_text}
@@ -77,10 +77,6 @@ AreTidy state (taken ∷ later) = IsTidyFor state taken.asked × AreTidy taken.a
 -- no refusal stopped the run: its last answer is none
 abbrev pub IsNotStopped : List Taken → Type 0
 IsNotStopped course = (before : List Taken) (last : Taken) → course ≡ before ++ last ∷ [] → is_refusal last.answer ≡ false
-
--- each address field of the disk is on a Laid track: no write to it brings up an address mark, however short it stops
-abbrev pub HasLaidFields : Disk → Type 0
-HasLaidFields disk = (c h p : ℕ) (key : Chrn) → HasTrack disk c h → IsAddressAt (track_of disk c h) p key → IsLaid (track_of disk c h)
 
 -- no write of a course to the disk brings up an address mark: its address fields are on Laid tracks, or each write is Tidy
 abbrev pub BringsUpNoMark : Disk → State → List Taken → Type 0

@@ -17,6 +17,7 @@ mod rescue_ends;
 mod rescue_logs;
 mod rescue_order;
 mod rescue_stores;
+mod targets;
 mod verify_ends;
 mod verify_runs;
 
@@ -35,5 +36,9 @@ pub use rescue_ends::{further_rescue_ends_well, new_rescue_ends_well};
 pub use rescue_logs::rescue_logs_what_is_not_found;
 pub use rescue_order::rescue_stores_the_log_last;
 pub use rescue_stores::rescue_settles_each_record;
+pub use targets::{
+    copied_disk_is_a_target, formatted_disk_is_a_target, imported_disk_is_a_target,
+    target_takes_keys,
+};
 pub use verify_ends::verify_ends_well;
 pub use verify_runs::verify_tells_failing_keys;

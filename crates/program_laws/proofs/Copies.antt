@@ -18,9 +18,11 @@ use Rattle.floppy_forms.specs.Rounds.{world}
 use Rattle.floppy_tools.specs.Machines.{RunsOver}
 use Rattle.command_laws.specs.Copied.{IsSure, StoresCopy}
 use Rattle.command_laws.specs.EndsComplete.{HaveSameSector}
+use Rattle.command_laws.specs.Targets.{HoldsTarget}
 use Rattle.command_laws.proofs.Reading.{key_is}
 use Rattle.command_laws.proofs.CopyRun.{copy_stores}
 use Rattle.command_laws.proofs.CommandEnds.{fresh_memory}
+use Rattle.command_laws.proofs.RescueTargets.{sectors_target}
 use Rattle.program_laws.specs.Disturbed.{HadNoFault}
 use Rattle.program_laws.specs.Stored.{IsReadSure, HasSomeField, StoresCopyAsRead}
 use Rattle.program_laws.proofs.OnBoards.{faultless_first, faultless_second}
@@ -46,6 +48,7 @@ copy_of sure disk to old new course told after safe stores = record {
   words_per_track = stores.words_per_track;
   regular = stores.regular;
   laid = stores.laid;
+  laid_fields = stores.laid_fields;
   fields = λ key standard.
       let given = stores.sectors key.c key.h key.r standard.track standard.sector.0 standard.sector.1 in
       let on = given.4 in
@@ -73,3 +76,11 @@ copies_well from to spares old new before after files disk over told image calm 
     (sure_read disk old new spares start last over.set_up.starts over.shows)
     (copy_stores from to (world over.start before.files before.report) (world over.last after.files after.report) runs.course files disk runs.does told image
     (fresh_memory start over.set_up.fresh) (faultless_second old new spares start last over.set_up.starts over.shows calm))
+
+-- it is one that a rescue may go on with
+pub copy_target : (from to : List ℕ) (files : Files) (after : Option Files) (disk : Disk) (old new : Board)
+    (stores : StoresCopyAsRead (IsReadSure disk old new) disk to (Some files) after) → IsImageOf (Some files) from disk
+    → HoldsTarget to disk stores.copied after
+copy_target from to files after disk old new stores image =
+    sectors_target from to disk stores.copied files after image stores.valid stores.regular stores.protected stores.laid_fields stores.cylinders stores.heads
+    stores.rate (λ key standard. let some = stores.fields key standard in (some.0, some.1, some.3)) stores.files

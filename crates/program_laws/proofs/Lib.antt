@@ -17,6 +17,7 @@ mod Rescues
 mod RescuesInTurn
 mod JobSettled
 mod Stepping
+mod StepCauses
 mod Inserting
 mod KeptSteps
 mod Protected

@@ -1,5 +1,5 @@
 -- The status of a rescue that a log asks for, by whether some reply was a refusal.
-use Rattle.std.proofs.Common.{◌≡◌, ℕ, true, false, List, [], ◌∷◌, length, Option, Some, None, refl, sym, subst, inl, inr}
+use Rattle.std.proofs.Common.{◌≡◌, ℕ, true, false, List, [], ◌∷◌, length, Option, Some, refl, sym, ap, subst, inl, inr, unwrap_or}
 use Rattle.std.specs.Prelude.{◌||◌}
 use Rattle.flop_base.specs.Shelf.{Files}
 use Rattle.flop_base.specs.Standard.{sectors_at}
@@ -11,16 +11,15 @@ use Rattle.sector_model.specs.declared.reply.Reply.{Reply}
 use Rattle.sector_model.specs.declared.reply.Reply.TheVariants as reply
 use Rattle.sector_model.specs.declared.reply.Stop.{Stop}
 use Rattle.sector_model.specs.declared.reply.Stop.TheVariants as stop
-use Rattle.sector_model.specs.Stations.{bay_of}
 use Rattle.sector_model.specs.States.{State}
 use Rattle.sector_model.specs.Steps.{Step, StopCause, IsImageOf, IsBadImage, IsLonger, IsAbsent}
 use Rattle.sector_model.specs.Texts.{is_refusal}
 use Rattle.sector_model.specs.Runs.{Taken, has_refusal, IsEndStop}
 use Rattle.sector_model.specs.Plays.{World}
 use Rattle.floppy_session.specs.declared.shape.Shape.{Shape}
-use Rattle.floppy_session.specs.Shapes.{shape_of, shape_in}
+use Rattle.floppy_session.specs.Shapes.{shape_of}
 use Rattle.scripts.specs.Scripts.{Script, Fails, RunsScript, unless_refused}
-use Rattle.scripts.specs.Parts.{needs, carries, may_starve, with_shape, opens, through}
+use Rattle.scripts.specs.Parts.{needs, carries, may_starve, no_tracks, shape_at, opens, through}
 use Rattle.scripts.specs.Leading.{with_report}
 use Rattle.rescue.specs.Course.{logged_keys}
 use Rattle.rescue.specs.declared.line.LogLine.{LogLine}
@@ -70,27 +69,25 @@ module _ (name : List ℕ) (rest : Shape → Script) (files : Files) (disk : Dis
     (next : (shape : Shape) (mid : World) (later : List Taken) → mid.files ≡ Some files → shape ≡ shape_of disk → RunsScript (rest shape) mid later new ended
     → EndsBy (has_refusal later) ended) where
   by_shape : (old mid : State) (after : Option Files) (report : Option (List ℕ)) (later : List Taken) (answer : Reply) → is_refusal answer ≡ false
-      → Step (request.Insert 0 name) old (Some files) answer mid after → (shape : Option Shape) → shape_in (bay_of mid.station 0) ≡ shape
-      → RunsScript (with_shape shape rest) (with_report mid after report) later new ended → EndsBy (has_refusal later) ended
-  by_shape old mid after report later answer done step None e runs =
-      script_tells false (with_shape None rest) (with_report mid after report) new later ended refl runs
-  by_shape old mid after report later answer done step (Some shape) e runs =
-      next shape (with_report mid after report) later (done_does old mid (Some files) after (request.Insert 0 name) answer step done).1
-      (put_shape name disk files old mid after answer shape image step done e) runs
+      → Step (request.Insert 0 name) old (Some files) answer mid after
+      → RunsScript (rest (shape_at mid 0)) (with_report mid after report) later new ended → EndsBy (has_refusal later) ended
+  by_shape old mid after report later answer done step runs =
+      next (shape_at mid 0) (with_report mid after report) later (done_does old mid (Some files) after (request.Insert 0 name) answer step done).1
+      (ap (λ (o : Option Shape). unwrap_or o no_tracks) (put_shape name disk files old mid after answer image step done)) runs
 
   by_answer : (old mid : State) (after : Option Files) (report : Option (List ℕ)) (later : List Taken) (answer : Reply)
       → Step (request.Insert 0 name) old (Some files) answer mid after
-      → RunsScript (unless_refused (request.Insert 0 name) answer (with_shape (shape_in (bay_of mid.station 0)) rest)) (with_report mid after report) later new ended
+      → RunsScript (unless_refused (request.Insert 0 name) answer (rest (shape_at mid 0))) (with_report mid after report) later new ended
       → EndsBy (is_refusal answer || has_refusal later) ended
   by_answer old mid after report later (reply.Refused cause) step runs =
-      script_tells true (unless_refused (request.Insert 0 name) (reply.Refused cause) (with_shape (shape_in (bay_of mid.station 0)) rest))
+      script_tells true (unless_refused (request.Insert 0 name) (reply.Refused cause) (rest (shape_at mid 0)))
       (with_report mid after report) new later ended refl runs
   by_answer old mid after report later reply.Done step runs =
-      by_shape old mid after report later reply.Done refl step (shape_in (bay_of mid.station 0)) refl runs
+      by_shape old mid after report later reply.Done refl step runs
   by_answer old mid after report later reply.DoneDeleted step runs =
-      by_shape old mid after report later reply.DoneDeleted refl step (shape_in (bay_of mid.station 0)) refl runs
+      by_shape old mid after report later reply.DoneDeleted refl step runs
   by_answer old mid after report later (reply.Bytes address content) step runs =
-      by_shape old mid after report later (reply.Bytes address content) refl step (shape_in (bay_of mid.station 0)) refl runs
+      by_shape old mid after report later (reply.Bytes address content) refl step runs
 
   opens_then : (old : World) (course : List Taken) → old.files ≡ Some files → RunsScript (opens name rest) old course new ended
       → EndsBy (has_refusal course) ended

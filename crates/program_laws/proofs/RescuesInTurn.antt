@@ -24,7 +24,8 @@ use Rattle.rescue_commands.specs.Logs.{IsLogFound, most_log_bytes}
 use Rattle.rescue_commands.specs.Rescue.{asked_keys}
 use Rattle.floppy_forms.specs.Rounds.{world}
 use Rattle.command_laws.specs.Copied.{IsFieldOf}
-use Rattle.command_laws.specs.Rescued.{HasLaidFields, IsSettled, GivesFields, StoresRescue, TellsRescue, IsNotFound, count_writes, outcome_in, log_of, entry_at}
+use Rattle.command_laws.specs.LaidFields.{HasLaidFields}
+use Rattle.command_laws.specs.Rescued.{IsSettled, GivesFields, StoresRescue, TellsRescue, IsNotFound, count_writes, outcome_in, log_of, entry_at}
 use Rattle.command_laws.specs.Verified.{IsStandardKey}
 use Rattle.command_laws.proofs.Sectors.{few_sectors}
 use Rattle.command_laws.proofs.StoredFiles.{image_there}

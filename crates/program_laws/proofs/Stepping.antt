@@ -234,7 +234,7 @@ each_keeps old new told after (taken ∷ later) run = (
 
 -- ---- reads and writes
 
-driven_less : (most : ℕ) (old new : Counters) → IsDriven 0 old new → IsDriven most old new
+pub driven_less : (most : ℕ) (old new : Counters) → IsDriven 0 old new → IsDriven most old new
 driven_less most old new idle = let none = idle.most_commands in record {
   most_commands = omega (arith, none);
   interrupts = idle.interrupts;
@@ -262,11 +262,11 @@ reach_none written medium after same = subst (λ (m : Option Disk). Reaches writ
     go (Some disk) = refl
     go None = (refl, refl)
 
-fine_call : (answer : Reply) (called : Result (Unit {0}) Code) → answer ≡ reply_of called → is_refusal answer ≡ false → IsOk called
+pub fine_call : (answer : Reply) (called : Result (Unit {0}) Code) → answer ≡ reply_of called → is_refusal answer ≡ false → IsOk called
 fine_call answer (Ok done) is fine = refl
 fine_call answer (Err code) is fine = absurd (true≢false (sym (ap is_refusal is) ∙ fine))
 
-ok_not : (called : Result (Unit {0}) Code) (code : Code) → called ≡ Err code → IsOk called → ⊥
+pub ok_not : (called : Result (Unit {0}) Code) (code : Code) → called ≡ Err code → IsOk called → ⊥
 ok_not (Ok done) code e ok = absurd (cc e)
 ok_not (Err code) other e ok = true≢false (sym ok)
 

@@ -1,5 +1,5 @@
 -- Scripts whose status says whether some reply was a refusal.
-use Rattle.std.proofs.Common.{◌≡◌, ℕ, zero, suc, ◌+◌, Bool, true, false, List, [], ◌∷◌, Option, Some, None, refl, sym, subst, inl, inr}
+use Rattle.std.proofs.Common.{◌≡◌, ℕ, zero, suc, ◌+◌, Bool, true, false, List, [], ◌∷◌, Option, Some, refl, sym, subst, inl, inr}
 use Rattle.std.specs.Prelude.{◌||◌}
 use Rattle.flop_base.specs.Shelf.{Files}
 use Rattle.flop_base.specs.Sink.{grown}
@@ -15,15 +15,13 @@ use Rattle.sector_model.specs.declared.reply.Reply.TheVariants as reply
 use Rattle.sector_model.specs.declared.reply.Stop.{Stop}
 use Rattle.sector_model.specs.declared.reply.Stop.TheVariants as stop
 use Rattle.sector_model.specs.States.{State}
-use Rattle.sector_model.specs.Stations.{bay_of}
 use Rattle.sector_model.specs.Steps.{Step, StopsAt, StopCause, IsImageOf}
 use Rattle.sector_model.specs.Texts.{stop_status, is_refusal}
 use Rattle.sector_model.specs.Runs.{Taken, has_refusal, IsEndStop}
 use Rattle.sector_model.specs.Plays.{World, Prints, Whole, Part as InPart, IsPutFault, whole_status}
 use Rattle.floppy_session.specs.declared.shape.Shape.{Shape}
-use Rattle.floppy_session.specs.Shapes.{shape_in}
 use Rattle.scripts.specs.Scripts.{Script, Ends, Says, Asks, Stores, MayStarve, Fails, RunsScript, StoresLast, IsStored, NotStored, IsStoreFault, unless_refused}
-use Rattle.scripts.specs.Parts.{Part, needs, carries, with_shape, opens, sets_rate, acknowledges, through, each, by_track}
+use Rattle.scripts.specs.Parts.{Part, needs, carries, shape_at, opens, sets_rate, acknowledges, through, each, by_track}
 use Rattle.scripts.specs.Leading.{with_report}
 use Rattle.command_laws.proofs.Bays.{insert_stops}
 
@@ -208,10 +206,6 @@ end_by refused (stop.BadImage named error) only = absurd only
 end_by refused (stop.TooLong named most) only = absurd only
 end_by refused (stop.Absent named) only = absurd only
 
-put_tells : (rest : Shape → Script) → ((shape : Shape) → IsFaithful false (rest shape)) → (shape : Option Shape) → IsFaithful false (with_shape shape rest)
-put_tells rest is (Some shape) = is shape
-put_tells rest is None = refl
-
 pub opens_tells : (name : List ℕ) (rest : Shape → Script) (files : Files) (disk : Disk) (old new : World) (course : List Taken) (ended : Status)
     → old.files ≡ Some files → IsImageOf (Some files) name disk → ((shape : Shape) → IsFaithful false (rest shape))
     → RunsScript (opens name rest) old course new ended → EndsBy (has_refusal course) ended
@@ -220,7 +214,6 @@ opens_tells name rest files disk old new [] ended told image is runs =
     let stops = subst (λ (f : Option Files). StopsAt (request.Insert 0 name) old.state f runs.0 new.state new.files) told runs.1 in
     prints_by false _ _ _ _ ended runs.2 (end_by false runs.0 (insert_stops 0 name files disk old.state new.state new.files runs.0 image stops))
 opens_tells name rest files disk old new (taken ∷ later) ended told image is runs =
-    script_tells (false || is_refusal taken.answer) (unless_refused (request.Insert 0 name) taken.answer (with_shape (shape_in (bay_of taken.after.station 0)) rest))
-    (with_report taken.after runs.1 old.report) new later ended
-    (unrefused (request.Insert 0 name) taken.answer (with_shape (shape_in (bay_of taken.after.station 0)) rest)
-    (put_tells rest is (shape_in (bay_of taken.after.station 0)))) runs.3
+    let left = rest (shape_at taken.after 0) in
+    script_tells (false || is_refusal taken.answer) (unless_refused (request.Insert 0 name) taken.answer left) (with_report taken.after runs.1 old.report)
+    new later ended (unrefused (request.Insert 0 name) taken.answer left (is (shape_at taken.after 0))) runs.3

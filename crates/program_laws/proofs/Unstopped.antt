@@ -1,5 +1,5 @@
 -- A rescue of which no refusal is told that stopped it: its last request wasn't refused.
-use Rattle.std.proofs.Common.{◌≡◌, ◌∙◌, ℕ, ◌+◌, zero, suc, Bool, true, false, List, [], ◌∷◌, ◌++◌, length, Option, Some, None, refl, ap, subst, inl, inr}
+use Rattle.std.proofs.Common.{◌≡◌, ◌∙◌, ℕ, ◌+◌, zero, suc, Bool, true, false, List, [], ◌∷◌, ◌++◌, length, Option, refl, ap, subst, inl, inr}
 use Rattle.flop_base.specs.Sink.{grown}
 use Rattle.flop_base.specs.declared.answers.Code.{Code}
 use Rattle.flop_base.specs.declared.answers.Code.TheVariants as code
@@ -15,16 +15,14 @@ use Rattle.sector_model.specs.declared.reply.Reply.TheVariants as reply
 use Rattle.sector_model.specs.declared.reply.Reason.{Reason}
 use Rattle.sector_model.specs.declared.reply.Reason.TheVariants as reason
 use Rattle.sector_model.specs.States.{State}
-use Rattle.sector_model.specs.Stations.{bay_of}
 use Rattle.sector_model.specs.Texts.{is_refusal, stop_status}
 use Rattle.sector_model.specs.Runs.{Taken}
 use Rattle.sector_model.specs.Plays.{World, Prints, Whole, Part as InPart}
 use Rattle.floppy_report.specs.LastLines.{stopped_text}
 use Rattle.floppy_session.specs.Blanks.{blank_request}
 use Rattle.floppy_session.specs.declared.shape.Shape.{Shape}
-use Rattle.floppy_session.specs.Shapes.{shape_in}
 use Rattle.scripts.specs.Scripts.{Script, Ends, Asks, Stores, MayStarve, Fails, RunsScript, unless_refused}
-use Rattle.scripts.specs.Parts.{Part, asks, needs, carries, may_starve, with_shape, opens, sets_rate, acknowledges, through, each, by_track, formats}
+use Rattle.scripts.specs.Parts.{Part, asks, needs, carries, may_starve, shape_at, opens, sets_rate, acknowledges, through, each, by_track, formats}
 use Rattle.scripts.specs.Leading.{with_report}
 use Rattle.scripts.proofs.Reading.{last_run, last_stored, last_failed}
 use Rattle.rescue.specs.Log.{log_text}
@@ -208,16 +206,14 @@ ends_strict line wanted old new course ended whole fine runs = none_stopped cour
 fails_strict : (cause : Status) → Strict (Fails cause)
 fails_strict cause old new course ended whole fine runs = none_stopped course (last_failed cause old course new ended runs).0
 
-shape_strict : (rest : Shape → Script) → ((shape : Shape) → Strict (rest shape)) → (shape : Option Shape) → Strict (with_shape shape rest)
-shape_strict rest goes (Some shape) = goes shape
-shape_strict rest goes None = ends_strict [] status.AllOk
-
 -- so the premise of the laws on a rescue holds
 pub rescue_unstopped : (from to log : List ℕ) (old new : World) (course : List Taken) (ended : Status) → IsEndStatus ended → IsNotToldStopped old.report new.report
     → Rescues from to log old course new ended → IsNotStopped course
 unfolding opens
 rescue_unstopped from to log old new course ended whole fine (answers, are, runs) =
-    (needs_going (request.Insert 0 from) _ (λ answer after. shape_strict (λ shape. rescue_rest to log shape (answers shape.rate))
-    (λ shape. by_rest old.files to log shape Strict (λ found there. found_strict to log shape found) (λ line. ends_strict line status.BadJob)
-    (fails_strict status.FileFault) (fails_strict status.NoMemory) (answers shape.rate) (are shape.rate)) (shape_in (bay_of after.station 0)))
+    let rest = λ (shape : Shape). rescue_rest to log shape (answers shape.rate) in
+    (needs_going (request.Insert 0 from) (λ answer after. rest (shape_at after 0)) (λ answer after.
+    let shape = shape_at after 0 in
+    by_rest old.files to log shape Strict (λ found there. found_strict to log shape found) (λ line. ends_strict line status.BadJob)
+    (fails_strict status.FileFault) (fails_strict status.NoMemory) (answers shape.rate) (are shape.rate))
     old new course ended whole fine runs).1

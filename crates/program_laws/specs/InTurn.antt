@@ -17,7 +17,8 @@ use Rattle.rescue.specs.declared.line.LogLine.{LogLine}
 use Rattle.floppy_words.specs.declared.form.Form.TheVariants as form
 use Rattle.floppy_tools.specs.Machines.{RunsOver}
 use Rattle.command_laws.specs.Copied.{IsFieldOf}
-use Rattle.command_laws.specs.Rescued.{HasLaidFields, entry_at}
+use Rattle.command_laws.specs.LaidFields.{HasLaidFields}
+use Rattle.command_laws.specs.Rescued.{entry_at}
 use Rattle.command_laws.specs.Verified.{IsStandardKey, IsUnmistaken}
 use Rattle.command_laws.specs.VerifyRuns.{IsEndStatus}
 use Rattle.program_laws.specs.Disturbed.{HadNoFault, HadNoStall}

@@ -1,19 +1,31 @@
--- What each step of a run may do to the media in the bays, and what a read and a write that were done have done.
-use Rattle.std.specs.Prelude.{◌≡◌, ◌≤◌, ◌⊎◌, ◌&&◌, ℕ, ◌==◌, Bool, true, false, not, List, [], ◌∷◌, length, Some, Result, if◌then◌else◌}
+-- What each step of a run may do to the media in the bays, what a read, a write and a format that were done have done, why a request was
+-- refused, and how many data commands each sends.
+use Rattle.std.specs.Prelude.{◌≡◌, ◌+◌, ◌-◌, ◌*◌, ◌≤◌, ◌⊎◌, ◌&&◌, ℕ, ◌==◌, Bool, true, false, not, All, List, [], ◌∷◌, length, Option, Some, None, Result, option_map, MatchOption, if◌then◌else◌}
+use Rattle.flop_base.specs.Counts.{RoseBy}
+use Rattle.flop_base.specs.Standard.{gap_at, standard_fill, sectors_at}
 use Rattle.flop_base.specs.declared.answers.Code.{Code}
+use Rattle.flop_base.specs.declared.answers.Code.TheVariants.{BadRequest}
 use Rattle.flop_base.specs.declared.key.Chrn.{Chrn}
 use Rattle.floppy_requests.specs.declared.request.Request.{Request}
 use Rattle.floppy_requests.specs.declared.request.Request.TheVariants as request
-use Rattle.flop_base.specs.Counters.{IsDriven}
+use Rattle.flop_base.specs.Counters.{Counters, IsDriven, IsFaultless}
 use Rattle.raw_image.specs.Disk.{Disk}
 use Rattle.sector_map.specs.Changes.{Change}
+use Rattle.sector_map.specs.Layings.{Format, Laying, IsFormattable}
+use Rattle.sector_map.specs.LaidDisks.{format_at}
 use Rattle.sector_map.specs.Disks.{IsRegularDisk}
-use Rattle.sector_model.specs.Stations.{StationState, bay_of}
-use Rattle.sector_model.specs.States.{State}
-use Rattle.sector_model.specs.Orders.{is_acknowledged, is_protected}
-use Rattle.sector_model.specs.Reads.{IsRead}
-use Rattle.sector_model.specs.Writes.{IsWritten, Reaches, KeepsRegular, written_from}
-use Rattle.sector_model.specs.Steps.{reply_of}
+use Rattle.sector_model.specs.declared.reply.Reply.{Reply}
+use Rattle.sector_model.specs.declared.reply.Reply.TheVariants as reply
+use Rattle.sector_model.specs.declared.reply.Reason.{Reason}
+use Rattle.sector_model.specs.declared.reply.Reason.TheVariants as reason
+use Rattle.sector_model.specs.Stations.{StationState, bay_of, met}
+use Rattle.sector_model.specs.States.{State, IsSame}
+use Rattle.sector_model.specs.Orders.{is_bay, is_acknowledged, is_protected, read_refusal, write_refusal, format_refusal, rate_refusal}
+use Rattle.sector_model.specs.Calls.{IsUnready}
+use Rattle.sector_model.specs.Reads.{IsRead, IsReadRefused}
+use Rattle.sector_model.specs.Writes.{IsWritten, IsWriteCause, Reaches, KeepsRegular, written_from}
+use Rattle.sector_model.specs.Formats.{Lays, IsFormatted, IsFormatCause}
+use Rattle.sector_model.specs.Steps.{refusal_of, reply_of}
 use Rattle.sector_model.specs.Texts.{is_refusal}
 use Rattle.sector_model.specs.Runs.{Taken}
 
@@ -92,3 +104,86 @@ KeepsOtherFields old taken =
     (bay address : ℕ) (key : Chrn) (deleted : Bool) → IsWrite taken.asked bay key address deleted
     → (disk : Disk) → (bay_of old.station bay).medium ≡ Some disk → IsRegularDisk disk
     → ((bay_of taken.after.station bay).medium ≡ Some disk) ⊎ WritesAlone bay key address deleted disk old taken
+
+-- ---- Formats.
+
+-- the standard format of a track, at the rate of its bay
+abbrev pub format_in : StationState → ℕ → ℕ → ℕ → Format
+format_in station bay c h = format_at c h (bay_of station bay).rate (gap_at (bay_of station bay).rate) standard_fill
+
+-- a format changed the medium in its bay by a few layouts from the index on, no more than attempts are set: each laid the first words of the
+-- format on a track of its head, and on that of its cylinder where the drive had no fault; where it was done then, that track is formatted
+pub record IsFormat (format : Format) (bay : ℕ) (old : StationState) (answer : Reply) (new : StationState) : Type 0 where
+  pub layings : List Laying
+  pub few : length layings ≤ old.tries
+  pub lays : Lays format (bay_of old bay).medium layings (bay_of new bay).medium
+  pub only : IsFaultless bay old.counters new.counters → All (λ laying. laying.cylinder ≡ format.c) layings
+  pub done : is_refusal answer ≡ false → IsFaultless bay old.counters new.counters
+      → IsFormattable format (bay_of old bay).medium × IsFormatted format (bay_of old bay).medium (bay_of new bay).medium
+
+-- so it is with each format of a course, done or refused
+abbrev pub FormatsTrack : State → Taken → Type 0
+FormatsTrack old taken =
+    (bay c h : ℕ) → taken.asked ≡ request.Format bay c h
+    → IsFormat (format_in old.station bay c h) bay old.station taken.answer taken.after.station
+
+-- ---- Refusals.
+
+-- a refusal of the driver
+abbrev pub by_driver : Option Code → Option Reason
+by_driver refusal = option_map (λ code. reason.Driver code) refusal
+
+-- the refusal of a request before a drive is asked, if there is one: the first line of the order that applies
+abbrev pub refusal_at_once : State → Request → Option Reason
+refusal_at_once state (request.Ack bay) = if is_bay bay then None else Some (reason.Driver BadRequest)
+refusal_at_once state (request.Read bay key address) = by_driver (read_refusal state.station bay key address)
+refusal_at_once state (request.Write bay key address) = by_driver (write_refusal state.station bay key address)
+refusal_at_once state (request.WriteDeleted bay key address) = by_driver (write_refusal state.station bay key address)
+refusal_at_once state (request.Format bay c h) = by_driver (format_refusal state.station bay c h (gap_at (bay_of state.station bay).rate))
+refusal_at_once state (request.SetRate bay rate) = by_driver (rate_refusal state.station bay)
+refusal_at_once state asked = refusal_of state asked
+
+-- why the drive refused a write, by what it changed
+abbrev pub IsWriteRefused : ℕ → Chrn → ℕ → Bool → StationState → Code → StationState → Type 0
+IsWriteRefused bay key address deleted old code new =
+    (changes : List Change) × Reaches (written_from old key address deleted) (bay_of old bay).medium changes (bay_of new bay).medium
+    × IsWriteCause (written_from old key address deleted) (met (bay_of old bay) key.c key.h) (met (bay_of new bay) key.c key.h) changes bay old code new
+
+-- why the drive refused a request with this code
+abbrev pub IsDriveCause : Request → State → Code → State → Type 0
+IsDriveCause (request.Ack bay) old code new = IsUnready bay old.station code new.station
+IsDriveCause (request.Read bay key address) old code new = IsReadRefused bay key address old.station code new.station
+IsDriveCause (request.Write bay key address) old code new = IsWriteRefused bay key address false old.station code new.station
+IsDriveCause (request.WriteDeleted bay key address) old code new = IsWriteRefused bay key address true old.station code new.station
+IsDriveCause (request.Format bay c h) old code new =
+    IsFormatCause (format_in old.station bay c h) (bay_of old.station bay).medium bay old.station code new.station
+IsDriveCause _ old code new = ⊥
+
+-- a request that the order refuses has that answer, and nothing changed; of any other a refusal is the drive's, and has its cause
+abbrev pub TellsCause : State → Taken → Type 0
+TellsCause old taken =
+    MatchOption (refusal_at_once old taken.asked)
+    ((cause : Reason) → taken.answer ≡ reply.Refused cause
+    → (code : Code) × (cause ≡ reason.Driver code) × IsDriveCause taken.asked old code taken.after)
+    (λ cause. (taken.answer ≡ reply.Refused cause) × IsSame old taken.after)
+
+-- ---- Data commands.
+
+-- the most data commands that a request sends: for each attempt a read one, a write two, a format one and one for each sector; an
+-- acknowledgement six, and any other none
+abbrev pub most_commands : StationState → Request → ℕ
+most_commands station (request.Ack bay) = 6
+most_commands station (request.Read bay key address) = station.tries
+most_commands station (request.Write bay key address) = 2 * station.tries
+most_commands station (request.WriteDeleted bay key address) = 2 * station.tries
+most_commands station (request.Format bay c h) = station.tries * (1 + sectors_at (bay_of station bay).rate)
+most_commands station _ = 0
+
+-- at most so many data commands were sent, and an interrupt was taken for each
+pub record Sends (most : ℕ) (old new : Counters) : Type 0 where
+  pub commands : new.data_commands ≤ old.data_commands + most
+  pub interrupts : RoseBy (new.data_commands - old.data_commands) old.taken new.taken
+
+-- a step sent no more than its request may, whether it was done or refused
+abbrev pub SendsFew : State → Taken → Type 0
+SendsFew old taken = Sends (most_commands old.station taken.asked) old.station.counters taken.after.station.counters

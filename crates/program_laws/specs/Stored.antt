@@ -18,6 +18,7 @@ use Rattle.rescue.specs.Log.{log_text}
 use Rattle.rescue.specs.declared.line.LogLine.{LogLine}
 use Rattle.rescue_commands.specs.Logs.{IsLogFound}
 use Rattle.rescue_commands.specs.Rescue.{asked_keys}
+use Rattle.command_laws.specs.LaidFields.{HasLaidFields}
 use Rattle.command_laws.specs.Rescued.{failing_lines}
 use Rattle.command_laws.specs.Verified.{IsStandardKey}
 use Rattle.command_laws.specs.Copied.{AllLone, IsFieldOf}
@@ -38,7 +39,8 @@ HasSomeField disk copied key =
 
 -- a copy of a disk was stored under a name, and no other file changed: a regular disk of the same cylinders and rate, with two
 -- heads, that has for each standard key a sector with the mark and the content of an intact field of the key on the other: of its
--- sector, where what is read of the disk is its sectors; its tracks are Laid
+-- sector, where what is read of the disk is its sectors; the tracks that the other disk has are Laid, and so is each track with an
+-- address field
 pub record StoresCopyAsRead (sure : Type 0) (disk : Disk) (to : List ℕ) (told after : Option Files) : Type 0 where
   pub copied : Disk
   pub valid : IsDisk copied
@@ -49,6 +51,7 @@ pub record StoresCopyAsRead (sure : Type 0) (disk : Disk) (to : List ℕ) (told 
   pub words_per_track : copied.words_per_track ≡ words_at disk.rate
   pub regular : IsRegularDisk copied
   pub laid : (c h : ℕ) → HasTrack disk c h → IsLaid (track_of copied c h)
+  pub laid_fields : HasLaidFields copied
   pub fields : (key : Chrn) → IsStandardKey disk key → HasSomeField disk copied key
   pub sectors : sure → (key : Chrn) → IsStandardKey disk key → HaveSameSector disk copied key
   pub files : after ≡ stored told to (file_of copied)

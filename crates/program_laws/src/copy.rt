@@ -1,5 +1,5 @@
 // The form that copies a disk.
-ghost use Rattle.std.specs.Prelude.{◌≡◌, List, Some};
+ghost use Rattle.std.specs.Prelude.{◌≡◌, List, Option, Some};
 ghost use Rattle.flop_base.specs.Shelf.{Files};
 ghost use Rattle.raw_image.specs.Disk.{Disk};
 ghost use Rattle.flop_base.specs.Counters.{DriveCounts};
@@ -8,6 +8,7 @@ ghost use Rattle.pc_bus.specs.Boards.{Board};
 ghost use Rattle.archive_commands.specs.Files.{Desk};
 ghost use Rattle.floppy_words.specs.declared.form.Form.TheVariants as form;
 ghost use Rattle.floppy_tools.specs.Machines.{RunsOver};
+ghost use Rattle.command_laws.specs.Targets.{HoldsTarget};
 ghost use Rattle.program_laws.specs.Disturbed.{HadNoFault};
 ghost use Rattle.program_laws.specs.Stored.{IsReadSure, StoresCopyAsRead};
 
@@ -23,4 +24,12 @@ pub fn copy_of_a_disk(_from: &str, _to: &str)
         → before.files ≡ Some files → IsImageOf (Some files) _from.now disk
         → HadNoFault 1 old new
         → StoresCopyAsRead (IsReadSure disk old new) disk _to.now (Some files) after.files }
+{}
+
+/// A law: so TO is a disk that a rescue may go on with: a regular disk in its ranges, not protected, that has each standard key of FROM,
+/// and each of whose address fields is on a Laid track.
+pub fn copied_disk_is_a_target(_from: &str, _to: &str)
+    ensures { (old new : Board) (files : Files) (after : Option Files) (disk : Disk)
+        (stores : StoresCopyAsRead (IsReadSure disk old new) disk _to.now (Some files) after)
+        → IsImageOf (Some files) _from.now disk → HoldsTarget _to.now disk stores.copied after }
 {}

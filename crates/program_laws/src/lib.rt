@@ -20,7 +20,7 @@ mod verify;
 mod words;
 
 pub use archive::{disk_laid_anew, disk_of_an_imd, imd_of_a_disk, survey_of_a_disk};
-pub use copy::copy_of_a_disk;
+pub use copy::{copied_disk_is_a_target, copy_of_a_disk};
 pub use counts::{counts_are_tied, job_accesses};
 pub use ends::{
     copy_ends_well, export_ends_well, format_ends_well, formatdd_ends_well,
@@ -44,8 +44,8 @@ pub use status::{
     verify_status,
 };
 pub use steps::{
-    course_is_a_run, steps_keep_guarded_media, steps_keep_other_fields, steps_read_fields,
-    steps_write_fields,
+    course_is_a_run, steps_format_tracks, steps_keep_guarded_media, steps_keep_other_fields,
+    steps_read_fields, steps_send_few_commands, steps_tell_causes, steps_write_fields,
 };
 pub use verify::{verify_finds_all, verify_of_a_disk};
 pub use words::form_of_words_ran;

@@ -9,7 +9,7 @@ ghost use Rattle.sector_model.specs.Runs.{Taken, Run};
 ghost use Rattle.archive_commands.specs.Files.{Desk};
 ghost use Rattle.floppy_words.specs.declared.form.Form.{Form};
 ghost use Rattle.floppy_tools.specs.Machines.{RunsOver};
-ghost use Rattle.program_laws.specs.Steps.{EachStep, KeepsGuarded, ReadsField, WritesField, KeepsOtherFields};
+ghost use Rattle.program_laws.specs.Steps.{EachStep, KeepsGuarded, ReadsField, WritesField, KeepsOtherFields, FormatsTrack, TellsCause, SendsFew};
 
 /// A law: in each step of a run the medium of a bay that isn't acknowledged, or that has a protected medium, stays as it is, unless
 /// the step exchanged it: its request puts a medium into that bay, takes one out, or exchanges its drive, and wasn't refused.
@@ -41,6 +41,30 @@ pub fn steps_write_fields()
 pub fn steps_keep_other_fields()
     ensures { (old new : State) (told after : Option Files) (course : List Taken)
         → Run old told course new after → EachStep KeepsOtherFields old course }
+{}
+
+/// A law: in each step of a run, a format, done or refused, changed the medium in its bay by no more layouts than attempts are set, each
+/// of which laid the first words of the standard format on a track of its head, and on that of its cylinder where the drive had no
+/// fault; where it was done then, the track is as it is formatted.
+pub fn steps_format_tracks()
+    ensures { (old new : State) (told after : Option Files) (course : List Taken)
+        → Run old told course new after → EachStep FormatsTrack old course }
+{}
+
+/// A law: in each step of a run, a request to which a line of the order of refusals applies was refused with the first that does,
+/// nothing changed, and no data command was sent. Of any other request a refusal is the drive's, and has its cause: of a read, a write, a
+/// format and an acknowledgement; all others were done.
+pub fn steps_tell_causes()
+    ensures { (old new : State) (told after : Option Files) (course : List Taken)
+        → Run old told course new after → EachStep TellsCause old course }
+{}
+
+/// A law: each step of a run, done or refused, sent no more data commands than its request may, and took an interrupt for each: for each
+/// attempt a read sends one, a write two, and a format one more than a track has sectors; an acknowledgement sends six, and any other
+/// request none.
+pub fn steps_send_few_commands()
+    ensures { (old new : State) (told after : Option Files) (course : List Taken)
+        → Run old told course new after → EachStep SendsFew old course }
 {}
 
 /// A law: the course of each form over a machine is a run, from the session that was set up and the files as they were, so that the

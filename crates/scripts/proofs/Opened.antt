@@ -1,5 +1,5 @@
 -- A disk that was put in is there.
-use Rattle.std.proofs.Common.{◌≡◌, ℕ, false, List, ap, ◌∙◌, sym, Option, Some, None}
+use Rattle.std.proofs.Common.{◌≡◌, ℕ, false, List, ap, ◌∙◌, sym, Option, Some, None, unwrap_or}
 use Rattle.std.proofs.lemmas.Bool.{true≢false}
 use Rattle.std.specs.Option.{MatchOption, option_map}
 use Rattle.flop_base.specs.Shelf.{Files}
@@ -12,7 +12,9 @@ use Rattle.sector_model.specs.Stations.{StationState, bay_of}
 use Rattle.sector_model.specs.States.{State}
 use Rattle.sector_model.specs.Steps.{Step, refusal_of}
 use Rattle.sector_model.specs.Texts.{is_refusal}
+use Rattle.floppy_session.specs.declared.shape.Shape.{Shape}
 use Rattle.floppy_session.specs.Shapes.{shape_in, shape_of}
+use Rattle.scripts.specs.Parts.{no_tracks, shape_at}
 
 by_refusal : {P R : Type 0} {Q : Reason → Type 0} (refusal : Option Reason) → MatchOption refusal P Q → (P → R) → ((cause : Reason) → Q cause → R) → R
 by_refusal None holds none some = none holds
@@ -28,13 +30,20 @@ put_in name answer old new told after fine step =
     (λ does. (does.2.0, ap (λ (s : StationState). (bay_of s 0).medium) does.2.2.exchanged.becomes))
     (λ cause refused. absurd (not_refused answer cause fine refused.answered))
 
+-- its shape is that of the bay
+pub shape_put : (name : List ℕ) (answer : Reply) (old new : State) (told after : Option Files) → is_refusal answer ≡ false
+    → Step (request.Insert 0 name) old told answer new after → shape_in (bay_of new.station 0) ≡ Some (shape_at new 0)
+shape_put name answer old new told after fine step =
+    let disk = put_in name answer old new told after fine step in
+    let some : shape_in (bay_of new.station 0) ≡ Some (shape_of disk.0) = ap (λ (medium : Option Disk). option_map shape_of medium) disk.1 in
+    some ∙ ap (λ (o : Option Shape). Some (unwrap_or o no_tracks)) (sym some)
+
 -- there is a shape where there is a disk
 pub there_is : (name : List ℕ) (answer : Reply) (old new : State) (told after : Option Files) → is_refusal answer ≡ false
     → Step (request.Insert 0 name) old told answer new after → shape_in (bay_of new.station 0) ≡ None → ⊥
 there_is name answer old new told after fine step none =
-    let disk = put_in name answer old new told after fine step in
-    let some : shape_in (bay_of new.station 0) ≡ Some (shape_of disk.0) = ap (λ (medium : Option Disk). option_map shape_of medium) disk.1 in
-    absurd (cc)
+    let some = shape_put name answer old new told after fine step in
+    absurd (cc (some, none))
 
 -- and the files stay
 pub files_stay : (name : List ℕ) (answer : Reply) (old new : State) (told after : Option Files) → is_refusal answer ≡ false

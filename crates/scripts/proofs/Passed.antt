@@ -1,6 +1,6 @@
 -- Parts of a script that were gone through, and what is known of each.
 use Rattle.std.proofs.Math.Path.{fun_ext}
-use Rattle.std.proofs.Common.{◌+◌, zero, suc, ◌≡◌, ◌∙◌, ℕ, false, Bool, true, List, [], ◌∷◌, ◌++◌, map, inl, inr, refl, sym, ap, subst, append-nil, append_assoc, Option, Some, None}
+use Rattle.std.proofs.Common.{◌+◌, zero, suc, ◌≡◌, ◌∙◌, ℕ, false, Bool, true, List, [], ◌∷◌, ◌++◌, map, inl, inr, refl, sym, ap, subst, append-nil, append_assoc, Option, Some}
 use Rattle.std.specs.Prelude.{◌||◌}
 use Rattle.std.specs.List.{flat_map, range_with_len}
 use Rattle.std.proofs.lemmas.List.{map-append}
@@ -22,8 +22,8 @@ use Rattle.sector_model.specs.Plays.{World, Prints, IsPutFault}
 use Rattle.floppy_session.specs.declared.shape.Shape.{Shape}
 use Rattle.floppy_session.specs.Shapes.{shape_in}
 use Rattle.scripts.specs.Scripts.{Script, Ends, Stores, RunsScript, StoresLast}
-use Rattle.scripts.specs.Parts.{Part, asks, needs, carries, says, may_starve, with_shape, opens, sets_rate, acknowledges, through, each, by_track, rate_requests}
-use Rattle.scripts.proofs.Opened.{there_is}
+use Rattle.scripts.specs.Parts.{Part, asks, needs, carries, says, may_starve, shape_at, opens, sets_rate, acknowledges, through, each, by_track, rate_requests}
+use Rattle.scripts.proofs.Opened.{shape_put}
 use Rattle.scripts.proofs.Reading.{IsAnswered, IsRefused, IsWhole, ok_is_whole, ask_run, ask_answered, need_run, need_taken, refused_is_not_ok, last_run, last_stored}
 
 -- what is known of a part that was gone through: by the world before it, its course, what it found, and the world behind it
@@ -401,38 +401,25 @@ pub record Opened (name : List ℕ) (old : World) (course : List Taken) (shape :
   pub did : Did (request.Insert 0 name ∷ []) old course mid
   pub there : shape_in (bay_of mid.state.station 0) ≡ Some shape
 
+-- so is one whose request was answered, and not refused
+taken_opened : (name : List ℕ) (old : World) (course : List Taken) (shape : Shape) (mid : World)
+    → IsTaken (request.Insert 0 name) (λ answer after. shape_at after 0) old course shape mid → Opened name old course shape mid
+taken_opened name old course shape mid it =
+    let is = it.is in
+    let there = shape_put name is.taken.answer old.state is.taken.after old.files mid.files it.fine is.step in
+    record {
+      did = taken_did (request.Insert 0 name) (λ answer after. shape_at after 0) old course shape mid it;
+      there = ap (λ (s : State). shape_in (bay_of s.station 0)) is.after ∙ there ∙ ap (λ (s : Shape). Some s) (sym is.found_is);
+    }
+
 pub opens_passed : (name : List ℕ) (rest : Shape → Script) (old : World) (course : List Taken) (new : World) (ended : Status)
     → IsWhole ended → (IsRefused (request.Insert 0 name) old course new ended → ⊥) → RunsScript (opens name rest) old course new ended
     → Passed (Opened name) rest old course new ended
 unfolding opens
-opens_passed name rest old course new ended whole fine runs = let a = needs_passed asked finds next old course new ended whole fine runs in go a.found a refl
-  where
-    asked : Request
-    asked = request.Insert 0 name
-
-    finds : Reply → State → Option Shape
-    finds answer after = shape_in (bay_of after.station 0)
-
-    next : Option Shape → Script
-    next found = with_shape found rest
-
-    go : (found : Option Shape) → (a : Passed (IsTaken asked finds) next old course new ended) → a.found ≡ found
-        → Passed (Opened name) rest old course new ended
-    go (Some shape) a is = record {
-      one = a.one;
-      two = a.two;
-      found = shape;
-      mid = a.mid;
-      course_is = a.course_is;
-      knows = record {
-        did = taken_did asked finds old a.one a.found a.mid a.knows;
-        there = ap (λ (s : State). shape_in (bay_of s.station 0)) a.knows.is.after ∙ sym a.knows.is.found_is ∙ is;
-      };
-      left = subst (λ (f : Option Shape). RunsScript (with_shape f rest) a.mid a.two new ended) is a.left;
-    }
-    go None a is =
-        let taken = a.knows.is.taken in
-        absurd (there_is name taken.answer old.state taken.after old.files a.mid.files a.knows.fine a.knows.is.step (sym a.knows.is.found_is ∙ is))
+opens_passed name rest old course new ended whole fine runs =
+    let finds : Reply → State → Shape = λ answer after. shape_at after 0 in
+    passed_known (IsTaken (request.Insert 0 name) finds) (Opened name) (taken_opened name) rest old course new ended
+    (needs_passed (request.Insert 0 name) finds rest old course new ended whole fine runs)
 
 pub opens_passes : (name : List ℕ) → Passes status.AllOk (opens name) (Opened name)
 opens_passes name rest old course new runs =

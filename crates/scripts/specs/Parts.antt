@@ -1,9 +1,8 @@
 -- Parts of scripts: each is given what follows it, by what it found.
-use Rattle.std.specs.Prelude.{ℕ, List, [], ◌∷◌, Option, Some, None}
+use Rattle.std.specs.Prelude.{ℕ, List, [], ◌∷◌, unwrap_or}
 use Rattle.std.specs.List.{range_with_len}
 use Rattle.flop_base.specs.declared.answers.Rate.{Rate}
 use Rattle.flop_base.specs.declared.answers.Rate.TheVariants.{R500, R250}
-use Rattle.flop_base.specs.declared.answers.Status.TheVariants as status
 use Rattle.floppy_requests.specs.declared.request.Request.{Request}
 use Rattle.floppy_requests.specs.declared.request.Request.TheVariants as request
 use Rattle.sector_model.specs.declared.reply.Reply.{Reply}
@@ -11,7 +10,7 @@ use Rattle.sector_model.specs.Stations.{bay_of}
 use Rattle.sector_model.specs.States.{State}
 use Rattle.floppy_session.specs.declared.shape.Shape.{Shape}
 use Rattle.floppy_session.specs.Shapes.{shape_in}
-use Rattle.scripts.specs.Scripts.{Script, Ends, Says, Asks, MayStarve, unless_refused}
+use Rattle.scripts.specs.Scripts.{Script, Says, Asks, MayStarve, unless_refused}
 
 -- a part of a script finds a value, by which the rest goes on
 abbrev pub Part : Type 0 → Type 0
@@ -37,14 +36,17 @@ says line rest = Says line (rest tt)
 unfoldable pub may_starve : Part (Unit {0})
 may_starve rest = MayStarve (rest tt)
 
--- what follows the shape of a medium that is in; one is
-abbrev pub with_shape : Option Shape → Part Shape
-with_shape (Some shape) rest = rest shape
-with_shape None rest = Ends [] status.AllOk
+-- the shape of an empty bay: no tracks
+abbrev pub no_tracks : Shape
+no_tracks = record { cylinders = 0; heads = 0; words = 0; rate = R500 }
+
+-- the shape of what is in a bay
+abbrev pub shape_at : State → ℕ → Shape
+shape_at state bay = unwrap_or (shape_in (bay_of state.station bay)) no_tracks
 
 -- the disk of a name is put into bay 0, and its shape is found
 unfoldable pub opens : List ℕ → Part Shape
-opens name rest = needs (request.Insert 0 name) (λ answer after. with_shape (shape_in (bay_of after.station 0)) rest)
+opens name rest = needs (request.Insert 0 name) (λ answer after. rest (shape_at after 0))
 
 -- a bay that was acknowledged gets the rate 250 kbit/s, where that is asked for
 abbrev pub rate_requests : Rate → ℕ → List Request

@@ -1,9 +1,11 @@
 // Parts that many scripts have: a disk is put in, a bay is made ready, and tracks are formatted.
-ghost use Rattle.std.specs.Prelude.{◌≡◌, Some, OnOk};
+ghost use Rattle.std.specs.Prelude.{◌≡◌, ◌≢◌, None, OnOk};
 ghost use Rattle.flop_base.specs.declared.answers.Rate.{Rate};
+ghost use Rattle.sector_model.specs.Stations.{bay_of};
 ghost use Rattle.floppy_session.specs.Tries.{HasTries};
 ghost use Rattle.floppy_session.specs.Blanks.{blank_request};
-ghost use Rattle.scripts.specs.Parts.{opens, sets_rate, acknowledges, each, by_track, formats};
+ghost use Rattle.floppy_session.specs.Shapes.{shape_in};
+ghost use Rattle.scripts.specs.Parts.{shape_at, opens, sets_rate, acknowledges, each, by_track, formats};
 ghost use Rattle.scripts.specs.Leading.{Goes, RanPart, faulty_of};
 
 use crate::asking::{carry, need};
@@ -12,6 +14,17 @@ use floppy_requests::Request;
 use floppy_session::{Session, Shape};
 use sector_model::Station;
 use std::alloc::Global;
+
+/// The shape of the medium in bay 0.
+fn first_shape<D: Station>(session: &Session<D>) -> Shape
+    requires { shape_in (bay_of session.now.station 0) ≢ None }
+    ensures { result ≡ shape_at session.now 0 }
+{
+    match session.shape(0) {
+        Some(shape) => shape,
+        None => unreachable!(),
+    }
+}
 
 /// Puts the disk of this name into bay 0, and gives its shape.
 #[tactic(auto, unfolding(crate::specs::Parts::opens))]
@@ -34,10 +47,7 @@ pub fn open_disk<S: Shelf, K: Sink, D: Station>(
         shelf,
         out,
     )?;
-    match session.shape(0) {
-        Some(shape) => Ok(shape),
-        None => unreachable!(),
-    }
+    Ok(first_shape(session))
 }
 
 /// Sets an acknowledged bay to a rate; 500 kbit/s needs no request.

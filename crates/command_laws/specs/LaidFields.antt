@@ -1,0 +1,10 @@
+-- Disks on which no write brings up an address mark.
+use Rattle.std.specs.Prelude.{ℕ}
+use Rattle.flop_base.specs.declared.key.Chrn.{Chrn}
+use Rattle.raw_image.specs.Disk.{Disk, HasTrack, track_of}
+use Rattle.track_model.specs.Fields.{IsAddressAt}
+use Rattle.track_model.specs.Laid.{IsLaid}
+
+-- each address field of the disk is on a Laid track: no write to it brings up an address mark, however short it stops
+abbrev pub HasLaidFields : Disk → Type 0
+HasLaidFields disk = (c h p : ℕ) (key : Chrn) → HasTrack disk c h → IsAddressAt (track_of disk c h) p key → IsLaid (track_of disk c h)
