@@ -17,4 +17,6 @@ mod session;
 #[cfg(test)]
 mod shelves;
 #[cfg(test)]
+mod stores;
+#[cfg(test)]
 mod stuck;
