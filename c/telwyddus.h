@@ -124,10 +124,14 @@ TELWYDDUS_CALL uint32_t telwyddus_tray_survey(telwyddus_tray *tray, uint8_t *out
  * THE CONTROLLER (82077AA, PC/AT mode), with two drives. Your emulator has the DMA controller, the interrupt controller and the
  * clock.
  *
+ *   - It has all commands of the data sheet but the three SCANs. docs/C.md has a table of what it does at each, their result bytes,
+ *     and what it says of a guest's mistakes.
  *   - READ DATA, READ DELETED DATA, WRITE DATA and WRITE DELETED DATA move sectors from R up to EOT, with MT over both heads, until
- *     the terminal count comes; with SK a read passes over those of the other mark. docs/C.md has their result bytes, and what
- *     it says of a guest's mistakes.
- *   - A command seeks its cylinder first where CONFIGURE has set EIS, or a strap does.
+ *     the terminal count comes; with SK a read passes over those of the other mark.
+ *   - A command that names a cylinder seeks it first where CONFIGURE has set EIS, or a strap does.
+ *   - A command that media here can't have (FM, size codes 0 and 7 and above) is answered as on a track where no such field is
+ *     found: after a search, with INT and seven result bytes.
+ *   - Where the guest's SPECIFY sets ND, bytes pass at 3F5, INT asks for each, and DRQ stays down: DACK answers NOT_ASKED.
  *   - Port accesses go to read and write as they come. Each word time is a step; run makes many.
  *   - LOOK AT THE LINES AFTER EVERY CALL, port accesses too: INT falls and rises in them, and DRQ may rise with the last byte of
  *     a command. Then DACK bytes while DRQ is up, as your channel lets you, and TC with the last one: before the next step.
@@ -147,8 +151,8 @@ TELWYDDUS_CALL uint32_t telwyddus_controller_new_planned(telwyddus_controller *c
 /* Frees it with its drives and media. DONE, EMPTY. */
 TELWYDDUS_CALL uint32_t telwyddus_controller_free(telwyddus_controller *controller);
 
-/* A strap of your board: where `on` isn't 0, commands of sectors seek their cylinder first whatever CONFIGURE sets, also behind a
- * reset. Off at first. DONE, EMPTY. */
+/* A strap of your board: where `on` isn't 0, commands that name a cylinder (READ DATA, WRITE DATA, VERIFY, READ TRACK) seek it first
+ * whatever CONFIGURE sets, also behind a reset. Off at first. DONE, EMPTY. */
 TELWYDDUS_CALL uint32_t telwyddus_controller_strap_seeks(telwyddus_controller *controller, uint8_t on);
 
 /* A port, 3F0 to 3F7, is read or written. A port that nothing answers gives FF. DONE, EMPTY. */
@@ -212,9 +216,9 @@ TELWYDDUS_CALL uint32_t telwyddus_controller_save(telwyddus_controller *controll
 TELWYDDUS_CALL uint32_t telwyddus_controller_restore(telwyddus_controller *controller, const uint8_t *bytes, size_t length);
 
 /* ---------------------------------------------------------------------------------------------------------------------------
- * THE MACHINE: the controller, channel 2 of an 8237A (ports 04, 05, 08 to 0F, 81), 1 MiB of memory, and a latch for IRQ 6. The
- * latch looks at the line once a device step. For benches of drivers: its drives may have planned faults, its DMA delays, its
- * interrupt line strays. A command moves one sector here: MT and SK are refused. */
+ * THE MACHINE: a smaller controller, channel 2 of an 8237A (ports 04, 05, 08 to 0F, 81), 1 MiB of memory, and a latch for IRQ 6.
+ * The latch looks at the line once a device step. For benches of drivers: its drives may have planned faults, its DMA delays, its
+ * interrupt line strays. Its commands are those of docs/FORMATS.md alone, and each moves one sector: MT and SK are refused. */
 
 /* Makes a machine with two drives that have no faults. DONE, FULL, NO_MEMORY. */
 TELWYDDUS_CALL uint32_t telwyddus_machine_new(telwyddus_machine *machine);

@@ -8,11 +8,11 @@ use Rattle.std.specs.Box.Ownership.{box_owns}
 use Rattle.std.specs.Global.{Global, Box}
 use Rattle.std.specs.contracts.prelude.GlobalAllocator.TheImpl.{ghosts}
 use Rattle.std.specs.Coded.{coded_option}
-use Rattle.fdc_sequencer.specs.contracts.sequencer.Sequencer as sequencer_of
+use Rattle.fdc_chip.specs.contracts.chip.Chip as chip_of
 use Rattle.drive_model.specs.contracts.script.ScriptDrive as drive_of
 
 abbrev pub controller_row : RattleType
-controller_row = sequencer_of.the_row drive_of.the_row
+controller_row = chip_of.the_row drive_of.the_row
 
 abbrev pub ControllerValue : Type 0
 ControllerValue = controller_row.Denot

@@ -12,7 +12,7 @@ mod tray;
 pub use controller::ControllerSlot;
 pub use disk::DiskSlot;
 use drive_model::ScriptDrive;
-use fdc_sequencer::Sequencer;
+use fdc_chip::Chip;
 pub use machine::MachineSlot;
 use pc_bus::MachineOf;
 use raw_image::Medium;
@@ -22,8 +22,8 @@ pub use tray::TraySlot;
 /// The machine with drives that have the faults of a list, which may be empty.
 pub type BenchMachine = MachineOf<ScriptDrive>;
 
-/// The controller that takes several sectors a command, with such drives.
-pub type SequencedBoard = Sequencer<ScriptDrive>;
+/// The whole controller, with such drives.
+pub type WholeController = Chip<ScriptDrive>;
 
 /// What a medium lies in outside a drive.
 #[derive(Drop)]

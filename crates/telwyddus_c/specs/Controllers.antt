@@ -8,51 +8,57 @@ use Rattle.drive_model.specs.Mechanics.{at_rest}
 use Rattle.drive_model.specs.ScriptDrive.{script_state, told}
 use Rattle.fault_plan.specs.Plan.{Plan}
 use Rattle.fdc_board.specs.Boards.{SameDrives, drive_at, selected_at}
+use Rattle.fdc_chip.specs.Chips.{ChipState, chip_state, behind_of, IsNewChip, KeepsChip, interrupts_chip, asks_chip}
+use Rattle.fdc_chip.specs.Ports.{TakesChip, GivesChip}
 use Rattle.fdc_core.specs.Dma.{to_memory_of}
 use Rattle.fdc_core.specs.State.{dor_of}
-use Rattle.fdc_sequencer.specs.Fronts.{Front, front_state, board_of, KeepsFront, interrupts_outside, asks_outside, TakesFront, GivesFront, IsNewFront}
+use Rattle.fdc_sequencer.specs.Fronts.{board_of}
 use Rattle.telwyddus_c.specs.Media.{Inserts, Ejects}
 use Rattle.telwyddus_c.specs.Slots.{DoneOr}
 
--- the controller, the states of both drives, and what is done with a command of several sectors
-abbrev pub state_of : ControllerValue → Front
-state_of controller = front_state script_state controller
+-- the controller with the states of both drives, what is under way, and what commands set
+abbrev pub state_of : ControllerValue → ChipState
+state_of controller = chip_state script_state controller
+
+-- both drives are as they were
+abbrev pub KeepsDrives : ControllerValue → ControllerValue → Type 0
+KeepsDrives old new = SameDrives (board_of (behind_of old)) (board_of (behind_of new))
 
 -- a new one whose drives have no faults
 abbrev pub IsPlain : ControllerValue → Type 0
-IsPlain controller = IsNewFront (at_rest (Some 0)) (at_rest (Some 0)) (state_of controller)
+IsPlain controller = IsNewChip (at_rest (Some 0)) (at_rest (Some 0)) (state_of controller)
 
 -- a new one whose drives have as many faults to come as the plan has for them
 abbrev pub IsPlanned : Plan → ControllerValue → Type 0
 IsPlanned plan controller =
-    IsNewFront (at_rest (told 0 (total_left plan.bay0))) (at_rest (told 0 (total_left plan.bay1))) (state_of controller)
+    IsNewChip (at_rest (told 0 (total_left plan.bay0))) (at_rest (told 0 (total_left plan.bay1))) (state_of controller)
 
 -- the drive in a bay
 abbrev pub drive_of : ControllerValue → ℕ → DriveState
-drive_of controller bay = drive_at (state_of controller).board bay
+drive_of controller bay = drive_at (state_of controller).front.board bay
 
 -- the lines in a byte: 1 is the interrupt line, 2 the request line, and 4 the direction to memory
-abbrev pub lines_byte : Front → ℕ
-lines_byte front = (if interrupts_outside front then 1 else 0) + (if asks_outside front then 2 else 0)
-    + (if to_memory_of front.board.controller then 4 else 0)
+abbrev pub lines_byte : ChipState → ℕ
+lines_byte chip = (if interrupts_chip chip then 1 else 0) + (if asks_chip chip then 2 else 0)
+    + (if to_memory_of chip.front.board.controller then 4 else 0)
 
 -- the channel takes a byte: 0. None is asked for in this direction: 8
-abbrev pub TakesByte : ℕ → Front → (was byte : ℕ) → Front → Type 0
-TakesByte code old was byte new = DoneOr 8 code (TakesFront old (Some byte) new) (TakesFront old None new × (byte ≡ was))
+abbrev pub TakesByte : ℕ → ChipState → (was byte : ℕ) → ChipState → Type 0
+TakesByte code old was byte new = DoneOr 8 code (TakesChip old (Some byte) new) (TakesChip old None new × (byte ≡ was))
 
 -- the channel gives a byte: 0. None is asked for in this direction: 8
-abbrev pub GivesByte : ℕ → ℕ → Front → Front → Type 0
-GivesByte byte code old new = DoneOr 8 code (GivesFront byte old true new) (GivesFront byte old false new)
+abbrev pub GivesByte : ℕ → ℕ → ChipState → ChipState → Type 0
+GivesByte byte code old new = DoneOr 8 code (GivesChip byte old true new) (GivesChip byte old false new)
 
 -- seeks are implied, or left to CONFIGURE: all else stays
 pub record StrapsSeeks (on : Bool) (old new : ControllerValue) : Type 0 where
   pub strapped : state_of new ≡ record (state_of old) { strapped = on }
-  pub drives : SameDrives (board_of old) (board_of new)
+  pub drives : KeepsDrives old new
 
 -- the controller and the drive of the other bay stay
-pub record KeepsBeside (bay : ℕ) (old new : Front) : Type 0 where
-  pub front : KeepsFront old new
-  pub other : drive_at new.board (1 - bay) ≡ drive_at old.board (1 - bay)
+pub record KeepsBeside (bay : ℕ) (old new : ChipState) : Type 0 where
+  pub chip : KeepsChip old new
+  pub other : drive_at new.front.board (1 - bay) ≡ drive_at old.front.board (1 - bay)
 
 -- the medium of a tray goes into a bay
 pub record InsertsAt (bay code : ℕ) (tray left : Option TrayValue) (old new : ControllerValue) : Type 0 where
@@ -80,6 +86,6 @@ pub record TellsWritten (bay : ℕ) (old : ControllerValue) (told : ℕ) (new : 
 pub record Shows (bay : ℕ) (controller : ControllerValue) (cylinder signs : ℕ) : Type 0 where
   pub cylinder_is : cylinder ≡ (drive_of controller bay).cylinder
   pub motor : Bool
-  pub turns : IsTrue motor ↔ IsBitSet (dor_of (state_of controller).board.controller) (4 + bay)
-  pub signs_are : signs ≡ (if motor then 1 else 0) + (if selected_at (state_of controller).board == bay then 2 else 0)
+  pub turns : IsTrue motor ↔ IsBitSet (dor_of (state_of controller).front.board.controller) (4 + bay)
+  pub signs_are : signs ≡ (if motor then 1 else 0) + (if selected_at (state_of controller).front.board == bay then 2 else 0)
       + (if (drive_of controller bay).gate then 4 else 0) + (if is_some (drive_of controller bay).medium then 8 else 0)

@@ -4,7 +4,7 @@ use Rattle.std.specs.Global.{Box}
 use Rattle.c_slots.specs.Controllers.{ControllerValue}
 use Rattle.c_slots.specs.Machines.{MachineValue}
 use Rattle.drive_model.specs.Saving.{spelled_script_drive}
-use Rattle.fdc_sequencer.specs.Saving.{spelled_sequencer, SequencerFits}
+use Rattle.fdc_chip.specs.Saving.{spelled_chip, ChipFits}
 use Rattle.pc_bus.specs.Saving.{spelled_machine, MachineFits}
 use Rattle.saved_state.specs.declared.whole.RestoreError.{RestoreError}
 use Rattle.saved_state.specs.declared.whole.RestoreError.TheVariants.{NoState, NoMemory}
@@ -12,10 +12,10 @@ use Rattle.telwyddus_c.specs.Buffers.{WritesOr}
 
 -- the bytes of a controller with its drives and their media, and what is so of each that code holds
 abbrev pub spelled_controller : ControllerValue → List ℕ → List ℕ
-spelled_controller = spelled_sequencer spelled_script_drive
+spelled_controller = spelled_chip spelled_script_drive
 
 abbrev pub ControllerFits : ControllerValue → Type 0
-ControllerFits = SequencerFits (λ _. ⊤)
+ControllerFits = ChipFits (λ _. ⊤)
 
 -- the same of a machine with its memory, what its plan has still to come, its drives and their media
 abbrev pub spelled_bench : MachineValue → List ℕ → List ℕ

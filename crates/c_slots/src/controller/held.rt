@@ -2,7 +2,7 @@
 ghost use Rattle.std.specs.Prelude.{◌≡◌, None, Some, Option};
 ghost use Rattle.c_slots.specs.Controllers.{ControllerValue, held_owns, held_coded};
 
-use crate::SequencedBoard;
+use crate::WholeController;
 use crate::loose::Loose;
 use std::alloc::Global;
 use std::marker::Model;
@@ -31,20 +31,20 @@ impl Held {
         }
     }
 
-    pub fn of(controller: Box<SequencedBoard>) -> Held
+    pub fn of(controller: Box<WholeController>) -> Held
         ensures { result.controller ≡ Some controller.value }
     {
         Held::of_loose(Loose::of(controller))
     }
 
-    pub fn into_box(self) -> Box<SequencedBoard>
+    pub fn into_box(self) -> Box<WholeController>
         requires { (controller : ControllerValue) × (self.controller ≡ Some controller) }
         ensures { self.controller ≡ Some result.value }
     {
         self.into_loose().into_box()
     }
 
-    fn of_loose(loose: Loose<SequencedBoard, Global>) -> Held
+    fn of_loose(loose: Loose<WholeController, Global>) -> Held
         ensures { result.controller ≡ Some loose.value }
     {
         let Loose { at, alloc } = loose;
@@ -54,13 +54,13 @@ impl Held {
         }
     }
 
-    fn into_loose(self) -> Loose<SequencedBoard, Global>
+    fn into_loose(self) -> Loose<WholeController, Global>
         requires { (controller : ControllerValue) × (self.controller ≡ Some controller) }
         ensures { self.controller ≡ Some result.value }
     {
         let Held { at, alloc } = self;
         Loose {
-            at: at as *mut SequencedBoard,
+            at: at as *mut WholeController,
             alloc,
         }
     }

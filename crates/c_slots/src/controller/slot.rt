@@ -3,7 +3,7 @@ ghost use Rattle.std.specs.Prelude.{◌≡◌, ◌==◌, None, Some, Option};
 ghost use Rattle.std.specs.Option.{is_some};
 ghost use Rattle.c_slots.specs.Controllers.{boxed};
 
-use crate::SequencedBoard;
+use crate::WholeController;
 use crate::controller::held::Held;
 use std::alloc::Global;
 use std::mem;
@@ -36,7 +36,7 @@ impl ControllerSlot {
         }
     }
 
-    fn of(controller: Box<SequencedBoard>) -> ControllerSlot
+    fn of(controller: Box<WholeController>) -> ControllerSlot
         ensures { result.held.controller ≡ Some controller.value }
     {
         ControllerSlot {
@@ -45,7 +45,7 @@ impl ControllerSlot {
         }
     }
 
-    fn into_box(self) -> Option<Box<SequencedBoard>>
+    fn into_box(self) -> Option<Box<WholeController>>
         ensures { boxed result ≡ self.held.controller }
     {
         let ControllerSlot { held, tag } = self;
@@ -57,7 +57,7 @@ impl ControllerSlot {
     }
 
     /// Takes the controller out.
-    pub fn take(&mut self, alloc: Global) -> Option<Box<SequencedBoard>>
+    pub fn take(&mut self, alloc: Global) -> Option<Box<WholeController>>
         ensures taken { boxed result ≡ self.old.held.controller }
         ensures left { self.new.held.controller ≡ None }
     {
@@ -65,7 +65,7 @@ impl ControllerSlot {
     }
 
     /// Puts a controller in. What was there is freed.
-    pub fn put(&mut self, controller: Box<SequencedBoard>)
+    pub fn put(&mut self, controller: Box<WholeController>)
         ensures { self.new.held.controller ≡ Some controller.value }
     {
         *self = ControllerSlot::of(controller);

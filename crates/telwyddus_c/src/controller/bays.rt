@@ -8,7 +8,7 @@ ghost use Rattle.telwyddus_c.specs.Slots.{Serves, InBay};
 
 use crate::code::{DONE, EMPTY, FULL, HAS_MEDIUM, NO_MEDIUM, NO_MEMORY, OUT_OF_RANGE};
 use crate::image::write_medium;
-use c_slots::{ControllerSlot, MediumTray, SequencedBoard, TraySlot};
+use c_slots::{ControllerSlot, MediumTray, TraySlot, WholeController};
 use std::alloc::Global;
 
 /// The motor is on.
@@ -37,18 +37,23 @@ pub extern "C" fn telwyddus_controller_insert(
 {
     match slot.take(alloc) {
         None => EMPTY,
-        Some(mut board) => {
-            let code = insert_from(alloc, &mut board, bay, tray);
-            slot.put(board);
+        Some(mut controller) => {
+            let code = insert_from(alloc, &mut controller, bay, tray);
+            slot.put(controller);
             code
         }
     }
 }
 
 /// The same of a controller.
-fn insert_from(alloc: Global, board: &mut SequencedBoard, bay: u32, tray: &mut TraySlot) -> u32
-    ensures { InBay bay result ((board.new ≡ board.old) × (tray.new.held.tray ≡ tray.old.held.tray))
-        (InsertsAt bay result tray.old.held.tray tray.new.held.tray board.old board.new) }
+fn insert_from(
+    alloc: Global,
+    controller: &mut WholeController,
+    bay: u32,
+    tray: &mut TraySlot,
+) -> u32
+    ensures { InBay bay result ((controller.new ≡ controller.old) × (tray.new.held.tray ≡ tray.old.held.tray))
+        (InsertsAt bay result tray.old.held.tray tray.new.held.tray controller.old controller.new) }
 {
     if bay > 1 {
         return OUT_OF_RANGE;
@@ -56,7 +61,7 @@ fn insert_from(alloc: Global, board: &mut SequencedBoard, bay: u32, tray: &mut T
     match tray.take(alloc) {
         None => NO_MEDIUM,
         Some(mut inside) => {
-            let code = insert(board, bay as u8, &mut inside);
+            let code = insert(controller, bay as u8, &mut inside);
             tray.put(inside);
             code
         }
@@ -64,14 +69,14 @@ fn insert_from(alloc: Global, board: &mut SequencedBoard, bay: u32, tray: &mut T
 }
 
 /// The same of a controller and a tray.
-fn insert(board: &mut SequencedBoard, bay: u8, tray: &mut MediumTray) -> u32
+fn insert(controller: &mut WholeController, bay: u8, tray: &mut MediumTray) -> u32
     requires { bay ≤ 1 }
-    ensures drive { PutsIn result tray.old tray.new (drive_of board.old bay) (drive_of board.new bay) }
-    ensures beside { KeepsBeside bay (state_of board.old) (state_of board.new) }
+    ensures drive { PutsIn result tray.old tray.new (drive_of controller.old bay) (drive_of controller.new bay) }
+    ensures beside { KeepsBeside bay (state_of controller.old) (state_of controller.new) }
 {
     match tray.medium.take() {
         None => NO_MEDIUM,
-        Some(medium) => match board.insert(bay, medium) {
+        Some(medium) => match controller.insert(bay, medium) {
             Ok(()) => DONE,
             Err(back) => {
                 tray.medium = Some(back);
@@ -95,18 +100,18 @@ pub extern "C" fn telwyddus_controller_eject(
 {
     match slot.take(alloc) {
         None => EMPTY,
-        Some(mut board) => {
-            let code = eject_into(alloc, &mut board, bay, tray);
-            slot.put(board);
+        Some(mut controller) => {
+            let code = eject_into(alloc, &mut controller, bay, tray);
+            slot.put(controller);
             code
         }
     }
 }
 
 /// The same of a controller.
-fn eject_into(alloc: Global, board: &mut SequencedBoard, bay: u32, tray: &mut TraySlot) -> u32
-    ensures { InBay bay result ((board.new ≡ board.old) × (tray.new.held.tray ≡ tray.old.held.tray))
-        (EjectsAt bay result tray.old.held.tray tray.new.held.tray board.old board.new) }
+fn eject_into(alloc: Global, controller: &mut WholeController, bay: u32, tray: &mut TraySlot) -> u32
+    ensures { InBay bay result ((controller.new ≡ controller.old) × (tray.new.held.tray ≡ tray.old.held.tray))
+        (EjectsAt bay result tray.old.held.tray tray.new.held.tray controller.old controller.new) }
 {
     if bay > 1 {
         return OUT_OF_RANGE;
@@ -117,7 +122,7 @@ fn eject_into(alloc: Global, board: &mut SequencedBoard, bay: u32, tray: &mut Tr
     let Ok(mut inside) = Box::new(alloc, MediumTray { medium: None }) else {
         return NO_MEMORY;
     };
-    match board.eject(bay as u8) {
+    match controller.eject(bay as u8) {
         None => NO_MEDIUM,
         Some(medium) => {
             inside.medium = Some(medium);
@@ -142,9 +147,9 @@ pub extern "C" fn telwyddus_controller_image(
 {
     match slot.take(alloc) {
         None => EMPTY,
-        Some(board) => {
-            let code = image_of(alloc, &board, bay, out, length);
-            slot.put(board);
+        Some(controller) => {
+            let code = image_of(alloc, &controller, bay, out, length);
+            slot.put(controller);
             code
         }
     }
@@ -153,18 +158,18 @@ pub extern "C" fn telwyddus_controller_image(
 /// The same of a controller.
 fn image_of(
     alloc: Global,
-    board: &SequencedBoard,
+    controller: &WholeController,
     bay: u32,
     out: &mut [u8],
     length: &mut usize,
 ) -> u32
     ensures { InBay bay result ((out.new ≡ out.old) × (length.new ≡ length.old))
-        (WritesImage (drive_of board.now bay).medium result out.old out.new length.old length.new) }
+        (WritesImage (drive_of controller.now bay).medium result out.old out.new length.old length.new) }
 {
     if bay > 1 {
         return OUT_OF_RANGE;
     }
-    write_medium(alloc, board.medium(bay as u8), out, length)
+    write_medium(alloc, controller.medium(bay as u8), out, length)
 }
 
 /// Tells whether a word of the medium in a bay was replaced since it was put in, or since that was last forgotten. Nothing
@@ -182,22 +187,22 @@ pub extern "C" fn telwyddus_controller_is_written(
 {
     match slot.take(alloc) {
         None => EMPTY,
-        Some(board) => {
-            let code = show_written(&board, bay, written);
-            slot.put(board);
+        Some(controller) => {
+            let code = show_written(&controller, bay, written);
+            slot.put(controller);
             code
         }
     }
 }
 
 /// The same of a controller.
-fn show_written(board: &SequencedBoard, bay: u32, written: &mut u8) -> u32
-    ensures { InBay bay result (written.new ≡ written.old) ((result ≡ 0) × ShowsWritten bay board.now written.new) }
+fn show_written(controller: &WholeController, bay: u32, written: &mut u8) -> u32
+    ensures { InBay bay result (written.new ≡ written.old) ((result ≡ 0) × ShowsWritten bay controller.now written.new) }
 {
     if bay > 1 {
         return OUT_OF_RANGE;
     }
-    *written = u8::from(board.is_written(bay as u8));
+    *written = u8::from(controller.is_written(bay as u8));
     DONE
 }
 
@@ -215,23 +220,23 @@ pub extern "C" fn telwyddus_controller_written(
 {
     match slot.take(alloc) {
         None => EMPTY,
-        Some(mut board) => {
-            let code = tell_written(&mut board, bay, written);
-            slot.put(board);
+        Some(mut controller) => {
+            let code = tell_written(&mut controller, bay, written);
+            slot.put(controller);
             code
         }
     }
 }
 
 /// The same of a controller.
-fn tell_written(board: &mut SequencedBoard, bay: u32, written: &mut u8) -> u32
-    ensures { InBay bay result ((board.new ≡ board.old) × (written.new ≡ written.old))
-        ((result ≡ 0) × TellsWritten bay board.old written.new board.new) }
+fn tell_written(controller: &mut WholeController, bay: u32, written: &mut u8) -> u32
+    ensures { InBay bay result ((controller.new ≡ controller.old) × (written.new ≡ written.old))
+        ((result ≡ 0) × TellsWritten bay controller.old written.new controller.new) }
 {
     if bay > 1 {
         return OUT_OF_RANGE;
     }
-    *written = u8::from(board.take_written(bay as u8));
+    *written = u8::from(controller.take_written(bay as u8));
     DONE
 }
 
@@ -251,28 +256,28 @@ pub extern "C" fn telwyddus_controller_bay(
 {
     match slot.take(alloc) {
         None => EMPTY,
-        Some(board) => {
-            let code = show(&board, bay, cylinder, signs);
-            slot.put(board);
+        Some(controller) => {
+            let code = show(&controller, bay, cylinder, signs);
+            slot.put(controller);
             code
         }
     }
 }
 
 /// The same of a controller.
-fn show(board: &SequencedBoard, bay: u32, cylinder: &mut u8, signs: &mut u8) -> u32
+fn show(controller: &WholeController, bay: u32, cylinder: &mut u8, signs: &mut u8) -> u32
     ensures { InBay bay result ((cylinder.new ≡ cylinder.old) × (signs.new ≡ signs.old))
-        ((result ≡ 0) × Shows bay board.now cylinder.new signs.new) }
+        ((result ≡ 0) × Shows bay controller.now cylinder.new signs.new) }
 {
     if bay > 1 {
         return OUT_OF_RANGE;
     }
     let bay = bay as u8;
-    *cylinder = board.cylinder(bay);
-    let motor = if board.is_motor_on(bay) { MOTOR } else { 0 };
-    let selected = if board.selected() == bay { SELECTED } else { 0 };
-    let gate = if board.is_gate_open(bay) { GATE } else { 0 };
-    let medium = if board.medium(bay).is_some() {
+    *cylinder = controller.cylinder(bay);
+    let motor = if controller.is_motor_on(bay) { MOTOR } else { 0 };
+    let selected = if controller.selected() == bay { SELECTED } else { 0 };
+    let gate = if controller.is_gate_open(bay) { GATE } else { 0 };
+    let medium = if controller.medium(bay).is_some() {
         MEDIUM
     } else {
         0

@@ -7,7 +7,7 @@ use crate::code::{BAD_PLAN, DONE, EMPTY, FULL, NO_MEMORY};
 use c_slots::ControllerSlot;
 use drive_model::ScriptDrive;
 use fault_plan::{PlanError, plan_of};
-use fdc_sequencer::Sequencer;
+use fdc_chip::Chip;
 use std::alloc::Global;
 
 /// Makes a controller with two empty drives that have no faults.
@@ -20,10 +20,10 @@ pub extern "C" fn telwyddus_controller_new(alloc: Global, slot: &mut ControllerS
     }
     let first = ScriptDrive::new(Vec::new(alloc));
     let second = ScriptDrive::new(Vec::new(alloc));
-    match Sequencer::new(alloc, first, second) {
-        Ok(board) => match Box::new(alloc, board) {
-            Ok(board) => {
-                slot.put(board);
+    match Chip::new(alloc, first, second) {
+        Ok(controller) => match Box::new(alloc, controller) {
+            Ok(controller) => {
+                slot.put(controller);
                 DONE
             }
             Err(_) => NO_MEMORY,
@@ -55,10 +55,10 @@ pub extern "C" fn telwyddus_controller_new_planned(
         Ok(plan) => {
             let first = ScriptDrive::new(plan.bay0);
             let second = ScriptDrive::new(plan.bay1);
-            match Sequencer::new(alloc, first, second) {
-                Ok(board) => match Box::new(alloc, board) {
-                    Ok(board) => {
-                        slot.put(board);
+            match Chip::new(alloc, first, second) {
+                Ok(controller) => match Box::new(alloc, controller) {
+                    Ok(controller) => {
+                        slot.put(controller);
                         DONE
                     }
                     Err(_) => NO_MEMORY,
@@ -76,6 +76,6 @@ pub extern "C" fn telwyddus_controller_free(alloc: Global, slot: &mut Controller
 {
     match slot.take(alloc) {
         None => EMPTY,
-        Some(_board) => DONE,
+        Some(_controller) => DONE,
     }
 }

@@ -1,15 +1,15 @@
 // The controller's strap, its ports, its device steps and its lines.
 ghost use Rattle.std.specs.Prelude.{◌≡◌, ◌==◌, not, ⊤};
-ghost use Rattle.fdc_board.specs.Boards.{controller_of, selected_at, SameDrives};
+ghost use Rattle.fdc_board.specs.Boards.{selected_at};
 ghost use Rattle.fdc_board.specs.WordTimes.{nanoseconds};
+ghost use Rattle.fdc_chip.specs.Ports.{ReadsChip, WritesChip};
+ghost use Rattle.fdc_chip.specs.Steps.{StepsChip, RunsChip};
 ghost use Rattle.fdc_core.specs.State.{data_rate};
-ghost use Rattle.fdc_sequencer.specs.Fronts.{board_of, value_outside, after_reading, WritesFront};
-ghost use Rattle.fdc_sequencer.specs.Moves.{StepsFront, RunsFront};
 ghost use Rattle.telwyddus_c.specs.Controllers.{state_of, lines_byte, StrapsSeeks};
 ghost use Rattle.telwyddus_c.specs.Slots.{Serves};
 
 use crate::code::{DONE, EMPTY};
-use c_slots::{ControllerSlot, SequencedBoard};
+use c_slots::{ControllerSlot, WholeController};
 use std::alloc::Global;
 
 /// The interrupt line is up.
@@ -21,8 +21,8 @@ const DRQ: u8 = 2;
 /// Bytes go to memory.
 const TO_MEMORY: u8 = 4;
 
-/// Lets each command of several sectors seek its cylinder first, whatever CONFIGURE sets, as a strap of a board would; or,
-/// where `on` is 0, leaves that to CONFIGURE.
+/// Lets each command that names a cylinder seek it first, whatever CONFIGURE sets, as a strap of a board would; or, where `on`
+/// is 0, leaves that to CONFIGURE.
 #[unsafe(no_mangle)]
 pub extern "C" fn telwyddus_controller_strap_seeks(
     alloc: Global,
@@ -34,9 +34,9 @@ pub extern "C" fn telwyddus_controller_strap_seeks(
 {
     match slot.take(alloc) {
         None => EMPTY,
-        Some(mut board) => {
-            board.strap_seeks(on != 0);
-            slot.put(board);
+        Some(mut controller) => {
+            controller.strap_seeks(on != 0);
+            slot.put(controller);
             DONE
         }
     }
@@ -50,15 +50,14 @@ pub extern "C" fn telwyddus_controller_read(
     port: u16,
     value: &mut u8,
 ) -> u32
-    ensures { Serves (λ code old new. (code ≡ 0) × (value.new ≡ value_outside port (state_of old))
-        × (state_of new ≡ after_reading port (state_of old)) × SameDrives (board_of old) (board_of new)) (value.new ≡ value.old)
+    ensures { Serves (λ code old new. (code ≡ 0) × ReadsChip port (state_of old) value.new (state_of new)) (value.new ≡ value.old)
         result slot.old.held.controller slot.new.held.controller }
 {
     match slot.take(alloc) {
         None => EMPTY,
-        Some(mut board) => {
-            *value = board.read(port);
-            slot.put(board);
+        Some(mut controller) => {
+            *value = controller.read(port);
+            slot.put(controller);
             DONE
         }
     }
@@ -72,47 +71,47 @@ pub extern "C" fn telwyddus_controller_write(
     port: u16,
     value: u8,
 ) -> u32
-    ensures { Serves (λ code old new. (code ≡ 0) × WritesFront port value (state_of old) (state_of new)) ⊤
+    ensures { Serves (λ code old new. (code ≡ 0) × WritesChip port value (state_of old) (state_of new)) ⊤
         result slot.old.held.controller slot.new.held.controller }
 {
     match slot.take(alloc) {
         None => EMPTY,
-        Some(mut board) => {
-            write_port(&mut board, port, value);
-            slot.put(board);
+        Some(mut controller) => {
+            write_port(&mut controller, port, value);
+            slot.put(controller);
             DONE
         }
     }
 }
 
 /// The same of a controller.
-fn write_port(board: &mut SequencedBoard, port: u16, value: u8)
-    ensures { WritesFront port value (state_of board.old) (state_of board.new) }
+fn write_port(controller: &mut WholeController, port: u16, value: u8)
+    ensures { WritesChip port value (state_of controller.old) (state_of controller.new) }
 {
-    board.write(port, value);
+    controller.write(port, value);
 }
 
 /// One device step.
 #[unsafe(no_mangle)]
 pub extern "C" fn telwyddus_controller_step(alloc: Global, slot: &mut ControllerSlot) -> u32
-    ensures { Serves (λ code old new. (code ≡ 0) × StepsFront (state_of old) (state_of new)) ⊤
+    ensures { Serves (λ code old new. (code ≡ 0) × StepsChip (state_of old) (state_of new)) ⊤
         result slot.old.held.controller slot.new.held.controller }
 {
     match slot.take(alloc) {
         None => EMPTY,
-        Some(mut board) => {
-            make_step(&mut board);
-            slot.put(board);
+        Some(mut controller) => {
+            make_step(&mut controller);
+            slot.put(controller);
             DONE
         }
     }
 }
 
 /// The same of a controller.
-fn make_step(board: &mut SequencedBoard)
-    ensures { StepsFront (state_of board.old) (state_of board.new) }
+fn make_step(controller: &mut WholeController)
+    ensures { StepsChip (state_of controller.old) (state_of controller.new) }
 {
-    board.step();
+    controller.step();
 }
 
 /// Device steps until the interrupt line or the request line changes, at most `most`, and how many were made.
@@ -123,24 +122,24 @@ pub extern "C" fn telwyddus_controller_run(
     most: u32,
     made: &mut u32,
 ) -> u32
-    ensures { Serves (λ code old new. (code ≡ 0) × RunsFront most (state_of old) made.new (state_of new)) (made.new ≡ made.old)
+    ensures { Serves (λ code old new. (code ≡ 0) × RunsChip most (state_of old) made.new (state_of new)) (made.new ≡ made.old)
         result slot.old.held.controller slot.new.held.controller }
 {
     match slot.take(alloc) {
         None => EMPTY,
-        Some(mut board) => {
-            *made = run_steps(&mut board, most);
-            slot.put(board);
+        Some(mut controller) => {
+            *made = run_steps(&mut controller, most);
+            slot.put(controller);
             DONE
         }
     }
 }
 
 /// The same of a controller.
-fn run_steps(board: &mut SequencedBoard, most: u32) -> u32
-    ensures { RunsFront most (state_of board.old) result (state_of board.new) }
+fn run_steps(controller: &mut WholeController, most: u32) -> u32
+    ensures { RunsChip most (state_of controller.old) result (state_of controller.new) }
 {
-    board.run(most)
+    controller.run(most)
 }
 
 /// The lines: 1 the interrupt's, 2 the DMA request's, 4 where bytes go to memory.
@@ -155,21 +154,21 @@ pub extern "C" fn telwyddus_controller_lines(
 {
     match slot.take(alloc) {
         None => EMPTY,
-        Some(board) => {
-            *lines = lines_of(&board);
-            slot.put(board);
+        Some(controller) => {
+            *lines = lines_of(&controller);
+            slot.put(controller);
             DONE
         }
     }
 }
 
 /// The same of a controller.
-fn lines_of(board: &SequencedBoard) -> u8
-    ensures { result ≡ lines_byte (state_of board.now) }
+fn lines_of(controller: &WholeController) -> u8
+    ensures { result ≡ lines_byte (state_of controller.now) }
 {
-    let int = if board.int() { INT } else { 0 };
-    let drq = if board.drq() { DRQ } else { 0 };
-    let to_memory = if board.to_memory() { TO_MEMORY } else { 0 };
+    let int = if controller.int() { INT } else { 0 };
+    let drq = if controller.drq() { DRQ } else { 0 };
+    let to_memory = if controller.to_memory() { TO_MEMORY } else { 0 };
     int + drq + to_memory
 }
 
@@ -180,14 +179,14 @@ pub extern "C" fn telwyddus_controller_selected(
     slot: &mut ControllerSlot,
     bay: &mut u8,
 ) -> u32
-    ensures { Serves (λ code old new. (code ≡ 0) × (new ≡ old) × (bay.new ≡ selected_at (state_of old).board)) (bay.new ≡ bay.old)
+    ensures { Serves (λ code old new. (code ≡ 0) × (new ≡ old) × (bay.new ≡ selected_at (state_of old).front.board)) (bay.new ≡ bay.old)
         result slot.old.held.controller slot.new.held.controller }
 {
     match slot.take(alloc) {
         None => EMPTY,
-        Some(board) => {
-            *bay = board.selected();
-            slot.put(board);
+        Some(controller) => {
+            *bay = controller.selected();
+            slot.put(controller);
             DONE
         }
     }
@@ -200,14 +199,14 @@ pub extern "C" fn telwyddus_controller_word_time(
     slot: &mut ControllerSlot,
     word_time: &mut u32,
 ) -> u32
-    ensures { Serves (λ code old new. (code ≡ 0) × (new ≡ old) × (word_time.new ≡ nanoseconds (data_rate (controller_of (board_of old))))) (word_time.new ≡ word_time.old)
+    ensures { Serves (λ code old new. (code ≡ 0) × (new ≡ old) × (word_time.new ≡ nanoseconds (data_rate (state_of old).front.board.controller))) (word_time.new ≡ word_time.old)
         result slot.old.held.controller slot.new.held.controller }
 {
     match slot.take(alloc) {
         None => EMPTY,
-        Some(board) => {
-            *word_time = board.word_time();
-            slot.put(board);
+        Some(controller) => {
+            *word_time = controller.word_time();
+            slot.put(controller);
             DONE
         }
     }

@@ -5,7 +5,7 @@ ghost use Rattle.telwyddus_c.specs.States.{spelled_controller, ControllerFits, W
 
 use crate::code::{BAD_STATE, DONE, EMPTY, NO_MEMORY};
 use crate::state::{read_state, write_state};
-use c_slots::{ControllerSlot, SequencedBoard};
+use c_slots::{ControllerSlot, WholeController};
 use saved_state::RestoreError;
 use std::alloc::Global;
 
@@ -23,19 +23,19 @@ pub extern "C" fn telwyddus_controller_save(
 {
     match slot.take(alloc) {
         None => EMPTY,
-        Some(board) => {
-            let code = save(alloc, &board, out, length);
-            slot.put(board);
+        Some(controller) => {
+            let code = save(alloc, &controller, out, length);
+            slot.put(controller);
             code
         }
     }
 }
 
 /// The same of a controller.
-fn save(alloc: Global, board: &SequencedBoard, out: &mut [u8], length: &mut usize) -> u32
-    ensures { WritesState ControllerFits spelled_controller board.now result out.old out.new length.old length.new }
+fn save(alloc: Global, controller: &WholeController, out: &mut [u8], length: &mut usize) -> u32
+    ensures { WritesState ControllerFits spelled_controller controller.now result out.old out.new length.old length.new }
 {
-    write_state(alloc, board, out, length)
+    write_state(alloc, controller, out, length)
 }
 
 /// Makes the slot hold the controller whose state the bytes are, in place of what it holds.
@@ -48,8 +48,8 @@ pub extern "C" fn telwyddus_controller_restore(
     ensures { RestoresState ControllerFits spelled_controller bytes.now result slot.old.held.controller slot.new.held.controller }
 {
     match read_state(alloc, bytes) {
-        Ok(board) => {
-            slot.put(board);
+        Ok(controller) => {
+            slot.put(controller);
             DONE
         }
         Err(RestoreError::NoState) => BAD_STATE,

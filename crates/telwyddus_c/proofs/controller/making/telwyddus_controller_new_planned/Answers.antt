@@ -6,7 +6,7 @@ use Rattle.telwyddus_c.proofs.controller.making.telwyddus_controller_new_planned
 
 pub returns-in-Ok-new-2 : goal.returns-in-Ok-new-2
 returns-in-Ok-new-2 c =
-    let made : IsPlanned (lists_of c.in-Ok.plan) c.in-Ok-new-2.board.value =
+    let made : IsPlanned (lists_of c.in-Ok.plan) c.in-Ok-new-2.controller.value =
     rw c.in-Ok-new-2.ensures.ok (rw c.new-first.ensures.state at (rw c.new-second.ensures.state at c.in-Ok-new.ensures)) in (
       (
         none_in c.args.slot.now.held.controller (sym c.is_full.ensures ∙ c.if-is_full.false),

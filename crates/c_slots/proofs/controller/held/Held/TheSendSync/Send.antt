@@ -9,7 +9,7 @@ use denote.Param.Send.{IsSend, AllSend, owning_send, struct_send, sendable}
 use Rattle.std.proofs.Crossing as heap
 use Rattle.std.proofs.alloc.Global.TheSendSync as handle
 use Rattle.std.specs.Global.{Global}
-use Rattle.fdc_sequencer.proofs.sequencer.Sequencer.TheSendSync.{the_send as whole_send}
+use Rattle.fdc_chip.proofs.chip.Chip.TheSendSync.{the_send as whole_send}
 use Rattle.drive_model.proofs.script.ScriptDrive.TheSendSync.{the_send as drive_send}
 use Rattle.drive_model.specs.contracts.script.ScriptDrive.{the_row as drive_row}
 use Rattle.c_slots.proofs.Crossing.{quiet, lies}
