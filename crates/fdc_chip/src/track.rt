@@ -128,12 +128,10 @@ impl<D: Inspect> Chip<D> {
     fn look_on(&mut self, track: Track)
         ensures { LooksOn track (chip_state D.state self.old) (chip_state D.state self.new) }
     {
-        self.go_on(
-            Track {
-                place: Place::Address,
-                ..track
-            },
-        );
+        self.go_on(Track {
+            place: Place::Address,
+            ..track
+        });
         self.send(&[READ_ID, track.unit]);
     }
 
