@@ -1,0 +1,131 @@
+-- The whole controller with its drives, as contracts see it: its state and its lines.
+use Rattle.std.specs.Prelude.{◌≡◌, ℕ, Bool, true, false, not, ◌==◌, ◌&&◌, ◌||◌, if◌then◌else◌, bit_and}
+use Rattle.std.specs.Int.RustNames.{bit_or}
+use Rattle.drive_model.specs.Drive.{DriveState}
+use Rattle.fdc_registers.specs.Msr.{rqm, dio, non_dma, busy}
+use Rattle.fdc_core.specs.Dma.{to_memory_of}
+use Rattle.fdc_core.specs.State.{is_gated}
+use Rattle.fdc_sequencer.specs.Fronts.{Front, front_state, IsNewFront, KeepsFront, interrupts_outside, asks_outside, value_outside}
+use Rattle.fdc_sequencer.specs.declared.sequencer.Sequencer.{Sequencer}
+use Rattle.fdc_chip.specs.Interrupts.{Interrupting, at_rest, seek_bits}
+use Rattle.fdc_chip.specs.Orders.{blank}
+use Rattle.fdc_chip.specs.Settings.{at_power_up, is_by_port}
+use Rattle.fdc_chip.specs.declared.chip.Chip.{Chip}
+use Rattle.fdc_chip.specs.declared.order.Order.{Order}
+use Rattle.fdc_chip.specs.declared.settings.Settings.{Settings}
+use Rattle.fdc_chip.specs.declared.stage.Place.{Place}
+use Rattle.fdc_chip.specs.declared.stage.Place.TheVariants.{Data}
+use Rattle.fdc_chip.specs.declared.stage.Stage.{Stage}
+use Rattle.fdc_chip.specs.declared.stage.Stage.TheVariants.{Ready, Held, Busy, Telling}
+use Rattle.fdc_chip.specs.declared.stage.Task.{Task}
+use Rattle.fdc_chip.specs.declared.stage.Task.TheVariants.{Sent, Track}
+
+-- what stands behind, what is under way, the command that came last and how many bytes came of one that isn't whole, results and
+-- interrupt line, what commands set, and the strap for implied seeks
+pub record ChipState : Type 0 where
+  pub front : Front
+  pub stage : Stage
+  pub order : Order
+  pub count : ℕ
+  pub interrupts : Interrupting
+  pub settings : Settings
+  pub strapped : Bool
+
+abbrev pub chip_state : {D : Type 0} → (D → DriveState) → Chip D → ChipState
+chip_state state chip = record {
+  front = front_state state chip.behind;
+  stage = chip.stage;
+  order = chip.order;
+  count = chip.count;
+  interrupts = chip.interrupts;
+  settings = chip.settings;
+  strapped = chip.strapped;
+}
+
+-- what stands behind
+abbrev pub behind_of : {D : Type 0} → Chip D → Sequencer D
+behind_of chip = chip.behind
+
+-- all but what stands behind is as it was
+abbrev pub with_front : Front → ChipState → ChipState
+with_front front old = record old { front = front }
+
+abbrev pub KeepsRest : ChipState → ChipState → Type 0
+KeepsRest old new = new ≡ with_front new.front old
+
+-- a new one with these drives
+pub record IsNewChip (bay0 bay1 : DriveState) (new : ChipState) : Type 0 where
+  pub front : IsNewFront bay0 bay1 new.front
+  pub stage : new.stage ≡ Ready
+  pub order : new.order ≡ blank
+  pub count : new.count ≡ 0
+  pub interrupts : new.interrupts ≡ at_rest
+  pub settings : new.settings ≡ at_power_up
+  pub strapped : new.strapped ≡ false
+
+-- all but the drives stays
+pub record KeepsChip (old new : ChipState) : Type 0 where
+  pub front : KeepsFront old.front new.front
+  pub rest : KeepsRest old new
+
+-- ---- the lines
+
+-- a READ TRACK reads a data field
+abbrev pub is_data : Place → Bool
+is_data Data = true
+is_data _ = false
+
+-- the bytes of what is executed behind are the host's
+abbrev pub passes_bytes : Task → Bool
+passes_bytes Sent = true
+passes_bytes (Track track) = is_data track.place
+passes_bytes _ = false
+
+abbrev pub passes_at : Stage → Bool
+passes_at (Busy task) = passes_bytes task
+passes_at _ = false
+
+-- they pass by the data port, or by the channel
+abbrev pub passes_by_port : ChipState → Bool
+passes_by_port chip = is_by_port chip.settings && passes_at chip.stage
+
+abbrev pub passes_by_channel : ChipState → Bool
+passes_by_channel chip = not (is_by_port chip.settings) && passes_at chip.stage
+
+-- INT of what stands behind shows while nothing is under way
+abbrev pub shows_behind : Stage → Front → Bool
+shows_behind Ready front = interrupts_outside front
+shows_behind _ front = false
+
+-- INT: a byte is asked for at the data port; or a result is there, or a seek or poll has ended
+abbrev pub interrupts_chip : ChipState → Bool
+interrupts_chip chip =
+    if passes_by_port chip then asks_outside chip.front
+    else ((chip.interrupts.line && is_gated chip.front.board.controller) || shows_behind chip.stage chip.front)
+
+-- DRQ
+abbrev pub asks_chip : ChipState → Bool
+asks_chip chip = passes_by_channel chip && asks_outside chip.front
+
+-- ---- MSR
+
+-- a byte is asked for at the data port
+abbrev pub port_bits : Bool → Bool → ℕ
+port_bits true to_memory = if to_memory then bit_or rqm dio else rqm
+port_bits false to_memory = 0
+
+-- while a command is executed: in the non-DMA mode its bit, and the request
+abbrev pub execution_bits : Bool → Bool → Bool → ℕ
+execution_bits true asked to_memory = bit_or (bit_or busy non_dma) (port_bits asked to_memory)
+execution_bits false asked to_memory = busy
+
+abbrev pub stage_bits : Stage → ChipState → ℕ
+stage_bits Ready chip = bit_or (value_outside 0x3F4 chip.front) (if chip.count == 0 then 0 else busy)
+stage_bits Held chip = bit_or (bit_and (value_outside 0x3F4 chip.front) 0x0F) busy
+stage_bits (Busy task) chip =
+    execution_bits (is_by_port chip.settings) (passes_bytes task && asks_outside chip.front) (to_memory_of chip.front.board.controller)
+stage_bits (Telling answer read) chip = bit_or (bit_or rqm dio) busy
+
+-- MSR: the bits of what is under way, and the seek bits of drives whose results wait
+abbrev pub status_of : ChipState → ℕ
+status_of chip = bit_or (stage_bits chip.stage chip) (seek_bits chip.interrupts)

@@ -1,0 +1,289 @@
+-- What a whole command does.
+use Rattle.std.specs.Prelude.{◌≡◌, ℕ, zero, suc, ◌+◌, ◌-◌, ◌*◌, ◌%◌, Bool, true, false, not, ◌==◌, ◌&&◌, ◌||◌, List, [], ◌∷◌, Option, Some, None, if◌then◌else◌, nat_le, bit_and, min}
+use Rattle.std.specs.Int.RustNames.{bit_or}
+use Rattle.flop_base.specs.declared.key.Chrn.{Chrn}
+use Rattle.fdc_sequencer.specs.Fronts.{Front, WritesFront, after_reading, value_outside}
+use Rattle.fdc_sequencer.specs.Senses.{pending_outside, sensed_outside}
+use Rattle.fdc_sequencer.specs.Transfers.{size_of}
+use Rattle.fdc_chip.specs.Chips.{ChipState, with_front, KeepsRest}
+use Rattle.fdc_chip.specs.Codes.{has_bit}
+use Rattle.fdc_chip.specs.Interrupts.{with_result, without_results_of, sensed, after_sense, cylinder_of, with_cylinder}
+use Rattle.fdc_chip.specs.Orders.{order_bytes}
+use Rattle.fdc_chip.specs.Settings.{implies_seeks, perpendicular_set}
+use Rattle.fdc_chip.specs.declared.answer.Answer.{Answer}
+use Rattle.fdc_chip.specs.declared.answer.Answer.TheVariants as answer
+use Rattle.fdc_chip.specs.declared.code.Code.{Code}
+use Rattle.fdc_chip.specs.declared.code.Code.TheVariants.{ReadTrack, Specify, SenseDrive, Transfer, Recalibrate, SenseInterrupt, ReadId, FormatTrack, DumpRegisters, Seek, RelativeSeek, Version, Perpendicular, Configure, Lock, Verify}
+use Rattle.fdc_chip.specs.declared.order.Order.{Order}
+use Rattle.fdc_chip.specs.declared.stage.Place.TheVariants.{Index}
+use Rattle.fdc_chip.specs.declared.stage.Stage.TheVariants.{Ready, Held, Busy, Telling}
+use Rattle.fdc_chip.specs.declared.stage.Task.{Task}
+use Rattle.fdc_chip.specs.declared.stage.Task.TheVariants as task
+use Rattle.fdc_chip.specs.declared.stage.Track.{Track}
+
+-- ---- what stands behind
+
+-- bytes go to its data port, one by one
+abbrev pub Sends : List ℕ → Front → Front → Type 0
+Sends [] old new = new ≡ old
+Sends (byte ∷ rest) old new = (between : Front) × WritesFront 0x3F5 byte old between × Sends rest between new
+
+-- and nothing else changes
+abbrev pub SendsOn : List ℕ → ChipState → ChipState → Type 0
+SendsOn bytes old new = Sends bytes old.front new.front × KeepsRest old new
+
+-- a result of a seek or poll that is pending behind is taken over, and INT rises
+abbrev pub kept : Option (ℕ × ℕ) → ChipState → ChipState
+kept None old = old
+kept (Some (status, cylinder)) old = record old { interrupts = with_result status cylinder old.interrupts }
+
+abbrev pub drained_one : ChipState → ChipState
+drained_one old = kept (pending_outside old.front) (with_front (sensed_outside old.front) old)
+
+-- so many are
+unfoldable pub drained_by : ℕ → ChipState → ChipState
+drained_by zero old = old
+drained_by (suc n) old = drained_one (drained_by n old)
+
+-- all are: there is one of each drive at most
+abbrev pub drained : ChipState → ChipState
+drained old = drained_by 4 old
+
+-- heads move: a seek bit is set behind
+abbrev pub moves_heads : Front → Bool
+moves_heads front = not (bit_and (value_outside 0x3F4 front) 0x0F == 0)
+
+-- ---- answers
+
+-- the host reads this
+abbrev pub told : Answer → ChipState → ChipState
+told answer old = record old { stage = Telling answer 0 }
+
+abbrev pub told_byte : ℕ → ChipState → ChipState
+told_byte byte old = told (answer.Byte byte) old
+
+-- the controller is ready for the next command
+abbrev pub ready : ChipState → ChipState
+ready old = record old { stage = Ready }
+
+-- SENSE INTERRUPT gives the result of the lowest drive, 80 where none is pending
+abbrev pub answer_sensed : Option (ℕ × ℕ) → Answer
+answer_sensed None = answer.Byte 0x80
+answer_sensed (Some (status, cylinder)) = answer.Sensed status cylinder
+
+abbrev pub sensing : ChipState → ChipState
+sensing old = told (answer_sensed (sensed old.interrupts)) (record old { interrupts = after_sense old.interrupts })
+
+-- SPECIFY
+abbrev pub specified : ChipState → ChipState
+specified old =
+    ready (record old { settings = record old.settings { step_rate = old.order.unit; head_load = old.order.key.c } })
+
+-- CONFIGURE: EIS isn't told behind, where seeks are implied for each command
+abbrev pub configured : ChipState → ChipState
+configured old =
+    ready (record old { settings = record old.settings { options = old.order.key.c; precompensation = old.order.key.h; forgotten = false } })
+
+abbrev pub configuring : ℕ → ℕ → List ℕ
+configuring options precompensation = 0x13 ∷ 0 ∷ bit_and options 0x3F ∷ precompensation ∷ []
+
+-- DUMPREG
+abbrev pub dumped : ChipState → ChipState
+dumped old = told (answer.Registers (record {
+  first = cylinder_of 0 old.interrupts;
+  second = cylinder_of 1 old.interrupts;
+  third = cylinder_of 2 old.interrupts;
+  fourth = cylinder_of 3 old.interrupts;
+  settings = old.settings;
+})) old
+
+-- LOCK tells its bit
+abbrev pub locked : Bool → ChipState → ChipState
+locked on old =
+    told_byte (if on then 0x10 else 0) (record old { settings = record old.settings { locked = on } })
+
+-- PERPENDICULAR MODE
+abbrev pub made_perpendicular : ChipState → ChipState
+made_perpendicular old = ready (record old { settings = perpendicular_set old.order.unit old.settings })
+
+-- where a RELATIVE SEEK goes, at most from cylinder 0 to 255
+abbrev pub relative_target : Bool → ℕ → ℕ → ℕ
+relative_target true cylinder count = min (cylinder + count) 255
+relative_target false cylinder count = cylinder - count
+
+-- a command is given behind, and the byte that it answers is told
+pub record Asks (bytes : List ℕ) (old new : ChipState) : Type 0 where
+  pub sent : ChipState
+  pub sends : SendsOn bytes old sent
+  pub told_is : new ≡ told_byte (value_outside 0x3F5 sent.front) (with_front (after_reading 0x3F5 sent.front) sent)
+
+-- ---- data commands
+
+-- EOT, or the sectors of a FORMAT TRACK, is what DUMPREG gives
+abbrev pub with_last : ℕ → ChipState → ChipState
+with_last last_sector old = record old { settings = record old.settings { last_sector = last_sector } }
+
+-- seeks are implied by the strap or by EIS
+abbrev pub implies : ChipState → Bool
+implies chip = chip.strapped || implies_seeks chip.settings
+
+-- the heads then go to the command's cylinder
+abbrev pub sought_if : Bool → ChipState → ChipState
+sought_if true old = record old { interrupts = with_cylinder old.order.unit old.order.key.c old.interrupts }
+sought_if false old = old
+
+-- a command of this task begins: INT falls, the pending result of its drive goes, and seeks are implied for it or not
+abbrev pub begun : Task → Bool → ChipState → ChipState
+begun task seeks old = record old {
+  front = record old.front { strapped = seeks };
+  stage = Busy task;
+  interrupts = without_results_of old.order.unit old.interrupts;
+}
+
+-- what LOCK kept over a reset is told behind again
+abbrev pub RemembersIf : Bool → ChipState → ChipState → Type 0
+RemembersIf true old new =
+    SendsOn (configuring old.settings.options old.settings.precompensation) (record old { settings = record old.settings { forgotten = false } }) new
+RemembersIf false old new = new ≡ old
+
+abbrev pub Remembers : ChipState → ChipState → Type 0
+Remembers old new = RemembersIf old.settings.forgotten old new
+
+-- and these bytes are given behind
+pub record Begins (task : Task) (seeks : Bool) (bytes : List ℕ) (old new : ChipState) : Type 0 where
+  pub set : ChipState
+  pub remembers : Remembers (begun task seeks old) set
+  pub sends : SendsOn bytes set new
+
+-- READ ID of a unit
+abbrev pub identifying : ℕ → List ℕ
+identifying unit = 0x4A ∷ unit ∷ []
+
+-- a command that this medium can't have: an address mark is looked for in its place
+abbrev pub Refuses : Chrn → Bool → ChipState → ChipState → Type 0
+Refuses key mfm old new =
+    Begins (task.Refused old.order.unit key mfm) false (identifying old.order.unit) old new
+
+abbrev pub no_key : Chrn
+no_key = record { c = 0; h = 0; r = 0; n = 0 }
+
+-- size codes that a field of this medium can have
+abbrev pub is_size : ℕ → Bool
+is_size n = nat_le 1 n && nat_le n 6
+
+abbrev pub BeginsReadId : Bool → ChipState → ChipState → Type 0
+BeginsReadId true old new = Begins task.Sent false (identifying old.order.unit) old new
+BeginsReadId false old new = Refuses no_key false old new
+
+-- the bytes of a FORMAT TRACK
+abbrev pub format_bytes : Order → List ℕ
+format_bytes order = 0x4D ∷ order.unit ∷ order.key.c ∷ order.key.h ∷ order.key.r ∷ order.key.n ∷ []
+
+abbrev pub FormatsIf : Bool → Bool → ChipState → ChipState → Type 0
+FormatsIf true mfm old new = Begins task.Sent false (format_bytes old.order) old new
+FormatsIf false mfm old new = Refuses no_key mfm old new
+
+-- its size code is the third byte, and its sectors the fourth
+abbrev pub Formats : Bool → ChipState → ChipState → Type 0
+Formats mfm old new = FormatsIf (mfm && is_size old.order.key.c) mfm (with_last old.order.key.h old) new
+
+-- a command of sectors that this medium can have, or not
+abbrev pub TransfersIf : Bool → Bool → Task → List ℕ → ChipState → ChipState → Type 0
+TransfersIf true mfm what bytes old new = Begins what (implies old) bytes (sought_if (implies old) old) new
+TransfersIf false mfm what bytes old new = Refuses old.order.key mfm old new
+
+abbrev pub Transfers : Bool → Task → List ℕ → ChipState → ChipState → Type 0
+Transfers mfm what bytes old new =
+    TransfersIf (mfm && is_size old.order.key.n) mfm what bytes (with_last old.order.last_sector old) new
+
+-- ---- VERIFY
+
+-- the sectors of a track from one on, to the last, over the number 255
+abbrev pub sectors_to : ℕ → ℕ → ℕ
+sectors_to last r = (last + 256 - r) % 256 + 1
+
+-- the sectors that it verifies: as many as it counts, 256 for 0; else to the last, with MT on both heads
+abbrev pub sectors_verified : Order → ℕ
+sectors_verified order =
+    if has_bit order.unit 0x80 then (if order.length == 0 then 256 else order.length)
+    else (if has_bit order.code 0x80 && not (has_bit order.unit 0x04) then sectors_to order.last_sector order.key.r + sectors_to order.last_sector 1
+    else sectors_to order.last_sector order.key.r)
+
+-- the READ DATA that it is behind, with MT and SK as they were sent
+abbrev pub verifying : Order → Order
+verifying order = record order { code = bit_or 0x46 (bit_and order.code 0xA0); unit = bit_and order.unit 0x07 }
+
+abbrev pub Verifies : Bool → ChipState → ChipState → Type 0
+Verifies mfm old new =
+    Transfers mfm (task.Verify (sectors_verified old.order * size_of old.order.key.n)) (order_bytes (verifying old.order)) old new
+
+-- ---- READ TRACK
+
+-- it begins: all its sectors are left, 256 for 0
+abbrev pub track_begun : Order → Track
+track_begun order = record {
+  unit = order.unit;
+  key = order.key;
+  left = if order.last_sector == 0 then 256 else order.last_sector;
+  place = Index;
+  counted = false;
+  met = false;
+  st1 = record { 0 = 0 };
+  st2 = record { 0 = 0 };
+}
+
+-- READ DATA of a sector alone
+abbrev pub reading_one : ℕ → Chrn → ℕ → ℕ → List ℕ
+reading_one unit key gap length = 0x46 ∷ unit ∷ key.c ∷ key.h ∷ key.r ∷ key.n ∷ key.r ∷ gap ∷ length ∷ []
+
+-- a sector that no track is expected to have: the search for it ends with the index
+abbrev pub absent_key : ℕ → Chrn
+absent_key c = record { c = c; h = 0xFF; r = 0xFF; n = 6 }
+
+abbrev pub ReadsTrack : Bool → ChipState → ChipState → Type 0
+ReadsTrack mfm old new = let order = old.order in
+    Transfers mfm (task.Track (track_begun order)) (reading_one order.unit (absent_key order.key.c) order.gap order.length) old new
+
+-- ---- all commands
+
+abbrev pub Obeys : Code → ChipState → ChipState → Type 0
+Obeys Specify old new = new ≡ specified old
+Obeys SenseDrive old new = Asks (0x04 ∷ old.order.unit ∷ []) old new
+Obeys SenseInterrupt old new = new ≡ sensing old
+Obeys Recalibrate old new = SendsOn (0x07 ∷ old.order.unit ∷ []) (ready old) new
+Obeys Seek old new = SendsOn (0x0F ∷ old.order.unit ∷ old.order.key.c ∷ []) (ready old) new
+Obeys (RelativeSeek inward) old new =
+    SendsOn (0x0F ∷ old.order.unit ∷ relative_target inward (cylinder_of old.order.unit old.interrupts) old.order.key.c ∷ []) (ready old) new
+Obeys Version old new = new ≡ told_byte 0x90 old
+Obeys Perpendicular old new = new ≡ made_perpendicular old
+Obeys Configure old new = SendsOn (configuring old.order.key.c old.order.key.h) (configured old) new
+Obeys DumpRegisters old new = new ≡ dumped old
+Obeys (Lock on) old new = new ≡ locked on old
+Obeys (ReadId mfm) old new = BeginsReadId mfm old new
+Obeys (FormatTrack mfm) old new = Formats mfm old new
+Obeys (Transfer mfm) old new = Transfers mfm task.Sent (order_bytes old.order) old new
+Obeys (Verify mfm) old new = Verifies mfm old new
+Obeys (ReadTrack mfm) old new = ReadsTrack mfm old new
+
+-- what doesn't need what stands behind is done at once, while heads move
+abbrev pub needs_heads : Code → Bool
+needs_heads Specify = false
+needs_heads SenseInterrupt = false
+needs_heads Version = false
+needs_heads Perpendicular = false
+needs_heads DumpRegisters = false
+needs_heads (Lock _) = false
+needs_heads _ = true
+
+abbrev pub AttendsIf : Bool → Code → ChipState → ChipState → Type 0
+AttendsIf true code old new = new ≡ record old { stage = Held }
+AttendsIf false code old new = Obeys code old new
+
+-- a whole command: it is done, or held while heads move
+abbrev pub Attends : Code → ChipState → ChipState → Type 0
+Attends code old new = AttendsIf (needs_heads code && moves_heads (drained old).front) code (drained old) new
+
+-- by its code; 80 where there is none
+abbrev pub AttendsTo : Option Code → ChipState → ChipState → Type 0
+AttendsTo None old new = new ≡ told_byte 0x80 old
+AttendsTo (Some code) old new = Attends code old new

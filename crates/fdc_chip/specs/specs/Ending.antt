@@ -1,0 +1,190 @@
+-- How what is executed behind ends, and what comes of it.
+use Rattle.std.specs.Prelude.{◌≡◌, ℕ, ◌-◌, Bool, true, false, not, ◌==◌, ◌&&◌, ◌||◌, if◌then◌else◌, bit_and}
+use Rattle.std.specs.Int.RustNames.{bit_or}
+use Rattle.flop_base.specs.declared.key.Chrn.{Chrn}
+use Rattle.fdc_registers.specs.St0.{abnormal}
+use Rattle.fdc_registers.specs.St1.{end_of_cylinder, overrun, no_data, missing_mark}
+use Rattle.fdc_registers.specs.St2.{wrong_cylinder, bad_cylinder}
+use Rattle.fdc_commands.specs.declared.results.Results.{Results}
+use Rattle.fdc_sequencer.specs.Fronts.{Front, after_reading, value_outside}
+use Rattle.fdc_chip.specs.Chips.{ChipState, with_front}
+use Rattle.fdc_chip.specs.Doing.{SendsOn, told, identifying, is_size, reading_one}
+use Rattle.fdc_chip.specs.declared.answer.Answer.TheVariants as answer
+use Rattle.fdc_chip.specs.declared.stage.Place.{Place}
+use Rattle.fdc_chip.specs.declared.stage.Place.TheVariants.{Index, Address, Data}
+use Rattle.fdc_chip.specs.declared.stage.Stage.TheVariants.{Busy}
+use Rattle.fdc_chip.specs.declared.stage.Task.{Task}
+use Rattle.fdc_chip.specs.declared.stage.Task.TheVariants as task
+use Rattle.fdc_chip.specs.declared.stage.Track.{Track}
+
+-- ---- the results of what was executed behind
+
+-- one byte of them was read, and the byte
+abbrev pub behind_one : Front → Front
+behind_one front = after_reading 0x3F5 front
+
+abbrev pub byte_behind : Front → ℕ
+byte_behind front = value_outside 0x3F5 front
+
+-- so many were
+abbrev pub behind_three : Front → Front
+behind_three front = behind_one (behind_one (behind_one front))
+
+abbrev pub behind_six : Front → Front
+behind_six front = behind_three (behind_three front)
+
+abbrev pub results_behind : Front → Results
+results_behind front = record {
+  st0 = record { 0 = byte_behind front };
+  st1 = record { 0 = byte_behind (behind_one front) };
+  st2 = record { 0 = byte_behind (behind_one (behind_one front)) };
+  key = record {
+    c = byte_behind (behind_three front);
+    h = byte_behind (behind_one (behind_three front));
+    r = byte_behind (behind_one (behind_one (behind_three front)));
+    n = byte_behind (behind_six front);
+  };
+}
+
+-- all seven were read
+abbrev pub results_taken : Front → Front
+results_taken front = behind_one (behind_six front)
+
+-- they wait to be read
+abbrev pub has_results : Front → Bool
+has_results front = bit_and (value_outside 0x3F4 front) 0xC0 == 0xC0
+
+-- ---- what is told
+
+-- the host reads these, and INT rises
+abbrev pub told_results : Results → ChipState → ChipState
+told_results results old =
+    told (answer.Results results) (record old { interrupts = record old.interrupts { line = true } })
+
+-- the sector wasn't found, and nothing else is wrong
+abbrev pub is_not_found : Results → Bool
+is_not_found results = results.st1.0 == no_data
+
+-- the head and the drive of the results
+abbrev pub unit_of : Results → ℕ
+unit_of results = bit_and results.st0.0 7
+
+-- where another cylinder passes WC is set, and BC too where it is FF
+abbrev pub cylinder_bits : ℕ → ℕ → ℕ
+cylinder_bits wanted passed =
+    if wanted == passed then 0 else (if passed == 0xFF then bit_or wrong_cylinder bad_cylinder else wrong_cylinder)
+
+-- the results of a sector that wasn't found, once READ ID was looking: only a key that it heard tells
+abbrev pub with_cylinder_passed : Results → Results → Results
+with_cylinder_passed first passed =
+    if passed.st1.0 == 0 then record first { st2 = record { 0 = bit_or first.st2.0 (cylinder_bits first.key.c passed.key.c) } } else first
+
+-- the results in place of a command that this medium can't have: ND where address marks pass, and MA where none does
+abbrev pub refusal : ℕ → Chrn → Bool → Results
+refusal unit key marks = record {
+  st0 = record { 0 = bit_or (bit_and unit 7) abnormal };
+  st1 = record { 0 = if marks then no_data else missing_mark };
+  st2 = record { 0 = 0 };
+  key = key;
+}
+
+-- ---- READ TRACK
+
+-- a sector is over
+abbrev pub without_one : Results → Track → Track
+without_one results track = record track {
+  left = track.left - 1;
+  st1 = record { 0 = bit_or track.st1.0 (bit_and results.st1.0 0x7F) };
+  st2 = record { 0 = bit_or track.st2.0 results.st2.0 };
+}
+
+abbrev pub is_same_key : Chrn → Chrn → Bool
+is_same_key one other = ((one.c == other.c && one.h == other.h) && one.r == other.r) && one.n == other.n
+
+-- an address field of this key was met, and its sector is read
+abbrev pub met_key : Chrn → Track → Track
+met_key key track = record track { place = Data; met = track.met || is_same_key key track.key }
+
+-- what is wrong: what was wrong with any field; ND where no field had the key; EN where all sectors were read and the terminal
+-- count didn't come
+abbrev pub track_faults : Track → ℕ
+track_faults track =
+    bit_or (bit_or track.st1.0 (if track.met then 0 else no_data)) (if (track.left == 0) && not track.counted then end_of_cylinder else 0)
+
+abbrev pub results_of_track : Track → Results
+results_of_track track = record {
+  st0 = record { 0 = bit_or (bit_and track.unit 7) (if track_faults track == 0 then 0 else abnormal) };
+  st1 = record { 0 = track_faults track };
+  st2 = track.st2;
+  key = track.key;
+}
+
+-- the track ends with this wrong besides
+abbrev pub with_fault : ℕ → Track → Track
+with_fault fault track = record track { st1 = record { 0 = bit_or track.st1.0 fault } }
+
+abbrev pub track_told : Track → ChipState → ChipState
+track_told track old = told_results (results_of_track track) old
+
+-- no seek is implied for what follows, and this is then under way
+abbrev pub track_at : Track → ChipState → ChipState
+track_at track old = record old { front = record old.front { strapped = false }; stage = Busy (task.Track track) }
+
+-- it looks for the next address field
+abbrev pub LooksOn : Track → ChipState → ChipState → Type 0
+LooksOn track old new = SendsOn (identifying track.unit) (track_at (record track { place = Address }) old) new
+
+-- it reads the sector of the field that was met
+abbrev pub ReadsOn : Track → Chrn → ChipState → ChipState → Type 0
+ReadsOn track key old new =
+    SendsOn (reading_one track.unit key old.order.gap old.order.length) (track_at (met_key key track) old) new
+
+-- the search for the absent sector ended with the index, or it saw no mark
+abbrev pub EndsIndex : Bool → Track → ChipState → ChipState → Type 0
+EndsIndex true track old new = new ≡ track_told (with_fault missing_mark track) old
+EndsIndex false track old new = LooksOn track old new
+
+-- why no sector is read: ND for a size that there isn't, else why no address field was met
+abbrev pub unread : Results → ℕ
+unread results = if results.st1.0 == 0 then no_data else results.st1.0
+
+-- an address field was met, or none; and its sector has a size that there is, or not
+abbrev pub EndsAddress : Bool → Results → Track → ChipState → ChipState → Type 0
+EndsAddress true results track old new = ReadsOn track results.key old new
+EndsAddress false results track old new = new ≡ track_told (with_fault (unread results) track) old
+
+-- a sector is over: it was the last, or the next is looked for
+abbrev pub is_over : Results → Track → Bool
+is_over results track = (track.counted || track.left == 0) || not (bit_and results.st1.0 overrun == 0)
+
+abbrev pub EndsData : Bool → Track → ChipState → ChipState → Type 0
+EndsData true track old new = new ≡ track_told track old
+EndsData false track old new = LooksOn track old new
+
+abbrev pub EndsAt : Place → Track → Results → ChipState → ChipState → Type 0
+EndsAt Index track results old new = EndsIndex (not (bit_and results.st1.0 missing_mark == 0)) track old new
+EndsAt Address track results old new = EndsAddress ((results.st1.0 == 0) && is_size results.key.n) results track old new
+EndsAt Data track results old new = let over = without_one results track in EndsData (is_over results over) over old new
+
+-- ---- all tasks
+
+abbrev pub EndsSent : Bool → Results → ChipState → ChipState → Type 0
+EndsSent true results old new =
+    SendsOn (identifying (unit_of results)) (record old { stage = Busy (task.Sought results) }) new
+EndsSent false results old new = new ≡ told_results results old
+
+-- what was executed behind for this task ended with these results
+abbrev pub Ends : Task → Results → ChipState → ChipState → Type 0
+Ends task.Sent results old new = EndsSent (is_not_found results) results old new
+Ends (task.Sought first) results old new = new ≡ told_results (with_cylinder_passed first results) old
+Ends (task.Refused unit key mfm) results old new = new ≡ told_results (refusal unit key (mfm && results.st1.0 == 0)) old
+Ends (task.Verify _) results old new = new ≡ told_results results old
+Ends (task.Track track) results old new = EndsAt track.place track results old new
+
+abbrev pub EndsIf : Bool → Task → ChipState → ChipState → Type 0
+EndsIf true task old new = Ends task (results_behind old.front) (with_front (results_taken old.front) old) new
+EndsIf false task old new = new ≡ old
+
+-- where its results wait they are taken, and that comes of them
+abbrev pub MayEnd : Task → ChipState → ChipState → Type 0
+MayEnd task old new = EndsIf (has_results old.front) task old new

@@ -1,0 +1,11 @@
+pub mod Codes
+pub mod Orders
+pub mod Interrupts
+pub mod Settings
+pub mod Answers
+pub mod Chips
+pub mod Doing
+pub mod Ending
+pub mod Steps
+pub mod Ports
+pub mod Saving

@@ -1,0 +1,42 @@
+-- What commands set, and what a reset leaves of it.
+use Rattle.std.specs.Prelude.{ℕ, Bool, true, false, if◌then◌else◌, bit_and}
+use Rattle.std.specs.Int.RustNames.{bit_or}
+use Rattle.fdc_chip.specs.Codes.{has_bit}
+use Rattle.fdc_chip.specs.declared.settings.Settings.{Settings}
+
+-- the FIFO is off
+abbrev pub at_power_up : Settings
+at_power_up = record {
+  step_rate = 0;
+  head_load = 0;
+  last_sector = 0;
+  locked = false;
+  perpendicular = 0;
+  options = 0x20;
+  precompensation = 0;
+  forgotten = false;
+}
+
+-- behind a reset by DOR or DSR: where LOCK is set EFIFO, the threshold and PRETRK stay, and have to be told again; GAP and WGATE
+-- are clear
+abbrev pub reset : Settings → Settings
+reset old = record old {
+  perpendicular = bit_and old.perpendicular 0x3C;
+  options = if old.locked then bit_and old.options 0x2F else 0x20;
+  precompensation = if old.locked then old.precompensation else 0;
+  forgotten = old.locked;
+}
+
+-- ND: bytes pass by the data port
+abbrev pub is_by_port : Settings → Bool
+is_by_port settings = has_bit settings.head_load 0x01
+
+-- EIS
+abbrev pub implies_seeks : Settings → Bool
+implies_seeks settings = has_bit settings.options 0x40
+
+-- PERPENDICULAR MODE sets GAP and WGATE, and with OW D3 to D0 too
+abbrev pub perpendicular_set : ℕ → Settings → Settings
+perpendicular_set mode old = record old {
+  perpendicular = if has_bit mode 0x80 then bit_and mode 0x3F else bit_or (bit_and old.perpendicular 0x3C) (bit_and mode 0x03);
+}
