@@ -1,2 +1,0 @@
-pub mod Runs
-mod Lists
