@@ -615,6 +615,25 @@ static void track(void) {
     expect(heads(0) == 6, "and the heads are there");
 }
 
+/* The terminal count comes between two sectors. */
+static void count_between(void) {
+    size_t passed = 0, asked = 0;
+    seek(&guest, 6);
+    say("42 04 06 01 01 02 05 1B FF");
+    for (long i = 0; i < 100000 && passed < 512; i++) {
+        make_steps(&guest, 1);
+        for (; has_line(&guest, TELWYDDUS_DRQ); passed++) MUST(telwyddus_controller_dack_read(&guest.controller, buffer));
+    }
+    make_steps(&guest, 20);
+    MUST(telwyddus_controller_tc(&guest.controller));
+    for (long i = 0; i < 100000 && !is_int(); i++) {
+        make_steps(&guest, 1);
+        for (; has_line(&guest, TELWYDDUS_DRQ); asked++) MUST(telwyddus_controller_dack_read(&guest.controller, buffer));
+    }
+    finish(&guest);
+    expect_result(passed == 512 && asked == 0, "04 00 00 06 01 01 02", "with a terminal count between two sectors no byte more is asked for");
+}
+
 /* Standard tracks: a whole one, and one whose ninth content is damaged. */
 static void whole_track(void) {
     seek(&guest, 2);
@@ -663,6 +682,7 @@ int main(void) {
     verify();
     verify_marks();
     track();
+    count_between();
     whole_track();
     track_fails();
     MUST(telwyddus_controller_free(&guest.controller));
