@@ -184,6 +184,9 @@ static void reckon(const Command *command_sent, uint8_t *place, Wanted *wanted) 
 /* Seeks are implied. */
 static int implies(const Command *now) { return now->is_strapped || now->options & EIS; }
 
+/* A field may have its size. One that no field has implies no seek. */
+static int is_sized(const Command *now) { return now->key[3] >= 1 && now->key[3] <= 6; }
+
 static void draw(Command *now) {
     static const uint8_t codes[] = {READ, READ, READ, READ_DELETED, WRITE, WRITE, WRITE_DELETED};
     now->code = codes[below(7)];
@@ -212,7 +215,7 @@ static void send_whole(const Command *now, uint8_t *place) {
     const uint8_t bytes[] = {now->code, (uint8_t)(now->head << 2), now->key[0], now->key[1], now->key[2], now->key[3], now->eot, 0x1B, 0xFF};
     configure(&several, (uint8_t)now->options);
     MUST(telwyddus_controller_strap_seeks(&several.controller, (uint8_t)now->is_strapped));
-    if (!implies(now)) seek(&several, now->cylinder);
+    if (!implies(now) || !is_sized(now)) seek(&several, now->cylinder);
     transfer(&several, bytes, place, now->count);
 }
 
