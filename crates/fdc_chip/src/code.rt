@@ -4,7 +4,7 @@ ghost use Rattle.fdc_chip.specs.Codes.{has_bit, code_of, parameters};
 
 /// A command by its code (82077AA data sheet, command set). Without MFM it is about FM, in which no medium is recorded here.
 #[derive(Clone, Copy, PartialEq, Eq, Debug)]
-pub(crate) enum Code {
+pub enum Code {
     ReadTrack { mfm: bool },
     Specify,
     SenseDrive,

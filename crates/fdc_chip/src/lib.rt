@@ -25,6 +25,7 @@ mod track;
 
 pub use answer::{Answer, Registers};
 pub use chip::Chip;
+pub use code::Code;
 pub use interrupts::Interrupts;
 pub use order::Order;
 pub use settings::Settings;
