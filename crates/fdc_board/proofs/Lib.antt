@@ -1,3 +1,2 @@
 pub mod Runs
 pub mod RateLemmas
-mod Senses

@@ -36,7 +36,7 @@ code_with low byte =
     if low == 0x0D then (if is_bare byte then Some (FormatTrack (has_mfm byte)) else None) else (
     if low == 0x0E then (if byte == 0x0E then Some DumpRegisters else None) else (
     if low == 0x0F then (if byte == 0x0F then Some Seek
-        else (if has_multitrack byte && not (has_skip byte) then Some (RelativeSeek (has_mfm byte)) else None)) else (
+    else (if has_multitrack byte && not (has_skip byte) then Some (RelativeSeek (has_mfm byte)) else None)) else (
     if low == 0x10 then (if byte == 0x10 then Some Version else None) else (
     if low == 0x12 then (if byte == 0x12 then Some Perpendicular else None) else (
     if low == 0x13 then (if byte == 0x13 then Some Configure else None) else (

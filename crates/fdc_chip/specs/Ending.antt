@@ -98,9 +98,12 @@ without_one results track = record track {
   st2 = record { 0 = bit_or track.st2.0 results.st2.0 };
 }
 
+abbrev pub is_same_key : Chrn → Chrn → Bool
+is_same_key one other = ((one.c == other.c && one.h == other.h) && one.r == other.r) && one.n == other.n
+
 -- an address field of this key was met, and its sector is read
 abbrev pub met_key : Chrn → Track → Track
-met_key key track = record track { place = Data; met = track.met || key == track.key }
+met_key key track = record track { place = Data; met = track.met || is_same_key key track.key }
 
 -- what is wrong: what was wrong with any field; ND where no field had the key; EN where all sectors were read and the terminal
 -- count didn't come

@@ -48,7 +48,7 @@ ReadsAt _ old value new = ReadsIf (passes_by_port old) old value new
 -- a port is read
 pub record ReadsChip (port : ℕ) (old : ChipState) (value : ℕ) (new : ChipState) : Type 0 where
   pub status : port ≡ 0x3F4 → (value ≡ status_of old) × (new ≡ old)
-  pub data : port ≡ 0x3F5 → ReadsAt old.stage old value new
+  pub byte : port ≡ 0x3F5 → ReadsAt old.stage old value new
   pub others : (port == 0x3F4) ≡ false → (port == 0x3F5) ≡ false → (value ≡ value_outside port old.front) × (new ≡ old)
 
 -- ---- writes

@@ -79,14 +79,8 @@ impl Code {
         ensures longest { result ≤ 8 }
     {
         match self {
-            Code::SenseInterrupt
-            | Code::DumpRegisters
-            | Code::Version
-            | Code::Lock { .. } => 0,
-            Code::SenseDrive
-            | Code::Recalibrate
-            | Code::ReadId { .. }
-            | Code::Perpendicular => 1,
+            Code::SenseInterrupt | Code::DumpRegisters | Code::Version | Code::Lock { .. } => 0,
+            Code::SenseDrive | Code::Recalibrate | Code::ReadId { .. } | Code::Perpendicular => 1,
             Code::Specify | Code::Seek | Code::RelativeSeek { .. } => 2,
             Code::Configure => 3,
             Code::FormatTrack { .. } => 5,

@@ -1,6 +1,6 @@
 // The results of seeks and polls, the present cylinder numbers, and the interrupt line.
 ghost use Rattle.std.specs.Prelude.{◌≡◌};
-ghost use Rattle.fdc_chip.specs.Interrupts.{at_rest, with_result, without_results_of, sensed, after_sense, seek_bits, seek_bit, cylinder_of, with_cylinder};
+ghost use Rattle.fdc_chip.specs.Interrupts.{at_rest, with_result, without_results_of, first_pending, sensed, after_sense, seek_bits, seek_bit, cylinder_of, with_cylinder};
 
 use fdc_registers::{Flags, Msr, St0};
 use saved_state::{Saved, Sink, Source, load_four, save_four};
@@ -75,12 +75,19 @@ impl Interrupts {
         self.line = false;
     }
 
+    /// The lowest drive that has a result.
+    fn first_pending(&self) -> Option<usize>
+        ensures { result ≡ first_pending self.now }
+    {
+        self.pending.iter().position(|status| status.is_some())
+    }
+
     /// Takes the result of the lowest drive that has one: ST0 and the present cylinder number. INT falls.
     pub(crate) fn sense(&mut self) -> Option<(u8, u8)>
         ensures sensed { result ≡ sensed self.old }
         ensures after { self.new ≡ after_sense self.old }
     {
-        let drive = self.pending.iter().position(|status| status.is_some())?;
+        let drive = self.first_pending()?;
         let status = self.pending[drive]?;
         self.pending[drive] = None;
         self.line = false;

@@ -85,11 +85,7 @@ impl<D: Inspect> Chip<D> {
             Stage::Held => Msr(self.behind.read(STATUS) & SEEKING).union(Msr::BUSY),
             Stage::Busy { task } => {
                 let asked = task.passes_bytes() && self.behind.drq();
-                execution_bits(
-                    self.settings.is_by_port(),
-                    asked,
-                    self.behind.to_memory(),
-                )
+                execution_bits(self.settings.is_by_port(), asked, self.behind.to_memory())
             }
             Stage::Telling { .. } => Msr::RQM.union(Msr::DIO).union(Msr::BUSY),
         }

@@ -2,7 +2,7 @@
 ghost use Rattle.std.specs.Prelude.{◌≡◌, ◌==◌, ◌&&◌, not, bit_and};
 ghost use Rattle.fdc_chip.specs.Chips.{chip_state};
 ghost use Rattle.fdc_chip.specs.Doing.{is_size};
-ghost use Rattle.fdc_chip.specs.Ending.{without_one, met_key, track_faults, results_of_track, with_fault, track_told, track_at, is_over, unread, LooksOn, ReadsOn, EndsAt};
+ghost use Rattle.fdc_chip.specs.Ending.{without_one, is_same_key, met_key, track_faults, results_of_track, with_fault, track_told, track_at, is_over, unread, LooksOn, ReadsOn, EndsAt};
 
 use crate::chip::Chip;
 use crate::order::Order;
@@ -33,6 +33,12 @@ fn unread(results: Results) -> St1
     }
 }
 
+fn is_same_key(one: Chrn, other: Chrn) -> bool
+    ensures { result ≡ is_same_key one other }
+{
+    one.c == other.c && one.h == other.h && one.r == other.r && one.n == other.n
+}
+
 impl Track {
     /// A sector is over.
     fn without_one(self, results: Results) -> Track
@@ -52,7 +58,7 @@ impl Track {
     {
         Track {
             place: Place::Data,
-            met: self.met || key == self.key,
+            met: self.met || is_same_key(key, self.key),
             ..self
         }
     }
@@ -128,12 +134,10 @@ impl<D: Inspect> Chip<D> {
     fn look_on(&mut self, track: Track)
         ensures { LooksOn track (chip_state D.state self.old) (chip_state D.state self.new) }
     {
-        self.go_on(
-            Track {
-                place: Place::Address,
-                ..track
-            },
-        );
+        self.go_on(Track {
+            place: Place::Address,
+            ..track
+        });
         self.send(&[READ_ID, track.unit]);
     }
 
@@ -141,12 +145,13 @@ impl<D: Inspect> Chip<D> {
     fn read_on(&mut self, track: Track, key: Chrn)
         ensures { ReadsOn track key (chip_state D.state self.old) (chip_state D.state self.new) }
     {
-        self.go_on(track.met_key(key));
         let order = Order {
             unit: track.unit,
             ..self.order
         };
-        self.send(&order.reading_one(key).bytes());
+        let bytes = order.reading_one(key).bytes();
+        self.go_on(track.met_key(key));
+        self.send(&bytes);
     }
 
     /// A part of it ended with these results.

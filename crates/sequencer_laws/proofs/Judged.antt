@@ -1,8 +1,8 @@
 -- What the ending of a sector's command says, as it is judged: the check of a field that is passed over doesn't count.
-use Rattle.std.proofs.Common.{◌≡◌, inl, inr, ℕ, ◌+◌, Bool, true, false, not, if◌then◌else◌, Option, Some, List, [], length, refl, sym, ◌∙◌, ap, subst, arith}
+use Rattle.std.proofs.Common.{◌≡◌, inl, inr, Bool, true, false, if◌then◌else◌, Option, Some, length, refl, sym, ◌∙◌, ap, subst, arith}
 use Rattle.std.proofs.lemmas.Bool.{false≢true}
 use Rattle.flop_base.specs.declared.key.Chrn.{Chrn}
-use Rattle.track_model.specs.Fields.{IsSizeCode, content_size}
+use Rattle.track_model.specs.Fields.{IsSizeCode}
 use Rattle.track_model.specs.Looks.{HasDataField}
 use Rattle.fdc_stages.specs.History.{Past}
 use Rattle.fdc_stages.specs.Findings.{FindsSector}

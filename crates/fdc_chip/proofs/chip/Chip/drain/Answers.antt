@@ -2,7 +2,7 @@ use Rattle.std.proofs.Common.{◌≡◌, subst, arith}
 use Rattle.fdc_chip.specs.Chips.{chip_state}
 use Rattle.fdc_chip.specs.Doing.{drained_by}
 use Rattle.fdc_chip.proofs.Lists.{drained_none, drained_more}
-use Rattle.fdc_chip.proofs.doing.Chip.drain.Goals as goal
+use Rattle.fdc_chip.proofs.chip.Chip.drain.Goals as goal
 
 pub loop-drive-init : goal.loop-drive-init
 loop-drive-init g c = drained_none (chip_state g.D.Drive.state c.args.self.now)

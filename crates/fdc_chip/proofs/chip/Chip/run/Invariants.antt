@@ -1,7 +1,7 @@
 use Rattle.std.proofs.Common.{◌≤◌, ◌-◌}
 use Rattle.fdc_chip.specs.Chips.{chip_state}
 use Rattle.fdc_chip.specs.Steps.{HasLinesChip, RunsChipWith}
-use Rattle.fdc_chip.proofs.moving.Chip.run.Given as goal
+use Rattle.fdc_chip.proofs.chip.Chip.run.Given as goal
 
 abbrev pub invariant-loop-made : goal.invariant-loop-made
 invariant-loop-made g l = RunsChipWith l.int l.drq l.made (chip_state g.D.Drive.state l.fn.self) (chip_state g.D.Drive.state l.self)

@@ -1,7 +1,7 @@
 use Rattle.std.proofs.Common.{◌≡◌}
 use Rattle.fdc_chip.specs.Chips.{chip_state, KeepsRest}
 use Rattle.fdc_chip.specs.Steps.{SwallowsBy}
-use Rattle.fdc_chip.proofs.moving.Chip.swallow_all.Given as goal
+use Rattle.fdc_chip.proofs.chip.Chip.swallow_all.Given as goal
 
 abbrev pub invariant-loop-place : goal.invariant-loop-place
 invariant-loop-place g l =

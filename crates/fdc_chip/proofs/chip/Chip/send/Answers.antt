@@ -1,13 +1,14 @@
-use Rattle.std.proofs.Common.{refl}
-use Rattle.fdc_chip.specs.Chips.{chip_state}
+use Rattle.std.proofs.Common.{refl, ap}
+use Rattle.fdc_sequencer.specs.Fronts.{front_state}
+use Rattle.fdc_chip.specs.Chips.{ChipState, chip_state, with_front}
 use Rattle.fdc_chip.proofs.Lists.{sends_next, sends_all}
-use Rattle.fdc_chip.proofs.doing.Chip.send.Goals as goal
+use Rattle.fdc_chip.proofs.chip.Chip.send.Goals as goal
 
 pub loop-byte-preserved : goal.loop-byte-preserved
 loop-byte-preserved g c = (
   sends_next c.args.bytes.now c.loop-byte.byte-index _ (chip_state g.D.Drive.state c.args.self.now).front (chip_state g.D.Drive.state c.loop-byte.self).front _
       c.loop-byte-test.true refl c.loop-byte.invariant.0 c.write.ensures,
-  c.loop-byte.invariant.1,
+  ap (λ (chip : ChipState). with_front (front_state g.D.Drive.state c.write.new.self) chip) c.loop-byte.invariant.1,
 )
 
 pub returns : goal.returns

@@ -1,6 +1,6 @@
 use Rattle.fdc_chip.specs.Chips.{chip_state}
 use Rattle.fdc_chip.proofs.Runs.{ready_some, ready_runs}
-use Rattle.fdc_chip.proofs.moving.Chip.advance_ready.Goals as goal
+use Rattle.fdc_chip.proofs.chip.Chip.advance_ready.Goals as goal
 
 pub returns-clause-some : goal.returns-clause-some
 returns-clause-some g c = ready_some c.args.most c.run-made.result (chip_state g.D.Drive.state c.args.self.now).front _ c.requires.some c.run-made.ensures

@@ -4,16 +4,16 @@ use Rattle.fdc_chip.specs.Steps.{SwallowsBy}
 use Rattle.fdc_chip.specs.declared.stage.Stage.TheVariants.{Busy}
 use Rattle.fdc_chip.specs.declared.stage.Task.TheVariants.{Verify}
 use Rattle.fdc_chip.proofs.Lists.{swallows_none, swallows_more}
-use Rattle.fdc_chip.proofs.moving.Chip.swallow_all.Goals as goal
+use Rattle.fdc_chip.proofs.chip.Chip.swallow_all.Goals as goal
 
 pub loop-place-init : goal.loop-place-init
 loop-place-init g c = (swallows_none c.args.left (chip_state g.D.Drive.state c.args.self.now).front, refl)
 
 pub loop-place-preserved : goal.loop-place-preserved
 loop-place-preserved g c = (
-  swallows_more c.loop-place._place c.args.left c.loop-place.now c.swallow.result (chip_state g.D.Drive.state c.args.self.now).front
-      (chip_state g.D.Drive.state c.loop-place.self).front (chip_state g.D.Drive.state c.swallow.new.self).front c.loop-place.invariant.0 c.swallow.ensures.swallows,
-  c.swallow.ensures.rest ∙ ap (λ (chip : ChipState). record chip { front = (chip_state g.D.Drive.state c.swallow.new.self).front }) c.loop-place.invariant.1,
+  swallows_more c.loop-place._place c.args.left c.loop-place.now c.swallow-now.result (chip_state g.D.Drive.state c.args.self.now).front
+      (chip_state g.D.Drive.state c.loop-place.self).front (chip_state g.D.Drive.state c.swallow-now.new.self).front c.loop-place.invariant.0 c.swallow-now.ensures.swallows,
+  c.swallow-now.ensures.rest ∙ ap (λ (chip : ChipState). record chip { front = (chip_state g.D.Drive.state c.swallow-now.new.self).front }) c.loop-place.invariant.1,
 )
 
 pub returns : goal.returns

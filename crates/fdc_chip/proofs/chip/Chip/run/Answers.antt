@@ -1,7 +1,7 @@
 use Rattle.std.proofs.Common.{◌≡◌, refl, sym, arith}
 use Rattle.fdc_chip.specs.Chips.{chip_state}
 use Rattle.fdc_chip.proofs.Runs.{runs_none, runs_on}
-use Rattle.fdc_chip.proofs.moving.Chip.run.Goals as goal
+use Rattle.fdc_chip.proofs.chip.Chip.run.Goals as goal
 
 pub loop-made-init : goal.loop-made-init
 loop-made-init g c = (runs_none _ _ _, (sym c.int-int.ensures, sym c.drq-drq.ensures), omega arith)

@@ -1,7 +1,7 @@
 use Rattle.std.proofs.Common.{◌≡◌}
 use Rattle.fdc_chip.specs.Chips.{chip_state}
 use Rattle.fdc_chip.specs.Doing.{drained_by}
-use Rattle.fdc_chip.proofs.doing.Chip.drain.Given as goal
+use Rattle.fdc_chip.proofs.chip.Chip.drain.Given as goal
 
 abbrev pub invariant-loop-drive : goal.invariant-loop-drive
 invariant-loop-drive g l = chip_state g.D.Drive.state l.self ≡ drained_by l._drive (chip_state g.D.Drive.state l.fn.self)
