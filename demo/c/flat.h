@@ -28,7 +28,19 @@ static inline void import_flat(const uint8_t *flat, uint8_t *image) {
     MUST(telwyddus_shelf_free(&shelf));
 }
 
-/* And back. */
+/* The image file of the first cylinders of that disk. */
+static inline void import_some(const uint8_t *flat, uint8_t *image, uint8_t cylinders) {
+    static uint8_t whole[IMAGE];
+    telwyddus_tray tray = {0};
+    size_t told;
+    MUST(telwyddus_tray_read_flat(&tray, flat, FLAT));
+    MUST(telwyddus_tray_write(&tray, whole, IMAGE, &told));
+    MUST(telwyddus_tray_free(&tray));
+    whole[9] = cylinders;
+    memcpy(image, whole, 14 + (size_t)cylinders * 2 * 25000);
+}
+
+/* The flat file of an image file. */
 static inline void export_flat(const uint8_t *image, uint8_t *flat) {
     telwyddus_shelf shelf = {0};
     MUST(telwyddus_shelf_new(&shelf));

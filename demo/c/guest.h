@@ -5,7 +5,7 @@
 
 /* Ports, bits of MSR, codes of commands with MFM, and the bits MT and SK of these. */
 enum { DOR = 0x3F2, MSR = 0x3F4, BYTES = 0x3F5, CCR = 0x3F7 };
-enum { RQM = 0x80, DIO = 0x40, BUSY = 0x10 };
+enum { RQM = 0x80, DIO = 0x40, NON_DMA = 0x20, BUSY = 0x10 };
 enum { READ = 0x46, READ_DELETED = 0x4C, WRITE = 0x45, WRITE_DELETED = 0x49, FORMAT = 0x4D, MT = 0x80, SK = 0x20 };
 enum { EIS = 0x40, FIFO_OFF = 0x20 };
 
@@ -14,7 +14,7 @@ typedef struct {
     uint8_t *place;             /* the channel: where its next byte lies, */
     size_t left, passed;        /* how many are still to pass, the terminal count with the last, and how many passed */
     unsigned long steps;        /* device steps so far */
-    uint8_t result[7];          /* the result bytes of the last command, */
+    uint8_t result[10];         /* the result bytes of the last command, */
     int results;                /* and how many it had */
 } Guest;
 
@@ -61,6 +61,17 @@ static inline int run(Guest *guest, uint32_t most) {
     return lines & TELWYDDUS_INT;
 }
 
+static inline int has_line(Guest *guest, int line) {
+    uint8_t lines;
+    MUST(telwyddus_controller_lines(&guest->controller, &lines));
+    return (lines & line) != 0;
+}
+
+static inline void make_steps(Guest *guest, int count) {
+    for (int i = 0; i < count; i++) MUST(telwyddus_controller_step(&guest->controller));
+    guest->steps += (unsigned long)count;
+}
+
 /* ---- ports */
 
 static inline uint8_t in(Guest *guest, uint16_t port) {
@@ -82,7 +93,7 @@ static inline void put(Guest *guest, const uint8_t *bytes, int count) {
 static inline void finish(Guest *guest) {
     if (in(guest, MSR) & BUSY && !(in(guest, MSR) & RQM)) need(run(guest, 20000000), "the command ends");
     for (guest->results = 0; (in(guest, MSR) & (RQM | DIO | BUSY)) == (RQM | DIO | BUSY); guest->results++) {
-        need(guest->results < 7, "seven result bytes");
+        need(guest->results < 10, "ten result bytes at most");
         guest->result[guest->results] = in(guest, BYTES);
     }
     need((in(guest, MSR) & ~0x0F) == RQM, "the next command is awaited");
@@ -140,12 +151,14 @@ static inline void start(Guest *guest) {
 
 /* ---- media */
 
-static inline void insert(Guest *guest, const uint8_t *image, size_t length) {
+static inline void insert_in(Guest *guest, uint32_t bay, const uint8_t *image, size_t length) {
     telwyddus_tray tray = {0};
     MUST(telwyddus_tray_read(&tray, image, length));
-    MUST(telwyddus_controller_insert(&guest->controller, 0, &tray));
+    MUST(telwyddus_controller_insert(&guest->controller, bay, &tray));
     MUST(telwyddus_tray_free(&tray));
 }
+
+static inline void insert(Guest *guest, const uint8_t *image, size_t length) { insert_in(guest, 0, image, length); }
 
 static inline void make_guest(Guest *guest, const uint8_t *image, size_t length) {
     memset(guest, 0, sizeof *guest);

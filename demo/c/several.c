@@ -2,7 +2,8 @@
  *
  * A guest writes whole cylinders of 36 sectors, in one command each, and reads them back; `export` on a shelf then gives the flat
  * file that was wanted. Then one command for each rule of MT, SK, EOT and the terminal count: how many bytes pass, and what its
- * result bytes are by the table in docs/C.md. At last it formats a track with 21 sectors, and the disk has no flat file. */
+ * result bytes are by the table in docs/C.md; also of VERIFY and READ TRACK, and with the bytes at the data port. At last it
+ * formats a track with 21 sectors, and the disk has no flat file. */
 #include "guest.h"
 #include "flat.h"
 
@@ -158,7 +159,7 @@ static void deleted(void) {
     try_one(&marks[4]);
 }
 
-/* ---- refusals, seeks, resets, media */
+/* ---- commands that this medium can't have, those sent while heads move, and those that move no byte by the channel */
 
 static void refused(const char *what, const uint8_t *bytes, int count) {
     channel(&guest, buffer, 512);
@@ -166,34 +167,74 @@ static void refused(const char *what, const uint8_t *bytes, int count) {
     check(guest.results == 1 && guest.result[0] == 0x80 && guest.passed == 0, what);
 }
 
+static const Case unfit[] = {
+    {"size code 0: ND", {READ | MT, 0, 5, 0, 1, 0, 18, GAP}, 512, 0, {0x40, 0x04, 0, 5, 0, 1, 0}},
+    {"size code 7: ND", {READ | MT, 0, 5, 0, 1, 7, 18, GAP}, 512, 0, {0x40, 0x04, 0, 5, 0, 1, 7}},
+    {"a write of size code 8: ND", {WRITE, 4, 5, 1, 1, 8, 18, GAP}, 512, 0, {0x44, 0x04, 0, 5, 1, 1, 8}},
+    {"MFM clear: MA", {0x06 | MT, 0, 5, 0, 1, 2, 18, GAP}, 512, 0, {0x40, 0x01, 0, 5, 0, 1, 2}},
+    {"a write with MFM clear: MA", {0x05, 0, 5, 0, 1, 2, 18, GAP}, 512, 0, {0x40, 0x01, 0, 5, 0, 1, 2}},
+};
+
 static void refusals(void) {
-    const uint8_t sizes[] = {0, 7};
-    const uint8_t skipping[] = {WRITE | MT | SK}, single_density[] = {0x06 | MT}, polled[] = {0x03, 0xDF, 0x03}, served[] = {0x03, 0xDF, 0x02}, away[] = {0x0F, 0, 20};
-    const uint8_t whole[] = {READ | MT, 0, 5, 0, 1, 2, 18, GAP};
+    static const Case whole = {"while heads seek: it is held, and done", {READ | MT, 0, 20, 0, 17, 2, 18, GAP}, 3 * 512, 3 * 512, {0x04, 0, 0, 20, 1, 2, 2}};
+    static const Case again = {"before SENSE INTERRUPT has told that they are there: it is done", {READ, 4, 21, 1, 5, 2, 18, GAP}, 512, 512, {0x04, 0, 0, 21, 1, 6, 2}};
+    static const uint8_t skipping[] = {WRITE | MT | SK}, away[] = {0x0F, 0, 20}, further[] = {0x0F, 0, 21};
     configure(&guest, FIFO_OFF);
-    for (int i = 0; i < 2; i++) {
-        const uint8_t bytes[] = {READ | MT, 0, 5, 0, 1, sizes[i], 18, GAP};
-        refused(i == 0 ? "size code 0: 80" : "size code 7: 80", bytes, 9);
-    }
+    TRY(unfit);
     refused("SK on a write: 80", skipping, 1);
-    refused("MFM clear: 80", single_density, 1);
-    command(&guest, polled, 3);
-    refused("no DMA, by SPECIFY: 80", whole, 9);
-    command(&guest, served, 3);
     put(&guest, away, 3);
-    refused("while heads seek: 80", whole, 9);
-    run(&guest, 1000000);
-    refused("before SENSE INTERRUPT has told that they are there: 80", whole, 9);
+    try_one(&whole);
+    check(is_sector(buffer, 20, 0, 17) && is_sector(buffer + 1024, 20, 1, 1), "its bytes are those of the sectors");
+    put(&guest, further, 3);
+    need(run(&guest, 1000000), "the seek ends");
+    try_one(&again);
     sense_interrupt(&guest);
-    check(guest.results == 2 && guest.result[0] == 0x20 && guest.result[1] == 20, "which tells it");
+    check(guest.results == 1 && guest.result[0] == 0x80, "and then there is nothing to tell of the seek");
     configure(&guest, FIFO_OFF | EIS);
+}
+
+enum { VERIFY = 0x56, READ_TRACK = 0x42, COUNTED = 0x80 };
+
+/* No byte of a VERIFY passes; a READ TRACK begins at the index. */
+static const Case verified[] = {
+    {"VERIFY up to EOT", {VERIFY, 4, 12, 1, 15, 2, 18, GAP}, 0, 0, {0x04, 0, 0, 13, 1, 1, 2}},
+    {"VERIFY with MT", {VERIFY | MT, 0, 12, 0, 1, 2, 18, GAP}, 0, 0, {0x04, 0, 0, 13, 0, 1, 2}},
+    {"VERIFY with EC", {VERIFY, COUNTED, 12, 0, 3, 2, 18, 0x1B, 5}, 0, 0, {0x00, 0, 0, 12, 0, 8, 2}},
+    {"VERIFY with MT and EC", {VERIFY | MT, COUNTED, 12, 0, 16, 2, 18, 0x1B, 5}, 0, 0, {0x04, 0, 0, 12, 1, 3, 2}},
+    {"VERIFY with EC beyond EOT: EN", {VERIFY, COUNTED, 12, 0, 16, 2, 18, 0x1B, 4}, 0, 0, {0x40, 0x80, 0, 12, 0, 18, 2}},
+    {"VERIFY beyond the track: ND", {VERIFY, 0, 12, 0, 17, 2, 20, GAP}, 0, 0, {0x40, 0x04, 0, 12, 0, 19, 2}},
+    {"VERIFY, a deleted sector ends it", {VERIFY, 0, 9, 0, 3, 2, 18, GAP}, 0, 0, {0x00, 0, 0x40, 9, 0, 6, 2}},
+    {"VERIFY with SK and EC passes it over", {VERIFY | SK, COUNTED, 9, 0, 4, 2, 18, 0x1B, 3}, 0, 0, {0x00, 0, 0x40, 9, 0, 8, 2}},
+};
+
+static const Case tracks[] = {
+    {"READ TRACK of three sectors", {READ_TRACK, 4, 12, 1, 2, 2, 3, GAP}, 3 * 512, 3 * 512, {0x04, 0, 0, 12, 1, 2, 2}},
+    {"READ TRACK, no terminal count: EN", {READ_TRACK, 4, 12, 1, 2, 2, 2, GAP}, ENDLESS, 2 * 512, {0x44, 0x80, 0, 12, 1, 2, 2}},
+    {"READ TRACK, the terminal count before the sector of its key: ND", {READ_TRACK, 0, 12, 0, 3, 2, 18, GAP}, 600, 600, {0x40, 0x04, 0, 12, 0, 3, 2}},
+};
+
+static void verifies(void) {
+    TRY(verified);
+    TRY(tracks);
+    try_one(&tracks[0]);
+    check(is_sector(buffer, 12, 1, 1) && is_sector(buffer + 512, 12, 1, 2) && is_sector(buffer + 1024, 12, 1, 3), "its bytes are those of the sectors from the index on");
+}
+
+/* A cylinder by the data port, which ends with EN. */
+static void by_port(void) {
+    static const uint8_t polled[] = {0x03, 0xDF, 0x03}, served[] = {0x03, 0xDF, 0x02}, bytes[] = {READ | MT, 0, 13, 0, 1, 2, 18, GAP};
+    static const uint8_t wanted[] = {0x44, 0x80, 0, 13, 1, 18, 2};
+    size_t passed = 0;
     command(&guest, polled, 3);
-    channel(&guest, buffer, 512);
-    put(&guest, whole, 9);
-    while (!(in(&guest, MSR) & RQM)) need(!run(&guest, 1), "no interrupt comes");
-    refused("no DMA, and a seek is implied: 80 once the heads are there", whole, 0);
+    put(&guest, bytes, 9);
+    while (run(&guest, 1000000) && in(&guest, MSR) == (RQM | DIO | NON_DMA | BUSY) && passed < ENDLESS) buffer[passed++] = in(&guest, BYTES);
+    finish(&guest);
+    check(guest.results == 7 && memcmp(guest.result, wanted, 7) == 0 && passed == 2 * TRACK, "no DMA, by SPECIFY: a cylinder passes by the data port, and EN ends it");
+    check(memcmp(buffer, sector(flat, 13, 0, 1), 2 * TRACK) == 0, "its bytes are those of the sectors");
     command(&guest, served, 3);
 }
+
+/* ---- seeks, resets, media */
 
 static uint8_t cylinder(void) {
     uint8_t cylinder_now, signs;
@@ -203,9 +244,9 @@ static uint8_t cylinder(void) {
 
 static void seeks(void) {
     static const Case there = {"the strap: the heads seek first", {READ, 0, 40, 0, 1, 2, 18, GAP}, 1024, 1024, {0x00, 0, 0, 40, 0, 3, 2}};
-    static const Case not_there = {"without EIS and the strap they don't: ND", {READ, 0, 41, 0, 1, 2, 18, GAP}, 512, 0, {0x40, 0x04, 0, 41, 0, 1, 2}};
+    static const Case not_there = {"without EIS and the strap they don't: ND, and WC", {READ, 0, 41, 0, 1, 2, 18, GAP}, 512, 0, {0x40, 0x04, 0x10, 41, 0, 1, 2}};
     static const Case by_options = {"EIS of CONFIGURE: they do", {READ, 0, 41, 0, 1, 2, 18, GAP}, 512, 512, {0x00, 0, 0, 41, 0, 2, 2}};
-    static const Case cleared = {"a reset clears EIS", {READ, 0, 40, 0, 1, 2, 18, GAP}, 512, 0, {0x40, 0x04, 0, 40, 0, 1, 2}};
+    static const Case cleared = {"a reset clears EIS", {READ, 0, 40, 0, 1, 2, 18, GAP}, 512, 0, {0x40, 0x04, 0x10, 40, 0, 1, 2}};
     configure(&guest, FIFO_OFF);
     MUST(telwyddus_controller_strap_seeks(&guest.controller, 1));
     try_one(&there);
@@ -349,6 +390,8 @@ int main(void) {
     writes();
     deleted();
     refusals();
+    verifies();
+    by_port();
     within();
     early_count();
     breaks();

@@ -3,18 +3,19 @@
  * A command runs on one controller up to a random access, DACK byte or device step. There its state is saved and restored into a
  * second slot, and from there on both get the same calls: each answer is to be the same, and at the end the images and the bytes of
  * both states. The next command goes on with the restored one. Of each tenth state the bytes are spoilt: they are refused, or are
- * those of another state. Then the same for a tenth of the commands on machines, whose drives have planned faults, and which a plan
- * delays and disturbs. */
+ * those of another state. Before that a state is taken in each stage of a command that a random one may miss. Then the same for a
+ * tenth of the commands on machines, whose drives have planned faults, and which a plan delays and disturbs. */
 #include "common.h"
 
 enum { DOR = 0x3F2, MSR = 0x3F4, BYTES = 0x3F5, CCR = 0x3F7 };
-enum { RQM = 0x80, DIO = 0x40, BUSY = 0x10 };
-enum { READ = 0x46, READ_DELETED = 0x4C, WRITE = 0x45, WRITE_DELETED = 0x49, FORMAT = 0x4D, READ_ID = 0x4A, MT = 0x80, SK = 0x20 };
+enum { RQM = 0x80, DIO = 0x40, NON_DMA = 0x20, BUSY = 0x10 };
+enum { READ = 0x46, READ_DELETED = 0x4C, WRITE = 0x45, WRITE_DELETED = 0x49, FORMAT = 0x4D, READ_ID = 0x4A, READ_TRACK = 0x42, VERIFY = 0x56, MT = 0x80, SK = 0x20 };
 
 #define ROOM (4 << 20)          /* for the bytes of a state */
 #define MOST (40 * 512)         /* bytes of a channel */
 #define ROUND 10                /* commands on one machine */
 #define SPARE 2                 /* the slot for spoilt bytes */
+#define NEVER 4000000000u       /* more than any count of accesses and steps */
 
 /* What controllers and machines have in common, by the number of a slot. */
 typedef struct {
@@ -213,6 +214,14 @@ static void make_step(void) {
     for (int i = 0; i <= both; i++) MUST(telwyddus_controller_step(&controllers[now ^ i]));
 }
 
+/* A byte passed. The terminal count is told with the last, or isn't. */
+static void count_byte(void) {
+    place++;
+    if (left == 0 || --left > 0 || !counts) return;
+    turn();
+    for (int i = 0; i <= both; i++) MUST(telwyddus_controller_tc(&controllers[now ^ i]));
+}
+
 static void pass_byte(int to_memory) {
     uint8_t byte[2] = {0, 0};
     turn();
@@ -221,10 +230,7 @@ static void pass_byte(int to_memory) {
         else MUST(telwyddus_controller_dack_write(&controllers[now ^ i], memory[place]));
     if (both) same(byte[0], byte[1], "a byte to memory");
     if (to_memory) memory[place] = byte[0];
-    place++;
-    if (--left > 0 || !counts) return;
-    turn();
-    for (int i = 0; i <= both; i++) MUST(telwyddus_controller_tc(&controllers[now ^ i]));
+    count_byte();
 }
 
 /* Bytes pass while they are asked for; now and then the channel is late. */
@@ -306,16 +312,45 @@ static void choose_bay(int bay) {
     out(CCR, rates[bay]);
 }
 
-/* A command to its end, where it has one to come, with its result bytes. */
-static void command(const uint8_t *bytes, int count) {
+/* The bytes of a command, while the controller takes them. */
+static void put(const uint8_t *bytes, int count) {
     phase = IN_BYTES;
     for (int i = 0; i < count && (in(MSR) & (RQM | DIO)) == RQM; i++) out(BYTES, bytes[i]);
     phase = IN_EXECUTION;
-    for (int i = 0; i < 30 && (in(MSR) & (BUSY | RQM)) == BUSY; i++) kind->await(20000);
+}
+
+/* Without DMA bytes pass at the data port while MSR asks for them, so many at most; now and then a guest is late. */
+static void pass_by_port(size_t most, int may_be_late) {
+    for (long i = 0; i < 100000 && place < most; i++) {
+        uint8_t status = in(MSR);
+        if (!(status & NON_DMA)) return;
+        if (!(status & RQM)) kind->await(20000);
+        else if (may_be_late && below(500) == 0) make_step();
+        else {
+            if (status & DIO) memory[place % MOST] = in(BYTES);
+            else out(BYTES, memory[place % MOST]);
+            count_byte();
+        }
+    }
+}
+
+/* A command goes on to its end, where it has one to come, and its result bytes are read. */
+static void finish(void) {
+    for (int i = 0; i < 30; i++) {
+        uint8_t status = in(MSR);
+        if (status & NON_DMA) pass_by_port(2 * MOST, 1);
+        else if ((status & (BUSY | RQM)) == BUSY) kind->await(20000);
+        else break;
+    }
     phase = IN_RESULTS;
     for (int i = 0; i < 16 && (in(MSR) & (RQM | DIO | BUSY)) == (RQM | DIO | BUSY); i++) in(BYTES);
     left = 0;
     if (in(MSR) & BUSY) reset();
+}
+
+static void command(const uint8_t *bytes, int count) {
+    put(bytes, count);
+    finish();
 }
 
 static void move_heads(const uint8_t *bytes, int count) {
@@ -385,11 +420,55 @@ static void ask(int bay, int head) {
     command(bytes, code == READ_ID || code == 0x04 ? 2 : 1);
 }
 
+/* ---- what the controller alone has */
+
+/* VERIFY, READ TRACK, or one that this medium can't have. */
+static void look_at_sectors(int bay, int cylinder, int head) {
+    static const uint8_t codes[] = {VERIFY, VERIFY | MT, VERIFY | SK, READ_TRACK, READ_TRACK, 0x02, 0x05, 0x06, 0x0A, 0x0D, READ, WRITE};
+    uint8_t code = codes[below(12)], r = (uint8_t)(1 + below(sectors[bay])), n = code == READ || code == WRITE ? (uint8_t)(7 * below(2)) : 2;
+    uint8_t eot = code == READ_TRACK ? (uint8_t)(1 + below(3)) : sectors[bay], counted = (uint8_t)(below(2) ? 0x80 : 0x00);
+    const uint8_t bytes[] = {code, (uint8_t)(counted | head << 2 | bay), (uint8_t)cylinder, (uint8_t)head, r, n, eot, 0x1B, (uint8_t)below(20)};
+    if (below(4)) seek(bay, cylinder);
+    set_channel(1, 1 + below(3000));
+    command(bytes, 9);
+}
+
+/* A command that comes while heads move. */
+static void hold(int bay, int cylinder, int head) {
+    const uint8_t away[] = {0x0F, (uint8_t)bay, (uint8_t)below(80)}, other[] = {0x0F, (uint8_t)(1 - bay), (uint8_t)below(80)}, sense[] = {0x08}, lines_of[] = {0x04, (uint8_t)bay};
+    put(away, 3);
+    switch (below(3)) {
+    case 0: command(other, 3); break;
+    case 1: command(lines_of, 2); break;
+    default: move_sectors(bay, cylinder, head);
+    }
+    kind->await(1000);
+    command(sense, 1), command(sense, 1);
+}
+
+/* What commands set, and a RELATIVE SEEK. */
+static void set_and_tell(int bay) {
+    const uint8_t lock[] = {(uint8_t)(below(2) ? 0x94 : 0x14)}, perpendicular[] = {0x12, (uint8_t)below(256)}, dump[] = {0x0E};
+    const uint8_t relative[] = {(uint8_t)(below(2) ? 0x8F : 0xCF), (uint8_t)bay, (uint8_t)below(20)};
+    command(lock, 1);
+    command(perpendicular, 2);
+    command(dump, 1);
+    move_heads(relative, 3);
+}
+
+static void move_by_port(int bay, int cylinder, int head) {
+    const uint8_t polled[] = {0x03, 0xDF, 0x03}, served[] = {0x03, 0xDF, 0x02};
+    command(polled, 3);
+    if (below(3)) move_sectors(bay, cylinder, head);
+    else look_at_sectors(bay, cylinder, head);
+    command(served, 3);
+}
+
 static void run_command(void) {
     int bay = (int)below(2), head = (int)below(2), cylinder = (int)below((unsigned)cylinders[bay] + (below(10) == 0));
     choose_bay(bay);
     if (below(3) == 0) set_options();
-    switch (below(12)) {
+    switch (below(kind == &controller_kind ? 18 : 12)) {
     case 0: format(bay, cylinder, head); break;
     case 1: seek(bay, cylinder); break;
     case 2: recalibrate(bay); break;
@@ -399,6 +478,10 @@ static void run_command(void) {
         if (below(3)) reset();
         else change((uint32_t)bay);
         break;
+    case 12: case 13: look_at_sectors(bay, cylinder, head); break;
+    case 14: hold(bay, cylinder, head); break;
+    case 15: set_and_tell(bay); break;
+    case 16: case 17: move_by_port(bay, cylinder, head); break;
     default: move_sectors(bay, cylinder, head);
     }
     phase = BEHIND;
@@ -462,7 +545,7 @@ static void begin(void) {
         MUST(kind->insert(now, bay, &tray));
         MUST(telwyddus_tray_free(&tray));
     }
-    until = 4000000000u; /* not yet */
+    until = NEVER;
     choose_bay(0);
     reset();
     const uint8_t specify[] = {0x03, 0xDF, 0x02};
@@ -511,11 +594,152 @@ static void run_commands(const Kind *with, unsigned long commands) {
         kind->name, taken[IN_BYTES], taken[IN_EXECUTION], taken[IN_RESULTS], taken[BEHIND], refused, others);
 }
 
+/* ---- a state in each stage that a random one may miss */
+
+/* The state is taken here, the command goes on, and the next stage is tried with the restored controller. */
+static void take_here(void) {
+    const uint8_t sense[] = {0x08};
+    take_state();
+    finish();
+    command(sense, 1);
+    settle();
+    until = NEVER;
+}
+
+static void is_executing(const char *what) { need((in(MSR) & (RQM | BUSY)) == BUSY, what); }
+
+static void make_steps(int count) {
+    for (int i = 0; i < count; i++) make_step();
+}
+
+/* Up to so many bytes of the channel. */
+static void pass_some(size_t count) {
+    for (long i = 0; i < 100000 && place < count; i++) {
+        if (lines() & TELWYDDUS_DRQ) pass_byte(1);
+        else make_step();
+    }
+    need(place == count, "so many bytes pass");
+}
+
+static void held_stages(void) {
+    static const uint8_t away[] = {0x0F, 0, 1}, read[] = {READ, 0, 1, 0, 1, 2, 18, 0x1B, 0xFF}, other[] = {0x0F, 1, 2}, back[] = {0x07, 0}, sense[] = {0x08};
+    put(away, 3);
+    set_channel(1, 512);
+    put(read, 9);
+    need(in(MSR) == 0x11, "a READ is held");
+    take_here();
+    move_heads(back, 2);
+    put(away, 3), put(other, 3);
+    need(in(MSR) == 0x11, "a SEEK is held");
+    take_here();
+    kind->await(100);
+    command(sense, 1);
+    put(other, 3), put(back, 2);
+    kind->await(100);
+    need((in(MSR) & 0x0F) == 0x03, "one seek has ended, and the other begins");
+    take_here();
+    kind->await(100);
+    command(sense, 1);
+}
+
+static void searching_stages(void) {
+    static const uint8_t sized[] = {READ, 0, 0, 0, 1, 7, 18, 0x1B, 0xFF}, single[] = {0x0D, 0, 2, 18, 0x1B, 0xFF}, other[] = {READ, 0, 9, 0, 1, 2, 18, 0x1B, 0xFF};
+    int steps = 0;
+    set_channel(1, 512);
+    put(sized, 9);
+    is_executing("a READ of size code 7 is refused by a search");
+    take_here();
+    put(single, 6);
+    is_executing("a FORMAT without MFM is refused by a search");
+    take_here();
+    size_t length = save(now, kept);
+    set_channel(1, 512);
+    for (put(other, 9); !(lines() & TELWYDDUS_INT); steps++) make_step();
+    MUST(kind->restore(now, kept, length));
+    put(other, 9);
+    make_steps(steps - 100);
+    is_executing("a READ looks which cylinder passes");
+    take_here();
+}
+
+static void verify_and_track_stages(void) {
+    static const uint8_t verify[] = {VERIFY | MT, 0, 0, 0, 1, 2, 18, 0x1B, 0xFF}, track[] = {READ_TRACK, 0, 0, 0, 1, 2, 3, 0x1B, 0xFF};
+    static const struct { size_t bytes; int steps; const char *what; } places[] = {
+        {0, 0, "READ TRACK waits for the index"}, {700, 0, "it reads the second sector"}, {1024, 20, "it looks for the third"},
+    };
+    set_channel(1, 0);
+    put(verify, 9);
+    make_steps(8000);
+    is_executing("a VERIFY runs");
+    take_here();
+    for (int i = 0; i < 3; i++) {
+        set_channel(1, 3 * 512);
+        put(track, 9);
+        pass_some(places[i].bytes);
+        make_steps(places[i].steps);
+        is_executing(places[i].what);
+        take_here();
+    }
+}
+
+static void port_stages(void) {
+    static const uint8_t polled[] = {0x03, 0xDF, 0x03}, served[] = {0x03, 0xDF, 0x02}, read[] = {READ | MT, 0, 0, 0, 17, 2, 18, 0x1B, 0xFF};
+    static const uint8_t write[] = {WRITE, 0, 0, 0, 17, 2, 18, 0x1B, 0xFF}, verify[] = {VERIFY, 0, 0, 0, 17, 2, 18, 0x1B, 0xFF};
+    command(polled, 3);
+    set_channel(1, 2000);
+    put(read, 9);
+    pass_by_port(700, 0);
+    need(in(MSR) & NON_DMA, "a READ gives its bytes at the port");
+    take_here();
+    set_channel(0, 1024);
+    put(write, 9);
+    pass_by_port(600, 0);
+    need(in(MSR) & NON_DMA, "a WRITE takes its bytes there");
+    take_here();
+    put(verify, 9);
+    need((in(MSR) & 0xF0) == 0x30, "a VERIFY asks for none");
+    take_here();
+    command(served, 3);
+}
+
+static void telling_stages(void) {
+    static const uint8_t dump[] = {0x0E}, lock[] = {0x94}, unlock[] = {0x14}, read[] = {READ, 0, 0, 0, 1, 2, 18, 0x1B, 0xFF};
+    put(dump, 1);
+    for (int i = 0; i < 4; i++) in(BYTES);
+    need((in(MSR) & 0xF0) == 0xD0, "DUMPREG has bytes left");
+    take_here();
+    put(lock, 1);
+    take_here();
+    reset();
+    take_state();
+    set_channel(1, 512);
+    put(read, 9);
+    take_here();
+    command(unlock, 1);
+}
+
+static void each_stage(void) {
+    kind = &controller_kind;
+    MUST(telwyddus_controller_new(&controllers[now]));
+    begin();
+    dor = 0x3C;
+    out(DOR, dor);
+    until = NEVER;
+    held_stages();
+    recalibrate(0);
+    searching_stages();
+    verify_and_track_stages();
+    port_stages();
+    telling_stages();
+    for (int at = 0; at < 3; at++) kind->end(at);
+    check(differences == 0, "a state of each stage of the controller's commands went on as the one that was saved");
+}
+
 /* The bytes of a controller that was just made, field by field: it is held in reset at 250 kbit/s, with polling on and its poll due, and
  * its FIFO off with a threshold of one byte; the change lines of both empty drives are up. Counts have eight bytes, the low one first. */
 static void made_as_written(void) {
-    static const uint8_t wanted[95] = {
-        'C',
+    static const uint8_t wanted[125] = {
+        'G', 'C',
         0, 2, 0, 1, 1, 0, 0, 0,             /* DOR, the rate, non-DMA, polling, poll due, INT, DRQ, the command phase */
         0, 0, 0, 0, 0, 0, 0, 0, 0,          /* the cylinders, no seek, no results */
         0, 0, 0, 0, 0, 0, 0, 0,             /* no command bytes */
@@ -526,6 +750,12 @@ static void made_as_written(void) {
         0, 0, 0, 0, 0, 0, 0, 1, 0, 0, 0,
         0, 0, 0, 0, 0, 0, 0, 0, 0,
         0, 0, 0, 0, 0, 0, 0, 0, 0, 0, 0,    /* nothing in front, no bytes, no strap, no EIS */
+        0,                                  /* nothing is under way */
+        0, 0, 0, 0, 0, 0, 0, 0, 0,          /* the last command: code, HD, key, EOT, gap, length */
+        0,                                  /* no bytes of the next */
+        0, 0, 0, 0, 0, 0, 0, 0, 0,          /* no results of the drives, their cylinders, INT */
+        0, 0, 0, 0, 0, 32, 0, 0,            /* SPECIFY, EOT, LOCK, PERPENDICULAR, CONFIGURE: EFIFO; PRETRK; nothing to tell again */
+        0,                                  /* no strap */
     };
     telwyddus_controller controller = {0};
     size_t length;
@@ -540,6 +770,7 @@ int main(int count, char **words) {
     seed = count > 2 ? strtoull(words[2], NULL, 10) : 1;
     make_images();
     made_as_written();
+    each_stage();
     run_commands(&controller_kind, commands);
     run_commands(&machine_kind, commands / 10);
     printf("%lu commands, %lu differences\n", commands + commands / 10, differences);

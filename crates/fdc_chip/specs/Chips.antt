@@ -124,7 +124,7 @@ stage_bits Ready chip = bit_or (value_outside 0x3F4 chip.front) (if chip.count =
 stage_bits Held chip = bit_or (bit_and (value_outside 0x3F4 chip.front) 0x0F) busy
 stage_bits (Busy task) chip =
     execution_bits (is_by_port chip.settings) (passes_bytes task && asks_outside chip.front) (to_memory_of chip.front.board.controller)
-stage_bits (Telling answer read) chip = bit_or (bit_or rqm dio) busy
+stage_bits (Telling answer read) chip = bit_or (bit_and (value_outside 0x3F4 chip.front) 0x0F) (bit_or (bit_or rqm dio) busy)
 
 -- MSR: the bits of what is under way, and the seek bits of drives whose results wait
 abbrev pub status_of : ChipState → ℕ

@@ -10,6 +10,7 @@ use Rattle.fdc_sequencer.specs.Fronts.{Front, after_reading, value_outside}
 use Rattle.fdc_chip.specs.Chips.{ChipState, with_front}
 use Rattle.fdc_chip.specs.Doing.{SendsOn, told, identifying, is_size, reading_one}
 use Rattle.fdc_chip.specs.declared.answer.Answer.TheVariants as answer
+use Rattle.fdc_chip.specs.declared.order.Order.{Order}
 use Rattle.fdc_chip.specs.declared.stage.Place.{Place}
 use Rattle.fdc_chip.specs.declared.stage.Place.TheVariants.{Index, Address, Data}
 use Rattle.fdc_chip.specs.declared.stage.Stage.TheVariants.{Busy}
@@ -65,6 +66,14 @@ told_results results old =
 abbrev pub is_not_found : Results → Bool
 is_not_found results = results.st1.0 == no_data
 
+-- a command that has a key: any but READ ID
+abbrev pub has_key : Order → Bool
+has_key order = not (bit_and order.code 0x1F == 0x0A)
+
+-- it is then looked which cylinder passes
+abbrev pub looks_for_cylinder : Order → Results → Bool
+looks_for_cylinder order results = has_key order && is_not_found results
+
 -- the head and the drive of the results
 abbrev pub unit_of : Results → ℕ
 unit_of results = bit_and results.st0.0 7
@@ -105,11 +114,14 @@ is_same_key one other = ((one.c == other.c && one.h == other.h) && one.r == othe
 abbrev pub met_key : Chrn → Track → Track
 met_key key track = record track { place = Data; met = track.met || is_same_key key track.key }
 
--- what is wrong: what was wrong with any field; ND where no field had the key; EN where all sectors were read and the terminal
--- count didn't come
+-- what is wrong: what was wrong with any field; ND where no field had the key, unless none was seen; EN where all sectors were
+-- read and the terminal count didn't come
+abbrev pub is_missed : Track → Bool
+is_missed track = not track.met && bit_and track.st1.0 missing_mark == 0
+
 abbrev pub track_faults : Track → ℕ
 track_faults track =
-    bit_or (bit_or track.st1.0 (if track.met then 0 else no_data)) (if (track.left == 0) && not track.counted then end_of_cylinder else 0)
+    bit_or (bit_or track.st1.0 (if is_missed track then no_data else 0)) (if (track.left == 0) && not track.counted then end_of_cylinder else 0)
 
 abbrev pub results_of_track : Track → Results
 results_of_track track = record {
@@ -149,9 +161,14 @@ abbrev pub unread : Results → ℕ
 unread results = if results.st1.0 == 0 then no_data else results.st1.0
 
 -- an address field was met, or none; and its sector has a size that there is, or not
+abbrev pub EndsAddressIf : Bool → Results → Track → ChipState → ChipState → Type 0
+EndsAddressIf true results track old new = ReadsOn track results.key old new
+EndsAddressIf false results track old new = new ≡ track_told (with_fault (unread results) track) old
+
+-- or the terminal count came between two sectors
 abbrev pub EndsAddress : Bool → Results → Track → ChipState → ChipState → Type 0
-EndsAddress true results track old new = ReadsOn track results.key old new
-EndsAddress false results track old new = new ≡ track_told (with_fault (unread results) track) old
+EndsAddress true results track old new = new ≡ track_told track old
+EndsAddress false results track old new = EndsAddressIf ((results.st1.0 == 0) && is_size results.key.n) results track old new
 
 -- a sector is over: it was the last, or the next is looked for
 abbrev pub is_over : Results → Track → Bool
@@ -163,7 +180,7 @@ EndsData false track old new = LooksOn track old new
 
 abbrev pub EndsAt : Place → Track → Results → ChipState → ChipState → Type 0
 EndsAt Index track results old new = EndsIndex (not (bit_and results.st1.0 missing_mark == 0)) track old new
-EndsAt Address track results old new = EndsAddress ((results.st1.0 == 0) && is_size results.key.n) results track old new
+EndsAt Address track results old new = EndsAddress track.counted results track old new
 EndsAt Data track results old new = let over = without_one results track in EndsData (is_over results over) over old new
 
 -- ---- all tasks
@@ -175,10 +192,10 @@ EndsSent false results old new = new ≡ told_results results old
 
 -- what was executed behind for this task ended with these results
 abbrev pub Ends : Task → Results → ChipState → ChipState → Type 0
-Ends task.Sent results old new = EndsSent (is_not_found results) results old new
+Ends task.Sent results old new = EndsSent (looks_for_cylinder old.order results) results old new
 Ends (task.Sought first) results old new = new ≡ told_results (with_cylinder_passed first results) old
 Ends (task.Refused unit key mfm) results old new = new ≡ told_results (refusal unit key (mfm && results.st1.0 == 0)) old
-Ends (task.Verify _) results old new = new ≡ told_results results old
+Ends (task.Verify _) results old new = EndsSent (looks_for_cylinder old.order results) results old new
 Ends (task.Track track) results old new = EndsAt track.place track results old new
 
 abbrev pub EndsIf : Bool → Task → ChipState → ChipState → Type 0

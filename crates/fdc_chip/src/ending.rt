@@ -2,11 +2,12 @@
 ghost use Rattle.std.specs.Prelude.{◌≡◌, ◌==◌, not};
 ghost use Rattle.fdc_sequencer.specs.Fronts.{Front, front_state};
 ghost use Rattle.fdc_chip.specs.Chips.{chip_state, behind_of, with_front};
-ghost use Rattle.fdc_chip.specs.Ending.{behind_one, byte_behind, results_behind, results_taken, has_results, told_results, is_not_found, unit_of, cylinder_bits, with_cylinder_passed, refusal, EndsSent, Ends, MayEnd};
+ghost use Rattle.fdc_chip.specs.Ending.{behind_one, byte_behind, results_behind, results_taken, has_results, told_results, has_key, looks_for_cylinder, unit_of, cylinder_bits, with_cylinder_passed, refusal, EndsSent, Ends, MayEnd};
 
 use crate::answer::Answer;
 use crate::chip::Chip;
 use crate::doing::{DATA, STATUS};
+use crate::order::Order;
 use crate::stage::{Stage, Task};
 use drive_model::Inspect;
 use fdc_commands::Results;
@@ -18,6 +19,11 @@ const UNIT: u8 = 0x07;
 
 /// READ ID with MFM.
 const READ_ID: u8 = 0x4A;
+
+/// Which command a code is, and READ ID among these.
+const COMMAND: u8 = 0x1F;
+
+const READ_ANY_ID: u8 = 0x0A;
 
 /// The cylinder of tracks that are marked bad.
 const BAD: u8 = 0xFF;
@@ -61,6 +67,15 @@ fn refusal(unit: u8, key: Chrn, marks: bool) -> Results
         },
         st2: St2(0),
         key,
+    }
+}
+
+impl Order {
+    /// Whether it has a key, as any but READ ID.
+    fn has_key(self) -> bool
+        ensures { result ≡ has_key self }
+    {
+        self.code & COMMAND != READ_ANY_ID
     }
 }
 
@@ -125,23 +140,22 @@ impl<D: Inspect> Chip<D> {
         ensures { Ends task results (chip_state D.state self.old) (chip_state D.state self.new) }
     {
         match task {
-            Task::Sent => self.end_sent(results),
+            Task::Sent | Task::Verify { .. } => self.end_sent(results),
             Task::Sought { results: first } => {
                 self.tell_results(with_cylinder_passed(first, results));
             }
             Task::Refused { unit, key, mfm } => {
                 self.tell_results(refusal(unit, key, mfm && results.st1.bits() == 0));
             }
-            Task::Verify { .. } => self.tell_results(results),
             Task::Track { track } => self.end_part(track, results),
         }
     }
 
     /// The command that was sent ended: where its sector wasn't found it is looked which cylinder passes.
     fn end_sent(&mut self, results: Results)
-        ensures { EndsSent (is_not_found results) results (chip_state D.state self.old) (chip_state D.state self.new) }
+        ensures { EndsSent (looks_for_cylinder self.old.order results) results (chip_state D.state self.old) (chip_state D.state self.new) }
     {
-        if results.st1.bits() != St1::NO_DATA.bits() {
+        if !self.order.has_key() || results.st1.bits() != St1::NO_DATA.bits() {
             self.tell_results(results);
             return;
         }

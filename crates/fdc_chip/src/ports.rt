@@ -1,7 +1,8 @@
 // Ports.
 ghost use Rattle.std.specs.Prelude.{◌≡◌, ◌==◌, ◌&&◌};
-ghost use Rattle.fdc_sequencer.specs.Fronts.{value_outside};
-ghost use Rattle.fdc_chip.specs.Chips.{chip_state, status_of, stage_bits, execution_bits, port_bits};
+ghost use Rattle.fdc_board.specs.Boards.{SameDrives};
+ghost use Rattle.fdc_sequencer.specs.Fronts.{board_of};
+ghost use Rattle.fdc_chip.specs.Chips.{chip_state, behind_of, status_of, stage_bits, execution_bits, port_bits};
 ghost use Rattle.fdc_chip.specs.Ports.{ReadsChip, ReadsAt, PassesOut, byte_told, WritesChip, TakesByte, Collects, may_come, with_next, PassesIn, is_whole};
 
 use crate::answer::{Answer, NOTHING};
@@ -54,7 +55,8 @@ fn is_whole(count: u8, code: Option<Code>) -> bool
 impl<D: Inspect> Chip<D> {
     /// Reads a port, 3F0 to 3F7.
     pub fn read(&mut self, port: u16) -> u8
-        ensures { ReadsChip port (chip_state D.state self.old) result (chip_state D.state self.new) }
+        ensures reads { ReadsChip port (chip_state D.state self.old) result (chip_state D.state self.new) }
+        ensures drives { SameDrives (board_of (behind_of self.old)) (board_of (behind_of self.new)) }
     {
         match port {
             STATUS => self.status(),
@@ -67,6 +69,7 @@ impl<D: Inspect> Chip<D> {
     fn status(&mut self) -> u8
         ensures value { result ≡ status_of (chip_state D.state self.old) }
         ensures same { chip_state D.state self.new ≡ chip_state D.state self.old }
+        ensures drives { SameDrives (board_of (behind_of self.old)) (board_of (behind_of self.new)) }
     {
         let seeks = Msr(self.interrupts.seek_bits());
         self.stage_bits().union(seeks).bits()
@@ -76,6 +79,7 @@ impl<D: Inspect> Chip<D> {
     fn stage_bits(&mut self) -> Msr
         ensures value { result.0 ≡ stage_bits self.old.stage (chip_state D.state self.old) }
         ensures same { chip_state D.state self.new ≡ chip_state D.state self.old }
+        ensures drives { SameDrives (board_of (behind_of self.old)) (board_of (behind_of self.new)) }
     {
         match self.stage {
             Stage::Ready => {
@@ -87,13 +91,17 @@ impl<D: Inspect> Chip<D> {
                 let asked = task.passes_bytes() && self.behind.drq();
                 execution_bits(self.settings.is_by_port(), asked, self.behind.to_memory())
             }
-            Stage::Telling { .. } => Msr::RQM.union(Msr::DIO).union(Msr::BUSY),
+            Stage::Telling { .. } => {
+                let told = Msr::RQM.union(Msr::DIO).union(Msr::BUSY);
+                Msr(self.behind.read(STATUS) & SEEKING).union(told)
+            }
         }
     }
 
     /// The next byte of an answer, or of the command in execution.
     fn give_byte(&mut self) -> u8
-        ensures { ReadsAt self.old.stage (chip_state D.state self.old) result (chip_state D.state self.new) }
+        ensures reads { ReadsAt self.old.stage (chip_state D.state self.old) result (chip_state D.state self.new) }
+        ensures drives { SameDrives (board_of (behind_of self.old)) (board_of (behind_of self.new)) }
     {
         match self.stage {
             Stage::Telling { answer, read } => {
@@ -112,7 +120,8 @@ impl<D: Inspect> Chip<D> {
 
     /// A byte of an answer is read.
     fn tell_next(&mut self, answer: Answer, read: u8)
-        ensures { chip_state D.state self.new ≡ byte_told answer read (chip_state D.state self.old) }
+        ensures told { chip_state D.state self.new ≡ byte_told answer read (chip_state D.state self.old) }
+        ensures drives { SameDrives (board_of (behind_of self.old)) (board_of (behind_of self.new)) }
     {
         if answer.is_of_data() && read == 0 {
             self.interrupts.set_line(false);
@@ -129,7 +138,8 @@ impl<D: Inspect> Chip<D> {
 
     /// A byte of the command in execution.
     fn pass_out(&mut self) -> u8
-        ensures { PassesOut (chip_state D.state self.old) result (chip_state D.state self.new) }
+        ensures passes { PassesOut (chip_state D.state self.old) result (chip_state D.state self.new) }
+        ensures drives { SameDrives (board_of (behind_of self.old)) (board_of (behind_of self.new)) }
     {
         match self.behind.dack_read() {
             Some(byte) => byte,

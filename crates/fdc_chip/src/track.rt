@@ -77,7 +77,11 @@ impl Track {
     fn faults(self) -> St1
         ensures { result.0 ≡ track_faults self }
     {
-        let missed = if self.met { St1(0) } else { St1::NO_DATA };
+        let missed = if !self.met && self.st1.bits() & St1::MISSING_MARK.bits() == 0 {
+            St1::NO_DATA
+        } else {
+            St1(0)
+        };
         let uncounted = if self.left == 0 && !self.counted {
             St1::END_OF_CYLINDER
         } else {
@@ -167,7 +171,9 @@ impl<D: Inspect> Chip<D> {
                 }
             }
             Place::Address => {
-                if results.st1.bits() == 0 && is_size(results.key.n) {
+                if track.counted {
+                    self.tell_track(track);
+                } else if results.st1.bits() == 0 && is_size(results.key.n) {
                     self.read_on(track, results.key);
                 } else {
                     self.tell_track(track.with_fault(unread(results)));

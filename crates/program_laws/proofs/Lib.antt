@@ -31,3 +31,5 @@ pub mod Telling
 mod Unstopped
 mod Verifies
 mod FormWords
+mod SeekOrData
+mod UsedMachines

@@ -8,3 +8,4 @@ pub mod Steps
 pub mod Inserted
 pub mod InTurn
 pub mod Guarded
+pub mod Seeks

@@ -13,6 +13,7 @@ mod in_turn;
 mod play;
 mod ports;
 mod rescued;
+mod seeks;
 mod settled;
 mod status;
 mod steps;
@@ -36,6 +37,9 @@ pub use ports::ports_status;
 pub use rescued::{
     further_rescue_settles_each_record, new_rescue_settles_each_record, rescue_logs_the_rest,
     rescue_stores_in_order,
+};
+pub use seeks::{
+    a_seek_of_a_used_machine_ends, ports_seeks_end, seeks_and_data_commands_stay_apart,
 };
 pub use settled::job_answers_are_settled;
 pub use status::{
