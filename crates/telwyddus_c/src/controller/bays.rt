@@ -274,9 +274,21 @@ fn show(controller: &WholeController, bay: u32, cylinder: &mut u8, signs: &mut u
     }
     let bay = bay as u8;
     *cylinder = controller.cylinder(bay);
-    let motor = if controller.is_motor_on(bay) { MOTOR } else { 0 };
-    let selected = if controller.selected() == bay { SELECTED } else { 0 };
-    let gate = if controller.is_gate_open(bay) { GATE } else { 0 };
+    let motor = if controller.is_motor_on(bay) {
+        MOTOR
+    } else {
+        0
+    };
+    let selected = if controller.selected() == bay {
+        SELECTED
+    } else {
+        0
+    };
+    let gate = if controller.is_gate_open(bay) {
+        GATE
+    } else {
+        0
+    };
     let medium = if controller.medium(bay).is_some() {
         MEDIUM
     } else {

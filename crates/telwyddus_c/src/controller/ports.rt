@@ -5,7 +5,7 @@ ghost use Rattle.fdc_board.specs.WordTimes.{nanoseconds};
 ghost use Rattle.fdc_chip.specs.Ports.{ReadsChip, WritesChip};
 ghost use Rattle.fdc_chip.specs.Steps.{StepsChip, RunsChip};
 ghost use Rattle.fdc_core.specs.State.{data_rate};
-ghost use Rattle.telwyddus_c.specs.Controllers.{state_of, lines_byte, StrapsSeeks};
+ghost use Rattle.telwyddus_c.specs.Controllers.{state_of, KeepsDrives, lines_byte, StrapsSeeks};
 ghost use Rattle.telwyddus_c.specs.Slots.{Serves};
 
 use crate::code::{DONE, EMPTY};
@@ -50,7 +50,7 @@ pub extern "C" fn telwyddus_controller_read(
     port: u16,
     value: &mut u8,
 ) -> u32
-    ensures { Serves (λ code old new. (code ≡ 0) × ReadsChip port (state_of old) value.new (state_of new)) (value.new ≡ value.old)
+    ensures { Serves (λ code old new. (code ≡ 0) × ReadsChip port (state_of old) value.new (state_of new) × KeepsDrives old new) (value.new ≡ value.old)
         result slot.old.held.controller slot.new.held.controller }
 {
     match slot.take(alloc) {
