@@ -109,25 +109,25 @@ fresh_counted (Write deleted) sent fdc was = by_phase fdc.phase was
 -- ---- so many device steps at most are left
 
 -- of the seek before, and of all sectors
-record SeeksWithin (n : ℕ) (at : Transfer) (fdc : Fdc) : Type 0 where
+pub record SeeksWithin (n : ℕ) (at : Transfer) (fdc : Fdc) : Type 0 where
   bytes : HasByteRecords at
   idle : is_executing fdc.phase ≡ false
   runs : is_seeking fdc.seeks ≡ true
   within : seek_left fdc.seeks.seek + 65536 * sectors_from at ≤ n
 
 -- of the sector under way, and of those behind it
-record MovesWithin (n : ℕ) (at : Transfer) (fdc : Fdc) : Type 0 where
+pub record MovesWithin (n : ℕ) (at : Transfer) (fdc : Fdc) : Type 0 where
   bytes : HasByteRecords at
   counted : IsCounted fdc.phase
   within : steps_left fdc.phase + 65536 * sectors_from at ≤ n + 65536
 
-abbrev LastsAt : ℕ → Stage → Fdc → Type 0
+abbrev pub LastsAt : ℕ → Stage → Fdc → Type 0
 LastsAt n (Seeking at counted) fdc = SeeksWithin n at fdc
 LastsAt n (Moving moving) fdc = MovesWithin n moving.transfer fdc
 LastsAt n (Telling results read) fdc = Unit {0}
 LastsAt n _ fdc = ⊥
 
-abbrev Lasts : ℕ → Front → Type 0
+abbrev pub Lasts : ℕ → Front → Type 0
 Lasts n front = LastsAt n front.stage front.board.controller
 
 at_stage : (n : ℕ) (stage : Stage) (new : Front) → new.stage ≡ stage → LastsAt n stage new.board.controller → Lasts n new
@@ -343,7 +343,7 @@ writes_last n port value old new was stays writes = by_port (port == 0x3F5) refl
 none_fewer : (n : ℕ) (new : Front) → Lasts n new → Lasts (n - 0) new
 none_fewer n new lasts = let same : n ≡ n - 0 = omega arith in subst (λ m. Lasts m new) same lasts
 
-call_lasts : (made : Call) (n : ℕ) (first : Transfer) (history : History) (old new : Front) → Does made old new → (new.stage ≡ Through → ⊥) → Serves first history old → Lasts n old → Lasts (n - steps_of made) new
+pub call_lasts : (made : Call) (n : ℕ) (first : Transfer) (history : History) (old new : Front) → Does made old new → (new.stage ≡ Through → ⊥) → Serves first history old → Lasts n old → Lasts (n - steps_of made) new
 call_lasts call.Steps n first history old new does stays serves was = step_lasts n first history old.stage old does.between new refl serves.now was does.steps does.follows stays
 call_lasts (call.Takes byte) n first history old new does stays serves was = none_fewer n new (takes_last n old.stage byte old new was was does)
 call_lasts (call.Gives byte given) n first history old new does stays serves was = none_fewer n new (gives_last n old.stage byte given old new was was does)
@@ -357,7 +357,7 @@ call_lasts (call.Straps on) n first history old new does stays serves was = none
 fewer_by : (n one rest : ℕ) → n - one - rest ≡ n - (one + rest)
 fewer_by n one rest = omega arith
 
-calls_last : (calls : List Call) (n : ℕ) (first : Transfer) (history : History) (old new : Front) → AreWithin calls old new → Serves first history old → Lasts n old → Lasts (n - steps_in calls) new
+pub calls_last : (calls : List Call) (n : ℕ) (first : Transfer) (history : History) (old new : Front) → AreWithin calls old new → Serves first history old → Lasts n old → Lasts (n - steps_in calls) new
 calls_last [] n first history old new same serves was = none_fewer n new (same_lasts n old new same was)
 calls_last (made ∷ calls) n first history old new (between, does, stays, rest) serves was =
     let one = call_serves made first history old between does stays serves in
@@ -404,7 +404,7 @@ starts_last first old new bytes range stays starts = by_seek (old.strapped || ol
     by_seek true seeks = by_idle seeks (is_idle seeks.between.controller) refl seeks.begun
     by_seek false begins = begins_lasts (most_steps first) first false false old new bytes (moved_first (sectors_from first)) stays begins
 
-first_lasts : (byte : ℕ) (first : Transfer) (start begun : Front) → IsLastByte byte first start → HasByteRecords first → WritesFront 0x3F5 byte start begun → (begun.stage ≡ Through → ⊥) → IsInRange begun.board.controller
+pub first_lasts : (byte : ℕ) (first : Transfer) (start begun : Front) → IsLastByte byte first start → HasByteRecords first → WritesFront 0x3F5 byte start begun → (begun.stage ≡ Through → ⊥) → IsInRange begun.board.controller
     → Lasts (most_steps first) begun
 first_lasts byte first start begun last records writes stays range =
     let bytes = start.bytes ++ byte ∷ [] in
@@ -422,7 +422,7 @@ some_moves : (left sectors n : ℕ) → 1 ≤ left → 1 ≤ sectors → left + 
 some_moves left sectors n some one all = omega arith
 
 -- while it is under way a device step is left
-lasts_some : (n : ℕ) (stage : Stage) (first : Transfer) (history : History) (fdc : Fdc) → ServesAt stage first history fdc → LastsAt n stage fdc → is_under_way stage ≡ true → 1 ≤ n
+pub lasts_some : (n : ℕ) (stage : Stage) (first : Transfer) (history : History) (fdc : Fdc) → ServesAt stage first history fdc → LastsAt n stage fdc → is_under_way stage ≡ true → 1 ≤ n
 lasts_some n Through first history fdc now was under = absurd was
 lasts_some n (Collecting opcode) first history fdc now was under = absurd was
 lasts_some n (Telling results read) first history fdc now was under = absurd (false≢true under)

@@ -1,26 +1,26 @@
 mod Marks
-mod Known
+pub mod Known
 mod Started
-mod Free
+pub mod Free
 mod Courses
 mod Judged
-mod Served
+pub mod Served
 mod Outcome
-mod Called
-mod Whole
+pub mod Called
+pub mod Whole
 mod LateLooks
 mod LateHearing
 mod LateWriting
-mod Medium
+pub mod Medium
 mod Silent
 mod Idle
-mod Shown
-mod Sectors
+pub mod Shown
+pub mod Sectors
 mod Sought
-mod Lasted
+pub mod Lasted
 mod WriteStages
-mod Resting
+pub mod Resting
 mod WrittenWords
 mod WrittenSteps
 mod WrittenAlike
-mod WrittenCalls
+pub mod WrittenCalls
