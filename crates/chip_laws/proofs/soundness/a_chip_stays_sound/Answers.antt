@@ -1,0 +1,12 @@
+use Rattle.chip_laws.proofs.SoundCalls.{call_sound, new_sound}
+use Rattle.chip_laws.proofs.SoundSteps.{run_sound}
+use Rattle.chip_laws.proofs.soundness.a_chip_stays_sound.Goals as goal
+
+pub returns-clause-begins : goal.returns-clause-begins
+returns-clause-begins c = new_sound
+
+pub returns-clause-calls : goal.returns-clause-calls
+returns-clause-calls c = call_sound
+
+pub returns-clause-runs : goal.returns-clause-runs
+returns-clause-runs c = run_sound

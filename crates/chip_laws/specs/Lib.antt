@@ -1,0 +1,5 @@
+pub mod Calls
+pub mod Told
+pub mod Beginning
+pub mod Sound
+pub mod Lasting

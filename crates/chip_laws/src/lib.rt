@@ -1,0 +1,8 @@
+//! What the whole chip makes of the sequencer's laws: a command that is sent is one that the sequencer serves, call by call; what
+//! that tells is told; the chip's parts agree at each time; and each command ends.
+#![tactic(auto)]
+
+pub mod endings;
+pub mod media;
+pub mod soundness;
+pub mod transfers;
