@@ -202,7 +202,6 @@ int main(void) {
     others();
     gate();
     by_channel();
-    MUST(telwyddus_controller_free(&guest.controller));
-    check(wrong == 0, "all of that is so");
+    expect_no_more();
     return 0;
 }

@@ -4,11 +4,21 @@
 #include "guest.h"
 
 static Guest guest;
-static int wrong;               /* how much of what was expected isn't so */
+static int wrong;               /* how much of what was expected isn't so, */
+static const char *first_wrong[20];     /* and the first of it */
 
 static inline void expect(int is_so, const char *what) {
     printf("%s: %s\n", what, is_so ? "yes" : "NO");
-    wrong += !is_so;
+    if (is_so) return;
+    if (wrong < 20) first_wrong[wrong] = what;
+    wrong++;
+}
+
+/* At the end: nothing was otherwise. */
+static inline void expect_no_more(void) {
+    MUST(telwyddus_controller_free(&guest.controller));
+    for (int i = 0; i < wrong && i < 20; i++) printf("isn't so: %s\n", first_wrong[i]);
+    check(wrong == 0, "all of that is so");
 }
 
 /* ---- texts */
