@@ -1,3 +1,4 @@
+import ctypes
 import enum
 from types import TracebackType
 from typing import Iterator, Optional, Tuple, Type, TypeVar, Union
@@ -54,7 +55,7 @@ class Found(enum.IntEnum):
     BAD_CRC = 0x10
     NO_SIZE = 0xFF
 
-class Slot: ...
+class Slot(ctypes.Structure): ...
 
 class Holder:
     kind: Optional[str]

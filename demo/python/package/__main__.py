@@ -9,14 +9,14 @@ import os
 import re
 import sys
 
-from telwyddus import NoFile, Shelf
+from telwyddus import NoFile, NoMemory, Shelf
 
 # A name that the program takes.
 NAME = re.compile(r"[A-Za-z0-9_][A-Za-z0-9._-]{0,63}")
 # One byte more than any file that is loaded has.
 LONGEST = 5242895
 WITH_TEXT = ("play", "int13", "ports")
-BAD_WORDS, FAILED = 2, 6
+BAD_WORDS, FAILED, NO_MEMORY = 2, 6, 7
 
 
 def content(name):
@@ -93,6 +93,9 @@ def main():
     except OSError as fault:
         print(f"{fault.filename}: {fault.strerror}", file=sys.stderr)
         return FAILED
+    except NoMemory:
+        return NO_MEMORY
 
 
-sys.exit(main())
+if __name__ == "__main__":
+    sys.exit(main())
