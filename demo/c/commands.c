@@ -482,7 +482,7 @@ static void refusals(void) {
     is_untouched(image, "and it is as it was");
     choose(0);
     seek(&guest, 5);
-    expect(is_refused(damaged, 9, 0x04, damaged + 2), "where no key is intact, address marks pass: ND");
+    expect(is_refused(damaged, 9, 0x01, damaged + 2), "where no address field is intact: MA");
 }
 
 /* ---- which cylinder passes, and which key */
@@ -557,7 +557,7 @@ static void verify_marks(void) {
     does("49 00 03 00 05 02 12 1B FF", 512, 512, "00 00 00 03 00 06 02", "a sector is written deleted");
     verifies("56 00 03 00 03 02 12 1B FF", "00 00 40 03 00 06 02", "SK 0: a deleted sector ends a VERIFY, with CM");
     verifies("76 80 03 00 04 02 12 1B 02", "00 00 40 03 00 07 02", "SK 1, with EC: it is passed over, and doesn't count");
-    verifies("76 00 03 00 04 02 07 1B FF", "00 00 40 04 00 01 02", "SK 1 up to EOT: it is passed over");
+    verifies("76 00 03 00 04 02 07 1B FF", "40 80 40 03 00 07 02", "SK 1 up to EOT: it is passed over, so EN");
     verifies("56 04 03 01 07 02 12 1B FF", "44 20 20 03 01 09 02", "a check is wrong: DE, with its key");
     choose(1);
     verifies("56 01 00 00 01 02 01 1B FF", "01 00 00 01 00 01 02", "a VERIFY at drive 1");
