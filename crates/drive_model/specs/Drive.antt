@@ -3,7 +3,7 @@ use Rattle.std.specs.Prelude.{◌≡◌, ◌⊎◌, ℕ, ◌+◌, ◌-◌, ◌�
 use Rattle.flop_base.specs.declared.answers.Rate.{Rate}
 use Rattle.flop_base.specs.declared.answers.Rate.TheVariants.{R500}
 use Rattle.flop_base.specs.Counts.{last_count, Rose, CanTell, Spends}
-use Rattle.raw_image.specs.Disk.{Disk, IsDisk, track_of, with_word}
+use Rattle.raw_image.specs.Disk.{Disk, IsDisk, covered, track_of, with_word}
 
 -- a drive: the medium in it or none, the cylinder under its heads, the place that passes them next, its motor, for how many
 -- word times the medium has spun up, its change line, its write gate, whether the gate was cut, whether a word of the medium was
@@ -126,6 +126,24 @@ written head word s = record (passed s) {
 -- it is forgotten that a word of the medium was replaced
 abbrev pub forgotten : DriveState → DriveState
 forgotten s = record s { replaced = false }
+
+-- the medium with its write-protect notch covered, or open; with no medium none
+abbrev pub with_cover : Bool → Option Disk → Option Disk
+with_cover on None = None
+with_cover on (Some d) = Some (covered on d)
+
+-- with the notch of the medium that is in covered, or open
+abbrev pub with_protection : Bool → DriveState → DriveState
+with_protection on s = record s { medium = with_cover on s.medium }
+
+-- a medium is in, whose tracks are as long as those of this one
+abbrev pub same_length : Disk → Option Disk → Bool
+same_length d None = false
+same_length d (Some before) = before.words_per_track == d.words_per_track
+
+-- with this medium in place of the one that is in: it turns on at the same place
+abbrev pub exchanged : Disk → DriveState → DriveState
+exchanged d s = record s { medium = Some d }
 
 -- one word time later, with the gate cut
 abbrev pub cut_off : DriveState → DriveState
