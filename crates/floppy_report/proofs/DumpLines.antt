@@ -42,6 +42,11 @@ part-behind (Some told) new first second rest grows = (
   grows.5 ∙ ap (λ s. Some s) (append_assoc told first (grows.0 ++ grows.2) ∙ ap (λ s. told ++ s) (sym (append_assoc first grows.0 grows.2))),
 )
 
+-- where nothing was put, nothing is a first part
+pub part-nothing : (told : Option (List (List ℕ))) (lines : List (List ℕ)) → GrowsByPart told lines told
+part-nothing None lines = refl
+part-nothing (Some told) lines = ([], lines, [], refl, tt, ap (λ s. Some s) (sym (append-nil told)))
+
 -- a part of the first lines is a part of all
 pub part-longer : (told new : Option (List (List ℕ))) (first second : List (List ℕ)) → GrowsByPart told first new → GrowsByPart told (first ++ second) new
 part-longer None new first second grows = grows
