@@ -8,4 +8,5 @@ pub mod Doing
 pub mod Ending
 pub mod Steps
 pub mod Ports
+pub mod Pins
 pub mod Saving
