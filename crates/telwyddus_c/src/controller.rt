@@ -2,5 +2,8 @@
 mod bays;
 mod dack;
 mod making;
+mod media;
+mod pin;
 mod ports;
 mod saving;
+mod tab;
