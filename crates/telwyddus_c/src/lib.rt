@@ -17,3 +17,4 @@ mod shelf;
 mod state;
 mod survey;
 mod tray;
+mod version;
