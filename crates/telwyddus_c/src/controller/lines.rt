@@ -16,7 +16,10 @@ const DRQ: u8 = 2;
 /// Bytes go to memory.
 const TO_MEMORY: u8 = 4;
 
-/// The lines: 1 the interrupt's, 2 the DMA request's, 4 where bytes go to memory.
+/// The index of the selected drive's medium passes.
+const INDEX: u8 = 8;
+
+/// The lines: 1 the interrupt's, 2 the DMA request's, 4 where bytes go to memory, 8 the index of the selected drive.
 #[unsafe(no_mangle)]
 pub extern "C" fn telwyddus_controller_lines(
     alloc: Global,
@@ -43,5 +46,6 @@ pub(crate) fn lines_of(controller: &WholeController) -> u8
     let int = if controller.int() { INT } else { 0 };
     let drq = if controller.drq() { DRQ } else { 0 };
     let to_memory = if controller.to_memory() { TO_MEMORY } else { 0 };
-    int + drq + to_memory
+    let index = if controller.index() { INDEX } else { 0 };
+    int + drq + to_memory + index
 }
