@@ -8,6 +8,7 @@ mod bays;
 mod board;
 mod rates;
 mod senses;
+mod still;
 mod whole;
 
 pub use board::FdcBoard;

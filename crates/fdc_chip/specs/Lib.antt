@@ -9,3 +9,4 @@ pub mod Ending
 pub mod Steps
 pub mod Ports
 pub mod Saving
+pub mod Quiet

@@ -17,6 +17,7 @@ mod interrupts;
 mod moving;
 mod order;
 mod ports;
+mod quiet;
 mod saving;
 mod settings;
 mod stage;
