@@ -1,5 +1,6 @@
 // The controller's device steps.
-ghost use Rattle.std.specs.Prelude.{◌≡◌};
+ghost use Rattle.std.specs.Prelude.{◌≡◌, ◌≤◌};
+ghost use Rattle.fdc_chip.specs.Quiet.{IsQuietFor};
 ghost use Rattle.fdc_chip.specs.Steps.{StepsChip, RunsChip};
 ghost use Rattle.telwyddus_c.specs.Controllers.{state_of, lines_byte};
 ghost use Rattle.telwyddus_c.specs.Slots.{Serves};
@@ -69,4 +70,25 @@ fn run_steps(controller: &mut WholeController, most: u32, lines: &mut u8) -> u32
     let made = controller.run(most);
     *lines = lines_of(controller);
     made
+}
+
+/// So many device steps, `most` at most, surely change neither the interrupt line nor the request line. Nothing changes.
+#[unsafe(no_mangle)]
+pub extern "C" fn telwyddus_controller_quiet(
+    alloc: Global,
+    slot: &mut ControllerSlot,
+    most: u32,
+    steps: &mut u32,
+) -> u32
+    ensures { Serves (λ code old new. (code ≡ 0) × (new ≡ old) × (steps.new ≤ most) × IsQuietFor steps.new (state_of old)) (steps.new ≡ steps.old)
+        result slot.old.held.controller slot.new.held.controller }
+{
+    match slot.take(alloc) {
+        None => EMPTY,
+        Some(controller) => {
+            *steps = controller.quiet(most);
+            slot.put(controller);
+            DONE
+        }
+    }
 }
