@@ -1,5 +1,5 @@
 use Rattle.std.proofs.Common.{◌≡◌, length, refl, arith}
-use Rattle.telwyddus_c.proofs.Blocks.{keeps_none, keeps_more, gives_none, gives_on, gives_short, gives_full}
+use Rattle.telwyddus_c.proofs.Channel.{keeps_none, keeps_more, gives_none, gives_on, gives_short, gives_full}
 use Rattle.telwyddus_c.proofs.controller.blocks.give_bytes.Goals as goal
 
 pub loop-i-init : goal.loop-i-init
