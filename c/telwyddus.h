@@ -161,8 +161,8 @@ TELWYDDUS_NEWS uint32_t telwyddus_tray_survey(telwyddus_tray *tray, uint8_t *out
  *   - Where the guest's SPECIFY sets ND, bytes pass at 3F5, INT asks for each, and DRQ stays down: DACK answers NOT_ASKED.
  *   - Port accesses go to read and write as they come. Each word time is a step; run makes many.
  *   - EACH CALL BY WHICH A LINE MAY CHANGE TELLS THE LINES BEHIND IT: attend to them after every one, port accesses too. INT falls and
- *     rises in them, and DRQ may rise with the last byte of a command. Within one call INT doesn't fall and rise again, so no edge is
- *     missed; tell your interrupt controller changes alone. INDEX ends no run: it is told for who wants to show or hear it.
+ *     rises in them, and DRQ may rise with the last byte of a command. With DMA a call that takes an interrupt leaves INT down, so no
+ *     edge is missed; tell your interrupt controller changes alone. INDEX ends no run: it is told for who wants to show or hear it.
  *   - While DRQ is up let bytes pass by DACK, as your channel lets you, and TC with the last one: before the next step.
  *   - Let the time that word_time tells pass for each step, and ask it again behind a write of 3F4 or 3F7. quiet tells how long you needn't
  *     call at all.
