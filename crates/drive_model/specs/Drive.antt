@@ -65,6 +65,10 @@ turns s = s.motor && is_some s.medium
 abbrev pub at_speed : DriveState → Bool
 at_speed s = turns s && nat_le 6250 s.spin
 
+-- the place of the word that passes next, counted from the index; none where no word passes
+abbrev pub place_under : DriveState → Option ℕ
+place_under s = if at_speed s then Some s.place else None
+
 -- the last word of the track passes next
 abbrev pub at_index : DriveState → Bool
 at_index s = at_speed s && (s.place + 1 == track_words s.medium)

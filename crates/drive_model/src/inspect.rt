@@ -1,7 +1,7 @@
 // What can be looked at in a drive.
 ghost use Rattle.std.specs.Prelude.{◌≡◌, ◌↔◌, Some, IsErr, OnOk, IfOk, IfErr, false};
 ghost use Rattle.std.specs.Option.{option_copied};
-ghost use Rattle.drive_model.specs.Drive.{forgotten};
+ghost use Rattle.drive_model.specs.Drive.{forgotten, place_under};
 ghost use Rattle.drive_model.specs.Drive.{with_protection, same_length, exchanged};
 
 use crate::Drive;
@@ -16,6 +16,10 @@ pub trait Inspect: Drive {
     /// The cylinder under the heads, 0 to 82.
     fn cylinder(&self) -> u8
         ensures { result ≡ (Self.state self.now).cylinder };
+
+    /// The place in the track that passes next, in words behind the index; none where no word passes.
+    fn place(&self) -> Option<u16>
+        ensures { result ≡ place_under (Self.state self.now) };
 
     /// The write gate is open.
     fn is_gate_open(&self) -> bool

@@ -59,7 +59,7 @@ pub(crate) struct Mechanics {
 
 impl Mechanics {
     ghost use Rattle.drive_model.specs.Drive.{loaded, unloaded, with_motor, with_gate, moved, passed, written, cut_off};
-    ghost use Rattle.drive_model.specs.Drive.{at_speed, can_write, at_index, word_under, words_on, is_protected, rate_of};
+    ghost use Rattle.drive_model.specs.Drive.{at_speed, can_write, at_index, place_under, word_under, words_on, is_protected, rate_of};
     ghost use Rattle.drive_model.specs.Drive.{with_protection, same_length, exchanged};
     ghost use Rattle.drive_model.specs.Mechanics.{state_of, faultless, at_rest};
     ghost use Rattle.drive_model.specs.Ahead.{LetsPass, AreAhead};
@@ -195,6 +195,17 @@ impl Mechanics {
         ensures { result ≡ at_speed (faultless self.now) }
     {
         self.motor && self.medium.is_some() && self.spin >= SPIN_UP
+    }
+
+    /// The place of the word that passes in the next word time.
+    pub(crate) fn place_under(&self) -> Option<u16>
+        ensures { result ≡ place_under (faultless self.now) }
+    {
+        if self.is_at_speed() {
+            Some(self.place)
+        } else {
+            None
+        }
     }
 
     /// The gate is open and not cut, and a word passes in the next word time.

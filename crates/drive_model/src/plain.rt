@@ -111,6 +111,10 @@ impl Inspect for PlainDrive {
         self.mechanics.cylinder
     }
 
+    fn place(&self) -> Option<u16> {
+        self.mechanics.place_under()
+    }
+
     fn is_gate_open(&self) -> bool {
         self.mechanics.gate
     }

@@ -324,6 +324,10 @@ impl Inspect for ScriptDrive {
         self.mechanics.cylinder
     }
 
+    fn place(&self) -> Option<u16> {
+        self.mechanics.place_under()
+    }
+
     fn is_gate_open(&self) -> bool {
         self.mechanics.gate
     }

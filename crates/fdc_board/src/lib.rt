@@ -9,6 +9,7 @@ mod board;
 mod rates;
 mod refitting;
 mod senses;
+mod still;
 mod whole;
 
 pub use board::FdcBoard;

@@ -1,7 +1,10 @@
 -- The whole controller with its drives, as contracts see it: its state and its lines.
-use Rattle.std.specs.Prelude.{◌≡◌, ℕ, Bool, true, false, not, ◌==◌, ◌&&◌, ◌||◌, if◌then◌else◌, bit_and}
+use Rattle.std.specs.Prelude.{◌≡◌, ℕ, Bool, true, false, not, ◌==◌, ◌&&◌, ◌||◌, Option, Some, None, if◌then◌else◌, bit_and, nat_le, nat_lt}
 use Rattle.std.specs.Int.RustNames.{bit_or}
-use Rattle.drive_model.specs.Drive.{DriveState}
+use Rattle.flop_base.specs.declared.answers.Rate.{Rate}
+use Rattle.flop_base.specs.declared.answers.Rate.TheVariants.{R500, R250}
+use Rattle.drive_model.specs.Drive.{DriveState, place_under, rate_of}
+use Rattle.fdc_board.specs.Boards.{drive_at, selected_at}
 use Rattle.fdc_registers.specs.Msr.{rqm, dio, non_dma, busy}
 use Rattle.fdc_core.specs.Dma.{to_memory_of}
 use Rattle.fdc_core.specs.State.{is_gated}
@@ -106,6 +109,25 @@ interrupts_chip chip =
 -- DRQ
 abbrev pub asks_chip : ChipState → Bool
 asks_chip chip = passes_by_channel chip && asks_outside chip.front
+
+-- the words of a track that begin in its first 2 ms: one takes 16 µs at 500 kbit/s, and 32 µs at 250
+abbrev pub index_words : Rate → ℕ
+index_words R500 = 125
+index_words R250 = 63
+
+-- a place is among so many words behind the index
+abbrev pub is_among : ℕ → Option ℕ → Bool
+is_among words None = false
+is_among words (Some place) = nat_lt place words
+
+-- INDEX of a drive: up in the first 2 ms behind the index, while a medium turns at speed
+abbrev pub indexes : DriveState → Bool
+indexes drive = is_among (index_words (rate_of drive.medium)) (place_under drive)
+
+-- INDEX of the drive that DOR selects; an absent drive's is low
+abbrev pub indexes_chip : ChipState → Bool
+indexes_chip chip = let bay = selected_at chip.front.board in
+    if nat_le bay 1 then indexes (drive_at chip.front.board bay) else false
 
 -- ---- MSR
 

@@ -10,3 +10,4 @@ pub mod Steps
 pub mod Ports
 pub mod Pins
 pub mod Saving
+pub mod Quiet

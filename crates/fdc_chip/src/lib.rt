@@ -18,6 +18,7 @@ mod moving;
 mod order;
 mod pin;
 mod ports;
+mod quiet;
 mod refitting;
 mod saving;
 mod settings;

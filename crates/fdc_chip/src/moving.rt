@@ -105,10 +105,7 @@ impl<D: Inspect> Chip<D> {
             Stage::Ready if !self.interrupts.is_up() && !self.behind.int() => {
                 self.advance_ready(most)
             }
-            _ => {
-                self.step();
-                1
-            }
+            _ => self.advance_other(most),
         }
     }
 

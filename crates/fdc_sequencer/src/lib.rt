@@ -14,6 +14,7 @@ mod saving;
 mod senses;
 mod sequencer;
 mod stage;
+mod still;
 mod transfer;
 
 pub use opcode::{Opcode, Operation};

@@ -1,4 +1,5 @@
 pub mod Blanks
+pub mod Blocks
 pub mod Buffers
 pub mod Controllers
 pub mod Disks

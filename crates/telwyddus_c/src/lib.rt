@@ -20,3 +20,4 @@ mod survey;
 mod tab;
 mod track;
 mod tray;
+mod version;
