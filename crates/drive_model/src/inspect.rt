@@ -34,7 +34,7 @@ pub trait Inspect: Drive {
     fn forget_written(&mut self)
         ensures { Self.state self.new ≡ forgotten (Self.state self.old) };
 
-    /// Covers the write-protect notch of the medium that is in, or opens it. Nothing else changes: an open write gate stays
+    /// Moves the tab of the medium that is in, so that it is write-protected, or not. Nothing else changes: an open write gate stays
     /// open, and a protected medium stays as it is.
     fn set_protected(&mut self, on: bool)
         ensures { Self.state self.new ≡ with_protection on (Self.state self.old) };

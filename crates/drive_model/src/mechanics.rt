@@ -146,7 +146,7 @@ impl Mechanics {
         }
     }
 
-    /// Covers the notch of the medium, or opens it.
+    /// Moves the tab of the medium.
     pub(crate) fn set_protected(&mut self, on: bool)
         ensures { faultless self.new ≡ with_protection on (faultless self.old) }
     {

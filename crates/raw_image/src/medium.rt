@@ -26,7 +26,7 @@ impl Model for Medium {
 }
 
 impl Medium {
-    ghost use Rattle.raw_image.specs.Disk.{IsDisk, HasTrack, IsWithTrack, track_start, track_of, blank_disk, with_word, covered};
+    ghost use Rattle.raw_image.specs.Disk.{IsDisk, HasTrack, IsWithTrack, track_start, track_of, blank_disk, with_word, tabbed};
     ghost use Rattle.flop_base.specs.declared.answers.Rate.TheVariants.{R500};
     ghost use Rattle.raw_image.specs.Image.{disk_of};
     ghost use Rattle.raw_image.specs.Shape.{header_view};
@@ -101,9 +101,9 @@ impl Medium {
         self.shape.protected
     }
 
-    /// Covers the write-protect notch, or opens it.
+    /// Protects the medium, or lets it be written: its tab is moved.
     pub fn set_protected(&mut self, on: bool)
-        ensures becomes { self.new ≡ covered on self.old }
+        ensures becomes { self.new ≡ tabbed on self.old }
         ensures words { self.new.words_per_track ≡ self.old.words_per_track }
         ensures valid { IsDisk self.new }
     {
