@@ -10,7 +10,7 @@
 
 static void must(uint32_t code, const char *call, int line) {
     if (code != TELWYDDUS_DONE) {
-        fprintf(stderr, "line %d: %s: code %u\n", line, call, (unsigned)code);
+        fprintf(stderr, "line %d: %s: %s\n", line, call, telwyddus_code_name(code));
         exit(1);
     }
 }

@@ -9,5 +9,6 @@ pub mod Paces
 pub mod Ending
 pub mod Steps
 pub mod Ports
+pub mod Pins
 pub mod Saving
 pub mod Quiet
