@@ -126,4 +126,12 @@ impl Inspect for PlainDrive {
     fn forget_written(&mut self) {
         self.mechanics.replaced = false;
     }
+
+    fn set_protected(&mut self, on: bool) {
+        self.mechanics.set_protected(on);
+    }
+
+    fn exchange(&mut self, medium: Medium) -> Result<Medium, Medium> {
+        self.mechanics.exchange(medium)
+    }
 }
