@@ -7,6 +7,7 @@
 mod bays;
 mod board;
 mod rates;
+mod refitting;
 mod senses;
 mod still;
 mod whole;

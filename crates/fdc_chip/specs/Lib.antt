@@ -8,5 +8,6 @@ pub mod Doing
 pub mod Ending
 pub mod Steps
 pub mod Ports
+pub mod Pins
 pub mod Saving
 pub mod Quiet

@@ -9,6 +9,7 @@ mod channel;
 mod moving;
 mod opcode;
 mod ports;
+mod refitting;
 mod saving;
 mod senses;
 mod sequencer;
