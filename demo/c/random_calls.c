@@ -172,7 +172,7 @@ static void tray_read(void) {
 
 static void tray_read_flat(void) {
     unsigned at = below(4);
-    bool may_be = below(30) == 0;
+    bool may_be = below(2);
     CALL(telwyddus_tray_read_flat(&trays[at], flat, may_be ? sizeof flat : below(3) ? sizeof flat - 512 : 0));
     if (!wanted(tray_is[at].is ? TELWYDDUS_FULL : may_be ? TELWYDDUS_DONE : TELWYDDUS_BAD_IMAGE)) return;
     tray_is[at].is = true;
@@ -672,7 +672,7 @@ static void use_disk(void) {
 /* ---- all of it */
 
 typedef struct { void (*make)(void); unsigned weight; } Part;
-static const Part parts[] = {{drive, 600}, {drive_machine, 300}, {look, 600}, {move_medium, 300}, {make, 200}, {end, 40}, {tray_blank, 60}, {tray_read, 60}, {tray_free, 60},
+static const Part parts[] = {{drive, 250}, {drive_machine, 150}, {look, 600}, {move_medium, 300}, {make, 200}, {end, 40}, {tray_blank, 60}, {tray_read, 60}, {tray_free, 60},
     {tray_write, 60}, {tray_read_imd, 4}, {tray_read_flat, 1}, {image, 20}, {move_state, 12}, {use_shelf, 40}, {use_disk, 12}};
 
 static void make_part(void) {
