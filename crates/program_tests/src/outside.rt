@@ -65,13 +65,14 @@ fn a_shelf_keeps_files_and_its_numbered_calls_fail(rt: HostRuntime) -> Result<()
 }
 
 #[test]
-fn a_sink_keeps_bytes_in_order_and_its_numbered_calls_fail(rt: HostRuntime) -> Result<(), Fail> {
+fn a_sink_keeps_lines_in_order_and_its_numbered_calls_fail(rt: HostRuntime) -> Result<(), Fail> {
     let alloc = rt.alloc();
     let mut sink = MemSink::new(alloc, vec![in alloc; 2]?);
     sink.put(b"one ")?;
     assert_eq!(rt; sink.put(b"two ").err(), Some(PutError::Failed));
     sink.put(b"three")?;
     assert_eq!(rt; sink.bytes(), b"one three".as_slice());
+    assert_eq!(rt; sink.lengths(), [4usize, 5].as_slice());
     assert_eq!(rt; sink.faults(), 1);
     let copy = Bytes::copy(alloc, sink.bytes())?;
     assert_eq!(rt; copy.as_slice(), b"one three".as_slice());

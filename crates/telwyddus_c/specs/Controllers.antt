@@ -1,11 +1,12 @@
 -- Calls on the controller.
 use Rattle.std.specs.Prelude.{◌≤◌, ◌≡◌, ◌↔◌, ◌+◌, ◌-◌, ◌==◌, ℕ, Bool, true, false, Option, Some, None, is_some, IsTrue, IsBitSet, if◌then◌else◌}
+use Rattle.bay_drive.specs.Bays.{bay_state}
 use Rattle.c_slots.specs.Controllers.{ControllerValue}
 use Rattle.c_slots.specs.Trays.{TrayValue}
 use Rattle.drive_model.specs.Drive.{DriveState, forgotten}
 use Rattle.drive_model.specs.Fault.{total_left}
 use Rattle.drive_model.specs.Mechanics.{at_rest}
-use Rattle.drive_model.specs.ScriptDrive.{script_state, told}
+use Rattle.drive_model.specs.ScriptDrive.{told}
 use Rattle.fault_plan.specs.Plan.{Plan}
 use Rattle.fdc_board.specs.Boards.{SameDrives, drive_at, selected_at}
 use Rattle.fdc_chip.specs.Chips.{ChipState, chip_state, behind_of, IsNewChip, KeepsChip, interrupts_chip, asks_chip, indexes_chip}
@@ -18,7 +19,7 @@ use Rattle.telwyddus_c.specs.Slots.{DoneOr}
 
 -- the controller with the states of both drives, what is under way, and what commands set
 abbrev pub state_of : ControllerValue → ChipState
-state_of controller = chip_state script_state controller
+state_of controller = chip_state bay_state controller
 
 -- both drives are as they were
 abbrev pub KeepsDrives : ControllerValue → ControllerValue → Type 0

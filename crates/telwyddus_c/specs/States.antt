@@ -1,6 +1,7 @@
 -- Saved states in buffers of C.
 use Rattle.std.specs.Prelude.{◌≡◌, ℕ, ◌==◌, List, [], ◌∷◌, ◌++◌, Option, Some, Result, Ok, Err, MatchBool, ⊤}
 use Rattle.std.specs.Global.{Box}
+use Rattle.bay_drive.specs.Saving.{spelled_bay, BayFits}
 use Rattle.c_slots.specs.Controllers.{ControllerValue}
 use Rattle.c_slots.specs.Machines.{MachineValue}
 use Rattle.drive_model.specs.Saving.{spelled_script_drive}
@@ -20,10 +21,10 @@ named spelled value rest = state_name ++ spelled value rest
 
 -- the bytes of a controller with its drives and their media, and what is so of each that code holds
 abbrev pub spelled_controller : ControllerValue → List ℕ → List ℕ
-spelled_controller = named (spelled_chip spelled_script_drive)
+spelled_controller = named (spelled_chip spelled_bay)
 
 abbrev pub ControllerFits : ControllerValue → Type 0
-ControllerFits = ChipFits (λ _. ⊤)
+ControllerFits = ChipFits BayFits
 
 -- the same of a machine with its memory, what its plan has still to come, its drives and their media
 abbrev pub spelled_bench : MachineValue → List ℕ → List ℕ
