@@ -448,7 +448,7 @@ static void look(void) {
     bool is = controller_is[at].is;
     uint32_t want = !is ? TELWYDDUS_EMPTY : is_bay(bay) ? TELWYDDUS_DONE : TELWYDDUS_OUT_OF_RANGE;
     uint8_t one = 0xEE, other = 0xEE;
-    switch (below(6)) {
+    switch (below(7)) {
     case 0:
         CALL(telwyddus_controller_bay(&controllers[at], bay, &one, &other));
         if (wanted(want)) so(one <= 82 && other < 16 && ((other & TELWYDDUS_MEDIUM) != 0) == controller_is[at].bay[bay].is, "what is shown can be");
@@ -461,7 +461,8 @@ static void look(void) {
         CALL(telwyddus_controller_word_time(&controllers[at], &time));
         so(wanted(missing(is)) ? time == 16000 || time == 26667 || time == 32000 || time == 8000 : time == 7, "a time of the table");
         return;
-    default: CALL(telwyddus_controller_strap_seeks(&controllers[at], (uint8_t)below(3))); wanted(missing(is));
+    case 5: CALL(telwyddus_controller_strap_seeks(&controllers[at], (uint8_t)below(3))); wanted(missing(is)); return;
+    default: CALL(telwyddus_controller_strap_steps(&controllers[at], (uint8_t)below(3))); wanted(missing(is));
     }
 }
 
