@@ -15,7 +15,7 @@ static void must(uint32_t code, const char *call, int line) {
     }
 }
 
-static void check(int is_so, const char *what) {
+static inline void check(int is_so, const char *what) {
     printf("%s: %s\n", what, is_so ? "yes" : "NO");
     if (!is_so) exit(1);
 }

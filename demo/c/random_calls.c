@@ -172,7 +172,7 @@ static void tray_read(void) {
 
 static void tray_read_flat(void) {
     unsigned at = below(4);
-    bool may_be = below(30) == 0;
+    bool may_be = below(2);
     CALL(telwyddus_tray_read_flat(&trays[at], flat, may_be ? sizeof flat : below(3) ? sizeof flat - 512 : 0));
     if (!wanted(tray_is[at].is ? TELWYDDUS_FULL : may_be ? TELWYDDUS_DONE : TELWYDDUS_BAD_IMAGE)) return;
     tray_is[at].is = true;
@@ -448,7 +448,7 @@ static void look(void) {
     bool is = controller_is[at].is;
     uint32_t want = !is ? TELWYDDUS_EMPTY : is_bay(bay) ? TELWYDDUS_DONE : TELWYDDUS_OUT_OF_RANGE;
     uint8_t one = 0xEE, other = 0xEE;
-    switch (below(6)) {
+    switch (below(7)) {
     case 0:
         CALL(telwyddus_controller_bay(&controllers[at], bay, &one, &other));
         if (wanted(want)) so(one <= 82 && other < 16 && ((other & TELWYDDUS_MEDIUM) != 0) == controller_is[at].bay[bay].is, "what is shown can be");
@@ -461,7 +461,8 @@ static void look(void) {
         CALL(telwyddus_controller_word_time(&controllers[at], &time));
         so(wanted(missing(is)) ? time == 16000 || time == 26667 || time == 32000 || time == 8000 : time == 7, "a time of the table");
         return;
-    default: CALL(telwyddus_controller_strap_seeks(&controllers[at], (uint8_t)below(3))); wanted(missing(is));
+    case 5: CALL(telwyddus_controller_strap_seeks(&controllers[at], (uint8_t)below(3))); wanted(missing(is)); return;
+    default: CALL(telwyddus_controller_strap_steps(&controllers[at], (uint8_t)below(3))); wanted(missing(is));
     }
 }
 
@@ -672,7 +673,7 @@ static void use_disk(void) {
 /* ---- all of it */
 
 typedef struct { void (*make)(void); unsigned weight; } Part;
-static const Part parts[] = {{drive, 600}, {drive_machine, 300}, {look, 600}, {move_medium, 300}, {make, 200}, {end, 40}, {tray_blank, 60}, {tray_read, 60}, {tray_free, 60},
+static const Part parts[] = {{drive, 250}, {drive_machine, 150}, {look, 600}, {move_medium, 300}, {make, 200}, {end, 40}, {tray_blank, 60}, {tray_read, 60}, {tray_free, 60},
     {tray_write, 60}, {tray_read_imd, 4}, {tray_read_flat, 1}, {image, 20}, {move_state, 12}, {use_shelf, 40}, {use_disk, 12}};
 
 static void make_part(void) {

@@ -267,6 +267,7 @@ class Controller(Planned):
         return told.value
 
     def strap_seeks(self, on): self._call("strap_seeks", byte(bool(on)))
+    def strap_steps(self, on): self._call("strap_steps", byte(bool(on)))
     def read(self, at): return self._telling_more(ctypes.c_uint8, "read", port(at))
     def write(self, at, value): self._telling("write", port(at), byte(value))
     def step(self): self._telling("step")

@@ -18,3 +18,4 @@ mod Silences
 mod SinglesLast
 mod VerifiesLast
 mod TracksLast
+mod Edging

@@ -10,7 +10,7 @@ mod tools;
 mod trouble;
 
 use files::{flat_bytes, must_give, replace};
-use guest::{Controller, dump, end, give_all, read_on, results, send, set_up};
+use guest::{Controller, dump, end, give_all, read_on, rest, results, send, set_up};
 use std::alloc::Global;
 use std::io;
 use telwyddus::disk::{Medium, flat_medium};
@@ -53,6 +53,8 @@ fn read_four(
     flat: &[u8],
 ) -> Result<([u8; 7], [u8; 7]), Trouble> {
     send(controller, &READ);
+    // The next step may change a line.
+    must(controller.quiet(1) == 0)?;
     let begun = read_on(alloc, controller, &[], 700)?;
     must(begun.stayed)?;
     let mut twin = twin_of(alloc, controller)?;
@@ -111,6 +113,7 @@ fn must_hold(alloc: Global, controller: &Controller, flat: &[u8]) -> Result<(), 
 /// What came of all that is done at the controller, and of the sector at the desk.
 #[derive(Drop)]
 struct Told {
+    quiet: u32,
     read: [u8; 7],
     read_by_twin: [u8; 7],
     written: [u8; 7],
@@ -122,12 +125,14 @@ struct Told {
 /// All but the shelf. No line is printed while a controller is there.
 fn work(alloc: Global, flat: &[u8]) -> Result<Told, Trouble> {
     let mut controller = set_up(alloc, medium_of(alloc, flat)?)?;
+    let quiet = rest(&mut controller)?;
     let (read, read_by_twin) = read_four(alloc, &mut controller, flat)?;
     let written = write_two(alloc, &mut controller, flat)?;
     let refused = end(&mut controller, &REFUSED)?;
     let registers = dump(&mut controller);
     let deleted = use_desk(alloc, controller.eject(0))?;
     Ok(Told {
+        quiet,
         read,
         read_by_twin,
         written,
@@ -147,6 +152,9 @@ fn print_results(rt: &impl Print, told: &[u8]) -> io::Result<()> {
 
 fn print_told(rt: &impl Print, told: &Told) -> io::Result<()> {
     println!(rt; "a flat file makes a medium, which gives it back")?;
+    // Nothing runs, though the motor is on: all that was asked for.
+    let quiet = told.quiet;
+    println!(rt; "no line changes in {quiet} device steps")?;
     println!(rt; "READ DATA of four sectors is saved behind 700 bytes, and restored")?;
     println!(rt; "both give the bytes of the file, with INT and DRQ alike")?;
     println!(rt; "drive and medium stay, as is seen at each step")?;

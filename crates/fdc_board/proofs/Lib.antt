@@ -1,3 +1,3 @@
 pub mod Runs
 pub mod RateLemmas
-pub mod Standing
+mod Standing

@@ -1,18 +1,17 @@
--- Device steps of a controller that does nothing, and what each device step leaves.
+-- Device steps of a controller that does nothing.
 use Rattle.std.proofs.Common.{◌≡◌, ℕ, zero, suc, ◌==◌, ◌&&◌, Bool, true, false, not, if◌then◌else◌, Option, Some, None, refl, sym, ap, ◌∙◌, subst, arith}
 use Rattle.std.proofs.lemmas.Bool.{true≢false}
 use Rattle.flop_base.specs.Counts.{Spends}
 use Rattle.drive_model.specs.Drive.{DriveState, Becomes}
 use Rattle.fdc_core.specs.Courses.{IsStill, Works, WorksAlone}
 use Rattle.fdc_core.specs.Listening.{is_executing}
-use Rattle.fdc_core.specs.State.{is_gated, is_held}
+use Rattle.fdc_core.specs.State.{is_held}
 use Rattle.fdc_core.specs.Steps.{EndsIn, RestsIn, let_pass, polled}
 use Rattle.fdc_core.specs.declared.controller.Fdc.{Fdc}
 use Rattle.fdc_phases.specs.declared.phases.Phase.{Phase}
 use Rattle.fdc_phases.specs.declared.phases.Phase.TheVariants.{Command, Execute, Result}
 use Rattle.fdc_seek.specs.Seeking.{with_polls}
 use Rattle.fdc_drives.specs.WordTimes.{PassesWordTime}
-use Rattle.fdc_drives.proofs.PassedTimes.{dor_stays}
 use Rattle.fdc_board.specs.Boards.{BoardState, StepsBoard, selected_at}
 use Rattle.fdc_board.specs.Still.{Stands}
 
@@ -68,11 +67,3 @@ still_stays (suc (suc n)) old first second new first_after second_after still pa
 pub stands : (fdc : Fdc) → IsStill fdc → Stands fdc
 stands fdc still old new is step =
     still_stays (selected_at old) old.controller old.first old.second new.controller new.first new.second (subst IsStill (sym is) still) step ∙ is
-
--- ---- the gate
-
--- DOR stays, and so whether it lets INT and DRQ out
-pub gate_stays : (old new : BoardState) → StepsBoard old new → is_gated new.controller ≡ is_gated old.controller
-gate_stays old new step =
-    ap (λ dor. is_gated (record old.controller { dor = dor }))
-    (dor_stays (selected_at old) old.controller old.first old.second new.controller new.first new.second step)

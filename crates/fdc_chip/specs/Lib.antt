@@ -5,6 +5,7 @@ pub mod Settings
 pub mod Answers
 pub mod Chips
 pub mod Doing
+pub mod Paces
 pub mod Ending
 pub mod Steps
 pub mod Ports

@@ -1,8 +1,7 @@
 -- How long INT and DRQ surely stay as they are.
-use Rattle.std.specs.Prelude.{◌≡◌, ◌≤◌, ℕ, zero, suc, true, false}
-use Rattle.fdc_core.specs.State.{is_gated}
-use Rattle.fdc_sequencer.specs.Fronts.{Front, interrupts_outside}
-use Rattle.fdc_sequencer.specs.Still.{StandsFront, rests_at}
+use Rattle.std.specs.Prelude.{◌≡◌, ◌≤◌, ℕ, zero, suc, Bool, true, false, None}
+use Rattle.fdc_sequencer.specs.Fronts.{interrupts_outside}
+use Rattle.fdc_sequencer.specs.Still.{StandsFront}
 use Rattle.fdc_chip.specs.Chips.{ChipState, interrupts_chip, asks_chip}
 use Rattle.fdc_chip.specs.Steps.{HasLinesChip, StepsChip}
 use Rattle.fdc_chip.specs.declared.stage.Stage.{Stage}
@@ -18,19 +17,24 @@ abbrev pub IsQuietFor : ℕ → ChipState → Type 0
 IsQuietFor most old =
     (n : ℕ) (new : ChipState) → n ≤ most → StepsBy n old new → HasLinesChip (interrupts_chip old) (asks_chip old) new
 
--- no command is under way that a device step goes on with, nor is a result there that it takes over
-abbrev pub WaitsAt : Stage → Front → Type 0
-WaitsAt Ready front = interrupts_outside front ≡ false
-WaitsAt (Telling _ _) front = Unit {0}
-WaitsAt _ front = ⊥
+-- no command is under way that a device step goes on with
+abbrev pub rests_at : Stage → Bool
+rests_at Ready = true
+rests_at (Telling _ _) = true
+rests_at _ = false
 
--- nothing runs: each device step leaves all but the drives as it is
+-- nor are pulses to come in the time that SPECIFY sets
+pub record IsIdle (chip : ChipState) : Type 0 where
+  pub rests : rests_at chip.stage ≡ true
+  pub unpaced : chip.pace ≡ None
+
+-- nothing runs behind either, and no result is there to be taken over: each device step leaves all but the drives as it is
 pub record IsStill (chip : ChipState) : Type 0 where
-  pub waits : WaitsAt chip.stage chip.front
+  pub idle : IsIdle chip
+  pub down : interrupts_outside chip.front ≡ false
   pub stands : StandsFront chip.front
 
--- no command is executed, and DOR lets no line out
+-- DOR lets no line out
 pub record IsShut (chip : ChipState) : Type 0 where
-  pub waits : WaitsAt chip.stage chip.front
-  pub rests : rests_at chip.front.stage ≡ true
-  pub gate : is_gated chip.front.board.controller ≡ false
+  pub idle : IsIdle chip
+  pub gate : chip.gated ≡ false

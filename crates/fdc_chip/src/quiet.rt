@@ -1,7 +1,7 @@
 // How long no line changes, and device steps while nothing runs.
 ghost use Rattle.std.specs.Prelude.{◌≡◌, ◌≤◌, true};
 ghost use Rattle.fdc_chip.specs.Chips.{chip_state, interrupts_chip, asks_chip};
-ghost use Rattle.fdc_chip.specs.Quiet.{IsQuietFor, IsShut, IsStill, WaitsAt};
+ghost use Rattle.fdc_chip.specs.Quiet.{IsIdle, IsQuietFor, IsShut, IsStill, rests_at};
 ghost use Rattle.fdc_chip.specs.Steps.{RunsChipWith};
 
 use crate::chip::Chip;
@@ -11,10 +11,19 @@ use drive_model::Inspect;
 /// Nothing is said of the next device step.
 const UNKNOWN: u32 = 0;
 
+impl Stage {
+    /// Whether no command is under way that a device step goes on with.
+    fn rests(&self) -> bool
+        ensures { result ≡ rests_at self.now }
+    {
+        matches!(self, Stage::Ready | Stage::Telling { .. })
+    }
+}
+
 impl<D: Inspect> Chip<D> {
     /// So many device steps, `most` at most, surely leave INT and DRQ as they are, whatever the drives do. It is `most` where no
-    /// command is executed and no heads move, motors on or off, so that no timer is needed until the next call; and 0 where the next
-    /// step may change a line.
+    /// command is executed and no heads move, motors on or off, or where moreover DOR lets no line out, so that no timer is needed
+    /// until the next call; and 0 where the next step may change a line.
     pub fn quiet(&self, most: u32) -> u32
         ensures few { result ≤ most }
         ensures lines { IsQuietFor result (chip_state D.state self.now) }
@@ -28,14 +37,13 @@ impl<D: Inspect> Chip<D> {
         UNKNOWN
     }
 
-    /// Whether a device step does nothing to what is under way.
-    fn waits(&self) -> bool
-        ensures { result ≡ true → WaitsAt (chip_state D.state self.now).stage (chip_state D.state self.now).front }
+    /// Whether a device step goes on with nothing here.
+    fn is_idle(&self) -> bool
+        ensures { result ≡ true → IsIdle (chip_state D.state self.now) }
     {
-        match self.stage {
-            Stage::Ready => !self.behind.int(),
-            Stage::Telling { .. } => true,
-            _ => false,
+        match self.pace {
+            None => self.stage.rests(),
+            Some(_) => false,
         }
     }
 
@@ -43,23 +51,23 @@ impl<D: Inspect> Chip<D> {
     fn is_still(&self) -> bool
         ensures { result ≡ true → IsStill (chip_state D.state self.now) }
     {
-        if self.waits() {
+        if self.behind.int() {
+            return false;
+        }
+        if self.is_idle() {
             return self.behind.is_still();
         }
         false
     }
 
-    /// Whether DOR lets no line out, and no device step can change that.
+    /// Whether DOR lets no line out, and a device step goes on with nothing here.
     fn is_shut(&self) -> bool
         ensures { result ≡ true → IsShut (chip_state D.state self.now) }
     {
-        if self.behind.is_gated() {
+        if self.gated {
             return false;
         }
-        if self.behind.rests() {
-            return self.waits();
-        }
-        false
+        self.is_idle()
     }
 
     /// At least one device step, `most` at most, and none behind one in which a line changes; tells how many: all of them at once

@@ -1,4 +1,4 @@
 mod Runs
 pub mod Codes
 mod Begun
-pub mod Standing
+mod Standing

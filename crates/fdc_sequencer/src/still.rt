@@ -9,7 +9,7 @@ use drive_model::Inspect;
 
 impl<D: Inspect> Sequencer<D> {
     /// Whether a device step is the board's alone: no command of several sectors is under way.
-    pub fn rests(&self) -> bool
+    fn rests(&self) -> bool
         ensures { result ≡ rests_at (front_state D.state self.now).stage }
     {
         match self.stage {
