@@ -1,6 +1,6 @@
 use Rattle.drive_model.specs.ScriptDrive.{script_state}
 use Rattle.bay_drive.proofs.Shown.{tracked_passes}
-use Rattle.bay_drive.proofs.tracked.TrackedDriveDrive.let_pass.Goals as goal
+use Rattle.bay_drive.proofs.tracked.driving.TrackedDriveDrive.let_pass.Goals as goal
 
 pub returns : goal.returns
 returns c = record {
