@@ -1,6 +1,0 @@
-use Rattle.std.proofs.Common.{◌∷◌, []}
-use Rattle.floppy_report.proofs.DumpLines.{part-nothing}
-use Rattle.floppy_report.proofs.lines.put_line.Goals as goal
-
-pub returns-in-Err-clause-err : goal.returns-in-Err-clause-err
-returns-in-Err-clause-err g c = λ text made. part-nothing (g.K.Sink.told c.args.out.now) (text ∷ [])
