@@ -21,13 +21,9 @@ use sector_model::Station;
 use std::alloc::Global;
 use text_commands::{play, serve_calls};
 
-/// Does what the words after the program's name say, on a station that is as it comes: `play JOB` runs a job, `format NAME CYLS` and
-/// `formatdd NAME CYLS` store a formatted disk, `copy FROM TO` copies one, `verify NAME` reads all of one; `import FLAT NAME` and
-/// `export NAME FLAT` go between a flat file and a disk, `exercise SEED COUNT` runs a generated workload; `fromimd IMD NAME` and
-/// `toimd NAME IMD` turn ImageDisk files into disks and back, `survey NAME` lists the address fields of a disk, `remaster FROM TO`
-/// lays one out anew; `int13 FILE` serves calls of INT 13h; `rescue FROM TO LOG` reads what it can of a disk, and keeps a log of
-/// the rest. `ports FILE` is none of these forms, since a station has no ports. It prints a report to the sink, and the status says
-/// how it ended. The station comes back in every case.
+/// Does what the words after the program's name say, on a station that is as it comes. `floppy` says what each form does. `ports
+/// FILE` is none of these forms, since a station has no ports. It prints a report to the sink, and the status says how it ended.
+/// The station comes back in every case.
 pub fn run_words<S: Shelf, K: Sink, D: Station>(
     alloc: Global,
     words: &[String],

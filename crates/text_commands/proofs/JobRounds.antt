@@ -23,7 +23,8 @@ use Rattle.sector_model.specs.States.{State}
 use Rattle.sector_model.specs.Texts.{reply_lines, stop_lines, stop_status, bad_line_text}
 use Rattle.sector_model.specs.Runs.{Taken, course_lines, has_refusal}
 use Rattle.sector_model.specs.Plays.{World, PlaysRequests, PlaysParsed, Played, Stopped, BrokenOff, EndStopped, Prints, Tells, IsText, Plays, There, Missing, TooLong, Faulty, Starved, whole_status}
-use Rattle.text_commands.specs.JobRounds.{world, IsRound, HasRun, HasPlayed, Breaks, AtStop, AtPut, EndsAs, InWhole, AtStore, PlaysOrStarves, AsParsed, Starving}
+use Rattle.text_commands.specs.JobRounds.{world, IsRound, HasRun, HasPlayed, Breaks, AtStop, AtPut, PlaysOrStarves, AsParsed, Starving}
+use Rattle.text_commands.specs.Ending.{EndsAs, InWhole, AtStore}
 use Rattle.sector_model.proofs.Runs.{run_more, requests_more, text_more, refusal_more}
 use Rattle.flop_base.specs.declared.answers.NoMemory.{NoMemory}
 use Rattle.commands.specs.Texts.{MissesText}

@@ -30,7 +30,8 @@ use Rattle.commands.specs.Texts.{MissesText}
 use Rattle.text_commands.specs.CallTexts.{call_text}
 use Rattle.text_commands.specs.CallRounds.{Round, DoesLine, AreRounds, lines_of, course_of, rounds_lines, has_refused, IsRound, Breaks, AtStop, AtPut}
 use Rattle.text_commands.specs.CallCourses.{Through, Broken, EndStopped, ServesLines, ServesParsed, ServesCalls, There, Missing, TooLong, Faulty, Starved}
-use Rattle.text_commands.specs.CallLines.{IsCallOf, HasServed, HasBroken, EndsAs, InWhole, AtStore, Serving, ServesOrStarves, AsParsed, Starving}
+use Rattle.text_commands.specs.CallLines.{IsCallOf, HasServed, HasBroken, Serving, ServesOrStarves, AsParsed, Starving}
+use Rattle.text_commands.specs.Ending.{EndsAs, InWhole, AtStore}
 
 -- ---- One line.
 

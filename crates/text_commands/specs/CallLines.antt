@@ -1,17 +1,13 @@
 -- What the calls of a text come to, part by part.
-use Rattle.std.specs.Prelude.{◌≡◌, ℕ, Bool, List, Option, Result, Ok, Err}
-use Rattle.flop_base.specs.Shelf.{Files}
+use Rattle.std.specs.Prelude.{◌≡◌, ℕ, Bool, List, Result, Ok, Err}
 use Rattle.flop_base.specs.declared.answers.Status.{Status}
 use Rattle.flop_base.specs.declared.answers.Status.TheVariants as status
 use Rattle.floppy_jobs.specs.Texts.{calls_of}
 use Rattle.floppy_jobs.specs.declared.calls.CallLine.{CallLine}
 use Rattle.floppy_jobs.specs.declared.calls.CallLine.TheVariants as call
 use Rattle.floppy_requests.specs.declared.request.Request.{Request}
-use Rattle.sector_model.specs.declared.reply.Stop.{Stop}
-use Rattle.sector_model.specs.States.{State}
-use Rattle.sector_model.specs.Texts.{stop_status}
-use Rattle.sector_model.specs.Runs.{Taken, Ends, EndStopsAt, IsEndStop}
-use Rattle.sector_model.specs.Plays.{World, IsIdle, whole_status}
+use Rattle.sector_model.specs.Runs.{Taken}
+use Rattle.sector_model.specs.Plays.{World, IsIdle}
 use Rattle.int13.specs.declared.regs.Regs.{Regs}
 use Rattle.floppy_session.specs.Tries.{HasTries}
 use Rattle.text_commands.specs.CallTexts.{registers}
@@ -56,12 +52,6 @@ CallGoes regs kept kept_after old result new =
 abbrev pub LinesGo : List CallLine → World → Result Bool Status → World → Type 0
 LinesGo lines old (Ok refused) new = (kept : ℕ) × HasServed lines old refused kept new
 LinesGo lines old (Err ended) new = HasBroken lines old new ended
-
--- the end of a run: what was left in was stored, or a stop came at a store
-pub data EndsAs (refused : Bool) (old : State) (files : Option Files) (new : State) (after : Option Files) (ended : Status) : Type 0 where
-  InWhole : Ends old files new after → ended ≡ whole_status refused → EndsAs refused old files new after ended
-  AtStore : (cause : Stop) → IsEndStop cause → EndStopsAt old files new after → ended ≡ stop_status cause
-      → EndsAs refused old files new after ended
 
 -- lines are served, by some course
 abbrev pub Serving : List CallLine → World → World → Status → Type 0

@@ -11,8 +11,8 @@ use Rattle.sector_model.specs.declared.reply.Stop.{Stop}
 use Rattle.sector_model.specs.States.{State}
 use Rattle.sector_model.specs.Steps.{Step, StopsAt}
 use Rattle.sector_model.specs.Texts.{reply_lines, stop_lines, stop_status, is_refusal}
-use Rattle.sector_model.specs.Runs.{Taken, Run, requests_of, course_lines, has_refusal, Ends, EndStopsAt, IsEndStop}
-use Rattle.sector_model.specs.Plays.{World, Prints, IsPutFault, IsIdle, PlaysRequests, PlaysParsed, Plays, whole_status}
+use Rattle.sector_model.specs.Runs.{Taken, Run, requests_of, course_lines, has_refusal}
+use Rattle.sector_model.specs.Plays.{World, Prints, IsPutFault, IsIdle, PlaysRequests, PlaysParsed, Plays}
 
 -- all that a play may change
 abbrev pub world : State → Option Files → Option (List (List ℕ)) → World
@@ -57,12 +57,6 @@ RoundsGo requests old (Err ended) new = HasPlayed requests old new ended
 -- the job of a name is played, by some course
 abbrev pub PlaysJob : List ℕ → World → World → Status → Type 0
 PlaysJob job old new ended = (course : List Taken) × Plays job old course new ended
-
--- the end of a run: what was left in was stored, or a stop came at a store
-pub data EndsAs (refused : Bool) (old : State) (files : Option Files) (new : State) (after : Option Files) (ended : Status) : Type 0 where
-  InWhole : Ends old files new after → ended ≡ whole_status refused → EndsAs refused old files new after ended
-  AtStore : (cause : Stop) → IsEndStop cause → EndStopsAt old files new after → ended ≡ stop_status cause
-      → EndsAs refused old files new after ended
 
 -- a text is played as it is parsed, or memory for that couldn't be had
 pub data PlaysOrStarves (text : List ℕ) (old new : World) (ended : Status) : Type 0 where

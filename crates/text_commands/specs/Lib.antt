@@ -1,3 +1,4 @@
+pub mod Ending
 pub mod CallCounts
 pub mod CallTexts
 pub mod CallCourses

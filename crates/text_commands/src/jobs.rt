@@ -1,17 +1,15 @@
 // The form `play JOB`: a job is read and run to its end, or up to what stops it.
-ghost use Rattle.std.specs.Prelude.{◌≡◌, ◌≢◌, ◌||◌, All, Err};
-ghost use Rattle.sector_model.specs.Faults.{Blames};
-ghost use Rattle.sector_model.specs.Texts.{is_refusal};
-ghost use Rattle.sector_model.specs.Plays.{whole_status};
+ghost use Rattle.std.specs.Prelude.{All, Err};
 ghost use Rattle.floppy_session.specs.Tries.{HasTries};
 ghost use Rattle.commands.specs.Leading.{faulty_of, Ran, RanPart};
-ghost use Rattle.text_commands.specs.JobRounds.{RoundGoes, RoundsGo, HasPlayed, PlaysJob, EndsAs, PlaysOrStarves};
+ghost use Rattle.text_commands.specs.JobRounds.{RoundGoes, RoundsGo, HasPlayed, PlaysJob, PlaysOrStarves};
 
-use commands::{put_last, put_last_bad_line, put_reply, stop_status, tell_missing_text};
+use crate::ending::{either, finish};
+use commands::{is_refusal, put_last, put_last_bad_line, put_reply, tell_missing_text};
 use flop_base::{Shelf, Sink, Status};
 use floppy_jobs::{JobError, Request, parse_job};
 use floppy_session::Session;
-use sector_model::{Reply, Station, Stop};
+use sector_model::{Station, Stop};
 use std::alloc::Global;
 
 /// The longest text of a job, in bytes.
@@ -39,21 +37,6 @@ fn run_one<S: Shelf, K: Sink, D: Station>(
     }
 }
 
-fn is_refusal(reply: &Reply) -> bool
-    ensures { result ≡ is_refusal reply.now }
-{
-    match reply {
-        Reply::Refused(_) => true,
-        Reply::Done | Reply::DoneDeleted | Reply::Bytes { .. } => false,
-    }
-}
-
-fn either(first: bool, second: bool) -> bool
-    ensures { result ≡ (first || second) }
-{
-    first || second
-}
-
 /// Runs and tells the requests of a job in order; true where one was refused. The error is the status of a run that
 /// ends here.
 fn run_requests<S: Shelf, K: Sink, D: Station>(
@@ -76,29 +59,6 @@ fn run_requests<S: Shelf, K: Sink, D: Station>(
         }
     }
     Ok(refused)
-}
-
-/// Stores what is left in the bays of a session, and gives the status of a run to the end.
-fn finish<S: Shelf, D: Station>(session: &mut Session<D>, shelf: &mut S, refused: bool) -> Status
-    ensures ends { EndsAs refused session.old (S.told shelf.old) session.new (S.told shelf.new) result }
-    ensures is_form { result ≢ Status.BadWords }
-    ensures shelf_faults { Blames (result ≡ Status.FileFault) (S.fault_count shelf.old) (S.fault_count shelf.new) }
-    ensures no_sink_fault { result ≢ Status.SinkFault }
-{
-    match session.end(shelf) {
-        Ok(()) => whole_status(refused),
-        Err(stop) => stop_status(&stop),
-    }
-}
-
-fn whole_status(refused: bool) -> Status
-    ensures { result ≡ whole_status refused }
-{
-    if refused {
-        Status::SomeRefused
-    } else {
-        Status::AllOk
-    }
 }
 
 /// Plays the requests of a job.

@@ -3,6 +3,7 @@
 #![tactic(auto)]
 
 mod calls;
+mod ending;
 mod jobs;
 mod ports;
 

@@ -1,30 +1,20 @@
 // One line of a calls text: served, and told.
-ghost use Rattle.std.specs.Prelude.{◌≡◌, IfErr, Err};
+ghost use Rattle.std.specs.Prelude.{IfErr, Err};
 ghost use Rattle.floppy_jobs.specs.declared.calls.CallLine.{CallLine};
 ghost use Rattle.floppy_jobs.specs.declared.calls.CallLine.TheVariants as calls;
-ghost use Rattle.sector_model.specs.Texts.{is_refusal};
 ghost use Rattle.sector_model.specs.Plays.{IsPutFault};
 ghost use Rattle.floppy_session.specs.Tries.{HasTries};
 ghost use Rattle.commands.specs.Leading.{faulty_of, RanPart};
 ghost use Rattle.text_commands.specs.CallLines.{LineHasTries, AskGoes, CallGoes, LineGoes};
 
 use crate::calls::text::call_line;
-use commands::{put_last, put_line, put_reply};
+use commands::{is_refusal, put_last, put_line, put_reply};
 use flop_base::{Shelf, Sink, Status};
 use floppy_jobs::{CallLine, Request};
 use floppy_session::Session;
 use int13::{Int13, Regs};
-use sector_model::{Reply, Station, Stop};
+use sector_model::{Station, Stop};
 use std::alloc::Global;
-
-fn is_refusal(reply: &Reply) -> bool
-    ensures { result ≡ is_refusal reply.now }
-{
-    match reply {
-        Reply::Refused(_) => true,
-        Reply::Done | Reply::DoneDeleted | Reply::Bytes { .. } => false,
-    }
-}
 
 /// Runs a request as in a job and tells its answer; true where it was refused.
 fn ask<S: Shelf, K: Sink, D: Station>(

@@ -1,13 +1,12 @@
 // The form `int13 FILE`: the calls of a text are served to its end, or up to what stops the run.
-ghost use Rattle.std.specs.Prelude.{◌≡◌, ◌≢◌, ◌||◌, All, Err};
-ghost use Rattle.sector_model.specs.Faults.{Blames};
-ghost use Rattle.sector_model.specs.Plays.{whole_status};
+ghost use Rattle.std.specs.Prelude.{All, Err};
 ghost use Rattle.commands.specs.Leading.{faulty_of, Ran, RanPart, Runs};
 ghost use Rattle.text_commands.specs.CallCourses.{ServesCalls};
-ghost use Rattle.text_commands.specs.CallLines.{LineHasTries, LinesGo, EndsAs, ServesOrStarves, Serving};
+ghost use Rattle.text_commands.specs.CallLines.{LineHasTries, LinesGo, ServesOrStarves, Serving};
 
 use crate::calls::line::serve_line;
-use commands::{put_last_bad_line, stop_status, tell_missing_text};
+use crate::ending::{either, finish};
+use commands::{put_last_bad_line, tell_missing_text};
 use flop_base::{Name, Shelf, Sink, Status};
 use floppy_jobs::{CallLine, JobError, parse_calls};
 use floppy_session::Session;
@@ -17,12 +16,6 @@ use std::alloc::Global;
 
 /// The longest text of calls, in bytes.
 const MOST_CALLS_BYTES: usize = 4_194_304;
-
-fn either(first: bool, second: bool) -> bool
-    ensures { result ≡ (first || second) }
-{
-    first || second
-}
 
 /// Serves and tells lines in order, from the service as it comes; true where one counts as a refusal. The error is the status of a
 /// run that ends here.
@@ -47,29 +40,6 @@ fn serve_lines<S: Shelf, K: Sink, D: Station>(
         }
     }
     Ok(refused)
-}
-
-fn whole_status(refused: bool) -> Status
-    ensures { result ≡ whole_status refused }
-{
-    if refused {
-        Status::SomeRefused
-    } else {
-        Status::AllOk
-    }
-}
-
-/// Stores what is left in the bays of a session, and gives the status of a run to the end.
-fn finish<S: Shelf, D: Station>(session: &mut Session<D>, shelf: &mut S, refused: bool) -> Status
-    ensures ends { EndsAs refused session.old (S.told shelf.old) session.new (S.told shelf.new) result }
-    ensures is_form { result ≢ Status.BadWords }
-    ensures shelf_faults { Blames (result ≡ Status.FileFault) (S.fault_count shelf.old) (S.fault_count shelf.new) }
-    ensures no_sink_fault { result ≢ Status.SinkFault }
-{
-    match session.end(shelf) {
-        Ok(()) => whole_status(refused),
-        Err(stop) => stop_status(&stop),
-    }
 }
 
 /// Serves the lines of a text, and stores what is left in the bays.

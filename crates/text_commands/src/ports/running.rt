@@ -1,7 +1,6 @@
 // A text of port accesses is read and run to its end, or up to what stops it.
-ghost use Rattle.std.specs.Prelude.{◌≡◌, ◌≢◌, ◌||◌};
+ghost use Rattle.std.specs.Prelude.{◌≡◌, ◌≢◌};
 ghost use Rattle.sector_model.specs.Faults.{Blames};
-ghost use Rattle.sector_model.specs.Plays.{whole_status};
 ghost use Rattle.pc_bus.specs.Boards.{board};
 ghost use Rattle.text_commands.specs.Benches.{AreNamed, IsBare, bench_of, no_names};
 ghost use Rattle.text_commands.specs.PortFaults.{Ran, RanPart, faulty_of};
@@ -9,12 +8,13 @@ ghost use Rattle.text_commands.specs.PortGuards.{RunsBare};
 ghost use Rattle.text_commands.specs.PortLines.{is_refusal};
 ghost use Rattle.text_commands.specs.PortPlays.{RoundGoes, RoundsGo, HasPlayed, EndsAs, PlaysGiven};
 
+use crate::ending::either;
 use crate::ports::answer::Answer;
 use crate::ports::doing::do_line;
 use crate::ports::media::end;
 use crate::ports::names::Names;
 use crate::ports::telling::put_answer;
-use commands::{put_last, put_last_bad_line, stop_status, tell_missing_text};
+use commands::{put_last, put_last_bad_line, stop_status, tell_missing_text, whole_status};
 use drive_model::Drive;
 use flop_base::{Shelf, Sink, Status};
 use floppy_jobs::{JobError, PortLine, parse_ports};
@@ -57,12 +57,6 @@ fn is_refusal(answer: &Answer) -> bool
         Answer::Refused(_) => true,
         Answer::Nothing | Answer::Byte { .. } | Answer::Latch { .. } | Answer::Done => false,
     }
-}
-
-fn either(first: bool, second: bool) -> bool
-    ensures { result ≡ (first || second) }
-{
-    first || second
 }
 
 /// Does and tells lines in order; true where one was refused. The error is the status of a run that ends here.
@@ -108,16 +102,6 @@ fn finish<S: Shelf, D: Drive>(
     match end(alloc, machine, names, shelf) {
         Ok(()) => whole_status(refused),
         Err(stop) => stop_status(&stop),
-    }
-}
-
-fn whole_status(refused: bool) -> Status
-    ensures { result ≡ whole_status refused }
-{
-    if refused {
-        Status::SomeRefused
-    } else {
-        Status::AllOk
     }
 }
 
