@@ -38,7 +38,7 @@ pub format_done : (rate : Rate) (name : List ℕ) (cylinders : ℕ) (old new : W
     → DoesAll (format_requests rate name cylinders) old.state old.files course new.state new.files
 unfolding format_script
 format_done rate name cylinders old new course runs =
-    let all = over status.AllOk (formats_disk name cylinders rate) _ (λ none. format_text (cylinders * 2)) (λ none. status.AllOk)
+    let all = over status.AllOk (formats_disk name cylinders rate) _ (λ none. format_text (cylinders * 2) ∷ []) (λ none. status.AllOk)
     (format_passes name cylinders rate) old course new runs in
     over_all (format_requests rate name cylinders) old course all.mid all.knows new all.state all.files
 
