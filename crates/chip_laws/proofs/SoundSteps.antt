@@ -301,7 +301,7 @@ paces_rest (Some pace) old new by_dma none rests goes =
       order = on.order;
     }
 
-stepped_rests : (old : ChipState) (between : Front) (new : ChipState) → IsSound old → is_busy old.stage ≡ false → StepsFront old.front between → Paces old.pace (with_front between old) new → IsResting old new
+pub stepped_rests : (old : ChipState) (between : Front) (new : ChipState) → IsSound old → is_busy old.stage ≡ false → StepsFront old.front between → Paces old.pace (with_front between old) new → IsResting old new
 stepped_rests old between new sound idle step paces =
     let (rests, base) = front_rests old.front between step sound.whole (at_rest old.stage old.front idle sound.now) in
     let on = paces_rest old.pace (with_front between old) new (base.non_dma ∙ sound.by_dma) base.command rests paces in
