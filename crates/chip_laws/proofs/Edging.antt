@@ -243,7 +243,7 @@ pub results_down : (results : Results) (old : ChipState) → interrupts_chip (by
 results_down results old = no_bytes (byte_told (answer.Results results) 0 old) refl ∙ and_right old.gated false refl
 
 line_down : (found : Option ℕ) (interrupts : Interrupting) (status cylinder : ℕ)
-    → option_map (λ drive. (status_of interrupts drive, slice_index interrupts.cylinders drive)) found ≡ Some (status, cylinder)
+    → option_map {U = ℕ × ℕ} (λ drive. (status_of interrupts drive, slice_index interrupts.cylinders drive)) found ≡ Some (status, cylinder)
     → (option_map_or (λ drive. record interrupts { pending = slice_set interrupts.pending drive None; line = false }) found interrupts).line ≡ false
 line_down None interrupts status cylinder is = absurd (false≢true (ap is_some is))
 line_down (Some drive) interrupts status cylinder is = refl
