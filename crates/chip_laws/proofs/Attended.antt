@@ -56,7 +56,7 @@ done_sound old set new basis rests stays idle is =
 
 -- ---- a command of the controller's own that is done at once
 
-free_stands : (chip : ChipState) → IsBasis chip → RestsBehind chip.front → is_moving chip ≡ false → Stands chip.front
+pub free_stands : (chip : ChipState) → IsBasis chip → RestsBehind chip.front → is_moving chip ≡ false → Stands chip.front
 free_stands chip basis rests stands = record {
   through = rests.through;
   takes = rests.takes;

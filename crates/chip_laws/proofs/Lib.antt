@@ -14,6 +14,7 @@ mod SoundParts
 mod Attended
 mod SoundSteps
 mod SoundCalls
+mod WholeTransfers
 mod Silences
 mod SinglesLast
 mod VerifiesLast

@@ -98,7 +98,7 @@ data_read true port value old new was under passes here reads = record {
 }
 data_read false port value old new was under passes here (none, is) = read_behind port value old new was (and_left (passes_by_port old) (port == 0x3F5) passes) is
 
-other_read : (port value : ℕ) (old new : ChipState) → (port == 0x3F5) ≡ false → ReadsChip port old value new → new ≡ old
+pub other_read : (port value : ℕ) (old new : ChipState) → (port == 0x3F5) ≡ false → ReadsChip port old value new → new ≡ old
 other_read port value old new no_data reads = either_way (port == 0x3F4)
     (λ status. (reads.status (eqb-true port 0x3F4 status)).1)
     (λ no_status. (reads.others no_status no_data).1)

@@ -1,5 +1,5 @@
 -- A sound chip through each call.
-use Rattle.std.proofs.Common.{◌≡◌, inl, inr, ℕ, ◌+◌, ◌<◌, nat_le, Bool, true, false, not, ◌&&◌, ◌==◌, if◌then◌else◌, Option, [], length, refl, sym, ◌∙◌, ap, subst, arith}
+use Rattle.std.proofs.Common.{◌≡◌, inl, inr, ℕ, ◌+◌, ◌<◌, nat_le, Bool, true, false, not, ◌&&◌, ◌==◌, if◌then◌else◌, Option, List, [], ◌∷◌, length, refl, sym, ◌∙◌, ap, subst, arith}
 use Rattle.std.proofs.lemmas.Bool.{and_parts, eqb-true, false≢true, not-true, or_cases}
 use Rattle.drive_model.specs.Drive.{DriveState}
 use Rattle.fdc_seek.specs.Seeking.{Seeking, at_rest}
@@ -28,7 +28,7 @@ use Rattle.fdc_chip.specs.declared.stage.Task.{Task}
 use Rattle.fdc_chip.specs.declared.stage.Task.TheVariants as task
 use Rattle.chip_laws.specs.Beginning.{IsOfFour}
 use Rattle.chip_laws.specs.Calls as made
-use Rattle.chip_laws.specs.Calls.{Call, Does, WritesByte}
+use Rattle.chip_laws.specs.Calls.{AreMade, Call, Does, WritesByte}
 use Rattle.chip_laws.specs.Sound.{IsBusyWith, IsSound, IsSoundAt, RestsBehind}
 use Rattle.chip_laws.proofs.Attended.{attended_sound}
 use Rattle.chip_laws.proofs.Channels.{counts_busy, counts_front_base, front_left, gives_busy, gives_front_base, keeps_busy, port_busy, takes_busy, takes_front_base}
@@ -144,7 +144,7 @@ reads_sound port value old new sound reads = either_way (port == 0x3F5)
 -- ---- a byte of a command
 
 -- its code is a byte
-code_few : (place byte : ℕ) (order : Order) → byte < 256 → order.code < 256 → (with_byte place byte order).code < 256
+pub code_few : (place byte : ℕ) (order : Order) → byte < 256 → order.code < 256 → (with_byte place byte order).code < 256
 code_few place byte order few was = by_place (place == 0) (place == 1) (place == 2) (place == 3) (place == 4) (place == 5) (place == 6) (place == 7)
   where
     by_place : (a b c d e f g h : Bool) → (if a then record order { code = byte } else (
@@ -167,7 +167,7 @@ code_few place byte order few was = by_place (place == 0) (place == 1) (place ==
     by_place false false false false false false false false = was
 
 -- where one comes the controller isn't held in reset
-comes_free : (old : ChipState) → IsSound old → may_come old ≡ true → is_held old.front.board.controller ≡ false
+pub comes_free : (old : ChipState) → IsSound old → may_come old ≡ true → is_held old.front.board.controller ≡ false
 comes_free old sound comes = elim (or_cases (not (old.count == 0)) (senses.is_ready old.front) comes) [
   | inl begun ↦ either_way (is_held old.front.board.controller)
       (λ held. clash (old.count == 0) (not-true (old.count == 0) begun) (ap (λ n. n == 0) (sound.held held).1))
@@ -359,3 +359,11 @@ new_sound bay0 bay1 new is =
         seek = subst (λ (fdc : Fdc). IsOfFour fdc.seeks.seek) (sym controller) tt;
       });
     }
+
+-- and one that was used
+pub used_sound : (bay0 bay1 : DriveState) (calls : List Call) (start new : ChipState) → IsNewChip bay0 bay1 start → AreMade calls start new → IsSound new
+used_sound bay0 bay1 calls start new is all = on calls start new all (new_sound bay0 bay1 start is)
+  where
+    on : (calls : List Call) (old new : ChipState) → AreMade calls old new → IsSound old → IsSound new
+    on [] old new same sound = same_sound old new same sound
+    on (call ∷ calls) old new (between, does, few, rest) sound = on calls between new rest (call_sound call old between does few sound)

@@ -50,6 +50,11 @@ abbrev pub WritesByte : Call → Type 0
 WritesByte (Writes port value) = value < 256
 WritesByte _ = Unit {0}
 
+-- these calls, one behind the other
+abbrev pub AreMade : List Call → ChipState → ChipState → Type 0
+AreMade [] old new = new ≡ old
+AreMade (made ∷ calls) old new = (between : ChipState) × Does made old between × WritesByte made × AreMade calls between new
+
 -- how many of the calls are device steps
 abbrev pub steps_of : Call → ℕ
 steps_of Steps = 1
