@@ -79,6 +79,7 @@ class Shape(ctypes.Structure):
 
 
 class Tracks(ctypes.Structure):
+    """A bit for each track, by cylinder, then head: the lowest of the first byte is the first track's."""
     _fields_ = [("bytes", ctypes.c_uint8 * 20)]
 
 
@@ -151,7 +152,6 @@ class Holder:
                 return out.raw[:length.value]
             except TooShort:
                 room = length.value
-
 
     def _told_as(self, kind, name, *values):
         """A structure that a call hands out through its last pointer."""
@@ -347,7 +347,6 @@ class Controller(Planned):
         cylinder = ctypes.c_uint8()
         signs = self._told(ctypes.c_uint8, "bay", count(bay), ctypes.byref(cylinder))
         return cylinder.value, Signs(signs)
-
 
     # Drives and their media, while they turn.
 

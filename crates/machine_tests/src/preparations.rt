@@ -1,6 +1,5 @@
 // The attempts of a driver, and the gate that a change of the diskette closes.
-use change_line::Gate;
-use retry_plan::{Prepare, START_TRIES, preparation};
+use floppy_driver::{Gate, Prepare, START_TRIES, preparation};
 
 #[test]
 fn attempts_are_prepared(rt: HostRuntime) {

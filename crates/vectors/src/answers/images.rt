@@ -1,7 +1,7 @@
 // Files of media: images, ImageDisk files and flat files.
 use super::print::{line, put_bytes, show};
 use super::{Asked, medium_of, one};
-use flat_image::{blank_flat, check, place};
+use flat_files::{blank_flat, check, place};
 use flop_base::Rate;
 use floppy_jobs::is_verb;
 use floppy_jobs::numbers::register;

@@ -3,9 +3,9 @@ use super::layouts::rate_of;
 use super::print::{line, show};
 use super::{Asked, key};
 use flop_base::{Chrn, Code};
+use floppy_driver::{Prepare, preparation};
 use floppy_jobs::is_verb;
 use rescue::{AfterRead, after_read, logged_keys, read_log, read_request, standard_keys};
-use retry_plan::{Prepare, preparation};
 use scene_files::{Wrong, byte};
 use std::alloc::Global;
 
