@@ -75,7 +75,7 @@ impl FlatForm {
         requires { IsForm self }
         ensures { result ≡ file_length self }
     {
-        usize::from(self.tracks()) * usize::from(self.sectors) * self.size()
+        self.tracks() as usize * self.sectors as usize * self.size()
     }
 
     /// Where a sector of a track, counted from 0, begins in the file.
@@ -86,6 +86,6 @@ impl FlatForm {
         ensures place { result ≡ sector_place self track i }
         ensures inside { result + sector_bytes self ≤ file_length self }
     {
-        (usize::from(track) * usize::from(self.sectors) + usize::from(i)) * self.size()
+        (track as usize * self.sectors as usize + i as usize) * self.size()
     }
 }

@@ -19,13 +19,13 @@ loop-track-preserved c =
 
 pub returns-clause-is : goal.returns-clause-is
 returns-clause-is c =
-    let end : c.loop-track.track ≡ tracks_of c.args.form = omega (arith, c.tracks.ensures.value) in
+    let end : c.loop-track.track ≡ tracks_of c.args.form = omega (arith, c.tracks-track-end.ensures.value) in
     ap (λ (tracks : List ImdTrack). let image : ImdImage = record { rate = c.args.form.rate; tracks = tracks } in image)
     (c.loop-track.invariant.tracks ∙ ap (λ n. map (form_track c.args.form c.args.bytes.now) (range_with_len 0 n)) end)
 
 pub returns-clause-valid : goal.returns-clause-valid
 returns-clause-valid c =
-    let end : c.loop-track.track ≡ tracks_of c.args.form = omega (arith, c.tracks.ensures.value) in
+    let end : c.loop-track.track ≡ tracks_of c.args.form = omega (arith, c.tracks-track-end.ensures.value) in
     let all = c.loop-track.invariant.tracks ∙ ap (λ n. map (form_track c.args.form c.args.bytes.now) (range_with_len 0 n)) end in
     subst (λ (image : ImdImage). IsImdImage image) (sym (returns-clause-is c))
     (valid_image c.args.form c.args.bytes.now c.requires.form (subst (λ (tracks : List ImdTrack). All IsImdTrack tracks) all c.loop-track.invariant.valid))
