@@ -1,3 +1,5 @@
+//! The commands on whole disks, over a session: format, copy and verify. Each is a script: what it asks, prints and stores, part by
+//! part.
 #![tactic(auto)]
 
 mod copy;
