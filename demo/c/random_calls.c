@@ -611,17 +611,22 @@ static void move_state(void) {
     size_t room = below(3) ? POOL : below(2000), told = 0;
     const State *state = below(2) ? &controller_state : &machine_state;
     size_t length = way == 0 ? 0 : way == 1 ? state->length / 2 : state->length;
+    const uint8_t *bytes = state->bytes;
+    if (way == 2 && length > 0) { /* behind another name */
+        memcpy(pool, bytes, length);
+        bytes = pool;
+    }
     fill(room);
     switch (below(4)) {
     case 0: CALL(telwyddus_controller_save(&controllers[at], buffer(room), room, &told)); saved(&controller_state, &controller_is[at], room, told); break;
     case 1: CALL(telwyddus_machine_save(&machines[at], buffer(room), room, &told)); saved(&machine_state, &machine_is[at], room, told); break;
     case 2:
-        CALL(telwyddus_controller_restore(&controllers[at], length == 0 ? NULL : state->bytes, length));
-        restored(state, &controller_is[at], state == &controller_state && way > 1);
+        CALL(telwyddus_controller_restore(&controllers[at], length == 0 ? NULL : bytes, length));
+        restored(state, &controller_is[at], state == &controller_state && way > 2);
         break;
     default:
-        CALL(telwyddus_machine_restore(&machines[at], length == 0 ? NULL : state->bytes, length));
-        restored(state, &machine_is[at], state == &machine_state && way > 1);
+        CALL(telwyddus_machine_restore(&machines[at], length == 0 ? NULL : bytes, length));
+        restored(state, &machine_is[at], state == &machine_state && way > 2);
     }
 }
 
