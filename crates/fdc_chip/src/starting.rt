@@ -55,6 +55,13 @@ fn sectors_to(last: u8, r: u8) -> u32
     (u32::from(last) + 256 - u32::from(r)) % 256 + 1
 }
 
+/// The bytes of so many keys.
+fn bytes_of_keys(sectors: u8) -> u16
+    ensures { result ≡ 4 * sectors }
+{
+    4 * u16::from(sectors)
+}
+
 impl Order {
     /// The sectors of a VERIFY.
     fn sectors_verified(self) -> u32
@@ -206,7 +213,7 @@ impl<D: Inspect> Chip<D> {
     {
         let Order { unit, key, .. } = self.order;
         self.note(key.h);
-        self.keys = 4 * u16::from(key.h);
+        self.keys = bytes_of_keys(key.h);
         if mfm && is_size(key.c) {
             self.begin(
                 Task::Sent,
