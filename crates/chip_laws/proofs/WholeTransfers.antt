@@ -199,9 +199,12 @@ step_begins opcode order old new step sound held whole =
     let was = step_rests old paced new step sound held.held paces in
     let same : paced.order ≡ order = was.order ∙ held.order_is in
     let is : code_of old.order.code ≡ Some (Transfer true) = ap (λ (o : Order). code_of o.code) held.order_is ∙ whole.code in
-    let attended = step_attends (Transfer true) old paced new sound held.held is was attends in
-    (paced, paces, subst (λ o. BeginsUnless (still_moves paced) opcode o new) same
-    (attended_begins (still_moves paced) opcode paced new refl (subst (IsTransferOf opcode) (sym same) whole) attended))
+    let attended = step_attends (Transfer true) old paced new sound held.held is was attends in (
+      paced,
+      paces,
+      subst (λ o. BeginsUnless (still_moves paced) opcode o new) same
+          (attended_begins (still_moves paced) opcode paced new refl (subst (IsTransferOf opcode) (sym same) whole) attended),
+    )
 
 -- ---- it is held through each other call
 
