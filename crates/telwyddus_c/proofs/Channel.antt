@@ -3,17 +3,17 @@ use Rattle.std.proofs.Common.{◌≡◌, ℕ, zero, suc, ◌+◌, ◌<◌, true,
 use Rattle.std.specs.Prelude.{slice_index, slice_set, Some, None}
 use Rattle.std.proofs.lemmas.Grind.{get_or-set_at}
 use Rattle.std.proofs.lemmas.List.{get_or-set_other, length-set}
-use Rattle.c_slots.specs.Controllers.{ControllerValue}
+use Rattle.fdc_board.specs.Boards.{SameDrives}
+use Rattle.fdc_board.specs.declared.board.FdcBoard.{FdcBoard}
 use Rattle.fdc_chip.specs.Chips.{ChipState}
 use Rattle.fdc_chip.specs.Ports.{TakesChip, GivesChip}
 use Rattle.telwyddus_c.specs.Blocks.{TakesFirst, TakesSome, TakesBlock, GivesFirst, GivesBlock}
-use Rattle.telwyddus_c.specs.Controllers.{KeepsDrives}
 
--- the drives stay, over one call and over another
-pub keeps_none : (controller : ControllerValue) → KeepsDrives controller controller
-keeps_none controller = record { first = refl; second = refl }
+-- the drives stay, over none and over another
+pub keeps_none : {D : Type 0} (board : FdcBoard D) → SameDrives board board
+keeps_none board = record { first = refl; second = refl }
 
-pub keeps_more : (old between new : ControllerValue) → KeepsDrives old between → KeepsDrives between new → KeepsDrives old new
+pub keeps_more : {D : Type 0} (old between new : FdcBoard D) → SameDrives old between → SameDrives between new → SameDrives old new
 keeps_more old between new one more = record { first = more.first ∙ one.first; second = more.second ∙ one.second }
 
 -- ---- taken

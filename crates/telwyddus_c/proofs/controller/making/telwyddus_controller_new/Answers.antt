@@ -1,4 +1,4 @@
-use Rattle.std.proofs.Common.{sym, ◌∙◌}
+use Rattle.std.proofs.Common.{refl, sym, ◌∙◌}
 use Rattle.telwyddus_c.proofs.EmptyPlans.{none_planned}
 use Rattle.telwyddus_c.proofs.Options.{none_in}
 use Rattle.telwyddus_c.proofs.controller.making.telwyddus_controller_new.Goals as goal
@@ -10,3 +10,6 @@ returns-in-Ok-new c =
       none_in c.args.slot.now.held.controller (sym c.is_full.ensures ∙ c.if-is_full.false),
       (_, c.put.ensures, rw c.in-Ok-new.ensures.ok (rw first at (rw second at c.in-Ok.ensures))),
     )
+
+pub returns-in-Ok : goal.returns-in-Ok
+returns-in-Ok c = (none_in c.args.slot.now.held.controller (sym c.is_full.ensures ∙ c.if-is_full.false), refl)
