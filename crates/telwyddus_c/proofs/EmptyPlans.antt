@@ -1,6 +1,5 @@
 -- Drives whose list of faults is empty.
-use Rattle.std.proofs.Common.{◌≡◌, List, [], Some, refl, ap}
-use Rattle.drive_model.specs.Drive.{DriveState}
+use Rattle.std.proofs.Common.{◌≡◌, List, [], Some, ap}
 use Rattle.drive_model.specs.Fault.{total_left}
 use Rattle.drive_model.specs.Mechanics.{at_rest}
 use Rattle.drive_model.specs.ScriptDrive.{told}

@@ -1,7 +1,6 @@
 -- What stays over two changes of a bay.
-use Rattle.std.proofs.Common.{◌≡◌, ap, ◌∙◌}
+use Rattle.std.proofs.Common.{ap, ◌∙◌}
 use Rattle.fdc_chip.specs.Chips.{ChipState, KeepsChip, with_front}
-use Rattle.fdc_sequencer.specs.Fronts.{KeepsFront}
 
 pub keeps_twice : (a b c : ChipState) → KeepsChip a b → KeepsChip b c → KeepsChip a c
 keeps_twice a b c first second = record {
