@@ -72,7 +72,8 @@ fn a_sink_keeps_lines_in_order_and_its_numbered_calls_fail(rt: HostRuntime) -> R
     assert_eq!(rt; sink.put(b"two ").err(), Some(PutError::Failed));
     sink.put(b"three")?;
     assert_eq!(rt; sink.bytes(), b"one three".as_slice());
-    assert_eq!(rt; sink.lengths(), [4usize, 5].as_slice());
+    let lengths = [4usize, 5];
+    assert_eq!(rt; sink.lengths(), lengths.as_slice());
     assert_eq!(rt; sink.faults(), 1);
     let copy = Bytes::copy(alloc, sink.bytes())?;
     assert_eq!(rt; copy.as_slice(), b"one three".as_slice());
