@@ -12,15 +12,14 @@ use Rattle.raw_image.specs.declared.error.ImageError.{ImageError}
 use Rattle.sector_model.specs.declared.reply.Stop.{Stop}
 use Rattle.sector_model.specs.declared.reply.Stop.TheVariants as stop
 use Rattle.sector_model.specs.Faults.{Blames}
-use Rattle.floppy_report.specs.Faults.{BlamesAlone}
 use Rattle.sector_model.specs.Steps.{most_image_bytes, IsAbsent, IsLonger}
 
 -- all that a command may change: the told files, and the told report
 pub record Desk : Type 0 where
   pub files : Option Files
-  pub report : Option (List ℕ)
+  pub report : Option (List (List ℕ))
 
-abbrev pub desk_of : {S K : Type 0} → (S → Option Files) → (K → Option (List ℕ)) → S → K → Desk
+abbrev pub desk_of : {S K : Type 0} → (S → Option Files) → (K → Option (List (List ℕ))) → S → K → Desk
 desk_of files report shelf out = record { files = files shelf; report = report out }
 
 -- a desk, with the faults that its shelf and its sink counted
@@ -29,16 +28,16 @@ pub record FaultyDesk : Type 0 where
   pub shelf_faults : ℕ
   pub sink_faults : ℕ
 
-abbrev pub faulty_desk_of : {S K : Type 0} → (S → Option Files) → (S → ℕ) → (K → Option (List ℕ)) → (K → ℕ) → S → K → FaultyDesk
+abbrev pub faulty_desk_of : {S K : Type 0} → (S → Option Files) → (S → ℕ) → (K → Option (List (List ℕ))) → (K → ℕ) → S → K → FaultyDesk
 faulty_desk_of files shelf_count report sink_count shelf out =
     record { desk = desk_of files report shelf out; shelf_faults = shelf_count shelf; sink_faults = sink_count out }
 
--- a command that takes shelf and sink through did this, its words were a form, and each fault that its status tells was counted
+-- a command that takes shelf and sink through did this, its words were a form, and one fault was counted where its status tells it, and else none
 pub record RanOnFiles (Does : Desk → Desk → Status → Type 0) (old new : FaultyDesk) (ended : Status) : Type 0 where
   pub does : Does old.desk new.desk ended
   pub is_form : ended ≢ status.BadWords
   pub shelf_faults : Blames (ended ≡ status.FileFault) old.shelf_faults new.shelf_faults
-  pub sink_faults : BlamesAlone (ended ≡ status.SinkFault) old.sink_faults new.sink_faults
+  pub sink_faults : Blames (ended ≡ status.SinkFault) old.sink_faults new.sink_faults
 
 -- the told file of this name isn't too long, and reading its bytes gives this
 abbrev pub ReadsAs : {T : Type 0} → (List ℕ → Result T ImageError) → Option Files → List ℕ → Result T ImageError → Type 0
@@ -76,7 +75,7 @@ pub record FaultyFiles : Type 0 where
 abbrev pub faulty_files_of : {S : Type 0} → (S → Option Files) → (S → ℕ) → S → FaultyFiles
 faulty_files_of files shelf_count shelf = record { files = files shelf; faults = shelf_count shelf }
 
--- a file was looked into, which gave this, and no file changed; a fault of the shelf that it tells was counted
+-- a file was looked into, which gave this, and no file changed; one fault of the shelf was counted where it tells one, and else none
 pub record Loaded {T : Type 0} (Gives : Option Files → Result T Stop → Type 0) (old : FaultyFiles) (result : Result T Stop) (new : FaultyFiles) : Type 0 where
   pub gives : Gives old.files result
   pub stays : new.files ≡ old.files

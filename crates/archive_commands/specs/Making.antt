@@ -1,5 +1,5 @@
 -- The commands that make a file of another.
-use Rattle.std.specs.Prelude.{◌≡◌, ℕ, List, ◌++◌, length, codes, Option, Result, Ok, Err}
+use Rattle.std.specs.Prelude.{◌≡◌, ℕ, List, [], ◌∷◌, ◌++◌, length, codes, Option, Result, Ok, Err}
 use Rattle.std.specs.Fmt.{decimal}
 use Rattle.flop_base.specs.Shelf.{Files, stored}
 use Rattle.flop_base.specs.declared.answers.Status.{Status}
@@ -16,7 +16,7 @@ use Rattle.imagedisk.specs.Made.{MakesDisk}
 use Rattle.imagedisk.specs.Taken.{TakesDisk}
 use Rattle.remaster.specs.declared.error.RemasterError.TheVariants as remaster
 use Rattle.remaster.specs.Remastered.{Remasters}
-use Rattle.sector_model.specs.Texts.{stop_text, stop_status}
+use Rattle.sector_model.specs.Texts.{stop_lines, stop_status}
 use Rattle.sector_model.specs.Plays.{Prints}
 use Rattle.floppy_report.specs.LastLines.{unfit_text}
 use Rattle.archive_commands.specs.declared.halt.Halt.{Halt}
@@ -38,18 +38,18 @@ unfoldable pub made_text : List ℕ → ℕ → List ℕ
 made_text verb count = verb ++ (codes " ok " ++ (decimal count ++ codes "\n"))
 
 -- the last line and the status, by what came of it
-abbrev pub outcome_text : List ℕ → Result ℕ Halt → List ℕ
-outcome_text verb (Ok count) = made_text verb count
-outcome_text verb (Err (halt.Unfit c h)) = unfit_text c h
-outcome_text verb (Err (halt.Stopped cause)) = stop_text cause
+abbrev pub outcome_lines : List ℕ → Result ℕ Halt → List (List ℕ)
+outcome_lines verb (Ok count) = made_text verb count ∷ []
+outcome_lines verb (Err (halt.Unfit c h)) = unfit_text c h ∷ []
+outcome_lines verb (Err (halt.Stopped cause)) = stop_lines cause
 
 abbrev pub outcome_status : Result ℕ Halt → Status
 outcome_status (Ok count) = status.AllOk
 outcome_status (Err (halt.Unfit c h)) = status.SomeRefused
 outcome_status (Err (halt.Stopped cause)) = stop_status cause
 
-abbrev pub Tells : List ℕ → Result ℕ Halt → Option (List ℕ) → Option (List ℕ) → Status → Type 0
-Tells verb outcome old new ended = Prints (outcome_text verb outcome) (outcome_status outcome) old new ended
+abbrev pub Tells : List ℕ → Result ℕ Halt → Option (List (List ℕ)) → Option (List (List ℕ)) → Status → Type 0
+Tells verb outcome old new ended = Prints (outcome_lines verb outcome) (outcome_status outcome) old new ended
 
 -- ---- fromimd: the disk of an ImageDisk file, which has its sectors; the tracks of that file are told
 

@@ -1,7 +1,6 @@
 -- The survey of a disk as it is told, and what it counts.
-use Rattle.std.specs.Prelude.{◌≡◌, ℕ, Bool, true, false, List, ◌++◌, length, filter, Option, Result, Ok, Err, Vec}
+use Rattle.std.specs.Prelude.{◌≡◌, ℕ, Bool, true, false, List, [], ◌∷◌, ◌++◌, length, map, filter, Option, Result, Ok, Err, Vec}
 use Rattle.std.specs.declared.alloc.Global.{Global}
-use Rattle.std.specs.List.{flat_map}
 use Rattle.flop_base.specs.Shelf.{Files}
 use Rattle.flop_base.specs.declared.answers.Status.{Status}
 use Rattle.flop_base.specs.declared.answers.Status.TheVariants as status
@@ -12,7 +11,7 @@ use Rattle.track_model.specs.declared.Look.TheVariants.{Found, NoMark, NoSector,
 use Rattle.remaster.specs.declared.lines.SurveyLine.{SurveyLine}
 use Rattle.remaster.specs.Survey.{IsSurvey, line_text, end_text}
 use Rattle.sector_model.specs.declared.reply.Stop.{Stop}
-use Rattle.sector_model.specs.Texts.{stop_text, stop_status, line_end}
+use Rattle.sector_model.specs.Texts.{stop_lines, stop_status, line_end}
 use Rattle.sector_model.specs.Plays.{Prints}
 use Rattle.archive_commands.specs.Files.{Desk, ReadsAs, StopsAt}
 
@@ -20,15 +19,15 @@ use Rattle.archive_commands.specs.Files.{Desk, ReadsAs, StopsAt}
 abbrev pub field_line : SurveyLine → List ℕ
 field_line line = line_text line ++ line_end
 
-abbrev pub field_lines : List SurveyLine → List ℕ
-field_lines lines = flat_map field_line lines
+abbrev pub field_lines : List SurveyLine → List (List ℕ)
+field_lines lines = map field_line lines
 
 -- all that is printed: the lines of the fields, and how many there are
 abbrev pub end_line : ℕ → List ℕ
 end_line count = end_text count ++ line_end
 
-abbrev pub survey_text : List SurveyLine → List ℕ
-survey_text lines = field_lines lines ++ end_line (length lines)
+abbrev pub survey_lines : List SurveyLine → List (List ℕ)
+survey_lines lines = field_lines lines ++ end_line (length lines) ∷ []
 
 -- what comes of a survey of the file of this name
 abbrev pub SurveysFile : Option Files → List ℕ → Result (List SurveyLine) Stop → Type 0
@@ -40,9 +39,9 @@ abbrev pub GivesSurvey : List ℕ → Option Files → Result (Vec SurveyLine Gl
 GivesSurvey name told (Ok lines) = SurveysFile told name (Ok lines.items)
 GivesSurvey name told (Err cause) = SurveysFile told name (Err cause)
 
-abbrev pub TellsSurvey : Result (List SurveyLine) Stop → Option (List ℕ) → Option (List ℕ) → Status → Type 0
-TellsSurvey (Ok lines) old new ended = Prints (survey_text lines) status.AllOk old new ended
-TellsSurvey (Err cause) old new ended = Prints (stop_text cause) (stop_status cause) old new ended
+abbrev pub TellsSurvey : Result (List SurveyLine) Stop → Option (List (List ℕ)) → Option (List (List ℕ)) → Status → Type 0
+TellsSurvey (Ok lines) old new ended = Prints (survey_lines lines) status.AllOk old new ended
+TellsSurvey (Err cause) old new ended = Prints (stop_lines cause) (stop_status cause) old new ended
 
 -- a survey: it stores nothing
 abbrev pub Surveys : List ℕ → Desk → Desk → Status → Type 0

@@ -1,5 +1,5 @@
 // The files that commands load and store.
-ghost use Rattle.std.specs.Prelude.{◌≡◌, IfOk, IfErr, OnOk, OnErr, IsErrOf};
+ghost use Rattle.std.specs.Prelude.{◌≡◌, Ok, IfOk, IfErr, OnOk, OnErr, IsErrOf};
 ghost use Rattle.flop_base.specs.Shelf.{stored};
 ghost use Rattle.raw_image.specs.Image.{image_of};
 ghost use Rattle.imagedisk.specs.Images.{IsImdImage};
@@ -19,7 +19,8 @@ const MOST_IMAGE_BYTES: usize = 5_242_894;
 
 /// What a refused load stops a command with.
 fn stop_at_load(alloc: Global, name: &Name, error: LoadError) -> Result<Stop, NoMemory>
-    ensures { IfOk result (λ stop. LoadStops error name.now stop) }
+    ensures stops { IfOk result (λ stop. LoadStops error name.now stop) }
+    ensures fault_told { error ≡ LoadError.Failed → result ≡ Ok Stop.FileFault }
 {
     Ok(match error {
         LoadError::Absent => Stop::Absent {

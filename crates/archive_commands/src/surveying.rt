@@ -2,7 +2,7 @@
 ghost use Rattle.std.specs.Prelude.{◌≡◌, IfOk, string_bytes};
 ghost use Rattle.floppy_report.specs.Puts.{Puts, PutsLast, printed_of};
 ghost use Rattle.archive_commands.specs.Files.{faulty_desk_of, faulty_files_of, Loaded, RanOnFiles};
-ghost use Rattle.archive_commands.specs.Surveys.{field_line, field_lines, survey_text, end_line, is_found, found_count, IsSectorCount, GivesSurvey, Surveys};
+ghost use Rattle.archive_commands.specs.Surveys.{field_line, field_lines, survey_lines, end_line, is_found, found_count, IsSectorCount, GivesSurvey, Surveys};
 
 use crate::files::load_medium;
 use flop_base::{Name, NoMemory, Shelf, Sink, Status};
@@ -73,7 +73,7 @@ fn end_line(alloc: Global, count: usize) -> Result<String, AllocError>
 
 /// Puts a survey, and gives the status.
 fn put_survey<K: Sink>(alloc: Global, out: &mut K, lines: &[SurveyLine]) -> Status
-    ensures { PutsLast (survey_text lines.now) Status.AllOk (printed_of K.told K.fault_count out.old) (printed_of K.told K.fault_count out.new) result }
+    ensures { PutsLast (survey_lines lines.now) Status.AllOk (printed_of K.told K.fault_count out.old) (printed_of K.told K.fault_count out.new) result }
 {
     match put_fields(alloc, out, lines) {
         Ok(()) => put_last_line(out, end_line(alloc, lines.len()), Status::AllOk),

@@ -1,6 +1,6 @@
 // The last line of a command that makes a file of another.
 ghost use Rattle.std.specs.Prelude.{◌≡◌, ◌≢◌, Err, IfOk, string_bytes};
-ghost use Rattle.floppy_report.specs.Faults.{BlamesAlone};
+ghost use Rattle.sector_model.specs.Faults.{Blames};
 ghost use Rattle.sector_model.specs.declared.reply.Stop.TheVariants as stop;
 ghost use Rattle.archive_commands.specs.Making.{made_text, Tells};
 
@@ -26,7 +26,8 @@ pub(crate) fn tell<K: Sink>(
     ensures tells { Tells verb.now outcome.now (K.told out.old) (K.told out.new) result }
     ensures is_form { result ≢ Status.BadWords }
     ensures shelf_fault { result ≡ Status.FileFault → outcome.now ≡ Err (Halt.Stopped stop.FileFault) }
-    ensures sink_faults { BlamesAlone (result ≡ Status.SinkFault) (K.fault_count out.old) (K.fault_count out.new) }
+    ensures fault_told { outcome.now ≡ Err (Halt.Stopped stop.FileFault) → result ≡ Status.FileFault }
+    ensures sink_faults { Blames (result ≡ Status.SinkFault) (K.fault_count out.old) (K.fault_count out.new) }
 {
     match outcome {
         Ok(count) => put_last_line(out, made_line(alloc, verb, *count), Status::AllOk),

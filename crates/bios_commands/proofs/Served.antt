@@ -20,7 +20,7 @@ use Rattle.sector_model.specs.declared.reply.Reply.{Reply}
 use Rattle.sector_model.specs.declared.reply.Stop.{Stop}
 use Rattle.sector_model.specs.States.{State}
 use Rattle.sector_model.specs.Steps.{Step, StopsAt}
-use Rattle.sector_model.specs.Texts.{reply_text, stop_text, stop_status, is_refusal, bad_line_text}
+use Rattle.sector_model.specs.Texts.{reply_lines, stop_lines, stop_status, is_refusal, bad_line_text}
 use Rattle.sector_model.specs.Runs.{Taken}
 use Rattle.sector_model.specs.Plays.{World, Prints, Tells, IsText, IsPutFault, whole_status}
 use Rattle.floppy_report.proofs.DumpLines.{grown-twice, grown-nothing}
@@ -28,7 +28,7 @@ use Rattle.int13.specs.declared.regs.Regs.{Regs}
 use Rattle.floppy_session.specs.Services.{Serves}
 use Rattle.scripts.specs.Texts.{MissesText}
 use Rattle.bios_commands.specs.CallTexts.{call_text}
-use Rattle.bios_commands.specs.Rounds.{Round, DoesLine, AreRounds, lines_of, course_of, rounds_text, has_refused, IsRound, Breaks, AtStop, AtPut}
+use Rattle.bios_commands.specs.Rounds.{Round, DoesLine, AreRounds, lines_of, course_of, rounds_lines, has_refused, IsRound, Breaks, AtStop, AtPut}
 use Rattle.bios_commands.specs.Courses.{Through, Broken, EndStopped, ServesLines, ServesParsed, ServesCalls, There, Missing, TooLong, Faulty, Starved}
 use Rattle.bios_commands.specs.Lines.{IsCallOf, HasServed, HasBroken, EndsAs, InWhole, AtStore, Serving, ServesOrStarves, AsParsed, Starving}
 
@@ -38,35 +38,35 @@ abbrev asked_line : Request → Reply → ℕ → State → Round
 asked_line asked answer kept after = record {
   line = call.Job asked;
   course = record { asked = asked; answer = answer; after = after } ∷ [];
-  text = reply_text asked answer;
+  lines = reply_lines asked answer;
   refused = is_refusal answer;
   kept = kept;
   after = after;
 }
 
-pub asked_round : (kept : ℕ) (asked : Request) (answer : Reply) (refused : Bool) (old new : World) → Step asked old.state old.files answer new.state new.files → new.report ≡ grown old.report (reply_text asked answer) → refused ≡ is_refusal answer → IsRound kept (call.Job asked) old refused new kept
+pub asked_round : (kept : ℕ) (asked : Request) (answer : Reply) (refused : Bool) (old new : World) → Step asked old.state old.files answer new.state new.files → new.report ≡ grown old.report (reply_lines asked answer) → refused ≡ is_refusal answer → IsRound kept (call.Job asked) old refused new kept
 asked_round kept asked answer refused old new step report is = record {
   round = asked_line asked answer kept new.state;
   line_is = refl;
-  does = record { answer = answer; step = step; course_is = refl; text_is = refl; is_refused = refl; keeps = refl };
+  does = record { answer = answer; step = step; course_is = refl; lines_are = refl; is_refused = refl; keeps = refl };
   after = refl;
   keeps = refl;
   report = report;
   is_refused = is;
 }
 
-pub asked_cut : (kept : ℕ) (asked : Request) (answer : Reply) (old new : World) (ended : Status) → Step asked old.state old.files answer new.state new.files → GrowsByPart old.report (reply_text asked answer) new.report → IsPutFault ended → (last : List Taken) × Breaks kept (call.Job asked) old last new ended
+pub asked_cut : (kept : ℕ) (asked : Request) (answer : Reply) (old new : World) (ended : Status) → Step asked old.state old.files answer new.state new.files → GrowsByPart old.report (reply_lines asked answer) new.report → IsPutFault ended → (last : List Taken) × Breaks kept (call.Job asked) old last new ended
 asked_cut kept asked answer old new ended step part fault =
-    ((asked_line asked answer kept new.state).course, AtPut (asked_line asked answer kept new.state) (record { answer = answer; step = step; course_is = refl; text_is = refl; is_refused = refl; keeps = refl }) refl refl part fault)
+    ((asked_line asked answer kept new.state).course, AtPut (asked_line asked answer kept new.state) (record { answer = answer; step = step; course_is = refl; lines_are = refl; is_refused = refl; keeps = refl }) refl refl part fault)
 
-pub asked_stop : (kept : ℕ) (asked : Request) (cause : Stop) (old new : World) (ended : Status) → StopsAt asked old.state old.files cause new.state new.files → Prints (stop_text cause) (stop_status cause) old.report new.report ended → (last : List Taken) × Breaks kept (call.Job asked) old last new ended
+pub asked_stop : (kept : ℕ) (asked : Request) (cause : Stop) (old new : World) (ended : Status) → StopsAt asked old.state old.files cause new.state new.files → Prints (stop_lines cause) (stop_status cause) old.report new.report ended → (last : List Taken) × Breaks kept (call.Job asked) old last new ended
 asked_stop kept asked cause old new ended stops prints = ([], AtStop asked cause refl refl stops prints)
 
 abbrev served_line : CallLine → Regs → List Taken → ℕ → State → Round
 served_line line answered course kept after = record {
   line = line;
   course = course;
-  text = call_text answered;
+  lines = call_text answered ∷ [];
   refused = answered.carry;
   kept = kept;
   after = after;
@@ -77,12 +77,12 @@ served_does (call.Job asked) regs kept kept_after old new answered course is ser
 served_does (call.Call ax bx cx dx es) regs kept kept_after old new answered course is serves files = record {
   answered = answered;
   serves = subst (λ (r : Regs). Serves kept r old.state old.files answered kept_after course new.state) is serves;
-  text_is = refl;
+  lines_are = refl;
   is_refused = refl;
   files = files;
 }
 
-pub served_round : (line : CallLine) (regs : Regs) (kept kept_after : ℕ) (old new : World) (answered : Regs) → IsCallOf regs line → ((course : List Taken) × Serves kept regs old.state old.files answered kept_after course new.state) → new.files ≡ old.files → new.report ≡ grown old.report (call_text answered) → IsRound kept line old answered.carry new kept_after
+pub served_round : (line : CallLine) (regs : Regs) (kept kept_after : ℕ) (old new : World) (answered : Regs) → IsCallOf regs line → ((course : List Taken) × Serves kept regs old.state old.files answered kept_after course new.state) → new.files ≡ old.files → new.report ≡ grown old.report (call_text answered ∷ []) → IsRound kept line old answered.carry new kept_after
 served_round line regs kept kept_after old new answered is serves files report = record {
   round = served_line line answered serves.0 kept_after new.state;
   line_is = refl;
@@ -93,7 +93,7 @@ served_round line regs kept kept_after old new answered is serves files report =
   is_refused = refl;
 }
 
-pub served_cut : (line : CallLine) (regs : Regs) (kept kept_after : ℕ) (old new : World) (answered : Regs) (ended : Status) → IsCallOf regs line → ((course : List Taken) × Serves kept regs old.state old.files answered kept_after course new.state) → new.files ≡ old.files → GrowsByPart old.report (call_text answered) new.report → IsPutFault ended → (last : List Taken) × Breaks kept line old last new ended
+pub served_cut : (line : CallLine) (regs : Regs) (kept kept_after : ℕ) (old new : World) (answered : Regs) (ended : Status) → IsCallOf regs line → ((course : List Taken) × Serves kept regs old.state old.files answered kept_after course new.state) → new.files ≡ old.files → GrowsByPart old.report (call_text answered ∷ []) new.report → IsPutFault ended → (last : List Taken) × Breaks kept line old last new ended
 served_cut line regs kept kept_after old new answered ended is serves files part fault =
     (serves.0, AtPut (served_line line answered serves.0 kept_after new.state) (served_does line regs kept kept_after old new answered serves.0 is serves.1 files) refl refl part fault)
 
@@ -112,10 +112,10 @@ lines_more : (rounds : List Round) (round : Round) → lines_of (rounds ++ round
 lines_more [] round = refl
 lines_more (first ∷ later) round = ap (λ (rest : List CallLine). first.line ∷ rest) (lines_more later round)
 
-text_more : (rounds : List Round) (round : Round) → rounds_text (rounds ++ round ∷ []) ≡ rounds_text rounds ++ round.text
-text_more [] round = append-nil round.text
+text_more : (rounds : List Round) (round : Round) → rounds_lines (rounds ++ round ∷ []) ≡ rounds_lines rounds ++ round.lines
+text_more [] round = append-nil round.lines
 text_more (first ∷ later) round =
-    ap (λ (rest : List ℕ). first.text ++ rest) (text_more later round) ∙ sym (append_assoc first.text (rounds_text later) round.text)
+    ap (λ (rest : List (List ℕ)). first.lines ++ rest) (text_more later round) ∙ sym (append_assoc first.lines (rounds_lines later) round.lines)
 
 or-false : (b : Bool) → (b || false) ≡ b
 or-false true = refl
@@ -144,7 +144,7 @@ served_more old mid new lines line refused refusal kept kept_after so_far is =
       served = record {
         served = subst (λ (k : ℕ). AreRounds 0 old.state old.files (so_far.rounds ++ round ∷ []) k new.state new.files) is.keeps (subst (λ (s : State). AreRounds 0 old.state old.files (so_far.rounds ++ round ∷ []) round.kept s new.files) is.after more);
         all = ap (λ (before : List CallLine). before ++ line ∷ []) so_far.served.all ∙ ap (λ (l : CallLine). lines_of so_far.rounds ++ l ∷ []) (sym is.line_is) ∙ sym (lines_more so_far.rounds round);
-        report = is.report ∙ ap (λ (r : Option (List ℕ)). grown r round.text) so_far.served.report ∙ grown-twice old.report (rounds_text so_far.rounds) round.text ∙ ap (grown old.report) (sym (text_more so_far.rounds round));
+        report = is.report ∙ ap (λ (r : Option (List (List ℕ))). grown r round.lines) so_far.served.report ∙ grown-twice old.report (rounds_lines so_far.rounds) round.lines ∙ ap (grown old.report) (sym (text_more so_far.rounds round));
       };
       is_refused = ap (λ (b : Bool). b || refusal) so_far.is_refused ∙ ap (λ (b : Bool). has_refused so_far.rounds || b) is.is_refused ∙ sym (refused_more so_far.rounds round);
     }
@@ -232,18 +232,18 @@ loaded_text : (told : Option Files) (name : List ℕ) (bytes : Vec ℕ Global) �
 loaded_text None name bytes loads = tt
 loaded_text (Some files) name bytes loads = subst (λ (found : Option (List ℕ)). IsSomeAnd found (λ b. (b ≡ bytes.items) × (length b ≤ 4194304))) (sym loads.0) (refl, loads.1)
 
-abbrev world : State → Option Files → Option (List ℕ) → World
+abbrev world : State → Option Files → Option (List (List ℕ)) → World
 world state files report = record { state = state; files = files; report = report }
 
 -- a text that was loaded
-pub text_serves : (state : State) (told loaded : Option Files) (report : Option (List ℕ)) (new : World) (name text : List ℕ) (bytes : Vec ℕ Global) (ended : Status) → loaded ≡ told → text ≡ bytes.items → IfSome told (λ files. Loads files name 4194304 (Ok bytes)) → ServesOrStarves text (world state loaded report) new ended → (course : List Taken) × ServesCalls name (world state told report) course new ended
+pub text_serves : (state : State) (told loaded : Option Files) (report : Option (List (List ℕ))) (new : World) (name text : List ℕ) (bytes : Vec ℕ Global) (ended : Status) → loaded ≡ told → text ≡ bytes.items → IfSome told (λ files. Loads files name 4194304 (Ok bytes)) → ServesOrStarves text (world state loaded report) new ended → (course : List Taken) × ServesCalls name (world state told report) course new ended
 text_serves state told loaded report new name text bytes ended stays same loads serves =
     as_text (world state told report) new name bytes.items ended (loaded_text told name bytes loads)
     (subst (λ (files : Option Files). ServesOrStarves bytes.items (world state files report) new ended) stays
     (subst (λ (read : List ℕ). ServesOrStarves read (world state loaded report) new ended) same serves))
 
 -- a text that wasn't had
-as_missed : (told : Option Files) (state : State) (report after : Option (List ℕ)) (name : List ℕ) (cause : LoadError) (ended : Status) → IfSome told (λ files. Loads files name 4194304 (Err cause)) → MissesText cause name report after ended → (course : List Taken) × ServesCalls name (world state told report) course (world state told after) ended
+as_missed : (told : Option Files) (state : State) (report after : Option (List (List ℕ))) (name : List ℕ) (cause : LoadError) (ended : Status) → IfSome told (λ files. Loads files name 4194304 (Err cause)) → MissesText cause name report after ended → (course : List Taken) × ServesCalls name (world state told report) course (world state told after) ended
 as_missed None state report after name load.Absent ended loads missed = ([], Missing tt (record { nothing = refl; tells = record { state = refl; files = refl; prints = missed } }))
 as_missed (Some files) state report after name load.Absent ended loads missed = ([], Missing loads (record { nothing = refl; tells = record { state = refl; files = refl; prints = missed } }))
 as_missed None state report after name load.TooLong ended loads missed = ([], TooLong tt (record { nothing = refl; tells = record { state = refl; files = refl; prints = missed } }))
@@ -252,7 +252,7 @@ as_missed told state report after name load.Failed ended loads missed = ([], Fau
 as_missed told state report after name load.NoMemory ended loads missed = ([], Starved refl (record { same = ap (world state told) missed.0; status = missed.1 }))
 
 -- a file that wasn't loaded
-pub missed_serves : (state : State) (told loaded : Option Files) (report after : Option (List ℕ)) (name : List ℕ) (cause : LoadError) (ended : Status) → loaded ≡ told → IfSome told (λ files. Loads files name 4194304 (Err cause)) → MissesText cause name report after ended → (course : List Taken) × ServesCalls name (world state told report) course (world state loaded after) ended
+pub missed_serves : (state : State) (told loaded : Option Files) (report after : Option (List (List ℕ))) (name : List ℕ) (cause : LoadError) (ended : Status) → loaded ≡ told → IfSome told (λ files. Loads files name 4194304 (Err cause)) → MissesText cause name report after ended → (course : List Taken) × ServesCalls name (world state told report) course (world state loaded after) ended
 missed_serves state told loaded report after name cause ended stays loads missed =
     subst (λ (files : Option Files). (course : List Taken) × ServesCalls name (world state told report) course (world state files after) ended) (sym stays)
     (as_missed told state report after name cause ended loads missed)

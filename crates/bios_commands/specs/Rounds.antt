@@ -10,7 +10,7 @@ use Rattle.sector_model.specs.declared.reply.Reply.{Reply}
 use Rattle.sector_model.specs.declared.reply.Stop.{Stop}
 use Rattle.sector_model.specs.States.{State}
 use Rattle.sector_model.specs.Steps.{Step, StopsAt}
-use Rattle.sector_model.specs.Texts.{reply_text, stop_text, stop_status, is_refusal}
+use Rattle.sector_model.specs.Texts.{reply_lines, stop_lines, stop_status, is_refusal}
 use Rattle.sector_model.specs.Runs.{Taken}
 use Rattle.sector_model.specs.Plays.{World, Prints, IsPutFault}
 use Rattle.int13.specs.declared.regs.Regs.{Regs}
@@ -21,7 +21,7 @@ use Rattle.bios_commands.specs.CallTexts.{registers, call_text}
 pub record Round : Type 0 where
   pub line : CallLine
   pub course : List Taken
-  pub text : List ℕ
+  pub lines : List (List ℕ)
   pub refused : Bool
   -- the status that the service keeps
   pub kept : ℕ
@@ -32,7 +32,7 @@ pub record IsAsked (asked : Request) (kept : ℕ) (old : State) (told : Option F
   pub answer : Reply
   pub step : Step asked old told answer round.after after
   pub course_is : round.course ≡ record { asked = asked; answer = answer; after = round.after } ∷ []
-  pub text_is : round.text ≡ reply_text asked answer
+  pub lines_are : round.lines ≡ reply_lines asked answer
   pub is_refused : round.refused ≡ is_refusal answer
   pub keeps : round.kept ≡ kept
 
@@ -40,7 +40,7 @@ pub record IsAsked (asked : Request) (kept : ℕ) (old : State) (told : Option F
 pub record IsServed (regs : Regs) (kept : ℕ) (old : State) (told : Option Files) (round : Round) (after : Option Files) : Type 0 where
   pub answered : Regs
   pub serves : Serves kept regs old told answered round.kept round.course round.after
-  pub text_is : round.text ≡ call_text answered
+  pub lines_are : round.lines ≡ call_text answered ∷ []
   pub is_refused : round.refused ≡ answered.carry
   pub files : after ≡ told
 
@@ -65,9 +65,9 @@ course_of [] = []
 course_of (round ∷ later) = round.course ++ course_of later
 
 -- what they print
-abbrev pub rounds_text : List Round → List ℕ
-rounds_text [] = []
-rounds_text (round ∷ later) = round.text ++ rounds_text later
+abbrev pub rounds_lines : List Round → List (List ℕ)
+rounds_lines [] = []
+rounds_lines (round ∷ later) = round.lines ++ rounds_lines later
 
 -- some of them counts as a refusal
 abbrev pub has_refused : List Round → Bool
@@ -81,19 +81,19 @@ pub record IsRound (kept : ℕ) (line : CallLine) (old : World) (refused : Bool)
   pub does : DoesLine line kept old.state old.files round new.files
   pub after : round.after ≡ new.state
   pub keeps : round.kept ≡ kept_after
-  pub report : new.report ≡ grown old.report round.text
+  pub report : new.report ≡ grown old.report round.lines
   pub is_refused : refused ≡ round.refused
 
 -- a request stopped the run, or what a line prints couldn't be put whole; `last` are the requests that the line ran
 pub data Breaks (kept : ℕ) (line : CallLine) (old : World) (last : List Taken) (new : World) (ended : Status) : Type 0 where
   AtStop : (asked : Request) (cause : Stop) → line ≡ call.Job asked → last ≡ []
       → StopsAt asked old.state old.files cause new.state new.files
-      → Prints (stop_text cause) (stop_status cause) old.report new.report ended → Breaks kept line old last new ended
+      → Prints (stop_lines cause) (stop_status cause) old.report new.report ended → Breaks kept line old last new ended
   AtPut : (round : Round) → DoesLine line kept old.state old.files round new.files → last ≡ round.course → round.after ≡ new.state
-      → GrowsByPart old.report round.text new.report → IsPutFault ended → Breaks kept line old last new ended
+      → GrowsByPart old.report round.lines new.report → IsPutFault ended → Breaks kept line old last new ended
 
 -- some lines were done and told whole, from the service as it comes
 pub record AreServed (lines : List CallLine) (old : World) (rounds : List Round) (new : World) (kept : ℕ) : Type 0 where
   pub served : AreRounds 0 old.state old.files rounds kept new.state new.files
   pub all : lines ≡ lines_of rounds
-  pub report : new.report ≡ grown old.report (rounds_text rounds)
+  pub report : new.report ≡ grown old.report (rounds_lines rounds)

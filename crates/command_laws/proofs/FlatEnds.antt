@@ -15,7 +15,7 @@ use Rattle.sector_model.specs.declared.reply.Stop.{Stop}
 use Rattle.sector_model.specs.declared.reply.Stop.TheVariants as stop
 use Rattle.sector_model.specs.Stations.{StationState, bay_of}
 use Rattle.sector_model.specs.Steps.{refusal_of, is_loaded, blank_of, IsImageOf}
-use Rattle.sector_model.specs.Texts.{is_refusal, stop_text, stop_status}
+use Rattle.sector_model.specs.Texts.{is_refusal, stop_lines, stop_status}
 use Rattle.sector_model.specs.Runs.{Taken, IsEndStop}
 use Rattle.sector_model.specs.Plays.{World}
 use Rattle.sector_model.specs.Ties.{AreUndisturbed}
@@ -181,7 +181,7 @@ module _ (flat name : List ℕ) (old new : World) (course : List Taken) (ended :
       (import_stores flat name old new course (Ok (row, at_rate), there, done) (fresh_memory old.state.station begins.fresh) faultless.first)))
   import_ends (Err cause) not runs =
       let only = taken_flat files flat bytes rate cause is (subst (λ (f : Option Files). IsNotTaken f flat cause) told not) in
-      prints_outside _ _ _ _ ended _ (stop_outside _ cause only) (last_run (stop_text cause) (stop_status cause) old course new ended runs).1.report
+      prints_outside _ _ _ _ ended _ (stop_outside _ cause only) (last_run (stop_lines cause) (stop_status cause) old course new ended runs).1.report
 
 -- where nothing is left to go wrong, an import goes to its end, or the outside failed
 pub import_complete : (flat name : List ℕ) (old new : World) (ended : Status) (files : Files) (bytes : List ℕ) (rate : Rate) → BeginsSound old

@@ -180,7 +180,7 @@ stop_outside Holds stop.NoMemory only = tt
 stop_outside Holds _ only = absurd only
 
 -- a last line whose status is such a one
-pub prints_outside : (Holds : Type 0) (report : Option (List ℕ)) (line : List ℕ) (wanted ended : Status) (after : Option (List ℕ))
+pub prints_outside : (Holds : Type 0) (report : Option (List (List ℕ))) (line : List (List ℕ)) (wanted ended : Status) (after : Option (List (List ℕ)))
     → EndsWellOrOutside Holds wanted → Prints line wanted report after ended → EndsWellOrOutside Holds ended
 prints_outside Holds report line wanted ended after well (plays.Whole told same) = subst (λ (s : Status). EndsWellOrOutside Holds s) (sym same) well
 prints_outside Holds report line wanted ended after well (plays.Part grows fault) = put_fault_outside Holds ended fault
@@ -203,7 +203,7 @@ module _ (start : Counters) where
   stored_ends : (name bytes line : List ℕ) (old new : World) (ended : Status) → IsStill start old.state.station.counters
       → StoresLast name bytes line status.AllOk old new ended → EndsStill [] new ended
   stored_ends name bytes line old new ended still (IsStored state files prints) =
-      prints_outside _ old.report line status.AllOk ended new.report (subst (λ (s : State). IsStill start s.station.counters) (sym state) still, refl) prints
+      prints_outside _ old.report (line ∷ []) status.AllOk ended new.report (subst (λ (s : State). IsStill start s.station.counters) (sym state) still, refl) prints
   stored_ends name bytes line old new ended still (NotStored same fault) = store_fault_outside _ ended fault
 
   -- behind an answer that is no refusal
@@ -219,7 +219,7 @@ module _ (start : Counters) where
       prints_outside _ old.report line wanted ended new.report (subst (λ (s : Status). EndsStill [] new s) (sym well) (here, refl)) runs.report
   goes_ends (Ends line wanted) old new (taken ∷ later) ended well still calm runs = absurd runs
   goes_ends (Says line rest) old new course ended goes still calm (inl runs) =
-      goes_ends rest (record old { report = grown old.report line }) new course ended goes still calm runs
+      goes_ends rest (record old { report = grown old.report (line ∷ []) }) new course ended goes still calm runs
   goes_ends (Says line rest) old new course ended goes still calm (inr cut) = put_fault_outside _ ended cut.1.1
   goes_ends (Asks asked rest) old new [] ended goes still calm runs =
       let only = goes.0.stops runs.0 (at new.state new.files) runs.1 in

@@ -51,7 +51,7 @@ use Rattle.raw_image.specs.Image.{file_of}
 use Rattle.raw_image.specs.declared.error.ImageError.TheVariants.{TooShort, Trailing}
 use Rattle.sector_model.specs.declared.reply.Stop.{Stop}
 use Rattle.sector_model.specs.States.{State}
-use Rattle.sector_model.specs.Texts.{stop_text, stop_status}
+use Rattle.sector_model.specs.Texts.{stop_lines, stop_status}
 use Rattle.floppy_session.specs.Blanks.{blank_request}
 use Rattle.scripts.specs.Scripts.{RunsScript}
 use Rattle.scripts.proofs.Reading.{last_run, prints_status, no_stop_is_ok}
@@ -432,7 +432,7 @@ module _ (bytes name : List ℕ) (rate : Rate) (whole : length bytes ≡ flat_le
       let three = tracks_take (λ t none row now. WasSoFar old t now) (imports_track bytes (sectors_at rate))
       (λ c h cylinder head none. track_imported bytes rate name old.files c h whole cylinder head (counts old) none) tt _ two.mid two.two new two.left in
       let four = carries_passes (request.Eject 0) _ three.mid three.two new three.left in
-      let last = last_run (import_text (sectors_of rate)) status.AllOk four.mid four.two new status.AllOk four.left in
+      let last = last_run (import_text (sectors_of rate) ∷ []) status.AllOk four.mid four.two new status.AllOk four.left in
       let full = three.knows [] (opened old one.mid two.mid one.one two.one one.knows two.knows size) in
       let calm = subst (λ (s : State). IsFaultless 0 (counts old) s.station.counters) last.1.state faultless in
       subst (λ (f : Option Files). StoresDisk bytes name rate old.files f) (sym last.1.files) (ejected old three.mid four.mid four.one four.knows calm full)
@@ -452,5 +452,5 @@ import_stores flat name old new course imports size faultless = go imports.0 imp
           (flat_size rate (length bytes) is.sectors) old new course runs size faultless,
     )
     go (Err cause) is runs =
-        let last = last_run (stop_text cause) (stop_status cause) old course new status.AllOk runs in
+        let last = last_run (stop_lines cause) (stop_status cause) old course new status.AllOk runs in
         absurd (no_stop_is_ok cause (prints_status _ _ (stop_status cause) status.AllOk _ (λ fault. fault) last.1.report).1)

@@ -219,7 +219,7 @@ module _ (to log : List ℕ) where
 
   -- ---- the whole
 
-  ends_in_order : (line : List ℕ) (wanted : Status) → InOrder Any [] (Ends line wanted)
+  ends_in_order : (line : List (List ℕ)) (wanted : Status) → InOrder Any [] (Ends line wanted)
   ends_in_order line wanted old course new ended any runs = Nothing (last_run line wanted old course new ended runs).1.files
 
   fails_in_order : (cause : Status) → InOrder Any [] (Fails cause)

@@ -60,7 +60,7 @@ script_rises : (n : ℕ) (script : Script) (old new : World) (course : List Take
 script_rises n (Ends line wanted) old new [] ended most runs = same_rises n old new runs.state
 script_rises n (Ends line wanted) old new (taken ∷ later) ended most runs = absurd runs
 script_rises n (Says line rest) old new course ended most (inl runs) =
-    script_rises n rest (record old { report = grown old.report line }) new course ended most runs
+    script_rises n rest (record old { report = grown old.report (line ∷ []) }) new course ended most runs
 script_rises n (Says line rest) old new course ended most (inr cut) = same_rises n old new cut.1.0.state
 script_rises n (Asks asked rest) old new [] ended most runs =
     let stop = stopped_rises old.state new.state asked runs.1.after in

@@ -1,5 +1,5 @@
 -- The command that verifies tells of the keys that aren't found.
-use Rattle.std.proofs.Common.{arith, ◌≡◌, ◌∙◌, ◌+◌, ◌*◌, ℕ, nat_le, Bool, true, false, List, [], ◌∷◌, ◌++◌, length, refl, sym, ap, subst, append_assoc, Option, Some, None, Result, Ok, Err, le-leb, ◌-◌}
+use Rattle.std.proofs.Common.{arith, map, ◌≡◌, ◌∙◌, ◌+◌, ◌*◌, ℕ, nat_le, Bool, true, false, List, [], ◌∷◌, ◌++◌, length, refl, sym, ap, subst, append_assoc, Option, Some, None, Result, Ok, Err, le-leb, ◌-◌}
 use Rattle.std.specs.Prelude.{◌||◌}
 use Rattle.std.specs.List.{flat_map, range_with_len}
 use Rattle.std.proofs.lemmas.Grind.{flat_map-append}
@@ -62,16 +62,16 @@ pub record IsTally (reads refused : ℕ) (tally : Tally) : Type 0 where
 pub record Verifies (keys : List Chrn) (begun : Tally) (old : World) (course : List Taken) (found : Tally) (mid : World) : Type 0 where
   pub run : Run old.state old.files course mid.state mid.files
   pub all : requests_of course ≡ read_each 0 keys
-  pub report : mid.report ≡ grown old.report (flat_map failing_line (refused_reads course))
+  pub report : mid.report ≡ grown old.report (map failing_line (refused_reads course))
   pub tally : (n before : ℕ) → IsTally n before begun → IsTally (n + length keys) (before + length (refused_reads course)) found
 
-grown_none : (report : Option (List ℕ)) → report ≡ grown report []
+grown_none : (report : Option (List (List ℕ))) → report ≡ grown report []
 grown_none None = refl
-grown_none (Some told) = ap (λ (l : List ℕ). Some l) (sym (append-nil told))
+grown_none (Some told) = ap (λ (l : List (List ℕ)). Some l) (sym (append-nil told))
 
-pub grown_twice : (report : Option (List ℕ)) (one two : List ℕ) → grown (grown report one) two ≡ grown report (one ++ two)
+pub grown_twice : (report : Option (List (List ℕ))) (one two : List (List ℕ)) → grown (grown report one) two ≡ grown report (one ++ two)
 grown_twice None one two = refl
-grown_twice (Some told) one two = ap (λ (l : List ℕ). Some l) (append_assoc told one two)
+grown_twice (Some told) one two = ap (λ (l : List (List ℕ)). Some l) (append_assoc told one two)
 
 -- after one more read
 one_well : (tally : Tally) (n before : ℕ) → IsTally n before tally → IsTally (n + 1) (before + 0) (one_more tally false)
@@ -103,7 +103,7 @@ module _ (ended : Status) (whole : IsWhole ended) (rest : Tally → Script) (new
   -- behind a read that was answered, and what was told of it
   more : (key : Chrn) (keys : List Chrn) (tally : Tally) (old mid : World) (taken : Taken) (later : List Taken) (refused : Bool) (failed : List (Chrn × Code))
       → taken.asked ≡ request.Read 0 key 0x10000 → Step taken.asked old.state old.files taken.answer taken.after mid.files → mid.state ≡ taken.after
-      → refused_read (request.Read 0 key 0x10000) taken.answer ≡ failed → mid.report ≡ grown old.report (flat_map failing_line failed)
+      → refused_read (request.Read 0 key 0x10000) taken.answer ≡ failed → mid.report ≡ grown old.report (map failing_line failed)
       → ((n before : ℕ) → IsTally n before tally → IsTally (n + 1) (before + length failed) (one_more tally refused))
       → KeysPassed keys (one_more tally refused) mid later → KeysPassed (key ∷ keys) tally old (taken ∷ later)
   more key keys tally old mid taken later refused failed asked step state failing report next b =
@@ -111,7 +111,7 @@ module _ (ended : Status) (whole : IsWhole ended) (rest : Tally → Script) (new
       ap (λ (q : Request). refused_read q taken.answer ++ refused_reads b.one) asked ∙ ap (λ (row : List (Chrn × Code)). row ++ refused_reads b.one) failing in
       let size = ap length told ∙ length-append failed (refused_reads b.one) in
       let run = subst (λ (s : State). Run s mid.files b.one b.mid.state b.mid.files) state b.knows.run in
-      let lines = flat_map failing_line (refused_reads b.one) in
+      let lines = map failing_line (refused_reads b.one) in
       record {
         one = taken ∷ b.one;
         two = b.two;
@@ -121,8 +121,8 @@ module _ (ended : Status) (whole : IsWhole ended) (rest : Tally → Script) (new
         knows = record {
           run = (mid.files, step, run);
           all = ap (λ (q : Request). q ∷ requests_of b.one) asked ∙ ap (λ (l : List Request). request.Read 0 key 0x10000 ∷ l) b.knows.all;
-          report = b.knows.report ∙ ap (λ r. grown r lines) report ∙ grown_twice old.report (flat_map failing_line failed) lines
-              ∙ ap (grown old.report) (sym (ap (flat_map failing_line) told ∙ flat_map-append failing_line failed (refused_reads b.one)));
+          report = b.knows.report ∙ ap (λ r. grown r lines) report ∙ grown_twice old.report (map failing_line failed) lines
+              ∙ ap (grown old.report) (sym (ap (map failing_line) told ∙ map-append failing_line failed (refused_reads b.one)));
           tally = λ n before is.
               let all : before + length failed + length (refused_reads b.one) ≡ before + length (refused_reads (taken ∷ b.one)) = omega (arith, size) in
               let count : n + 1 + length keys ≡ n + length (key ∷ keys) = omega arith in
@@ -156,7 +156,7 @@ module _ (ended : Status) (whole : IsWhole ended) (rest : Tally → Script) (new
       subst (λ (l : List Taken). KeysPassed (key ∷ keys) tally old (taken ∷ l)) (sym is_later)
       (more key keys tally old b.mid taken b.two true ((key, cause) ∷ []) asked
       (subst (λ (f : Option Files). Step taken.asked old.state old.files taken.answer taken.after f) (sym b.knows.files) step) b.knows.state
-      (ap (refused_read (request.Read 0 key 0x10000)) is) (b.knows.report ∙ ap (grown old.report) (sym (append-nil line))) (one_bad tally)
+      (ap (refused_read (request.Read 0 key 0x10000)) is) b.knows.report (one_bad tally)
       (next (one_more tally true) b.mid b.two b.left))
 
   keys_run : (keys : List Chrn) (tally : Tally) (old : World) (course : List Taken) → RunsScript (through verifies_key keys tally rest) old course new ended
@@ -269,7 +269,7 @@ module _ (name : List ℕ) (disk : Disk) (files : Files) (old : World) (course :
   -- what was told
   all_told : (failed : List (Chrn × Code)) (mid last : World) (two : List Taken) (found : Tally) → mid.report ≡ old.report
       → Verifies (standard_keys disk) no_reads mid two found last → refused_reads two ≡ failed
-      → Prints (verify_text found.well (sectors_of (shape_of disk)))
+      → Prints (verify_text found.well (sectors_of (shape_of disk)) ∷ [])
       (whole_status found.refused) last.report new.report ended → TellsFailing disk failed old new ended
   all_told failed mid last two found kept reads refused prints =
       let sectors = sectors_of (shape_of disk) in
@@ -281,11 +281,11 @@ module _ (name : List ℕ) (disk : Disk) (files : Files) (old : World) (course :
       let some : 0 + length (refused_reads two) ≡ length failed = omega (arith, size) in
       let printed = prints_status _ _ (whole_status found.refused) ended _ whole.put prints in
       record {
-        report = printed.0 ∙ ap (λ r. grown r (verify_text found.well sectors))
-            (reads.report ∙ ap (λ r. grown r (flat_map failing_line (refused_reads two))) kept)
-            ∙ grown_twice old.report (flat_map failing_line (refused_reads two)) (verify_text found.well sectors)
-            ∙ ap (λ (row : List (Chrn × Code)). grown old.report (flat_map failing_line row ++ verify_text found.well sectors)) refused
-            ∙ ap (λ (n : ℕ). grown old.report (flat_map failing_line failed ++ verify_text n sectors)) well;
+        report = printed.0 ∙ ap (λ r. grown r (verify_text found.well sectors ∷ []))
+            (reads.report ∙ ap (λ r. grown r (map failing_line (refused_reads two))) kept)
+            ∙ grown_twice old.report (map failing_line (refused_reads two)) (verify_text found.well sectors ∷ [])
+            ∙ ap (λ (row : List (Chrn × Code)). grown old.report (map failing_line row ++ verify_text found.well sectors ∷ [])) refused
+            ∙ ap (λ (n : ℕ). grown old.report (map failing_line failed ++ verify_text n sectors ∷ [])) well;
         status = printed.1 ∙ ap whole_status tally.some ∙ ap (λ (n : ℕ). whole_status (nat_le 1 n)) some;
       }
 

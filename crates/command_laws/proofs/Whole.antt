@@ -65,7 +65,7 @@ pub record StoresLog (log : List ℕ) (asked : ℕ) (lines : List LogLine) (old 
   pub nothing : course ≡ []
   pub state : new.state ≡ old.state
   pub stores : new.files ≡ stored old.files log (log_text lines)
-  pub report : new.report ≡ grown old.report (last_text (outcome_of asked lines))
+  pub report : new.report ≡ grown old.report (last_text (outcome_of asked lines) ∷ [])
   pub status : ended ≡ outcome_status (outcome_of asked lines)
 
 not_store : (ended : Status) → IsEndStatus ended → IsStoreFault ended → ⊥
@@ -95,7 +95,7 @@ module _ (log : List ℕ) (asked : ℕ) (lines : List LogLine) (old : World) (co
   log_stored (inr starved) = absurd (subst IsEndStatus starved.2 whole)
 
 -- a last line with another status than 0 or 1 was no such end
-ends_not : (line : List ℕ) (wanted : Status) (old : World) (course : List Taken) (new : World) (ended : Status)
+ends_not : (line : List (List ℕ)) (wanted : Status) (old : World) (course : List Taken) (new : World) (ended : Status)
     → IsEndStatus ended → (IsEndStatus wanted → ⊥) → RunsScript (Ends line wanted) old course new ended → ⊥
 ends_not line wanted old course new ended whole bad runs =
     let last = last_run line wanted old course new ended runs in
@@ -194,7 +194,7 @@ module _ (from to log : List ℕ) (disk : Disk) (files : Files) (old : World) (c
       (by_found a)
       (λ line. never a line status.BadJob (λ e. e)) (fails a status.FileFault (λ e. e)) (fails a status.NoMemory (λ e. e)) (answers disk.rate) there left
     where
-      never : {rest : Shape → Script} (a : Passed (Opened from) rest old course new ended) (line : List ℕ) (wanted : Status) → (IsEndStatus wanted → ⊥)
+      never : {rest : Shape → Script} (a : Passed (Opened from) rest old course new ended) (line : List (List ℕ)) (wanted : Status) → (IsEndStatus wanted → ⊥)
           → RunsScript (Ends line wanted) a.mid a.two new ended → RescuesDisk from to log disk files old course new ended
       never a line wanted bad runs = absurd (ends_not line wanted a.mid a.two new ended whole bad runs)
 
@@ -436,8 +436,8 @@ module _ (from to log : List ℕ) (disk : Disk) (found : Option (List LogLine)) 
             given = λ key deleted content some. (given_of ⊥ (λ never. absurd never) key deleted content some).field;
           };
           tells = record {
-            report = p.stores.report ∙ ap (λ (r : Option (List ℕ)). grown r (last_text (outcome_of asked (log_of p.body)))) p.report
-                ∙ ap (λ (o : Outcome). grown old.report (last_text o)) same;
+            report = p.stores.report ∙ ap (λ (r : Option (List (List ℕ))). grown r (last_text (outcome_of asked (log_of p.body)) ∷ [])) p.report
+                ∙ ap (λ (o : Outcome). grown old.report (last_text o ∷ [])) same;
             status = p.stores.status ∙ ap outcome_status same;
             others = counted;
           };

@@ -178,7 +178,7 @@ outcome_in course asked = record { written = count_writes course; asked = asked 
 
 -- the last line tells how many of the asked records were written, and the status whether all were; the others are in the log
 pub record TellsRescue (asked : ℕ) (old : World) (course : List Taken) (new : World) (ended : Status) : Type 0 where
-  pub report : new.report ≡ grown old.report (last_text (outcome_in course asked))
+  pub report : new.report ≡ grown old.report (last_text (outcome_in course asked) ∷ [])
   pub status : ended ≡ outcome_status (outcome_in course asked)
   pub others : count_writes course + length (log_of course) ≡ asked
 

@@ -1,6 +1,5 @@
 -- What a verify prints.
-use Rattle.std.specs.Prelude.{◌≡◌, ℕ, ◌-◌, nat_le, List, ◌++◌, length}
-use Rattle.std.specs.List.{flat_map}
+use Rattle.std.specs.Prelude.{◌≡◌, ℕ, ◌-◌, nat_le, List, [], ◌∷◌, ◌++◌, length, map}
 use Rattle.flop_base.specs.Sink.{grown}
 use Rattle.flop_base.specs.declared.key.Chrn.{Chrn}
 use Rattle.flop_base.specs.declared.answers.Code.{Code}
@@ -18,8 +17,8 @@ abbrev pub failing_line : Chrn × Code → List ℕ
 failing_line failed = failure_line failed.0 (reason.Driver failed.1)
 
 -- a line for each key that can't be read, and how many of all sectors can
-abbrev pub verify_report : ℕ → List (Chrn × Code) → List ℕ
-verify_report all failed = flat_map failing_line failed ++ verify_text (all - length failed) all
+abbrev pub verify_report : ℕ → List (Chrn × Code) → List (List ℕ)
+verify_report all failed = map failing_line failed ++ verify_text (all - length failed) all ∷ []
 
 -- a verify of a disk printed these failing keys and no others, and its status says whether there are any
 pub record TellsFailing (disk : Disk) (failed : List (Chrn × Code)) (old new : World) (ended : Status) : Type 0 where

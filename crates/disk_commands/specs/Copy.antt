@@ -1,5 +1,5 @@
 -- The script of a copy.
-use Rattle.std.specs.Prelude.{ℕ, ◌-◌, Bool, true, false, List, ◌++◌, codes, set, get_or, replicate, if◌then◌else◌}
+use Rattle.std.specs.Prelude.{ℕ, ◌-◌, Bool, true, false, List, [], ◌∷◌, ◌++◌, codes, set, get_or, replicate, if◌then◌else◌}
 use Rattle.std.specs.Fmt.{decimal}
 use Rattle.flop_base.specs.Standard.{sectors_at}
 use Rattle.flop_base.specs.declared.key.Chrn.{Chrn}
@@ -66,4 +66,4 @@ makes_copy from to rest = opens from (λ shape. copies_disk to shape (λ none. r
 
 -- so it is, and the last line tells how many sectors
 unfoldable pub copy_script : List ℕ → List ℕ → Script
-copy_script from to = makes_copy from to (λ shape. Ends (copy_text (sectors_of shape)) status.AllOk)
+copy_script from to = makes_copy from to (λ shape. Ends (copy_text (sectors_of shape) ∷ []) status.AllOk)

@@ -1,5 +1,5 @@
 -- The script of a format.
-use Rattle.std.specs.Prelude.{ℕ, ◌*◌, List, ◌++◌, codes}
+use Rattle.std.specs.Prelude.{ℕ, ◌*◌, List, [], ◌∷◌, ◌++◌, codes}
 use Rattle.std.specs.Fmt.{decimal}
 use Rattle.flop_base.specs.declared.answers.Rate.{Rate}
 use Rattle.flop_base.specs.declared.answers.Status.TheVariants as status
@@ -21,4 +21,4 @@ formats_disk name cylinders rate rest =
     carries (request.Eject 0) rest)))
 
 unfoldable pub format_script : List ℕ → ℕ → Rate → Script
-format_script name cylinders rate = formats_disk name cylinders rate (λ none. Ends (format_text (cylinders * 2)) status.AllOk)
+format_script name cylinders rate = formats_disk name cylinders rate (λ none. Ends (format_text (cylinders * 2) ∷ []) status.AllOk)

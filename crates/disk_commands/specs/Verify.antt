@@ -1,5 +1,5 @@
 -- The script of a verify: each sector of a disk is read, and those that can't be read are listed.
-use Rattle.std.specs.Prelude.{ℕ, ◌+◌, ◌||◌, Bool, false, List, ◌++◌, codes, if◌then◌else◌}
+use Rattle.std.specs.Prelude.{ℕ, ◌+◌, ◌||◌, Bool, false, List, [], ◌∷◌, ◌++◌, codes, if◌then◌else◌}
 use Rattle.std.specs.Fmt.{decimal}
 use Rattle.flop_base.specs.Standard.{sectors_at}
 use Rattle.flop_base.specs.declared.key.Chrn.{Chrn}
@@ -62,4 +62,4 @@ reads_disk name rest =
 -- so it is, and the last line tells how many sectors were read well
 unfoldable pub verify_script : List ℕ → Script
 verify_script name =
-    reads_disk name (λ found. Ends (verify_text found.1.well (sectors_of found.0)) (whole_status found.1.refused))
+    reads_disk name (λ found. Ends (verify_text found.1.well (sectors_of found.0) ∷ []) (whole_status found.1.refused))

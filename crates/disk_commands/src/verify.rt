@@ -2,7 +2,7 @@
 ghost use Rattle.std.specs.Prelude.{◌≡◌, ◌≢◌, ◌+◌, ◌≤◌, Option, ℕ, List, Err, IfOk, IsErrOf, string_bytes};
 ghost use Rattle.flop_base.specs.Shelf.{Files};
 ghost use Rattle.sector_model.specs.States.{State};
-ghost use Rattle.floppy_report.specs.Faults.{BlamesAlone};
+ghost use Rattle.sector_model.specs.Faults.{Blames};
 ghost use Rattle.flop_base.specs.Standard.{sectors_at};
 ghost use Rattle.scripts.specs.Scripts.{RunsScript};
 ghost use Rattle.scripts.specs.Parts.{each, by_track};
@@ -39,7 +39,7 @@ fn tell_failure<K: Sink>(alloc: Global, key: Chrn, reply: &Reply, out: &mut K) -
         (with_report state files (K.told out.old)) result (with_report state files (K.told out.new)) }
     ensures is_form { result ≢ Err Status.BadWords }
     ensures no_shelf_fault { result ≢ Err Status.FileFault }
-    ensures sink_faults { BlamesAlone (IsErrOf result Status.SinkFault) (K.fault_count out.old) (K.fault_count out.new) }
+    ensures sink_faults { Blames (IsErrOf result Status.SinkFault) (K.fault_count out.old) (K.fault_count out.new) }
 {
     match reply {
         Reply::Refused(reason) => say(out, failure_line(alloc, key, *reason)),

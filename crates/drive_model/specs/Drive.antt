@@ -3,7 +3,7 @@ use Rattle.std.specs.Prelude.{◌≡◌, ◌⊎◌, ℕ, ◌+◌, ◌-◌, ◌�
 use Rattle.flop_base.specs.declared.answers.Rate.{Rate}
 use Rattle.flop_base.specs.declared.answers.Rate.TheVariants.{R500}
 use Rattle.flop_base.specs.Counts.{last_count, Rose, CanTell, Spends}
-use Rattle.raw_image.specs.Disk.{Disk, IsDisk, track_of, with_word}
+use Rattle.raw_image.specs.Disk.{Disk, IsDisk, tabbed, track_of, with_word}
 
 -- a drive: the medium in it or none, the cylinder under its heads, the place that passes them next, its motor, for how many
 -- word times the medium has spun up, its change line, its write gate, whether the gate was cut, whether a word of the medium was
@@ -64,6 +64,10 @@ turns s = s.motor && is_some s.medium
 -- the medium turns and is spun up, so that a word passes in each word time
 abbrev pub at_speed : DriveState → Bool
 at_speed s = turns s && nat_le 6250 s.spin
+
+-- the place of the word that passes next, counted from the index; none where no word passes
+abbrev pub place_under : DriveState → Option ℕ
+place_under s = if at_speed s then Some s.place else None
 
 -- the last word of the track passes next
 abbrev pub at_index : DriveState → Bool
@@ -126,6 +130,24 @@ written head word s = record (passed s) {
 -- it is forgotten that a word of the medium was replaced
 abbrev pub forgotten : DriveState → DriveState
 forgotten s = record s { replaced = false }
+
+-- the medium with its tab moved, so that it is write-protected, or not; with no medium none
+abbrev pub with_tab : Bool → Option Disk → Option Disk
+with_tab on None = None
+with_tab on (Some d) = Some (tabbed on d)
+
+-- with the medium that is in write-protected, or not
+abbrev pub with_protection : Bool → DriveState → DriveState
+with_protection on s = record s { medium = with_tab on s.medium }
+
+-- a medium is in, whose tracks are as long as those of this one
+abbrev pub same_length : Disk → Option Disk → Bool
+same_length d None = false
+same_length d (Some before) = before.words_per_track == d.words_per_track
+
+-- with this medium in place of the one that is in: it turns on at the same place
+abbrev pub exchanged : Disk → DriveState → DriveState
+exchanged d s = record s { medium = Some d }
 
 -- one word time later, with the gate cut
 abbrev pub cut_off : DriveState → DriveState

@@ -1,5 +1,5 @@
 // A drive without its faults: the parts that move, and the lines.
-ghost use Rattle.std.specs.Prelude.{◌≡◌, ◌↔◌, ◌≤◌, ◌<◌, ◌-◌, ◌||◌, ℕ, Option, Some, is_some, IsErr, IsSome, OnOk, IfErr, IfSome, MatchOption, slice_index, false, if◌then◌else◌};
+ghost use Rattle.std.specs.Prelude.{◌≡◌, ◌↔◌, ◌≤◌, ◌<◌, ◌-◌, ◌||◌, ℕ, Option, Some, is_some, IsErr, IsSome, OnOk, IfOk, IfErr, IfSome, MatchOption, slice_index, false, if◌then◌else◌};
 ghost use Rattle.std.specs.Option.{ForSome};
 ghost use Rattle.raw_image.specs.Disk.{IsDisk};
 ghost use Rattle.drive_model.specs.Drive.{track_words, can_replace, rewritten};
@@ -7,6 +7,7 @@ ghost use Rattle.drive_model.specs.Drive.{track_words, can_replace, rewritten};
 use crate::{Heard, Turn};
 use flop_base::Rate;
 use raw_image::Medium;
+use std::mem;
 
 /// The last cylinder that the heads reach.
 const LAST_CYLINDER: u8 = 82;
@@ -58,7 +59,8 @@ pub(crate) struct Mechanics {
 
 impl Mechanics {
     ghost use Rattle.drive_model.specs.Drive.{loaded, unloaded, with_motor, with_gate, moved, passed, written, cut_off};
-    ghost use Rattle.drive_model.specs.Drive.{at_speed, can_write, at_index, word_under, words_on, is_protected, rate_of};
+    ghost use Rattle.drive_model.specs.Drive.{at_speed, can_write, at_index, place_under, word_under, words_on, is_protected, rate_of};
+    ghost use Rattle.drive_model.specs.Drive.{with_protection, same_length, exchanged};
     ghost use Rattle.drive_model.specs.Mechanics.{state_of, faultless, at_rest};
     ghost use Rattle.drive_model.specs.Ahead.{LetsPass, AreAhead};
 
@@ -144,6 +146,32 @@ impl Mechanics {
         }
     }
 
+    /// Moves the tab of the medium.
+    pub(crate) fn set_protected(&mut self, on: bool)
+        ensures { faultless self.new ≡ with_protection on (faultless self.old) }
+    {
+        if let Some(medium) = &mut self.medium {
+            medium.set_protected(on);
+        }
+    }
+
+    /// Puts a medium in place of the one that is in, where their tracks have the same length.
+    pub(crate) fn exchange(&mut self, medium: Medium) -> Result<Medium, Medium>
+        ensures refused { IsErr result ↔ (same_length medium self.old.medium ≡ false) }
+        ensures ok { OnOk result (faultless self.new ≡ exchanged medium (faultless self.old)) }
+        ensures before { IfOk result (λ before. Some before ≡ self.old.medium) }
+        ensures back { IfErr result (λ back. back ≡ medium) }
+        ensures err { IfErr result (λ _. faultless self.new ≡ faultless self.old) }
+    {
+        let Some(inside) = &mut self.medium else {
+            return Err(medium);
+        };
+        if inside.words() != medium.words() {
+            return Err(medium);
+        }
+        Ok(mem::replace(inside, medium))
+    }
+
     pub(crate) fn rate(&self) -> Rate
         ensures { result ≡ rate_of self.now.medium }
     {
@@ -167,6 +195,17 @@ impl Mechanics {
         ensures { result ≡ at_speed (faultless self.now) }
     {
         self.motor && self.medium.is_some() && self.spin >= SPIN_UP
+    }
+
+    /// The place of the word that passes in the next word time.
+    pub(crate) fn place_under(&self) -> Option<u16>
+        ensures { result ≡ place_under (faultless self.now) }
+    {
+        if self.is_at_speed() {
+            Some(self.place)
+        } else {
+            None
+        }
     }
 
     /// The gate is open and not cut, and a word passes in the next word time.

@@ -111,6 +111,10 @@ impl Inspect for PlainDrive {
         self.mechanics.cylinder
     }
 
+    fn place(&self) -> Option<u16> {
+        self.mechanics.place_under()
+    }
+
     fn is_gate_open(&self) -> bool {
         self.mechanics.gate
     }
@@ -121,5 +125,13 @@ impl Inspect for PlainDrive {
 
     fn forget_written(&mut self) {
         self.mechanics.replaced = false;
+    }
+
+    fn set_protected(&mut self, on: bool) {
+        self.mechanics.set_protected(on);
+    }
+
+    fn exchange(&mut self, medium: Medium) -> Result<Medium, Medium> {
+        self.mechanics.exchange(medium)
     }
 }

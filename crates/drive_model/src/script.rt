@@ -1,5 +1,5 @@
 // A drive whose faults are planned.
-ghost use Rattle.std.specs.Prelude.{◌≡◌, ◌≤◌, ◌↔◌, length, false, IsErr, IsSome, OnOk, IfErr};
+ghost use Rattle.std.specs.Prelude.{◌≡◌, ◌≤◌, ◌↔◌, length, false, Some, IsErr, IsSome, OnOk, IfOk, IfErr};
 ghost use Rattle.std.specs.Bool.{OnTrue, OnFalse};
 ghost use Rattle.flop_base.specs.Counts.{last_count, Rose};
 ghost use Rattle.drive_model.specs.Drive.{Becomes, InRange, loaded, unloaded, with_motor, with_gate, moved, passed, written, forgotten, cut_off, at_index, word_under, rate_of, Pulses, Reads, Writes};
@@ -41,6 +41,16 @@ impl ScriptDrive {
             plan: Plan::new(faults),
             faults: 0,
         }
+    }
+
+    /// Plans these faults in place of those that can still come. All else stays, the count of faults too.
+    pub fn replan(&mut self, faults: Vec<Fault>)
+        ensures script { script_of self.new ≡ faults.items }
+        ensures state { script_state self.new ≡ record (script_state self.old) {
+          left = told (script_state self.old).faults (total_left faults.items);
+        } }
+    {
+        self.plan = Plan::new(faults);
     }
 
     /// Takes a fault off the list, if one is planned for this event, and counts it.
@@ -303,6 +313,7 @@ impl Drive for ScriptDrive {
 }
 
 impl Inspect for ScriptDrive {
+    ghost use Rattle.drive_model.specs.Drive.{with_protection, same_length, exchanged};
     ghost use Rattle.drive_model.specs.ScriptDrive.{script_state, NoFault};
 
     fn medium(&self) -> Option<&Medium> {
@@ -311,6 +322,10 @@ impl Inspect for ScriptDrive {
 
     fn cylinder(&self) -> u8 {
         self.mechanics.cylinder
+    }
+
+    fn place(&self) -> Option<u16> {
+        self.mechanics.place_under()
     }
 
     fn is_gate_open(&self) -> bool {
@@ -326,5 +341,23 @@ impl Inspect for ScriptDrive {
         ensures no_fault { NoFault self.old self.new }
     {
         self.mechanics.replaced = false;
+    }
+
+    fn set_protected(&mut self, on: bool)
+        ensures state { script_state self.new ≡ with_protection on (script_state self.old) }
+        ensures no_fault { NoFault self.old self.new }
+    {
+        self.mechanics.set_protected(on);
+    }
+
+    fn exchange(&mut self, medium: Medium) -> Result<Medium, Medium>
+        ensures refused { IsErr result ↔ (same_length medium (script_state self.old).medium ≡ false) }
+        ensures ok { OnOk result (script_state self.new ≡ exchanged medium (script_state self.old)) }
+        ensures before { IfOk result (λ before. Some before ≡ (script_state self.old).medium) }
+        ensures err { IfErr result (λ back. (back ≡ medium)
+            × (script_state self.new ≡ script_state self.old)) }
+        ensures no_fault { NoFault self.old self.new }
+    {
+        self.mechanics.exchange(medium)
     }
 }

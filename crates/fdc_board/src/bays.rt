@@ -1,7 +1,7 @@
 // The bays: media in and out, and what a front end shows of the drives.
 ghost use Rattle.std.specs.Prelude.{◌≡◌, ◌≤◌, ◌+◌, ◌-◌, ◌↔◌, IfErr, OnOk, IsErr, IsSome, IsTrue, IsBitSet};
 ghost use Rattle.std.specs.Option.{option_copied};
-ghost use Rattle.drive_model.specs.Drive.{Becomes, loaded, unloaded, forgotten};
+ghost use Rattle.drive_model.specs.Drive.{Becomes, loaded, unloaded, forgotten, place_under};
 ghost use Rattle.fdc_core.specs.State.{dor_of};
 
 use crate::board::FdcBoard;
@@ -106,6 +106,19 @@ impl<D: Inspect> FdcBoard<D> {
             self.first.cylinder()
         } else {
             self.second.cylinder()
+        }
+    }
+
+    /// The place of the word that passes next under the heads of the drive in a bay, in words behind the index; none where
+    /// no word passes.
+    pub fn place(&self, bay: u8) -> Option<u16>
+        requires { bay ≤ 1 }
+        ensures { result ≡ place_under (drive_at (board_state D.state self.now) bay) }
+    {
+        if bay == 0 {
+            self.first.place()
+        } else {
+            self.second.place()
         }
     }
 

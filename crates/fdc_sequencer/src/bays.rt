@@ -1,7 +1,7 @@
 // The bays, and what a front end shows: the board's.
 ghost use Rattle.std.specs.Prelude.{◌≡◌, ◌≤◌, ◌-◌, ◌+◌, ◌%◌, ◌↔◌, IfErr, OnOk, IsErr, IsSome, IsTrue, IsBitSet};
 ghost use Rattle.std.specs.Option.{option_copied};
-ghost use Rattle.drive_model.specs.Drive.{Becomes, loaded, unloaded, forgotten};
+ghost use Rattle.drive_model.specs.Drive.{Becomes, loaded, unloaded, forgotten, place_under};
 ghost use Rattle.fdc_board.specs.Boards.{controller_of, drive_at};
 ghost use Rattle.fdc_board.specs.WordTimes.{nanoseconds};
 ghost use Rattle.fdc_core.specs.State.{dor_of, data_rate};
@@ -82,6 +82,15 @@ impl<D: Inspect> Sequencer<D> {
         ensures { result ≡ (drive_at (front_state D.state self.now).board bay).cylinder }
     {
         self.board.cylinder(bay)
+    }
+
+    /// The place of the word that passes next under the heads of the drive in a bay, in words behind the index; none where
+    /// no word passes.
+    pub fn place(&self, bay: u8) -> Option<u16>
+        requires { bay ≤ 1 }
+        ensures { result ≡ place_under (drive_at (front_state D.state self.now).board bay) }
+    {
+        self.board.place(bay)
     }
 
     /// Whether the write gate of the drive in a bay is open.

@@ -6,7 +6,7 @@ use Rattle.flop_base.specs.declared.answers.Status.{Status}
 use Rattle.flop_base.specs.declared.answers.Status.TheVariants as status
 use Rattle.sector_model.specs.declared.reply.Stop.{Stop}
 use Rattle.sector_model.specs.States.{State}
-use Rattle.sector_model.specs.Texts.{stop_text, stop_status}
+use Rattle.sector_model.specs.Texts.{stop_lines, stop_status}
 use Rattle.sector_model.specs.Plays.{World, Prints}
 use Rattle.scripts.specs.Scripts.{Script, RunsScript}
 use Rattle.scripts.specs.Parts.{may_starve}
@@ -35,7 +35,7 @@ imported flat name found old new ended is goes =
 
 -- an import was run, behind the load of its flat file
 pub imported_flat : (flat name bytes : List ℕ) (rate : Rate) (state : State) (files after : Option Files)
-    (report : Option (List ℕ)) (new : World) (ended : Status)
+    (report : Option (List (List ℕ))) (new : World) (ended : Status)
     → after ≡ files → IsFlatFile files flat bytes rate → Finishes (import_script (Ok (bytes, rate)) name) (with_report state after report) new ended
     → Runs (Imports flat name) (with_report state files report) new ended
 imported_flat flat name bytes rate state files after report new ended same is goes =
@@ -43,10 +43,10 @@ imported_flat flat name bytes rate state files after report new ended same is go
     (subst (λ (f : Option Files). Finishes (import_script (Ok (bytes, rate)) name) (with_report state f report) new ended) same goes)
 
 -- or it told why that isn't taken
-pub not_taken : (flat name : List ℕ) (cause : Stop) (state : State) (files after : Option Files) (report told : Option (List ℕ)) (ended : Status)
-    → after ≡ files → IsNotTaken files flat cause → Prints (stop_text cause) (stop_status cause) report told ended
+pub not_taken : (flat name : List ℕ) (cause : Stop) (state : State) (files after : Option Files) (report told : Option (List (List ℕ))) (ended : Status)
+    → after ≡ files → IsNotTaken files flat cause → Prints (stop_lines cause) (stop_status cause) report told ended
     → Runs (Imports flat name) (with_report state files report) (with_report state after told) ended
 not_taken flat name cause state files after report told ended same is prints =
     subst (λ (f : Option Files). Runs (Imports flat name) (with_report state files report) (with_report state f told) ended) (sym same)
     (imported flat name (Err cause) (with_report state files report) (with_report state files told) ended is
-    (λ whole start leads. ends_here whole start (stop_text cause) (stop_status cause) state files report told ended prints leads))
+    (λ whole start leads. ends_here whole start (stop_lines cause) (stop_status cause) state files report told ended prints leads))

@@ -1,5 +1,5 @@
 -- What an exercise asks and prints: the generated workload, on a disk made for it.
-use Rattle.std.specs.Prelude.{◌≤◌, ◌<◌, ℕ, ◌+◌, ◌*◌, ◌%◌, ◌==◌, Bool, true, false, nat_lt, sum, List, ◌++◌, codes, if◌then◌else◌}
+use Rattle.std.specs.Prelude.{◌≤◌, ◌<◌, ℕ, ◌+◌, ◌*◌, ◌%◌, ◌==◌, Bool, true, false, nat_lt, sum, List, [], ◌∷◌, ◌++◌, codes, if◌then◌else◌}
 use Rattle.std.specs.Fmt.{decimal}
 use Rattle.flop_base.specs.declared.answers.Rate.TheVariants.{R500}
 use Rattle.flop_base.specs.declared.key.Chrn.{Chrn}
@@ -80,7 +80,7 @@ exercises seed count rest =
 -- the last line of an exercise, with the status
 abbrev pub exercise_end : ℕ → ℕ → Tally → Script
 exercise_end seed count tally =
-    Ends (exercise_text seed count tally.done tally.refused tally.sum) (whole_status (nat_lt 0 tally.refused))
+    Ends (exercise_text seed count tally.done tally.refused tally.sum ∷ []) (whole_status (nat_lt 0 tally.refused))
 
 -- it takes memory for the name of its disk, which isn't stored
 abbrev pub exercise_script : ℕ → ℕ → Script

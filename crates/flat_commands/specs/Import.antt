@@ -1,5 +1,5 @@
 -- What an import asks and prints.
-use Rattle.std.specs.Prelude.{ℕ, ◌+◌, ◌*◌, List, ◌++◌, Result, Ok, Err, slice_index, codes}
+use Rattle.std.specs.Prelude.{ℕ, ◌+◌, ◌*◌, List, [], ◌∷◌, ◌++◌, Result, Ok, Err, slice_index, codes}
 use Rattle.std.specs.Fmt.{decimal}
 use Rattle.flop_base.specs.Standard.{sectors_at}
 use Rattle.flop_base.specs.declared.answers.Rate.{Rate}
@@ -9,7 +9,7 @@ use Rattle.sector_map.specs.Standard.{key_of}
 use Rattle.flat_image.specs.Flat.{sector_place}
 use Rattle.floppy_requests.specs.declared.request.Request.TheVariants as request
 use Rattle.sector_model.specs.declared.reply.Stop.{Stop}
-use Rattle.sector_model.specs.Texts.{stop_text, stop_status}
+use Rattle.sector_model.specs.Texts.{stop_lines, stop_status}
 use Rattle.sector_model.specs.Runs.{Taken}
 use Rattle.sector_model.specs.Plays.{World}
 use Rattle.floppy_session.specs.Blanks.{blank_request}
@@ -59,8 +59,8 @@ imports_disk bytes name rate rest =
 
 -- what follows the load of a flat file: why it isn't taken, or the disk of its bytes and its rate
 abbrev pub import_script : Result (List ℕ × Rate) Stop → List ℕ → Script
-import_script (Err cause) name = Ends (stop_text cause) (stop_status cause)
-import_script (Ok (bytes, rate)) name = imports_disk bytes name rate (λ none. Ends (import_text (sectors_of rate)) status.AllOk)
+import_script (Err cause) name = Ends (stop_lines cause) (stop_status cause)
+import_script (Ok (bytes, rate)) name = imports_disk bytes name rate (λ none. Ends (import_text (sectors_of rate) ∷ []) status.AllOk)
 
 -- the flat file of a name becomes a disk that is stored under another
 abbrev pub Imports : List ℕ → List ℕ → World → List Taken → World → Status → Type 0

@@ -17,6 +17,10 @@ RoseLess n before now = (now < before + n) × (now < last_count)
 abbrev pub Rose : ℕ → ℕ → Type 0
 Rose before now = RoseBy 1 before now
 
+-- the count rose by one, and no more; at its last value it stays
+abbrev pub RoseOnce : ℕ → ℕ → Type 0
+RoseOnce before now = now ≡ min (before + 1) last_count
+
 -- `left`, the most by which a count can still rise, is told only where that doesn't bring it to its last value
 abbrev pub CanTell : ℕ → Option ℕ → Type 0
 CanTell count left = IfSome left (λ most. count + most < last_count)

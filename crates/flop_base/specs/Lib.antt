@@ -1,4 +1,5 @@
 pub mod Counts
+pub mod Lines
 pub mod Lists
 pub mod MemShelf
 pub mod MemSink

@@ -1,10 +1,11 @@
 -- What a sink in memory shows.
 use Rattle.std.specs.Prelude.{ℕ, List}
+use Rattle.flop_base.specs.Lines.{lines_in}
 use Rattle.flop_base.specs.declared.memory.MemSink.{MemSink}
 
--- the bytes put
-abbrev pub bytes_of : MemSink → List ℕ
-bytes_of sink = sink.bytes.items
+-- the lines put, each by one call
+abbrev pub lines_of : MemSink → List (List ℕ)
+lines_of sink = lines_in sink.lines.bytes.items sink.lines.lengths.items
 
 -- how many calls of put there were
 abbrev pub calls_of : MemSink → ℕ

@@ -1,12 +1,25 @@
--- Printed bytes as contracts see them.
-use Rattle.std.specs.Prelude.{◌≡◌, ℕ, List, ◌++◌, Option, Some, None}
+-- Printed lines as contracts see them: each is what one put printed.
+use Rattle.std.specs.Prelude.{◌≡◌, ℕ, List, [], ◌∷◌, ◌++◌, Option, Some, None}
+use Rattle.std.specs.List.{flat_map}
 
--- the told bytes with these behind them
-abbrev pub grown : Option (List ℕ) → List ℕ → Option (List ℕ)
-grown None bytes = None
-grown (Some told) bytes = Some (told ++ bytes)
+-- lines, one behind the other
+abbrev pub joined : List (List ℕ) → List ℕ
+joined lines = flat_map (λ line. line) lines
 
--- the told bytes have grown by a first part of these
-abbrev pub GrowsByPart : Option (List ℕ) → List ℕ → Option (List ℕ) → Type 0
-GrowsByPart None bytes new = new ≡ None
-GrowsByPart (Some told) bytes new = (part : List ℕ) × (rest : List ℕ) × (bytes ≡ part ++ rest) × (new ≡ Some (told ++ part))
+-- the told lines with these behind them
+abbrev pub grown : Option (List (List ℕ)) → List (List ℕ) → Option (List (List ℕ))
+grown None lines = None
+grown (Some told) lines = Some (told ++ lines)
+
+-- what is put of a line that comes next and isn't put whole: nothing, or a first part of it as one line
+abbrev pub IsCutOf : List (List ℕ) → List (List ℕ) → Type 0
+IsCutOf next [] = Unit {0}
+IsCutOf [] (cut ∷ others) = ⊥
+IsCutOf (line ∷ later) (cut ∷ others) = (rest : List ℕ) × (line ≡ cut ++ rest) × (others ≡ [])
+
+-- the told lines have grown by the first of these, and perhaps by a first part of the next one
+abbrev pub GrowsByPart : Option (List (List ℕ)) → List (List ℕ) → Option (List (List ℕ)) → Type 0
+GrowsByPart None lines new = new ≡ None
+GrowsByPart (Some told) lines new =
+    (whole : List (List ℕ)) × (next : List (List ℕ)) × (cut : List (List ℕ))
+    × (lines ≡ whole ++ next) × IsCutOf next cut × (new ≡ Some (told ++ (whole ++ cut)))

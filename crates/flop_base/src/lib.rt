@@ -1,5 +1,5 @@
 //! What every layer of the diskette path names: sector keys, codes, statuses, texts, and the outside world
-//! as two traits, a shelf of named files and a sink of printed bytes.
+//! as two traits, a shelf of named files and a sink of printed lines.
 //!
 //! For machine, driver and sector model it has definitions besides: two of a kind for the two bays, what is counted of their
 //! drives and how it goes on, and user memory with its size.
@@ -7,6 +7,7 @@
 
 mod answers;
 mod key;
+mod lines;
 mod memory;
 mod shelf;
 mod sink;

@@ -1,9 +1,11 @@
 // A shelf and a sink in memory, whose calls fail where their maker says so.
-ghost use Rattle.std.specs.Prelude.{◌≡◌, ◌≢◌, ◌≤◌, ◌+◌, ◌++◌, ◌↔◌, [], min, length, Some, Err, Contains, IsTrue, IfOk, OnOk, OnErr, IsErrOf, option_copied};
+ghost use Rattle.std.specs.Prelude.{◌≡◌, ◌≢◌, ◌≤◌, ◌+◌, ◌++◌, ◌∷◌, ◌↔◌, [], min, length, map, Some, Err, Contains, IsTrue, IfOk, OnOk, OnErr, IsErrOf, option_copied};
 ghost use Rattle.std.specs.Bool.{OnTrue, OnFalse};
-ghost use Rattle.flop_base.specs.Counts.{Rose, last_count};
+ghost use Rattle.flop_base.specs.Counts.{RoseOnce, last_count};
 ghost use Rattle.flop_base.specs.Shelf.{Loads, no_files, file_at, stored};
+ghost use Rattle.flop_base.specs.Sink.{joined, GrowsByPart};
 
+use crate::lines::Lines;
 use crate::{LoadError, NoMemory, PutError, Shelf, Sink, StoreError};
 use std::alloc::Global;
 use std::collections::BTreeMap;
@@ -67,7 +69,7 @@ impl MemShelf {
         ensures failing { failing_of self.new ≡ failing_of self.old }
         ensures calls { calls_of self.new ≡ min (calls_of self.old + 1) last_count }
         ensures exactly { IsTrue result ↔ Contains (failing_of self.old) (calls_of self.new) }
-        ensures counted { OnTrue result (Rose (faults_of self.old) (faults_of self.new)) }
+        ensures counted { OnTrue result (RoseOnce (faults_of self.old) (faults_of self.new)) }
         ensures uncounted { OnFalse result (faults_of self.new ≡ faults_of self.old) }
         ensures never_falls { faults_of self.old ≤ faults_of self.new }
     {
@@ -92,7 +94,8 @@ impl Shelf for MemShelf {
         ensures fits { IfOk result (λ bytes. length bytes.items ≤ most) }
         ensures stays { files_of self.new ≡ files_of self.old }
         ensures failed { IsErrOf result LoadError.Failed
-            → Rose (faults_of self.old) (faults_of self.new) }
+            → RoseOnce (faults_of self.old) (faults_of self.new) }
+        ensures else_stays { result ≢ Err LoadError.Failed → faults_of self.new ≡ faults_of self.old }
         ensures never_falls { faults_of self.old ≤ faults_of self.new }
 
         ensures failing { failing_of self.new ≡ failing_of self.old }
@@ -117,7 +120,8 @@ impl Shelf for MemShelf {
             ≡ stored (Some (files_of self.old)) name.now bytes.now) }
         ensures err { OnErr result (files_of self.new ≡ files_of self.old) }
         ensures failed { IsErrOf result StoreError.Failed
-            → Rose (faults_of self.old) (faults_of self.new) }
+            → RoseOnce (faults_of self.old) (faults_of self.new) }
+        ensures else_stays { result ≢ Err StoreError.Failed → faults_of self.new ≡ faults_of self.old }
         ensures never_falls { faults_of self.old ≤ faults_of self.new }
 
         ensures failing { failing_of self.new ≡ failing_of self.old }
@@ -139,55 +143,64 @@ impl Shelf for MemShelf {
     }
 }
 
-/// Printed bytes in memory. Its calls of `put` are numbered from 1.
+/// Printed lines in memory. Its calls of `put` are numbered from 1.
 #[derive(Drop)]
 pub struct MemSink {
-    bytes: Vec<u8>,
+    lines: Lines,
     failing: Vec<u64>,
     calls: u64,
     faults: u64,
 }
 
 impl MemSink {
-    ghost use Rattle.flop_base.specs.MemSink.{bytes_of, calls_of, failing_of, faults_of};
+    ghost use Rattle.flop_base.specs.MemSink.{lines_of, calls_of, failing_of, faults_of};
 
     /// An empty sink, whose calls with the numbers in `failing` fail and put nothing.
     pub fn new(alloc: Global, failing: Vec<u64>) -> MemSink
-        ensures empty { bytes_of result ≡ [] }
+        ensures empty { lines_of result ≡ [] }
         ensures failing { failing_of result ≡ failing.items }
         ensures calls { calls_of result ≡ 0 }
     {
         MemSink {
-            bytes: Vec::new(alloc),
+            lines: Lines::new(alloc),
             failing,
             calls: 0,
             faults: 0,
         }
     }
 
-    /// The bytes put.
+    /// The bytes put: the lines, one behind the other.
     pub fn bytes(&self) -> &[u8]
-        ensures { result.now ≡ bytes_of self.now }
+        ensures { result.now ≡ joined (lines_of self.now) }
     {
-        self.bytes.as_slice()
+        self.lines.bytes()
+    }
+
+    /// How long each line is, in bytes. Each call of `put` that didn't fail put one.
+    pub fn lengths(&self) -> &[usize]
+        ensures { result.now ≡ map length (lines_of self.now) }
+    {
+        self.lines.lengths()
     }
 }
 
 impl Sink for MemSink {
-    ghost use Rattle.flop_base.specs.MemSink.{bytes_of, calls_of, failing_of, faults_of};
+    ghost use Rattle.flop_base.specs.MemSink.{lines_of, calls_of, failing_of, faults_of};
 
-    ghost told = { λ sink. Some (bytes_of sink) };
+    ghost told = { λ sink. Some (lines_of sink) };
 
     ghost fault_count = { λ sink. faults_of sink };
 
+    #[tactic(auto, using(crate::proofs::Cuts::nothing_grows))]
     fn put(&mut self, bytes: &[u8]) -> Result<(), PutError>
-        ensures ok { OnOk result (bytes_of self.new ≡ bytes_of self.old ++ bytes.now) }
-        ensures err { OnErr result (bytes_of self.new ≡ bytes_of self.old) }
+        ensures ok { OnOk result (lines_of self.new ≡ lines_of self.old ++ bytes.now ∷ []) }
+        ensures err { OnErr result (GrowsByPart (Some (lines_of self.old)) (bytes.now ∷ []) (Some (lines_of self.new))) }
         ensures failed { IsErrOf result PutError.Failed
-            → Rose (faults_of self.old) (faults_of self.new) }
+            → RoseOnce (faults_of self.old) (faults_of self.new) }
         ensures else_stays { result ≢ Err PutError.Failed → faults_of self.new ≡ faults_of self.old }
         ensures never_falls { faults_of self.old ≤ faults_of self.new }
 
+        ensures err_stays { OnErr result (lines_of self.new ≡ lines_of self.old) }
         ensures failing { failing_of self.new ≡ failing_of self.old }
         ensures calls { calls_of self.new ≡ min (calls_of self.old + 1) last_count }
         ensures fails_exactly { IsErrOf result PutError.Failed
@@ -198,9 +211,9 @@ impl Sink for MemSink {
             self.faults = self.faults.saturating_add(1);
             return Err(PutError::Failed);
         }
-        match self.bytes.extend_from_slice(bytes) {
+        match self.lines.push(bytes) {
             Ok(()) => Ok(()),
-            Err(_) => Err(PutError::NoMemory),
+            Err(NoMemory) => Err(PutError::NoMemory),
         }
     }
 

@@ -1,6 +1,6 @@
 // Named files, wherever they lie.
-ghost use Rattle.std.specs.Prelude.{◌≡◌, ◌≤◌, ℕ, Option, length, IfSome, IfOk, OnOk, OnErr, IsErrOf};
-ghost use Rattle.flop_base.specs.Counts.{Rose};
+ghost use Rattle.std.specs.Prelude.{◌≡◌, ◌≢◌, ◌≤◌, ℕ, Option, Err, length, IfSome, IfOk, OnOk, OnErr, IsErrOf};
+ghost use Rattle.flop_base.specs.Counts.{RoseOnce};
 ghost use Rattle.flop_base.specs.Shelf.{Files, Loads, stored};
 
 use crate::{LoadError, StoreError};
@@ -22,7 +22,8 @@ pub trait Shelf {
         ensures fits { IfOk result (λ bytes. length bytes.items ≤ most) }
         ensures stays { told self.new ≡ told self.old }
         ensures failed { IsErrOf result LoadError.Failed
-            → Rose (fault_count self.old) (fault_count self.new) }
+            → RoseOnce (fault_count self.old) (fault_count self.new) }
+        ensures else_stays { result ≢ Err LoadError.Failed → fault_count self.new ≡ fault_count self.old }
         ensures never_falls { fault_count self.old ≤ fault_count self.new };
 
     /// Puts these bytes under the name, in place of a file that is there. After an error the old file is as it was.
@@ -30,10 +31,11 @@ pub trait Shelf {
         ensures ok { OnOk result (told self.new ≡ stored (told self.old) name.now bytes.now) }
         ensures err { OnErr result (told self.new ≡ told self.old) }
         ensures failed { IsErrOf result StoreError.Failed
-            → Rose (fault_count self.old) (fault_count self.new) }
+            → RoseOnce (fault_count self.old) (fault_count self.new) }
+        ensures else_stays { result ≢ Err StoreError.Failed → fault_count self.new ≡ fault_count self.old }
         ensures never_falls { fault_count self.old ≤ fault_count self.new };
 
-    /// The count of faults, which stays at its last value. Each call that ends with `Failed` raises it.
+    /// The count of faults, which stays at its last value. Each call that ends with `Failed` raises it by one.
     fn faults(&self) -> u64
         ensures { result ≡ fault_count self.now };
 }

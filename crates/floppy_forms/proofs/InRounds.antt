@@ -20,8 +20,8 @@ use Rattle.floppy_requests.specs.declared.request.Request.TheVariants as request
 use Rattle.floppy_requests.specs.Valid.{IsRequest}
 use Rattle.floppy_session.specs.Tries.{HasTries}
 use Rattle.sector_model.specs.States.{State}
-use Rattle.sector_model.specs.Texts.{reply_text, stop_text, stop_status, bad_line_text}
-use Rattle.sector_model.specs.Runs.{Taken, course_text, has_refusal}
+use Rattle.sector_model.specs.Texts.{reply_lines, stop_lines, stop_status, bad_line_text}
+use Rattle.sector_model.specs.Runs.{Taken, course_lines, has_refusal}
 use Rattle.sector_model.specs.Plays.{World, PlaysRequests, PlaysParsed, Played, Stopped, BrokenOff, EndStopped, Prints, Tells, TellsAlone, IsText, Plays, There, Missing, TooLong, Faulty, Starved, whole_status}
 use Rattle.floppy_forms.specs.Rounds.{world, IsRound, HasRun, HasPlayed, Breaks, AtStop, AtPut, EndsAs, InWhole, AtStore, PlaysOrStarves, AsParsed, Starving}
 use Rattle.sector_model.proofs.Runs.{run_more, requests_more, text_more, refusal_more}
@@ -48,7 +48,7 @@ has-run-more old mid new requests asked refused refusal so_far round =
       course = so_far.course ++ taken ∷ [];
       run = run_more old.state mid.state old.files mid.files new.files so_far.course taken so_far.run round.step;
       all = ap (λ (before : List Request). before ++ asked ∷ []) so_far.all ∙ sym (requests_more so_far.course taken);
-      report = round.report ∙ ap (λ (r : Option (List ℕ)). grown r (reply_text asked round.answer)) so_far.report ∙ grown-twice old.report (course_text so_far.course) (reply_text asked round.answer) ∙ ap (grown old.report) (sym (text_more so_far.course taken));
+      report = round.report ∙ ap (λ (r : Option (List (List ℕ))). grown r (reply_lines asked round.answer)) so_far.report ∙ grown-twice old.report (course_lines so_far.course) (reply_lines asked round.answer) ∙ ap (grown old.report) (sym (text_more so_far.course taken));
       is_refused = ap (λ (b : Bool). b || refusal) so_far.is_refused ∙ ap (λ (b : Bool). has_refusal so_far.course || b) round.is_refused ∙ sym (refusal_more so_far.course taken);
     }
 
@@ -76,7 +76,7 @@ broken old mid new requests i asked refused ended so_far within item (AtStop cau
     run = so_far.run;
     all = parted requests i asked within item ∙ ap (λ (before : List Request). before ++ asked ∷ drop (suc i) requests) so_far.all;
     stops = stops;
-    prints = subst (λ (r : Option (List ℕ)). Prints (stop_text cause) (stop_status cause) r new.report ended) so_far.report prints;
+    prints = subst (λ (r : Option (List (List ℕ))). Prints (stop_lines cause) (stop_status cause) r new.report ended) so_far.report prints;
   }),
 )
 broken old mid new requests i asked refused ended so_far within item (AtPut answer step part fault) =
@@ -93,7 +93,7 @@ broken old mid new requests i asked refused ended so_far within item (AtPut answ
         after = refl;
         course_is = refl;
         all = parted requests i asked within item ∙ ap (λ (before : List Request). before ++ asked ∷ drop (suc i) requests) so_far.all;
-        part = subst (λ (r : Option (List ℕ)). GrowsByPart r (reply_text asked answer) new.report) so_far.report part;
+        part = subst (λ (r : Option (List (List ℕ))). GrowsByPart r (reply_lines asked answer) new.report) so_far.report part;
         fault = fault;
       }),
     )
@@ -172,7 +172,7 @@ loaded_text None job bytes loads = tt
 loaded_text (Some files) job bytes loads = subst (λ (found : Option (List ℕ)). IsSomeAnd found (λ b. (b ≡ bytes.items) × (length b ≤ 4194304))) (sym loads.0) (refl, loads.1)
 
 -- a play whose text wasn't had
-pub as_missed : (told : Option Files) (state : State) (report after : Option (List ℕ)) (job : List ℕ) (error : LoadError) (ended : Status) → IfSome told (λ files. Loads files job 4194304 (Err error)) → MissesText error job report after ended → (course : List Taken) × Plays job (world state told report) course (world state told after) ended
+pub as_missed : (told : Option Files) (state : State) (report after : Option (List (List ℕ))) (job : List ℕ) (error : LoadError) (ended : Status) → IfSome told (λ files. Loads files job 4194304 (Err error)) → MissesText error job report after ended → (course : List Taken) × Plays job (world state told report) course (world state told after) ended
 as_missed None state report after job load.Absent ended loads missed = ([], Missing tt (record { nothing = refl; tells = record { state = refl; files = refl; prints = missed } }))
 as_missed (Some files) state report after job load.Absent ended loads missed = ([], Missing loads (record { nothing = refl; tells = record { state = refl; files = refl; prints = missed } }))
 as_missed None state report after job load.TooLong ended loads missed = ([], TooLong tt (record { nothing = refl; tells = record { state = refl; files = refl; prints = missed } }))
@@ -181,14 +181,14 @@ as_missed told state report after job load.Failed ended loads missed = ([], Faul
 as_missed told state report after job load.NoMemory ended loads missed = ([], Starved refl (record { same = ap (world state told) missed.0; status = missed.1 }))
 
 -- a file that was loaded, and a text that was played
-pub text_plays : (state : State) (told loaded : Option Files) (report : Option (List ℕ)) (new : World) (job text : List ℕ) (bytes : Vec ℕ Global) (ended : Status) → loaded ≡ told → text ≡ bytes.items → IfSome told (λ files. Loads files job 4194304 (Ok bytes)) → PlaysOrStarves text (world state loaded report) new ended → (course : List Taken) × Plays job (world state told report) course new ended
+pub text_plays : (state : State) (told loaded : Option Files) (report : Option (List (List ℕ))) (new : World) (job text : List ℕ) (bytes : Vec ℕ Global) (ended : Status) → loaded ≡ told → text ≡ bytes.items → IfSome told (λ files. Loads files job 4194304 (Ok bytes)) → PlaysOrStarves text (world state loaded report) new ended → (course : List Taken) × Plays job (world state told report) course new ended
 text_plays state told loaded report new job text bytes ended stays same loads plays =
     as_text (world state told report) new job bytes.items ended (loaded_text told job bytes loads)
     (subst (λ (files : Option Files). PlaysOrStarves bytes.items (world state files report) new ended) stays
     (subst (λ (read : List ℕ). PlaysOrStarves read (world state loaded report) new ended) same plays))
 
 -- a file that wasn't loaded
-pub missed_plays : (state : State) (told loaded : Option Files) (report after : Option (List ℕ)) (job : List ℕ) (error : LoadError) (ended : Status) → loaded ≡ told → IfSome told (λ files. Loads files job 4194304 (Err error)) → MissesText error job report after ended → (course : List Taken) × Plays job (world state told report) course (world state loaded after) ended
+pub missed_plays : (state : State) (told loaded : Option Files) (report after : Option (List (List ℕ))) (job : List ℕ) (error : LoadError) (ended : Status) → loaded ≡ told → IfSome told (λ files. Loads files job 4194304 (Err error)) → MissesText error job report after ended → (course : List Taken) × Plays job (world state told report) course (world state loaded after) ended
 missed_plays state told loaded report after job error ended stays loads missed =
     subst (λ (files : Option Files). (course : List Taken) × Plays job (world state told report) course (world state files after) ended) (sym stays)
     (as_missed told state report after job error ended loads missed)

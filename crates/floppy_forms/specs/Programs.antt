@@ -7,7 +7,6 @@ use Rattle.flop_base.specs.Bays.{Two}
 use Rattle.sector_model.specs.Faults.{Blames}
 use Rattle.sector_model.specs.Stations.{StationState}
 use Rattle.sector_model.specs.States.{start_of}
-use Rattle.floppy_report.specs.Faults.{BlamesAlone}
 use Rattle.sector_model.specs.Runs.{Taken}
 use Rattle.sector_model.specs.Plays.{World, Plays, TellsAlone, IsIdle}
 use Rattle.floppy_report.specs.LastLines.{bad_words_text}
@@ -64,12 +63,12 @@ abbrev pub Does : Option Form → World → List Taken → World → Status → 
 Does (Some asked) old course new ended = DoesOrStarves asked old course new ended
 Does None old course new ended = TellsAlone bad_words_text status.BadWords old course new ended
 
--- what words ask for was done, the words are no form where the status says so, and each fault that it tells was counted
+-- what words ask for was done, the words are no form where the status says so, and one fault was counted where it tells one, and else none
 pub record Performed (Does : World → World → Status → Type 0) (NoForm : Type 0) (old new : Faulty) (ended : Status) : Type 0 where
   pub runs : Does old.world new.world ended
   pub bad_words : ended ≡ status.BadWords → NoForm
   pub shelf_faults : Blames (ended ≡ status.FileFault) old.shelf_faults new.shelf_faults
-  pub sink_faults : BlamesAlone (ended ≡ status.SinkFault) old.sink_faults new.sink_faults
+  pub sink_faults : Blames (ended ≡ status.SinkFault) old.sink_faults new.sink_faults
 
 -- a world of a station, under whose media no names are told, and of a desk
 abbrev pub begun_on : StationState → Desk → World
@@ -78,9 +77,9 @@ begun_on station desk = record { state = start_of station; files = desk.files; r
 abbrev pub left_on : StationState → Two (Option (List ℕ)) → Desk → World
 left_on station names desk = record { state = record { station = station; names = names }; files = desk.files; report = desk.report }
 
--- words were done on a station that came fresh, and each fault that the status tells was counted
+-- words were done on a station that came fresh, and one fault was counted where the status tells it, and else none
 pub record RanWords (words : List (List ℕ)) (old : StationState) (before : FaultyDesk) (new : StationState) (after : FaultyDesk) (ended : Status) : Type 0 where
   pub runs : (names : Two (Option (List ℕ))) × Runs (Does (form_of words)) (begun_on old before.desk) (left_on new names after.desk) ended
   pub bad_words : ended ≡ status.BadWords → form_of words ≡ None
   pub shelf_faults : Blames (ended ≡ status.FileFault) before.shelf_faults after.shelf_faults
-  pub sink_faults : BlamesAlone (ended ≡ status.SinkFault) before.sink_faults after.sink_faults
+  pub sink_faults : Blames (ended ≡ status.SinkFault) before.sink_faults after.sink_faults

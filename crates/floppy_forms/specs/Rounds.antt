@@ -10,27 +10,27 @@ use Rattle.sector_model.specs.declared.reply.Reply.{Reply}
 use Rattle.sector_model.specs.declared.reply.Stop.{Stop}
 use Rattle.sector_model.specs.States.{State}
 use Rattle.sector_model.specs.Steps.{Step, StopsAt}
-use Rattle.sector_model.specs.Texts.{reply_text, stop_text, stop_status, is_refusal}
-use Rattle.sector_model.specs.Runs.{Taken, Run, requests_of, course_text, has_refusal, Ends, EndStopsAt, IsEndStop}
+use Rattle.sector_model.specs.Texts.{reply_lines, stop_lines, stop_status, is_refusal}
+use Rattle.sector_model.specs.Runs.{Taken, Run, requests_of, course_lines, has_refusal, Ends, EndStopsAt, IsEndStop}
 use Rattle.sector_model.specs.Plays.{World, Prints, IsPutFault, IsIdle, PlaysRequests, PlaysParsed, Plays, whole_status}
 
 -- all that a play may change
-abbrev pub world : State → Option Files → Option (List ℕ) → World
+abbrev pub world : State → Option Files → Option (List (List ℕ)) → World
 world state files report = record { state = state; files = files; report = report }
 
 -- a request was run and told whole; `refused` says that its answer is a refusal
 pub record IsRound (asked : Request) (old : World) (refused : Bool) (new : World) : Type 0 where
   pub answer : Reply
   pub step : Step asked old.state old.files answer new.state new.files
-  pub report : new.report ≡ grown old.report (reply_text asked answer)
+  pub report : new.report ≡ grown old.report (reply_lines asked answer)
   pub is_refused : refused ≡ is_refusal answer
 
 -- a request stopped the run, or its answer couldn't be told whole
 pub data Breaks (asked : Request) (old new : World) (ended : Status) : Type 0 where
   AtStop : (cause : Stop) → StopsAt asked old.state old.files cause new.state new.files
-      → Prints (stop_text cause) (stop_status cause) old.report new.report ended → Breaks asked old new ended
+      → Prints (stop_lines cause) (stop_status cause) old.report new.report ended → Breaks asked old new ended
   AtPut : (answer : Reply) → Step asked old.state old.files answer new.state new.files
-      → GrowsByPart old.report (reply_text asked answer) new.report → IsPutFault ended → Breaks asked old new ended
+      → GrowsByPart old.report (reply_lines asked answer) new.report → IsPutFault ended → Breaks asked old new ended
 
 -- a request was run and told whole, or broke off
 abbrev pub RoundGoes : Request → World → Result Bool Status → World → Type 0
@@ -42,7 +42,7 @@ pub record HasRun (requests : List Request) (old : World) (refused : Bool) (new 
   pub course : List Taken
   pub run : Run old.state old.files course new.state new.files
   pub all : requests ≡ requests_of course
-  pub report : new.report ≡ grown old.report (course_text course)
+  pub report : new.report ≡ grown old.report (course_lines course)
   pub is_refused : refused ≡ has_refusal course
 
 -- requests of a job are played, by some course

@@ -1,7 +1,6 @@
 // The words of the program, done over a session.
 ghost use Rattle.std.specs.Prelude.{◌≡◌, Option, None, Ok, map, string_bytes};
 ghost use Rattle.sector_model.specs.Faults.{Blames};
-ghost use Rattle.floppy_report.specs.Faults.{BlamesAlone};
 ghost use Rattle.sector_model.specs.Stations.{IsFresh};
 ghost use Rattle.floppy_words.specs.declared.form.Form.{Form};
 ghost use Rattle.floppy_words.specs.Forms.{form_of, Reads};
@@ -78,7 +77,7 @@ pub fn run_asked<S: Shelf, K: Sink, D: Station>(
         (world_of S.told K.told session.old shelf.old out.old) (world_of S.told K.told session.new shelf.new out.new) result }
     ensures bad_words { result ≡ Status.BadWords → asked ≡ Ok None }
     ensures shelf_faults { Blames (result ≡ Status.FileFault) (S.fault_count shelf.old) (S.fault_count shelf.new) }
-    ensures sink_faults { BlamesAlone (result ≡ Status.SinkFault) (K.fault_count out.old) (K.fault_count out.new) }
+    ensures sink_faults { Blames (result ≡ Status.SinkFault) (K.fault_count out.old) (K.fault_count out.new) }
 {
     match asked {
         Ok(form) => perform_any(alloc, session, form, shelf, out),

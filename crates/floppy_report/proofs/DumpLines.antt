@@ -1,35 +1,58 @@
 -- The lines of a dump, one after the other, and what is put of them.
-use Rattle.std.proofs.Common.{arith, zero, subst, inl, inr, length-drop, ◌≡◌, ℕ, ◌+◌, ◌-◌, ◌*◌, ◌/◌, ◌%◌, ◌<◌, suc, min, List, [], ◌∷◌, ◌++◌, length, take, drop, append_assoc, append-nil, refl, ap, ◌∙◌, sym, Option, Some, None}
+use Rattle.std.proofs.Common.{arith, absurd, map, zero, subst, inl, inr, length-drop, ◌≡◌, ℕ, ◌+◌, ◌-◌, ◌*◌, ◌/◌, ◌%◌, ◌<◌, suc, min, List, [], ◌∷◌, ◌++◌, length, take, drop, append_assoc, append-nil, refl, ap, ◌∙◌, sym, Option, Some, None}
 use Rattle.std.specs.List.{range_with_len, flat_map}
-use Rattle.std.proofs.lemmas.Grind.{flat_map-append}
-use Rattle.std.proofs.lemmas.List.{take_all}
+use Rattle.std.proofs.lemmas.List.{take_all, map-append}
 use Rattle.std.proofs.lemmas.Bool.{cases_lt}
 use Rattle.std.specs.Prelude.{Result, Ok, Err, OnErr}
 use Rattle.flop_base.specs.declared.answers.Status.{Status}
-use Rattle.flop_base.specs.Sink.{grown, GrowsByPart}
+use Rattle.flop_base.specs.Sink.{grown, IsCutOf, GrowsByPart}
 use Rattle.floppy_requests.specs.Spelling.{hex5}
-use Rattle.sector_model.specs.Texts.{dump_byte, dump_line, dump_text, line_end}
+use Rattle.sector_model.specs.Texts.{dump_byte, dump_line, dump_lines, line_end}
 
 -- the first lines of a dump
-unfoldable pub lines_below : ℕ → List ℕ → ℕ → List ℕ
+unfoldable pub lines_below : ℕ → List ℕ → ℕ → List (List ℕ)
 lines_below address bytes count =
-    flat_map (λ i. dump_line (address + 16 * i) (take 16 (drop (16 * i) bytes))) (range_with_len 0 count)
+    map (λ i. dump_line (address + 16 * i) (take 16 (drop (16 * i) bytes))) (range_with_len 0 count)
 
 -- the lines of a dump from one on
-unfoldable pub lines_from : ℕ → List ℕ → ℕ → ℕ → List ℕ
+unfoldable pub lines_from : ℕ → List ℕ → ℕ → ℕ → List (List ℕ)
 lines_from address bytes start count =
-    flat_map (λ i. dump_line (address + 16 * i) (take 16 (drop (16 * i) bytes))) (range_with_len start count)
+    map (λ i. dump_line (address + 16 * i) (take 16 (drop (16 * i) bytes))) (range_with_len start count)
 
--- told bytes that grew twice grew by both
-pub grown-twice : (told : Option (List ℕ)) (first second : List ℕ) → grown (grown told first) second ≡ grown told (first ++ second)
+-- told lines that grew twice grew by both
+pub grown-twice : (told : Option (List (List ℕ))) (first second : List (List ℕ)) → grown (grown told first) second ≡ grown told (first ++ second)
 grown-twice None first second = refl
 grown-twice (Some told) first second = ap (λ s. Some s) (append_assoc told first second)
 
--- told bytes that grew by whole lines and by a part of the next grew by a part of all
-pub part-behind : (told new : Option (List ℕ)) (first second rest : List ℕ) → GrowsByPart (grown told first) second new → GrowsByPart told (first ++ (second ++ rest)) new
+-- what is put of a line that comes next doesn't depend on those after it
+cut-longer : (next rest cut : List (List ℕ)) → IsCutOf next cut → IsCutOf (next ++ rest) cut
+cut-longer next rest [] is = tt
+cut-longer [] rest (first ∷ others) is = absurd is
+cut-longer (line ∷ later) rest (first ∷ others) is = is
+
+-- told lines that grew by whole lines and by a part of the next grew by a part of all
+pub part-behind : (told new : Option (List (List ℕ))) (first second rest : List (List ℕ)) → GrowsByPart (grown told first) second new → GrowsByPart told (first ++ (second ++ rest)) new
 part-behind None new first second rest grows = grows
-part-behind (Some told) new first second rest grows =
-    (first ++ grows.0, grows.1 ++ rest, ap (λ s. first ++ (s ++ rest)) grows.2 ∙ ap (λ s. first ++ s) (append_assoc grows.0 grows.1 rest) ∙ sym (append_assoc first grows.0 (grows.1 ++ rest)), grows.3 ∙ ap (λ s. Some s) (append_assoc told first grows.0))
+part-behind (Some told) new first second rest grows = (
+  first ++ grows.0,
+  grows.1 ++ rest,
+  grows.2,
+  ap (λ s. first ++ (s ++ rest)) grows.3 ∙ ap (λ s. first ++ s) (append_assoc grows.0 grows.1 rest) ∙ sym (append_assoc first grows.0 (grows.1 ++ rest)),
+  cut-longer grows.1 rest grows.2 grows.4,
+  grows.5 ∙ ap (λ s. Some s) (append_assoc told first (grows.0 ++ grows.2) ∙ ap (λ s. told ++ s) (sym (append_assoc first grows.0 grows.2))),
+)
+
+-- a part of the first lines is a part of all
+pub part-longer : (told new : Option (List (List ℕ))) (first second : List (List ℕ)) → GrowsByPart told first new → GrowsByPart told (first ++ second) new
+part-longer None new first second grows = grows
+part-longer (Some told) new first second grows = (
+  grows.0,
+  grows.1 ++ second,
+  grows.2,
+  ap (λ s. s ++ second) grows.3 ∙ append_assoc grows.0 grows.1 second,
+  cut-longer grows.1 second grows.2 grows.4,
+  grows.5,
+)
 
 -- the digits of an address depend on its last twenty bits alone
 pub hex5-wraps : (n m : ℕ) → m ≡ n % 4294967296 → hex5 m ≡ hex5 n
@@ -57,16 +80,16 @@ range_split a (suc n) m =
     ap (λ k. range_with_len a k) count ∙ ap (λ ks. a ∷ ks) (range_split (a + 1) n m ∙ ap (λ k. range_with_len (a + 1) n ++ range_with_len k m) start)
 
 -- a dump is its first lines, the next one, and the rest
-lines_split : (address : ℕ) (bytes : List ℕ) (i m : ℕ) → lines_below address bytes (i + (1 + m)) ≡ lines_below address bytes i ++ (dump_line (address + 16 * i) (take 16 (drop (16 * i) bytes)) ++ lines_from address bytes (i + 1) m)
+lines_split : (address : ℕ) (bytes : List ℕ) (i m : ℕ) → lines_below address bytes (i + (1 + m)) ≡ lines_below address bytes i ++ dump_line (address + 16 * i) (take 16 (drop (16 * i) bytes)) ∷ lines_from address bytes (i + 1) m
 unfolding lines_below lines_from
 lines_split address bytes i m =
     let next : 0 + i ≡ i = omega arith in
     let count : 1 + m ≡ suc m = omega arith in
     let line = λ (k : ℕ). dump_line (address + 16 * k) (take 16 (drop (16 * k) bytes)) in
-    ap (flat_map line) (range_split 0 i (1 + m))
-    ∙ flat_map-append line (range_with_len 0 i) (range_with_len (0 + i) (1 + m))
-    ∙ ap (λ k. flat_map line (range_with_len 0 i) ++ flat_map line (range_with_len k (1 + m))) next
-    ∙ ap (λ k. flat_map line (range_with_len 0 i) ++ flat_map line (range_with_len i k)) count
+    ap (map line) (range_split 0 i (1 + m))
+    ∙ map-append line (range_with_len 0 i) (range_with_len (0 + i) (1 + m))
+    ∙ ap (λ k. map line (range_with_len 0 i) ++ map line (range_with_len k (1 + m))) next
+    ∙ ap (λ k. map line (range_with_len 0 i) ++ map line (range_with_len i k)) count
 
 lines_none : (address : ℕ) (bytes : List ℕ) (i : ℕ) → lines_from address bytes i 0 ≡ []
 unfolding lines_from
@@ -78,13 +101,13 @@ unfolding lines_below
 lines-none address bytes = refl
 
 -- one line more
-lines-more : (address : ℕ) (bytes : List ℕ) (i : ℕ) → lines_below address bytes (i + 1) ≡ lines_below address bytes i ++ dump_line (address + 16 * i) (take 16 (drop (16 * i) bytes))
+lines-more : (address : ℕ) (bytes : List ℕ) (i : ℕ) → lines_below address bytes (i + 1) ≡ lines_below address bytes i ++ dump_line (address + 16 * i) (take 16 (drop (16 * i) bytes)) ∷ []
 lines-more address bytes i =
-    lines_split address bytes i 0 ∙ ap (λ s. lines_below address bytes i ++ (dump_line (address + 16 * i) (take 16 (drop (16 * i) bytes)) ++ s)) (lines_none address bytes (i + 1)) ∙ ap (λ s. lines_below address bytes i ++ s) (append-nil (dump_line (address + 16 * i) (take 16 (drop (16 * i) bytes))))
+    lines_split address bytes i 0 ∙ ap (λ s. lines_below address bytes i ++ dump_line (address + 16 * i) (take 16 (drop (16 * i) bytes)) ∷ s) (lines_none address bytes (i + 1))
 
 -- all lines are the dump
-pub lines-all : (address : ℕ) (bytes : List ℕ) → lines_below address bytes ((length bytes + 15) / 16) ≡ dump_text address bytes
-unfolding lines_below dump_text
+pub lines-all : (address : ℕ) (bytes : List ℕ) → lines_below address bytes ((length bytes + 15) / 16) ≡ dump_lines address bytes
+unfolding lines_below dump_lines
 lines-all address bytes = refl
 
 -- the bytes of a line, however short the last is
@@ -99,24 +122,25 @@ row_of-line bytes row i is =
     ]
 
 -- a line was put whole: one line more
-pub line-put : (told before now : Option (List ℕ)) (address place i : ℕ) (bytes row : List ℕ) → before ≡ grown told (lines_below address bytes i) → place ≡ (address + 16 * i) % 4294967296 → row ≡ take 16 (drop (16 * i) bytes) → now ≡ grown before (dump_line place row) → now ≡ grown told (lines_below address bytes (i + 1))
+pub line-put : (told before now : Option (List (List ℕ))) (address place i : ℕ) (bytes row : List ℕ) → before ≡ grown told (lines_below address bytes i) → place ≡ (address + 16 * i) % 4294967296 → row ≡ take 16 (drop (16 * i) bytes) → now ≡ grown before (dump_line place row ∷ []) → now ≡ grown told (lines_below address bytes (i + 1))
 line-put told before now address place i bytes row so_far at is put =
-    put ∙ ap (λ b. grown b (dump_line place row)) so_far ∙ grown-twice told (lines_below address bytes i) (dump_line place row)
-    ∙ ap (λ s. grown told (lines_below address bytes i ++ s)) (dump_line-wraps (address + 16 * i) place row at ∙ ap (dump_line (address + 16 * i)) is)
+    put ∙ ap (λ b. grown b (dump_line place row ∷ [])) so_far ∙ grown-twice told (lines_below address bytes i) (dump_line place row ∷ [])
+    ∙ ap (λ s. grown told (lines_below address bytes i ++ s ∷ [])) (dump_line-wraps (address + 16 * i) place row at ∙ ap (dump_line (address + 16 * i)) is)
     ∙ ap (grown told) (sym (lines-more address bytes i))
 
 -- a line was cut: a part of the dump was put
-pub line-cut : (told before now : Option (List ℕ)) (address place i : ℕ) (bytes row : List ℕ) → before ≡ grown told (lines_below address bytes i) → place ≡ (address + 16 * i) % 4294967296 → row ≡ take 16 (drop (16 * i) bytes) → i < (length bytes + 15) / 16 → GrowsByPart before (dump_line place row) now → GrowsByPart told (dump_text address bytes) now
+pub line-cut : (told before now : Option (List (List ℕ))) (address place i : ℕ) (bytes row : List ℕ) → before ≡ grown told (lines_below address bytes i) → place ≡ (address + 16 * i) % 4294967296 → row ≡ take 16 (drop (16 * i) bytes) → i < (length bytes + 15) / 16 → GrowsByPart before (dump_line place row ∷ []) now → GrowsByPart told (dump_lines address bytes) now
 line-cut told before now address place i bytes row so_far at is within cut =
-    let line : dump_line place row ≡ dump_line (address + 16 * i) (take 16 (drop (16 * i) bytes)) = dump_line-wraps (address + 16 * i) place row at ∙ ap (dump_line (address + 16 * i)) is in
-    let there : GrowsByPart (grown told (lines_below address bytes i)) (dump_line (address + 16 * i) (take 16 (drop (16 * i) bytes))) now = subst (λ (b : Option (List ℕ)). GrowsByPart b (dump_line (address + 16 * i) (take 16 (drop (16 * i) bytes))) now) so_far (subst (λ (s : List ℕ). GrowsByPart before s now) line cut) in
+    let row_line = dump_line (address + 16 * i) (take 16 (drop (16 * i) bytes)) in
+    let line : dump_line place row ≡ row_line = dump_line-wraps (address + 16 * i) place row at ∙ ap (dump_line (address + 16 * i)) is in
+    let there : GrowsByPart (grown told (lines_below address bytes i)) (row_line ∷ []) now = subst (λ (b : Option (List (List ℕ))). GrowsByPart b (row_line ∷ []) now) so_far (subst (λ (s : List ℕ). GrowsByPart before (s ∷ []) now) line cut) in
     let rest = (length bytes + 15) / 16 - (i + 1) in
     let count : i + (1 + rest) ≡ (length bytes + 15) / 16 = omega arith in
-    let whole : lines_below address bytes i ++ (dump_line (address + 16 * i) (take 16 (drop (16 * i) bytes)) ++ lines_from address bytes (i + 1) rest) ≡ dump_text address bytes = sym (lines_split address bytes i rest) ∙ ap (lines_below address bytes) count ∙ lines-all address bytes in
-    subst (λ (s : List ℕ). GrowsByPart told s now) whole (part-behind told now (lines_below address bytes i) (dump_line (address + 16 * i) (take 16 (drop (16 * i) bytes))) (lines_from address bytes (i + 1) rest) there)
+    let whole : lines_below address bytes i ++ row_line ∷ lines_from address bytes (i + 1) rest ≡ dump_lines address bytes = sym (lines_split address bytes i rest) ∙ ap (lines_below address bytes) count ∙ lines-all address bytes in
+    subst (λ (s : List (List ℕ)). GrowsByPart told s now) whole (part-behind told now (lines_below address bytes i) (row_line ∷ []) (lines_from address bytes (i + 1) rest) there)
 
--- no byte grows nothing
-pub grown-nothing : (told : Option (List ℕ)) → grown told [] ≡ told
+-- no line grows nothing
+pub grown-nothing : (told : Option (List (List ℕ))) → grown told [] ≡ told
 grown-nothing None = refl
 grown-nothing (Some told) = ap (λ s. Some s) (append-nil told)
 

@@ -1,3 +1,2 @@
 pub mod LastLines
-pub mod Faults
 pub mod Puts

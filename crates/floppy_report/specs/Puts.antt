@@ -4,25 +4,25 @@ use Rattle.flop_base.specs.Sink.{grown, GrowsByPart}
 use Rattle.flop_base.specs.declared.answers.Status.{Status}
 use Rattle.flop_base.specs.declared.answers.Status.TheVariants as status
 use Rattle.sector_model.specs.Plays.{IsPutFault, Prints}
-use Rattle.floppy_report.specs.Faults.{BlamesAlone}
+use Rattle.sector_model.specs.Faults.{Blames}
 
 -- what is printed, with the faults that the sink counted
 pub record Printed : Type 0 where
-  pub report : Option (List ℕ)
+  pub report : Option (List (List ℕ))
   pub faults : ℕ
 
-abbrev pub printed_of : {K : Type 0} → (K → Option (List ℕ)) → (K → ℕ) → K → Printed
+abbrev pub printed_of : {K : Type 0} → (K → Option (List (List ℕ))) → (K → ℕ) → K → Printed
 printed_of report sink_count out = record { report = report out; faults = sink_count out }
 
--- a text was put whole; or a first part of it, and the error is the status
-pub record Puts (text : List ℕ) (old : Printed) (result : Result (Unit {0}) Status) (new : Printed) : Type 0 where
-  pub ok : OnOk result (new.report ≡ grown old.report text)
-  pub err : OnErr result (GrowsByPart old.report text new.report)
+-- lines were put whole, each by one call; or a first part of them, and the error is the status
+pub record Puts (lines : List (List ℕ)) (old : Printed) (result : Result (Unit {0}) Status) (new : Printed) : Type 0 where
+  pub ok : OnOk result (new.report ≡ grown old.report lines)
+  pub err : OnErr result (GrowsByPart old.report lines new.report)
   pub only : IfErr result IsPutFault
-  pub faults : BlamesAlone (IsErrOf result status.SinkFault) old.faults new.faults
+  pub faults : Blames (IsErrOf result status.SinkFault) old.faults new.faults
 
--- a last line was put, and the status is the wanted one; or it couldn't be put whole
-pub record PutsLast (line : List ℕ) (wanted : Status) (old new : Printed) (ended : Status) : Type 0 where
-  pub prints : Prints line wanted old.report new.report ended
+-- last lines were put, and the status is the wanted one; or they couldn't be put whole
+pub record PutsLast (lines : List (List ℕ)) (wanted : Status) (old new : Printed) (ended : Status) : Type 0 where
+  pub prints : Prints lines wanted old.report new.report ended
   pub only : ended ≢ wanted → IsPutFault ended
-  pub faults : BlamesAlone (ended ≡ status.SinkFault) old.faults new.faults
+  pub faults : Blames (ended ≡ status.SinkFault) old.faults new.faults

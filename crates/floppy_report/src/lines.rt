@@ -1,10 +1,10 @@
 // The lines of a report. Each ends with a line feed and is put by one call.
-ghost use Rattle.std.specs.Prelude.{◌≡◌, ◌++◌, ℕ, List, codes, IfErr, MatchResult, ◌≢◌, OnOk, OnErr, IfOk, IsErrOf, string_bytes};
+ghost use Rattle.std.specs.Prelude.{◌≡◌, ◌++◌, ◌∷◌, [], ℕ, List, codes, IfErr, MatchResult, ◌≢◌, OnOk, OnErr, IfOk, IsErrOf, string_bytes};
 ghost use Rattle.std.specs.Fmt.{decimal};
 ghost use Rattle.flop_base.specs.Sink.{grown, GrowsByPart};
-ghost use Rattle.sector_model.specs.Texts.{reply_text, stop_text, stop_status, bad_line_text, absent_text, image_text, image_error_text, reason_text, dump_text, dump_line, dump_byte, line_end};
+ghost use Rattle.sector_model.specs.Texts.{reply_lines, stop_lines, stop_status, bad_line_text, absent_text, image_text, image_error_text, reason_text, dump_lines, dump_line, dump_byte, line_end};
 ghost use Rattle.sector_model.specs.Plays.{IsPutFault, Prints};
-ghost use Rattle.floppy_report.specs.Faults.{BlamesAlone};
+ghost use Rattle.sector_model.specs.Faults.{Blames};
 ghost use Rattle.floppy_report.specs.Puts.{printed_of, Puts, PutsLast};
 ghost use Rattle.floppy_report.specs.LastLines.{bad_words_text, stopped_text, unfit_text};
 
@@ -19,7 +19,7 @@ const DUMP_LINE: usize = 16;
 
 /// Puts a line.
 fn put<K: Sink>(out: &mut K, line: &str) -> Result<(), Status>
-    ensures { Puts line.now (printed_of K.told K.fault_count out.old) result (printed_of K.told K.fault_count out.new) }
+    ensures { Puts (line.now ∷ []) (printed_of K.told K.fault_count out.old) result (printed_of K.told K.fault_count out.new) }
 {
     match out.put(line.as_bytes()) {
         Ok(()) => Ok(()),
@@ -31,11 +31,11 @@ fn put<K: Sink>(out: &mut K, line: &str) -> Result<(), Status>
 /// Puts a line that was made.
 pub fn put_line<K: Sink>(out: &mut K, line: Result<String, AllocError>) -> Result<(), Status>
     ensures ok { (text : List ℕ) → IfOk line (λ made. string_bytes made ≡ text)
-        → OnOk result (K.told out.new ≡ grown (K.told out.old) text) }
+        → OnOk result (K.told out.new ≡ grown (K.told out.old) (text ∷ [])) }
     ensures err { (text : List ℕ) → IfOk line (λ made. string_bytes made ≡ text)
-        → OnErr result (GrowsByPart (K.told out.old) text (K.told out.new)) }
+        → OnErr result (GrowsByPart (K.told out.old) (text ∷ []) (K.told out.new)) }
     ensures only { IfErr result IsPutFault }
-    ensures faults { BlamesAlone (IsErrOf result Status.SinkFault) (K.fault_count out.old) (K.fault_count out.new) }
+    ensures faults { Blames (IsErrOf result Status.SinkFault) (K.fault_count out.old) (K.fault_count out.new) }
 {
     match line {
         Ok(line) => put(out, line.as_str()),
@@ -116,14 +116,14 @@ fn dump_line(alloc: Global, address: u32, row: &[u8]) -> Result<String, AllocErr
 
 /// Puts a line of a dump.
 fn put_row<K: Sink>(alloc: Global, out: &mut K, address: u32, row: &[u8]) -> Result<(), Status>
-    ensures { Puts (dump_line address row.now) (printed_of K.told K.fault_count out.old) result (printed_of K.told K.fault_count out.new) }
+    ensures { Puts (dump_line address row.now ∷ []) (printed_of K.told K.fault_count out.old) result (printed_of K.told K.fault_count out.new) }
 {
     put_line(out, dump_line(alloc, address, row))
 }
 
 /// Puts the lines of a dump: per 16 bytes the address of the first, then each byte.
 fn put_dump<K: Sink>(alloc: Global, out: &mut K, address: u32, content: &[u8]) -> Result<(), Status>
-    ensures { Puts (dump_text address content.now) (printed_of K.told K.fault_count out.old) result (printed_of K.told K.fault_count out.new) }
+    ensures { Puts (dump_lines address content.now) (printed_of K.told K.fault_count out.old) result (printed_of K.told K.fault_count out.new) }
 {
     let mut place = address;
     for i in 0..content.len().div_ceil(DUMP_LINE) {
@@ -136,14 +136,14 @@ fn put_dump<K: Sink>(alloc: Global, out: &mut K, address: u32, content: &[u8]) -
 }
 
 /// Puts the lines that tell the answer to a request.
-#[tactic(auto, unfolding(sector_model::specs::Texts::reply_text))]
+#[tactic(auto, unfolding(sector_model::specs::Texts::reply_lines))]
 pub fn put_reply<K: Sink>(
     alloc: Global,
     out: &mut K,
     request: &Request,
     reply: &Reply,
 ) -> Result<(), Status>
-    ensures { Puts (reply_text request.now reply.now) (printed_of K.told K.fault_count out.old) result (printed_of K.told K.fault_count out.new) }
+    ensures { Puts (reply_lines request.now reply.now) (printed_of K.told K.fault_count out.old) result (printed_of K.told K.fault_count out.new) }
 {
     let verb = request.verb();
     match reply {
@@ -155,9 +155,10 @@ pub fn put_reply<K: Sink>(
 }
 
 /// Puts the last line of a run that stopped.
-#[tactic(auto, unfolding(sector_model::specs::Texts::stop_text))]
+#[tactic(auto, unfolding(sector_model::specs::Texts::stop_lines))]
 fn put_stop<K: Sink>(alloc: Global, out: &mut K, stop: &Stop) -> Result<(), Status>
-    ensures { Puts (stop_text stop.now) (printed_of K.told K.fault_count out.old) result (printed_of K.told K.fault_count out.new) }
+    ensures puts { Puts (stop_lines stop.now) (printed_of K.told K.fault_count out.old) result (printed_of K.told K.fault_count out.new) }
+    ensures fault_told { OnErr result (stop.now ≢ Stop.FileFault) }
 {
     match stop {
         Stop::BadImage { name, error } => put_line(out, image_line(alloc, name.as_str(), *error)),
@@ -177,14 +178,14 @@ fn longer_line(alloc: Global, name: &str, most: usize) -> Result<String, AllocEr
 
 /// Puts the last line where a file isn't there.
 fn put_absent<K: Sink>(alloc: Global, out: &mut K, name: &str) -> Result<(), Status>
-    ensures { Puts (absent_text name.now) (printed_of K.told K.fault_count out.old) result (printed_of K.told K.fault_count out.new) }
+    ensures { Puts (absent_text name.now ∷ []) (printed_of K.told K.fault_count out.old) result (printed_of K.told K.fault_count out.new) }
 {
     put_line(out, format!(in alloc; "{name} absent\n"))
 }
 
 /// Puts the last line where a job's line isn't understood.
 fn put_bad_line<K: Sink>(alloc: Global, out: &mut K, line: usize) -> Result<(), Status>
-    ensures { Puts (bad_line_text line) (printed_of K.told K.fault_count out.old) result (printed_of K.told K.fault_count out.new) }
+    ensures { Puts (bad_line_text line ∷ []) (printed_of K.told K.fault_count out.old) result (printed_of K.told K.fault_count out.new) }
 {
     put_line(out, bad_line(alloc, line))
 }
@@ -222,24 +223,25 @@ pub fn stop_status(stop: &Stop) -> Status
 
 /// Puts the last line of a run that stopped, and gives its status.
 pub fn put_last<K: Sink>(alloc: Global, out: &mut K, stop: &Stop) -> Status
-    ensures prints { Prints (stop_text stop.now) (stop_status stop.now) (K.told out.old) (K.told out.new) result }
+    ensures prints { Prints (stop_lines stop.now) (stop_status stop.now) (K.told out.old) (K.told out.new) result }
     ensures is_form { result ≢ Status.BadWords }
     ensures shelf_fault { result ≡ Status.FileFault → stop.now ≡ Stop.FileFault }
-    ensures faults { BlamesAlone (result ≡ Status.SinkFault) (K.fault_count out.old) (K.fault_count out.new) }
+    ensures fault_told { stop.now ≡ Stop.FileFault → result ≡ Status.FileFault }
+    ensures faults { Blames (result ≡ Status.SinkFault) (K.fault_count out.old) (K.fault_count out.new) }
 {
     after(put_stop(alloc, out, stop), stop_status(stop))
 }
 
 /// Puts the last line where a file isn't there, and gives the status.
 pub fn put_last_absent<K: Sink>(alloc: Global, out: &mut K, name: &str) -> Status
-    ensures { PutsLast (absent_text name.now) Status.Absent (printed_of K.told K.fault_count out.old) (printed_of K.told K.fault_count out.new) result }
+    ensures { PutsLast (absent_text name.now ∷ []) Status.Absent (printed_of K.told K.fault_count out.old) (printed_of K.told K.fault_count out.new) result }
 {
     after(put_absent(alloc, out, name), Status::Absent)
 }
 
 /// Puts the last line where a job's line isn't understood, and gives the status.
 pub fn put_last_bad_line<K: Sink>(alloc: Global, out: &mut K, line: usize) -> Status
-    ensures { PutsLast (bad_line_text line) Status.BadJob (printed_of K.told K.fault_count out.old) (printed_of K.told K.fault_count out.new) result }
+    ensures { PutsLast (bad_line_text line ∷ []) Status.BadJob (printed_of K.told K.fault_count out.old) (printed_of K.told K.fault_count out.new) result }
 {
     after(put_bad_line(alloc, out, line), Status::BadJob)
 }
@@ -261,7 +263,7 @@ pub fn put_last_stopped<K: Sink>(
     request: &Request,
     reason: Reason,
 ) -> Status
-    ensures { PutsLast (stopped_text request.now reason) Status.SomeRefused (printed_of K.told K.fault_count out.old) (printed_of K.told K.fault_count out.new) result }
+    ensures { PutsLast (stopped_text request.now reason ∷ []) Status.SomeRefused (printed_of K.told K.fault_count out.old) (printed_of K.told K.fault_count out.new) result }
 {
     put_last_line(
         out,
@@ -279,7 +281,7 @@ fn unfit_line(alloc: Global, c: u8, h: u8) -> Result<String, AllocError>
 
 /// Puts the last line where the track of a cylinder and a head can't be had in another form, and gives the status.
 pub fn put_last_unfit<K: Sink>(alloc: Global, out: &mut K, c: u8, h: u8) -> Status
-    ensures { PutsLast (unfit_text c h) Status.SomeRefused (printed_of K.told K.fault_count out.old) (printed_of K.told K.fault_count out.new) result }
+    ensures { PutsLast (unfit_text c h ∷ []) Status.SomeRefused (printed_of K.told K.fault_count out.old) (printed_of K.told K.fault_count out.new) result }
 {
     put_last_line(out, unfit_line(alloc, c, h), Status::SomeRefused)
 }
@@ -291,17 +293,17 @@ pub fn put_last_line<K: Sink>(
     status: Status,
 ) -> Status
     ensures prints { (text : List ℕ) → IfOk line (λ made. string_bytes made ≡ text)
-        → Prints text status (K.told out.old) (K.told out.new) result }
+        → Prints (text ∷ []) status (K.told out.old) (K.told out.new) result }
     ensures only { result ≢ status → IsPutFault result }
     ensures faults { status ≢ Status.SinkFault
-        → BlamesAlone (result ≡ Status.SinkFault) (K.fault_count out.old) (K.fault_count out.new) }
+        → Blames (result ≡ Status.SinkFault) (K.fault_count out.old) (K.fault_count out.new) }
 {
     after(put_line(out, line), status)
 }
 
 /// Puts the last line where the words are no form of the program, and gives the status.
 pub fn put_last_bad_words<K: Sink>(out: &mut K) -> Status
-    ensures { PutsLast bad_words_text Status.BadWords (printed_of K.told K.fault_count out.old) (printed_of K.told K.fault_count out.new) result }
+    ensures { PutsLast (bad_words_text ∷ []) Status.BadWords (printed_of K.told K.fault_count out.old) (printed_of K.told K.fault_count out.new) result }
 {
     after(put(out, "words not understood\n"), Status::BadWords)
 }

@@ -17,7 +17,7 @@ pub counts_of_spares : {D : Type 0} (state : D → DriveState) (drives : List D)
 counts_of_spares state drives first second same = ap (all_counts state) same
 
 -- reading the plan left the files and the report
-pub as_planned : (name : List ℕ) (words : List (List ℕ)) (plan : Plan) (told mid_told : Option Files) (report mid_report : Option (List ℕ)) (machine : Option (MachineOf ScriptDrive)) (after : Desk) (ended : Status) → IfSome told (λ files. IsSomeAnd (file_at files name) (λ text. plan_spelled text ≡ Ok plan)) → mid_told ≡ told → mid_report ≡ report → IfSome machine (λ left. RunsNew script_state (parts_of plan) words (record { files = mid_told; report = mid_report }) left after ended) → IfSome machine (λ left. RunsPlanned name words (record { files = told; report = report }) left after ended)
+pub as_planned : (name : List ℕ) (words : List (List ℕ)) (plan : Plan) (told mid_told : Option Files) (report mid_report : Option (List (List ℕ))) (machine : Option (MachineOf ScriptDrive)) (after : Desk) (ended : Status) → IfSome told (λ files. IsSomeAnd (file_at files name) (λ text. plan_spelled text ≡ Ok plan)) → mid_told ≡ told → mid_report ≡ report → IfSome machine (λ left. RunsNew script_state (parts_of plan) words (record { files = mid_told; report = mid_report }) left after ended) → IfSome machine (λ left. RunsPlanned name words (record { files = told; report = report }) left after ended)
 as_planned name words plan told mid_told report mid_report None after ended spelled same_files same_report runs = tt
 as_planned name words plan told mid_told report mid_report (Some left) after ended spelled same_files same_report runs = record {
   plan = plan;

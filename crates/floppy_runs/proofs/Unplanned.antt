@@ -15,6 +15,6 @@ there None name text bytes same loads = tt
 there (Some files) name text bytes same loads = loads.0 ∙ ap Some (sym same)
 
 -- a plan's text was loaded, and isn't in its grammar, or memory for it couldn't be had
-pub ends_unread : (told : Option Files) (name text : List ℕ) (bytes : Vec ℕ Global) (answer : Result FaultPlan PlanError) (error : PlanError) (old new : Option (List ℕ)) (ended : Status) → text ≡ bytes.items → answer ≡ Err error → IfSome told (λ files. Loads files name most_plan_bytes (Ok bytes)) → ReadsPlan answer (plan_spelled text) → TellsUnread error old new ended → EndsWithoutPlan told name old new ended
+pub ends_unread : (told : Option Files) (name text : List ℕ) (bytes : Vec ℕ Global) (answer : Result FaultPlan PlanError) (error : PlanError) (old new : Option (List (List ℕ))) (ended : Status) → text ≡ bytes.items → answer ≡ Err error → IfSome told (λ files. Loads files name most_plan_bytes (Ok bytes)) → ReadsPlan answer (plan_spelled text) → TellsUnread error old new ended → EndsWithoutPlan told name old new ended
 ends_unread told name text bytes answer error old new ended same is loads reads tells =
     Unread text error (there told name text bytes same loads) (subst (λ (a : Result FaultPlan PlanError). ReadsPlan a (plan_spelled text)) is reads) tells

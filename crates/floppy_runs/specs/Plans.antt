@@ -1,5 +1,5 @@
 -- How the program ends where the plan that the environment names can't be had.
-use Rattle.std.specs.Prelude.{◌≡◌, ℕ, ◌++◌, List, codes, Option, Some, Err, IfSome}
+use Rattle.std.specs.Prelude.{◌≡◌, ℕ, ◌++◌, List, [], ◌∷◌, codes, Option, Some, Err, IfSome}
 use Rattle.std.specs.Fmt.{decimal}
 use Rattle.flop_base.specs.Shelf.{Files, Loads, file_at}
 use Rattle.flop_base.specs.declared.answers.Status.{Status}
@@ -21,24 +21,24 @@ unfoldable pub bad_plan_text : ℕ → List ℕ
 bad_plan_text line = codes "plan line " ++ (decimal line ++ codes " not understood\n")
 
 -- nothing is printed
-pub record Silent (wanted : Status) (old new : Option (List ℕ)) (ended : Status) : Type 0 where
+pub record Silent (wanted : Status) (old new : Option (List (List ℕ))) (ended : Status) : Type 0 where
   pub report : new ≡ old
   pub status : ended ≡ wanted
 
 -- what is printed where a plan isn't loaded, and the status
-abbrev pub TellsUnloaded : LoadError → List ℕ → Option (List ℕ) → Option (List ℕ) → Status → Type 0
-TellsUnloaded load.Absent name old new ended = Prints (absent_text name) status.Absent old new ended
-TellsUnloaded load.TooLong name old new ended = Prints (bad_plan_text 0) status.BadJob old new ended
+abbrev pub TellsUnloaded : LoadError → List ℕ → Option (List (List ℕ)) → Option (List (List ℕ)) → Status → Type 0
+TellsUnloaded load.Absent name old new ended = Prints (absent_text name ∷ []) status.Absent old new ended
+TellsUnloaded load.TooLong name old new ended = Prints (bad_plan_text 0 ∷ []) status.BadJob old new ended
 TellsUnloaded load.Failed name old new ended = Silent status.FileFault old new ended
 TellsUnloaded load.NoMemory name old new ended = Silent status.NoMemory old new ended
 
 -- and where its text isn't read
-abbrev pub TellsUnread : PlanError → Option (List ℕ) → Option (List ℕ) → Status → Type 0
-TellsUnread (plan.BadLine line) old new ended = Prints (bad_plan_text line) status.BadJob old new ended
+abbrev pub TellsUnread : PlanError → Option (List (List ℕ)) → Option (List (List ℕ)) → Status → Type 0
+TellsUnread (plan.BadLine line) old new ended = Prints (bad_plan_text line ∷ []) status.BadJob old new ended
 TellsUnread plan.NoMemory old new ended = Silent status.NoMemory old new ended
 
 -- the plan of this name can't be had: its file isn't loaded, or its text isn't read
-pub data EndsWithoutPlan (told : Option Files) (name : List ℕ) (old new : Option (List ℕ)) (ended : Status) : Type 0 where
+pub data EndsWithoutPlan (told : Option Files) (name : List ℕ) (old new : Option (List (List ℕ))) (ended : Status) : Type 0 where
   Unloaded : (error : LoadError) → IfSome told (λ files. Loads files name most_plan_bytes (Err error))
       → TellsUnloaded error name old new ended → EndsWithoutPlan told name old new ended
   Unread : (text : List ℕ) (error : PlanError) → IfSome told (λ files. file_at files name ≡ Some text)

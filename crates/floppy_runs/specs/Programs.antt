@@ -1,5 +1,5 @@
 -- How the program ends, by what the environment variable gives that names a plan.
-use Rattle.std.specs.Prelude.{ℕ, List, codes, Option, Result, Ok, Err, String, string_bytes}
+use Rattle.std.specs.Prelude.{ℕ, List, [], ◌∷◌, codes, Option, Result, Ok, Err, String, string_bytes}
 use Rattle.std.specs.declared.alloc.Global.{Global}
 use Rattle.std.specs.declared.env.VarError.{VarError}
 use Rattle.std.specs.declared.env.VarError.TheVariants as variable
@@ -21,8 +21,8 @@ RunsUnplanned variable.NotPresent words = RunsNew plain_state plain_parts words
 RunsUnplanned _ words = λ before left after ended. ⊥
 
 -- and how it ends without a machine: the value isn't text, which no file's name is; or memory for it, or for a machine, couldn't be had
-abbrev pub LacksName : VarError → Desk → Option (List ℕ) → Status → Type 0
-LacksName variable.NotUnicode = λ before report ended. Prints (absent_text (codes "FLOPPY_PLAN")) status.Absent before.report report ended
+abbrev pub LacksName : VarError → Desk → Option (List (List ℕ)) → Status → Type 0
+LacksName variable.NotUnicode = λ before report ended. Prints (absent_text (codes "FLOPPY_PLAN") ∷ []) status.Absent before.report report ended
 LacksName _ = Starves
 
 -- how the program ended, by what the variable gave: a plan's name, or why there is none

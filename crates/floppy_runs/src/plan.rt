@@ -1,8 +1,7 @@
 // The plan of faults and delays that the environment names.
-ghost use Rattle.std.specs.Prelude.{◌≡◌, ◌≢◌, IfErr, IfOk, IfSome, IsErrOf, IsSomeAnd, Ok, OnOk, string_bytes};
+ghost use Rattle.std.specs.Prelude.{◌≡◌, ◌≢◌, ◌∷◌, [], IfErr, IfOk, IfSome, IsErrOf, IsSomeAnd, Ok, OnOk, string_bytes};
 ghost use Rattle.flop_base.specs.Shelf.{file_at};
 ghost use Rattle.sector_model.specs.Faults.{Blames};
-ghost use Rattle.floppy_report.specs.Faults.{BlamesAlone};
 ghost use Rattle.sector_model.specs.Plays.{Prints};
 ghost use Rattle.fault_plan.specs.Plan.{lists_of, plan_spelled};
 ghost use Rattle.floppy_runs.specs.Plans.{bad_plan_text, EndsWithoutPlan, TellsUnloaded, TellsUnread};
@@ -28,7 +27,7 @@ pub(crate) fn read_plan<S: Shelf, K: Sink>(
     ensures stays { S.told shelf.new ≡ S.told shelf.old }
     ensures ended { IfErr result (λ ended. EndsWithoutPlan (S.told shelf.old) name.now (K.told out.old) (K.told out.new) ended) }
     ensures shelf_faults { Blames (IsErrOf result Status.FileFault) (S.fault_count shelf.old) (S.fault_count shelf.new) }
-    ensures sink_faults { BlamesAlone (IsErrOf result Status.SinkFault) (K.fault_count out.old) (K.fault_count out.new) }
+    ensures sink_faults { Blames (IsErrOf result Status.SinkFault) (K.fault_count out.old) (K.fault_count out.new) }
 {
     let text = match shelf.load(alloc, name, MOST_PLAN_BYTES) {
         Ok(text) => text,
@@ -44,7 +43,8 @@ pub(crate) fn read_plan<S: Shelf, K: Sink>(
 fn not_loaded<K: Sink>(alloc: Global, name: &str, out: &mut K, error: LoadError) -> Status
     ensures tells { TellsUnloaded error name.now (K.told out.old) (K.told out.new) result }
     ensures shelf_fault { result ≡ Status.FileFault → error ≡ LoadError.Failed }
-    ensures sink_faults { BlamesAlone (result ≡ Status.SinkFault) (K.fault_count out.old) (K.fault_count out.new) }
+    ensures fault_told { error ≡ LoadError.Failed → result ≡ Status.FileFault }
+    ensures sink_faults { Blames (result ≡ Status.SinkFault) (K.fault_count out.old) (K.fault_count out.new) }
 {
     match error {
         LoadError::Absent => put_last_absent(alloc, out, name),
@@ -58,7 +58,7 @@ fn not_loaded<K: Sink>(alloc: Global, name: &str, out: &mut K, error: LoadError)
 fn not_read<K: Sink>(alloc: Global, out: &mut K, error: PlanError) -> Status
     ensures tells { TellsUnread error (K.told out.old) (K.told out.new) result }
     ensures no_shelf_fault { result ≢ Status.FileFault }
-    ensures sink_faults { BlamesAlone (result ≡ Status.SinkFault) (K.fault_count out.old) (K.fault_count out.new) }
+    ensures sink_faults { Blames (result ≡ Status.SinkFault) (K.fault_count out.old) (K.fault_count out.new) }
 {
     match error {
         PlanError::BadLine { line } => put_last_bad_plan(alloc, out, line),
@@ -68,9 +68,9 @@ fn not_read<K: Sink>(alloc: Global, out: &mut K, error: PlanError) -> Status
 
 /// Puts the last line where a line of a plan isn't understood, and gives the status.
 fn put_last_bad_plan<K: Sink>(alloc: Global, out: &mut K, line: usize) -> Status
-    ensures prints { Prints (bad_plan_text line) Status.BadJob (K.told out.old) (K.told out.new) result }
+    ensures prints { Prints (bad_plan_text line ∷ []) Status.BadJob (K.told out.old) (K.told out.new) result }
     ensures no_shelf_fault { result ≢ Status.FileFault }
-    ensures sink_faults { BlamesAlone (result ≡ Status.SinkFault) (K.fault_count out.old) (K.fault_count out.new) }
+    ensures sink_faults { Blames (result ≡ Status.SinkFault) (K.fault_count out.old) (K.fault_count out.new) }
 {
     put_last_line(out, bad_plan_line(alloc, line), Status::BadJob)
 }

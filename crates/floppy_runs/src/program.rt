@@ -1,8 +1,8 @@
 // The program, by what the environment variable gives that names a plan.
-ghost use Rattle.std.specs.Prelude.{◌≡◌, ◌≢◌, codes, map, string_bytes};
+ghost use Rattle.std.specs.Prelude.{◌≡◌, ◌≢◌, ◌∷◌, [], codes, map, string_bytes};
 ghost use Rattle.sector_model.specs.Plays.{Prints};
 ghost use Rattle.sector_model.specs.Texts.{absent_text};
-ghost use Rattle.floppy_report.specs.Faults.{BlamesAlone};
+ghost use Rattle.sector_model.specs.Faults.{Blames};
 ghost use Rattle.archive_commands.specs.Files.{faulty_desk_of};
 ghost use Rattle.floppy_runs.specs.Runs.{EndsRun};
 ghost use Rattle.floppy_runs.specs.Programs.{EndsProgram, LacksName, RunsUnplanned, status_of};
@@ -83,9 +83,9 @@ fn run_unplanned<S: Shelf, K: Sink>(
 
 /// Puts the last line where the variable's value isn't text, and gives the status.
 fn put_last_no_name<K: Sink>(alloc: Global, out: &mut K) -> Status
-    ensures prints { Prints (absent_text (codes "FLOPPY_PLAN")) Status.Absent (K.told out.old) (K.told out.new) result }
+    ensures prints { Prints (absent_text (codes "FLOPPY_PLAN") ∷ []) Status.Absent (K.told out.old) (K.told out.new) result }
     ensures no_shelf_fault { result ≢ Status.FileFault }
-    ensures sink_faults { BlamesAlone (result ≡ Status.SinkFault) (K.fault_count out.old) (K.fault_count out.new) }
+    ensures sink_faults { Blames (result ≡ Status.SinkFault) (K.fault_count out.old) (K.fault_count out.new) }
 {
     put_last_absent(alloc, out, PLAN_VARIABLE)
 }

@@ -1,5 +1,5 @@
 // Image files, from a shelf and back to it.
-ghost use Rattle.std.specs.Prelude.{◌≡◌, ℕ, IfOk, IfErr, OnOk, OnErr, IsErrOf};
+ghost use Rattle.std.specs.Prelude.{◌≡◌, ℕ, Ok, IfOk, IfErr, OnOk, OnErr, IsErrOf};
 ghost use Rattle.flop_base.specs.Shelf.{stored};
 ghost use Rattle.raw_image.specs.Image.{file_of};
 ghost use Rattle.sector_model.specs.Steps.{IsImageOf, StopCause};
@@ -40,7 +40,8 @@ pub fn load_medium<S: Shelf>(alloc: Global, shelf: &mut S, name: &Name) -> Resul
 
 /// What a refused load stops the run with.
 fn stop_at_load(alloc: Global, name: &Name, error: LoadError) -> Result<Stop, NoMemory>
-    ensures { IfOk result (λ stop. StopsFor name.now error stop) }
+    ensures stops { IfOk result (λ stop. StopsFor name.now error stop) }
+    ensures fault_told { error ≡ LoadError.Failed → result ≡ Ok Stop.FileFault }
 {
     Ok(match error {
         LoadError::Absent => Stop::Absent {

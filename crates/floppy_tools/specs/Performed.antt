@@ -8,7 +8,6 @@ use Rattle.drive_model.specs.Drive.{DriveState}
 use Rattle.pc_bus.specs.Boards.{Board, board}
 use Rattle.pc_bus.specs.declared.machine.MachineOf.{MachineOf}
 use Rattle.sector_model.specs.Faults.{Blames}
-use Rattle.floppy_report.specs.Faults.{BlamesAlone}
 use Rattle.floppy_words.specs.declared.form.Form.{Form}
 use Rattle.floppy_words.specs.Forms.{form_of, ports_file_of}
 use Rattle.archive_commands.specs.Files.{Desk, FaultyDesk, faulty_desk_of}
@@ -35,19 +34,19 @@ pub record Stand : Type 0 where
   pub board : Board
   pub desk : FaultyDesk
 
-abbrev pub stand_of : {D S K : Type 0} → (D → DriveState) → (S → Option Files) → (S → ℕ) → (K → Option (List ℕ)) → (K → ℕ) → MachineOf D → S → K → Stand
+abbrev pub stand_of : {D S K : Type 0} → (D → DriveState) → (S → Option Files) → (S → ℕ) → (K → Option (List (List ℕ))) → (K → ℕ) → MachineOf D → S → K → Stand
 stand_of state files shelf_count report sink_count machine shelf out =
     record { board = board state machine; desk = faulty_desk_of files shelf_count report sink_count shelf out }
 
--- a form was done over a driver, or words that are none, and each fault that the status tells was counted
+-- a form was done over a driver, or words that are none, and one fault was counted where the status tells it, and else none
 pub record RanOver (asked : Option Form) (spares : List DriveCounts) (old new : Stand) (ended : Status) : Type 0 where
   pub runs : RunsOver asked old.board spares old.desk.desk new.board new.desk.desk ended
   pub bad_words : ended ≡ status.BadWords → asked ≡ None
   pub shelf_faults : Blames (ended ≡ status.FileFault) old.desk.shelf_faults new.desk.shelf_faults
-  pub sink_faults : BlamesAlone (ended ≡ status.SinkFault) old.desk.sink_faults new.desk.sink_faults
+  pub sink_faults : Blames (ended ≡ status.SinkFault) old.desk.sink_faults new.desk.sink_faults
 
--- the top call did what its words say, and each fault that the status tells was counted
+-- the top call did what its words say, and one fault was counted where the status tells it, and else none
 pub record Performed (words : List (List ℕ)) (spares : List DriveCounts) (old new : Stand) (ended : Status) : Type 0 where
   pub does : DoesWords words old.board spares old.desk.desk new.board new.desk.desk ended
   pub shelf_faults : Blames (ended ≡ status.FileFault) old.desk.shelf_faults new.desk.shelf_faults
-  pub sink_faults : BlamesAlone (ended ≡ status.SinkFault) old.desk.sink_faults new.desk.sink_faults
+  pub sink_faults : Blames (ended ≡ status.SinkFault) old.desk.sink_faults new.desk.sink_faults

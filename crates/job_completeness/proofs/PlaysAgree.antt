@@ -18,8 +18,8 @@ use Rattle.sector_model.specs.declared.reply.Stop.TheVariants as stop
 use Rattle.sector_model.specs.Stations.{Bay, fresh_bay}
 use Rattle.sector_model.specs.States.{State}
 use Rattle.sector_model.specs.Steps.{StopsAt, StopCause, IsAbsent, IsLonger}
-use Rattle.sector_model.specs.Texts.{is_refusal, stop_text, stop_status, bad_line_text, absent_text}
-use Rattle.sector_model.specs.Runs.{Taken, Run, requests_of, course_text, has_refusal, IsEndStop}
+use Rattle.sector_model.specs.Texts.{is_refusal, stop_lines, stop_status, bad_line_text, absent_text}
+use Rattle.sector_model.specs.Runs.{Taken, Run, requests_of, course_lines, has_refusal, IsEndStop}
 use Rattle.sector_model.specs.Plays as plays
 use Rattle.sector_model.specs.Plays.{World, IsPutFault, Prints, whole_status, PlaysRequests, TellsAlone, PlaysParsed, PlaysText, IsText, most_job_bytes, Plays}
 use Rattle.sector_model.proofs.Runs.{run_more, requests_more}
@@ -90,11 +90,11 @@ put_free status.FileFault is = absurd is
 -- ---- how a play of requests came to its end
 
 -- the outside ended it; or all was run; or a request stopped it, and the last line tells why
-data Ending (report : Option (List ℕ)) (course : List Taken) (mid : State) (files : Option Files) (rest : List Request) (new : World) (ended : Status) : Type 0 where
+data Ending (report : Option (List (List ℕ))) (course : List Taken) (mid : State) (files : Option Files) (rest : List Request) (new : World) (ended : Status) : Type 0 where
   ByOutside : IsFreeEnd ended → Ending report course mid files rest new ended
-  AllRun : rest ≡ [] → new.report ≡ grown report (course_text course) → ended ≡ whole_status (has_refusal course) → Ending report course mid files rest new ended
+  AllRun : rest ≡ [] → new.report ≡ grown report (course_lines course) → ended ≡ whole_status (has_refusal course) → Ending report course mid files rest new ended
   ByStop : (asked : Request) (later : List Request) (cause : Stop) → rest ≡ asked ∷ later → StopsAt asked mid files cause new.state new.files
-      → new.report ≡ grown (grown report (course_text course)) (stop_text cause) → ended ≡ stop_status cause → Ending report course mid files rest new ended
+      → new.report ≡ grown (grown report (course_lines course)) (stop_lines cause) → ended ≡ stop_status cause → Ending report course mid files rest new ended
 
 record RunsTo (old : World) (requests : List Request) (course : List Taken) (new : World) (ended : Status) : Type 0 where
   pub mid : State
@@ -104,7 +104,7 @@ record RunsTo (old : World) (requests : List Request) (course : List Taken) (new
   pub all : requests ≡ requests_of course ++ rest
   pub ending : Ending old.report course mid files rest new ended
 
-stop_ending : (report : Option (List ℕ)) (course : List Taken) (mid : State) (files : Option Files) (asked : Request) (later : List Request) (cause : Stop) (new : World) (ended : Status) → StopsAt asked mid files cause new.state new.files → Prints (stop_text cause) (stop_status cause) (grown report (course_text course)) new.report ended → Ending report course mid files (asked ∷ later) new ended
+stop_ending : (report : Option (List (List ℕ))) (course : List Taken) (mid : State) (files : Option Files) (asked : Request) (later : List Request) (cause : Stop) (new : World) (ended : Status) → StopsAt asked mid files cause new.state new.files → Prints (stop_lines cause) (stop_status cause) (grown report (course_lines course)) new.report ended → Ending report course mid files (asked ∷ later) new ended
 stop_ending report course mid files asked later cause new ended stops (plays.Whole after is) = ByStop asked later cause refl stops after is
 stop_ending report course mid files asked later cause new ended stops (plays.Part grows fault) = ByOutside (put_free ended fault)
 
@@ -167,9 +167,9 @@ refusals_same (t ∷ later) (u ∷ more) agree long =
     ap (λ (b : Bool). b || has_refusal more) (refusal_same t.answer u.answer agree.1)
     ∙ ap (λ (b : Bool). is_refusal t.answer || b) (refusals_same later more agree.2 (same_suc (length more) (length later) long))
 
-grown_nil : (report : Option (List ℕ)) → grown report [] ≡ report
+grown_nil : (report : Option (List (List ℕ))) → grown report [] ≡ report
 grown_nil None = refl
-grown_nil (Some told) = ap (λ (l : List ℕ). Some l) (append-nil told)
+grown_nil (Some told) = ap (λ (l : List (List ℕ)). Some l) (append-nil told)
 
 nil_cons : (rest : List Request) (asked : Request) (later : List Request) → rest ≡ [] → rest ≡ asked ∷ later → ⊥
 nil_cons rest asked later e f = cc (e, f)
@@ -211,15 +211,15 @@ module _ (one two one_after two_after : World) (course course_too : List Taken) 
   EndsSo = EndAlikeUnlessFree one two course course_too one_after two_after ended ended_too
 
   module _ (mid mid_too : State) (files files_too : Option Files) (rest rest_too : List Request) (agree : AllAgree course course_too) where
-    both_stopped : length course_too ≡ length course → AlikeTold files files_too → (asked : Request) (a b : Stop) → StopCause files asked a → StopCause files_too asked b → one_after.report ≡ grown (grown one.report (course_text course)) (stop_text a) → two_after.report ≡ grown (grown two.report (course_text course_too)) (stop_text b) → ended ≡ stop_status a → ended_too ≡ stop_status b → EndsSo
+    both_stopped : length course_too ≡ length course → AlikeTold files files_too → (asked : Request) (a b : Stop) → StopCause files asked a → StopCause files_too asked b → one_after.report ≡ grown (grown one.report (course_lines course)) (stop_lines a) → two_after.report ≡ grown (grown two.report (course_lines course_too)) (stop_lines b) → ended ≡ stop_status a → ended_too ≡ stop_status b → EndsSo
     both_stopped long told asked a b first second report report_too is is_too = elim (stops_both files files_too asked a b told first second) [
       | inl free ↦ inl (stop_ended a ended is free)
       | inr (inl free) ↦ inr (inl (stop_ended b ended_too is_too free))
       | inr (inr same) ↦ inr (inr (record {
         as_many = long;
-        line = stop_text a;
+        lines = stop_lines a;
         first = report;
-        second = report_too ∙ ap (λ (c : Stop). grown (grown two.report (course_text course_too)) (stop_text c)) same;
+        second = report_too ∙ ap (λ (c : Stop). grown (grown two.report (course_lines course_too)) (stop_lines c)) same;
         status = is_too ∙ ap stop_status same ∙ sym is;
       }))
     ]
@@ -230,9 +230,9 @@ module _ (one two one_after two_after : World) (course course_too : List Taken) 
     ends_alike parted (ByStop asked later cause more stops report is) (ByOutside free) = inr (inl free)
     ends_alike (Together long rests same) (AllRun none report is) (AllRun none_too report_too is_too) = inr (inr (record {
       as_many = long;
-      line = [];
-      first = report ∙ sym (grown_nil (grown one.report (course_text course)));
-      second = report_too ∙ sym (grown_nil (grown two.report (course_text course_too)));
+      lines = [];
+      first = report ∙ sym (grown_nil (grown one.report (course_lines course)));
+      second = report_too ∙ sym (grown_nil (grown two.report (course_lines course_too)));
       status = is_too ∙ ap whole_status (refusals_same course course_too agree long) ∙ sym is;
     }))
     ends_alike (FirstOn passed) (AllRun none report is) (AllRun none_too report_too is_too) = absurd (nil_cons rest_too passed.asked passed.later none_too passed.rest_is)
@@ -270,22 +270,22 @@ module _ (one two one_after two_after : World) (course course_too : List Taken) 
   none_second none = subst (λ (c : List Taken). AnswersAgree one.state course c) (sym none) (any_none one.state course)
 
   -- two last lines alone
-  no_text : (report : Option (List ℕ)) (c : List Taken) → c ≡ [] → grown report (course_text c) ≡ report
-  no_text report c none = ap (λ (x : List Taken). grown report (course_text x)) none ∙ grown_nil report
+  no_text : (report : Option (List (List ℕ))) (c : List Taken) → c ≡ [] → grown report (course_lines c) ≡ report
+  no_text report c none = ap (λ (x : List Taken). grown report (course_lines x)) none ∙ grown_nil report
 
-  lines_alike : (line : List ℕ) (wanted : Status) → course ≡ [] → course_too ≡ [] → Prints line wanted one.report one_after.report ended → Prints line wanted two.report two_after.report ended_too → EndsSo
+  lines_alike : (line : List (List ℕ)) (wanted : Status) → course ≡ [] → course_too ≡ [] → Prints line wanted one.report one_after.report ended → Prints line wanted two.report two_after.report ended_too → EndsSo
   lines_alike line wanted none none_too (plays.Part grows fault) second = inl (put_free ended fault)
   lines_alike line wanted none none_too (plays.Whole after is) (plays.Part grows fault) = inr (inl (put_free ended_too fault))
   lines_alike line wanted none none_too (plays.Whole after is) (plays.Whole after_too is_too) = inr (inr (record {
     as_many = ap (λ (l : List Taken). length l) none_too ∙ sym (ap (λ (l : List Taken). length l) none);
-    line = line;
-    first = after ∙ ap (λ (r : Option (List ℕ)). grown r line) (sym (no_text one.report course none));
-    second = after_too ∙ ap (λ (r : Option (List ℕ)). grown r line) (sym (no_text two.report course_too none_too));
+    lines = line;
+    first = after ∙ ap (λ (r : Option (List (List ℕ))). grown r line) (sym (no_text one.report course none));
+    second = after_too ∙ ap (λ (r : Option (List (List ℕ))). grown r line) (sym (no_text two.report course_too none_too));
     status = is_too ∙ sym is;
   }))
 
   alone_alike : (line : List ℕ) (wanted : Status) → TellsAlone line wanted one course one_after ended → TellsAlone line wanted two course_too two_after ended_too → Alike
-  alone_alike line wanted a b = (none_first a.nothing, λ regular. lines_alike line wanted a.nothing b.nothing a.tells.prints b.tells.prints)
+  alone_alike line wanted a b = (none_first a.nothing, λ regular. lines_alike (line ∷ []) wanted a.nothing b.nothing a.tells.prints b.tells.prints)
 
   -- ---- two plays
 

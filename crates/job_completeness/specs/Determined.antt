@@ -10,7 +10,7 @@ use Rattle.sector_model.specs.declared.reply.Reply.{Reply}
 use Rattle.sector_model.specs.declared.reply.Reply.TheVariants as reply
 use Rattle.sector_model.specs.Stations.{IsFresh, StationState}
 use Rattle.sector_model.specs.States.{State}
-use Rattle.sector_model.specs.Runs.{Taken, course_text}
+use Rattle.sector_model.specs.Runs.{Taken, course_lines}
 use Rattle.sector_model.specs.Plays.{World}
 use Rattle.sector_model.specs.Ties.{HasNothingLeft}
 
@@ -82,9 +82,9 @@ IsFreeEnd _ = ⊥
 -- two plays answered as many requests, told the same behind the answers, and ended with the same status
 pub record EndAlike (one two : World) (course other : List Taken) (one_after two_after : World) (ended other_ended : Status) : Type 0 where
   pub as_many : length other ≡ length course
-  pub line : List ℕ
-  pub first : one_after.report ≡ grown (grown one.report (course_text course)) line
-  pub second : two_after.report ≡ grown (grown two.report (course_text other)) line
+  pub lines : List (List ℕ)
+  pub first : one_after.report ≡ grown (grown one.report (course_lines course)) lines
+  pub second : two_after.report ≡ grown (grown two.report (course_lines other)) lines
   pub status : other_ended ≡ ended
 
 -- so it is, unless the outside ended one of them

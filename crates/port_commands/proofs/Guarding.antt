@@ -226,7 +226,7 @@ ran old new name ended range (course, plays) =
     }
 
 -- a run that begins with no names
-pub ran_bare : (board : Board) (names : Names) (files : Option Files) (report : Option (List ℕ)) (new : World) (name : List ℕ) (ended : Status) → names ≡ no_names → IsInRange board → ((course : List Taken) × Plays name (world_with board names files report) course new ended) → RunsPorts name (world_with board no_names files report) new ended
+pub ran_bare : (board : Board) (names : Names) (files : Option Files) (report : Option (List (List ℕ))) (new : World) (name : List ℕ) (ended : Status) → names ≡ no_names → IsInRange board → ((course : List Taken) × Plays name (world_with board names files report) course new ended) → RunsPorts name (world_with board no_names files report) new ended
 ran_bare board names files report new name ended same range plays =
     ran (world_with board no_names files report) new name ended range
     (subst (λ (n : Names). (course : List Taken) × Plays name (world_with board n files report) course new ended) same plays)

@@ -15,15 +15,15 @@ use Rattle.floppy_jobs.specs.declared.lines.JobError.{JobError}
 use Rattle.floppy_jobs.specs.declared.lines.JobError.TheVariants as lines
 use Rattle.floppy_jobs.specs.declared.ports.PortLine.{PortLine}
 use Rattle.floppy_report.proofs.DumpLines.{grown-twice, grown-nothing}
-use Rattle.sector_model.specs.Texts.{stop_text, stop_status, bad_line_text}
+use Rattle.sector_model.specs.Texts.{stop_lines, stop_status, bad_line_text}
 use Rattle.sector_model.specs.Plays.{Prints, IsText, whole_status}
 use Rattle.pc_bus.specs.Boards.{Board}
 use Rattle.scripts.specs.Texts.{MissesText}
 use Rattle.port_commands.specs.Benches.{Bench, Names}
-use Rattle.port_commands.specs.Courses.{Taken, PortRun, lines_of, course_text, has_refusal}
+use Rattle.port_commands.specs.Courses.{Taken, PortRun, lines_of, course_lines, has_refusal}
 use Rattle.port_commands.specs.Lines.{DoesLine, is_refusal}
 use Rattle.port_commands.specs.Plays.{World, IsRound, Breaks, AtStop, AtPut, HasRun, HasPlayed, PlaysLines, Played, Stopped, BrokenOff, EndStopped, EndsAs, InWhole, AtStore, Tells, PlaysParsed, PlaysOrStarves, AsParsed, Starving, Plays, There, Missing, TooLong, Faulty, Starved}
-use Rattle.port_commands.specs.Texts.{answer_text}
+use Rattle.port_commands.specs.Texts.{answer_lines}
 
 -- ---- one line more at the end of a course
 
@@ -35,11 +35,11 @@ lines_more : (course : List Taken) (taken : Taken) → lines_of (course ++ taken
 lines_more [] taken = refl
 lines_more (first ∷ later) taken = ap (λ (rest : List PortLine). first.asked ∷ rest) (lines_more later taken)
 
-text_more : (course : List Taken) (taken : Taken) → course_text (course ++ taken ∷ []) ≡ course_text course ++ answer_text taken.asked taken.answer
-text_more [] taken = append-nil (answer_text taken.asked taken.answer)
+text_more : (course : List Taken) (taken : Taken) → course_lines (course ++ taken ∷ []) ≡ course_lines course ++ answer_lines taken.asked taken.answer
+text_more [] taken = append-nil (answer_lines taken.asked taken.answer)
 text_more (first ∷ later) taken =
-    ap (λ (rest : List ℕ). answer_text first.asked first.answer ++ rest) (text_more later taken)
-    ∙ sym (append_assoc (answer_text first.asked first.answer) (course_text later) (answer_text taken.asked taken.answer))
+    ap (λ (rest : List (List ℕ)). answer_lines first.asked first.answer ++ rest) (text_more later taken)
+    ∙ sym (append_assoc (answer_lines first.asked first.answer) (course_lines later) (answer_lines taken.asked taken.answer))
 
 or-false : (b : Bool) → (b || false) ≡ b
 or-false true = refl
@@ -69,7 +69,7 @@ has-run-more old mid new before asked refused refusal so_far round =
       course = so_far.course ++ taken ∷ [];
       run = run_more old.bench mid.bench so_far.course taken so_far.run round.does;
       all = ap (λ (first : List PortLine). first ++ asked ∷ []) so_far.all ∙ sym (lines_more so_far.course taken);
-      report = round.report ∙ ap (λ (r : Option (List ℕ)). grown r (answer_text asked round.answer)) so_far.report ∙ grown-twice old.report (course_text so_far.course) (answer_text asked round.answer) ∙ ap (grown old.report) (sym (text_more so_far.course taken));
+      report = round.report ∙ ap (λ (r : Option (List (List ℕ))). grown r (answer_lines asked round.answer)) so_far.report ∙ grown-twice old.report (course_lines so_far.course) (answer_lines asked round.answer) ∙ ap (grown old.report) (sym (text_more so_far.course taken));
       is_refused = ap (λ (b : Bool). b || refusal) so_far.is_refused ∙ ap (λ (b : Bool). has_refusal so_far.course || b) round.is_refused ∙ sym (refusal_more so_far.course taken);
     }
 
@@ -96,7 +96,7 @@ broken old mid new asked_for i asked refused ended so_far within item (AtStop ca
     run = so_far.run;
     all = parted asked_for i asked within item ∙ ap (λ (before : List PortLine). before ++ asked ∷ drop (suc i) asked_for) so_far.all;
     stops = stops;
-    prints = subst (λ (r : Option (List ℕ)). Prints (stop_text cause) (stop_status cause) r new.report ended) so_far.report prints;
+    prints = subst (λ (r : Option (List (List ℕ))). Prints (stop_lines cause) (stop_status cause) r new.report ended) so_far.report prints;
   }),
 )
 broken old mid new asked_for i asked refused ended so_far within item (AtPut said tells does range part fault) =
@@ -113,7 +113,7 @@ broken old mid new asked_for i asked refused ended so_far within item (AtPut sai
         after = refl;
         course_is = refl;
         all = parted asked_for i asked within item ∙ ap (λ (before : List PortLine). before ++ asked ∷ drop (suc i) asked_for) so_far.all;
-        part = subst (λ (r : Option (List ℕ)). GrowsByPart r (answer_text asked said) new.report) so_far.report part;
+        part = subst (λ (r : Option (List (List ℕ))). GrowsByPart r (answer_lines asked said) new.report) so_far.report part;
         fault = fault;
       }),
     )
@@ -178,11 +178,11 @@ as_text old new name text course ended told (Starving idle) = Starved idle
 
 -- ---- what a shelf told
 
-abbrev pub world_with : Board → Names → Option Files → Option (List ℕ) → World
+abbrev pub world_with : Board → Names → Option Files → Option (List (List ℕ)) → World
 world_with board names files report = record { bench = record { board = board; names = names; files = files }; report = report }
 
 -- a run whose text wasn't had
-as_missed : (board : Board) (names : Names) (told : Option Files) (report after : Option (List ℕ)) (name : List ℕ) (error : LoadError) (ended : Status) → IfSome told (λ files. Loads files name 4194304 (Err error)) → MissesText error name report after ended → (course : List Taken) × Plays name (world_with board names told report) course (world_with board names told after) ended
+as_missed : (board : Board) (names : Names) (told : Option Files) (report after : Option (List (List ℕ))) (name : List ℕ) (error : LoadError) (ended : Status) → IfSome told (λ files. Loads files name 4194304 (Err error)) → MissesText error name report after ended → (course : List Taken) × Plays name (world_with board names told report) course (world_with board names told after) ended
 as_missed board names None report after name load.Absent ended loads missed = ([], Missing tt (record { nothing = refl; tells = record { bench = refl; prints = missed } }))
 as_missed board names (Some files) report after name load.Absent ended loads missed = ([], Missing loads (record { nothing = refl; tells = record { bench = refl; prints = missed } }))
 as_missed board names None report after name load.TooLong ended loads missed = ([], TooLong tt (record { nothing = refl; tells = record { bench = refl; prints = missed } }))
@@ -191,7 +191,7 @@ as_missed board names told report after name load.Failed ended loads missed = ([
 as_missed board names told report after name load.NoMemory ended loads missed = ([], Starved (record { nothing = refl; same = ap (world_with board names told) missed.0; status = missed.1 }))
 
 -- a file that was loaded, and a text that was played
-pub text_plays : (board : Board) (names : Names) (told loaded : Option Files) (report : Option (List ℕ)) (new : World) (name text : List ℕ) (bytes : Vec ℕ Global) (ended : Status) → loaded ≡ told → text ≡ bytes.items → IfSome told (λ files. Loads files name 4194304 (Ok bytes)) → ((course : List Taken) × PlaysOrStarves text (world_with board names loaded report) course new ended) → (course : List Taken) × Plays name (world_with board names told report) course new ended
+pub text_plays : (board : Board) (names : Names) (told loaded : Option Files) (report : Option (List (List ℕ))) (new : World) (name text : List ℕ) (bytes : Vec ℕ Global) (ended : Status) → loaded ≡ told → text ≡ bytes.items → IfSome told (λ files. Loads files name 4194304 (Ok bytes)) → ((course : List Taken) × PlaysOrStarves text (world_with board names loaded report) course new ended) → (course : List Taken) × Plays name (world_with board names told report) course new ended
 text_plays board names told loaded report new name text bytes ended stays same loads plays = (
   plays.0,
   as_text (world_with board names told report) new name bytes.items plays.0 ended (loaded_text told name bytes loads)
@@ -200,7 +200,7 @@ text_plays board names told loaded report new name text bytes ended stays same l
 )
 
 -- a file that wasn't loaded
-pub missed_plays : (board : Board) (names : Names) (told loaded : Option Files) (report after : Option (List ℕ)) (name : List ℕ) (error : LoadError) (ended : Status) → loaded ≡ told → IfSome told (λ files. Loads files name 4194304 (Err error)) → MissesText error name report after ended → (course : List Taken) × Plays name (world_with board names told report) course (world_with board names loaded after) ended
+pub missed_plays : (board : Board) (names : Names) (told loaded : Option Files) (report after : Option (List (List ℕ))) (name : List ℕ) (error : LoadError) (ended : Status) → loaded ≡ told → IfSome told (λ files. Loads files name 4194304 (Err error)) → MissesText error name report after ended → (course : List Taken) × Plays name (world_with board names told report) course (world_with board names loaded after) ended
 missed_plays board names told loaded report after name error ended stays loads missed =
     subst (λ (files : Option Files). (course : List Taken) × Plays name (world_with board names told report) course (world_with board names files after) ended) (sym stays)
     (as_missed board names told report after name error ended loads missed)

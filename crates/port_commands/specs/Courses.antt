@@ -1,4 +1,4 @@
--- Lines done one after the other, with the text that tells their answers; and the end, which stores what is left in.
+-- Lines done one after the other, with the lines that tell their answers; and the end, which stores what is left in.
 use Rattle.std.specs.Prelude.{◌≡◌, ℕ, ◌+◌, Bool, true, false, ◌||◌, List, [], ◌∷◌, ◌++◌, map, Result, Ok, Err}
 use Rattle.floppy_jobs.specs.declared.ports.PortLine.{PortLine}
 use Rattle.pc_bus.specs.Boards.{IsInRange}
@@ -7,7 +7,7 @@ use Rattle.sector_model.specs.Runs.{IsEndStop}
 use Rattle.port_commands.specs.declared.answer.Answer.{Answer}
 use Rattle.port_commands.specs.Benches.{Bench, is_loaded}
 use Rattle.port_commands.specs.Lines.{DoesLine, StoresMedium, DropsMedium, is_refusal, waits_in}
-use Rattle.port_commands.specs.Texts.{answer_text}
+use Rattle.port_commands.specs.Texts.{answer_lines}
 
 -- a line that was done: the line, its answer, and the bench that it leads to, whose board is in range
 pub record Taken : Type 0 where
@@ -25,10 +25,10 @@ PortRun old (taken ∷ later) new = DoesLine taken.asked old taken.answer taken.
 abbrev pub lines_of : List Taken → List PortLine
 lines_of course = map (λ taken. taken.asked) course
 
--- the text that tells its answers
-abbrev pub course_text : List Taken → List ℕ
-course_text [] = []
-course_text (taken ∷ later) = answer_text taken.asked taken.answer ++ course_text later
+-- the lines that tell its answers
+abbrev pub course_lines : List Taken → List (List ℕ)
+course_lines [] = []
+course_lines (taken ∷ later) = answer_lines taken.asked taken.answer ++ course_lines later
 
 -- some answer is a refusal
 abbrev pub has_refusal : List Taken → Bool

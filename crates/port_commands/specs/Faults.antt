@@ -8,7 +8,6 @@ use Rattle.pc_bus.specs.declared.machine.MachineOf.{MachineOf}
 use Rattle.sector_model.specs.declared.reply.Stop.{Stop}
 use Rattle.sector_model.specs.declared.reply.Stop.TheVariants as stop
 use Rattle.sector_model.specs.Faults.{Blames}
-use Rattle.floppy_report.specs.Faults.{BlamesAlone}
 use Rattle.port_commands.specs.Benches.{AreNamed, Bench, Names, bench_of}
 use Rattle.port_commands.specs.Plays.{World, world_of}
 
@@ -23,7 +22,7 @@ abbrev pub faulty_bench_of : {D S : Type 0} → (D → DriveState) → (S → Op
 faulty_bench_of state files shelf_count machine names shelf =
     record { bench = bench_of state files machine names shelf; faults = shelf_count shelf }
 
--- a call did this or stopped, a bay has a name exactly where a medium is in, and a fault of the shelf that it tells was counted
+-- a call did this or stopped, a bay has a name exactly where a medium is in, and one fault of the shelf was counted where it tells one, and else none
 pub record Handled {T : Type 0} (Does : Bench → Result T Stop → Bench → Type 0) (old : FaultyBench) (result : Result T Stop) (new : FaultyBench) : Type 0 where
   pub does : Does old.bench result new.bench
   pub named : AreNamed new.bench.names new.bench.board
@@ -37,7 +36,7 @@ pub record Faulty : Type 0 where
   pub shelf_faults : ℕ
   pub sink_faults : ℕ
 
-abbrev pub faulty_of : {D S K : Type 0} → (D → DriveState) → (S → Option Files) → (S → ℕ) → (K → Option (List ℕ)) → (K → ℕ)
+abbrev pub faulty_of : {D S K : Type 0} → (D → DriveState) → (S → Option Files) → (S → ℕ) → (K → Option (List (List ℕ))) → (K → ℕ)
     → MachineOf D → Names → S → K → Faulty
 faulty_of state files shelf_count report sink_count machine names shelf out = record {
   world = world_of state files report machine names shelf out;
@@ -45,12 +44,12 @@ faulty_of state files shelf_count report sink_count machine names shelf out = re
   sink_faults = sink_count out;
 }
 
--- a run did this, its words were a form, and each fault that its status tells was counted
+-- a run did this, its words were a form, and one fault was counted where its status tells it, and else none
 pub record Ran (Does : World → World → Status → Type 0) (old new : Faulty) (ended : Status) : Type 0 where
   pub does : Does old.world new.world ended
   pub is_form : ended ≢ status.BadWords
   pub shelf_faults : Blames (ended ≡ status.FileFault) old.shelf_faults new.shelf_faults
-  pub sink_faults : BlamesAlone (ended ≡ status.SinkFault) old.sink_faults new.sink_faults
+  pub sink_faults : Blames (ended ≡ status.SinkFault) old.sink_faults new.sink_faults
 
 -- the same of lines of a run, whose error is the status; a bay has a name exactly where a medium is in
 pub record RanPart (Goes : World → Result Bool Status → World → Type 0) (old : Faulty) (result : Result Bool Status) (new : Faulty) : Type 0 where
@@ -58,4 +57,4 @@ pub record RanPart (Goes : World → Result Bool Status → World → Type 0) (o
   pub named : AreNamed new.world.bench.names new.world.bench.board
   pub is_form : result ≢ Err status.BadWords
   pub shelf_faults : Blames (IsErrOf result status.FileFault) old.shelf_faults new.shelf_faults
-  pub sink_faults : BlamesAlone (IsErrOf result status.SinkFault) old.sink_faults new.sink_faults
+  pub sink_faults : Blames (IsErrOf result status.SinkFault) old.sink_faults new.sink_faults

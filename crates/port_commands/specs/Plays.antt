@@ -11,22 +11,22 @@ use Rattle.pc_bus.specs.Boards.{IsInRange}
 use Rattle.pc_bus.specs.declared.machine.MachineOf.{MachineOf}
 use Rattle.sector_model.specs.declared.reply.Stop.{Stop}
 use Rattle.sector_model.specs.Steps.{IsAbsent, IsLonger}
-use Rattle.sector_model.specs.Texts.{stop_text, stop_status, bad_line_text, absent_text}
+use Rattle.sector_model.specs.Texts.{stop_lines, stop_status, bad_line_text, absent_text}
 use Rattle.sector_model.specs.Runs.{IsEndStop}
 use Rattle.sector_model.specs.Plays.{Prints, IsPutFault, IsText, most_job_bytes, whole_status}
 use Rattle.port_commands.specs.declared.answer.Answer.{Answer}
 use Rattle.port_commands.specs.declared.answer.Answer.TheVariants as answer
 use Rattle.port_commands.specs.Benches.{Bench, Names, bench_of}
-use Rattle.port_commands.specs.Courses.{Taken, PortRun, lines_of, course_text, has_refusal, Ends, EndStopsAt}
+use Rattle.port_commands.specs.Courses.{Taken, PortRun, lines_of, course_lines, has_refusal, Ends, EndStopsAt}
 use Rattle.port_commands.specs.Lines.{DoesLine, StopsAt, is_refusal}
-use Rattle.port_commands.specs.Texts.{answer_text}
+use Rattle.port_commands.specs.Texts.{answer_lines}
 
 -- all that a run may change: the bench and the told report
 pub record World : Type 0 where
   pub bench : Bench
-  pub report : Option (List ℕ)
+  pub report : Option (List (List ℕ))
 
-abbrev pub world_of : {D S K : Type 0} → (D → DriveState) → (S → Option Files) → (K → Option (List ℕ)) → MachineOf D → Names → S → K → World
+abbrev pub world_of : {D S K : Type 0} → (D → DriveState) → (S → Option Files) → (K → Option (List (List ℕ))) → MachineOf D → Names → S → K → World
 world_of state files report machine names shelf out =
     record { bench = bench_of state files machine names shelf; report = report out }
 
@@ -37,15 +37,15 @@ pub record IsRound (asked : PortLine) (old : World) (refused : Bool) (new : Worl
   pub answer : Answer
   pub does : DoesLine asked old.bench answer new.bench
   pub range : IsInRange new.bench.board
-  pub report : new.report ≡ grown old.report (answer_text asked answer)
+  pub report : new.report ≡ grown old.report (answer_lines asked answer)
   pub is_refused : refused ≡ is_refusal answer
 
 -- a line stopped the run, or it has an answer that couldn't be told whole
 pub data Breaks (asked : PortLine) (old new : World) (ended : Status) : Type 0 where
   AtStop : (cause : Stop) → StopsAt asked old.bench cause new.bench
-      → Prints (stop_text cause) (stop_status cause) old.report new.report ended → Breaks asked old new ended
+      → Prints (stop_lines cause) (stop_status cause) old.report new.report ended → Breaks asked old new ended
   AtPut : (said : Answer) → said ≢ answer.Nothing → DoesLine asked old.bench said new.bench → IsInRange new.bench.board
-      → GrowsByPart old.report (answer_text asked said) new.report → IsPutFault ended → Breaks asked old new ended
+      → GrowsByPart old.report (answer_lines asked said) new.report → IsPutFault ended → Breaks asked old new ended
 
 -- a line was done and told whole, or broke off
 abbrev pub RoundGoes : PortLine → World → Result Bool Status → World → Type 0
@@ -59,7 +59,7 @@ pub record HasRun (lines : List PortLine) (old : World) (refused : Bool) (new : 
   pub course : List Taken
   pub run : PortRun old.bench course new.bench
   pub all : lines ≡ lines_of course
-  pub report : new.report ≡ grown old.report (course_text course)
+  pub report : new.report ≡ grown old.report (course_lines course)
   pub is_refused : refused ≡ has_refusal course
 
 -- all lines were done and told, and the media that were left in were stored
@@ -68,7 +68,7 @@ pub record IsPlayed (lines : List PortLine) (old : World) (course : List Taken) 
   pub run : PortRun old.bench course mid
   pub all : lines ≡ lines_of course
   pub stored : Ends mid new.bench
-  pub report : new.report ≡ grown old.report (course_text course)
+  pub report : new.report ≡ grown old.report (course_lines course)
   pub status : ended ≡ whole_status (has_refusal course)
 
 -- a line stopped the run, after all before it were done and told
@@ -80,7 +80,7 @@ pub record IsStopped (lines : List PortLine) (old : World) (course : List Taken)
   pub run : PortRun old.bench course mid
   pub all : lines ≡ lines_of course ++ asked ∷ later
   pub stops : StopsAt asked mid cause new.bench
-  pub prints : Prints (stop_text cause) (stop_status cause) (grown old.report (course_text course)) new.report ended
+  pub prints : Prints (stop_lines cause) (stop_status cause) (grown old.report (course_lines course)) new.report ended
 
 -- the answer to a line couldn't be told whole, after all before it were done and told
 pub record IsUnfinished (lines : List PortLine) (old : World) (course : List Taken) (new : World) (ended : Status) : Type 0 where
@@ -94,7 +94,7 @@ pub record IsUnfinished (lines : List PortLine) (old : World) (course : List Tak
   pub after : new.bench ≡ last.after
   pub course_is : course ≡ before ++ last ∷ []
   pub all : lines ≡ lines_of before ++ last.asked ∷ later
-  pub part : GrowsByPart (grown old.report (course_text before)) (answer_text last.asked last.answer) new.report
+  pub part : GrowsByPart (grown old.report (course_lines before)) (answer_lines last.asked last.answer) new.report
   pub fault : IsPutFault ended
 
 -- all lines were done and told, and the end couldn't store what was left in
@@ -105,7 +105,7 @@ pub record IsEndStopped (lines : List PortLine) (old : World) (course : List Tak
   pub all : lines ≡ lines_of course
   pub only : IsEndStop cause
   pub stops : EndStopsAt mid new.bench
-  pub report : new.report ≡ grown old.report (course_text course)
+  pub report : new.report ≡ grown old.report (course_lines course)
   pub status : ended ≡ stop_status cause
 
 -- how the lines of a text are played, and the course of their run
@@ -134,7 +134,7 @@ pub data EndsAs (refused : Bool) (old new : Bench) (ended : Status) : Type 0 whe
 -- nothing was done but to print a line
 pub record Tells (line : List ℕ) (wanted : Status) (old new : World) (ended : Status) : Type 0 where
   pub bench : new.bench ≡ old.bench
-  pub prints : Prints line wanted old.report new.report ended
+  pub prints : Prints (line ∷ []) wanted old.report new.report ended
 
 -- no line was done, and a last line told why
 pub record TellsAlone (line : List ℕ) (wanted : Status) (old : World) (course : List Taken) (new : World) (ended : Status) : Type 0 where

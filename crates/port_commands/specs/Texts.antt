@@ -1,5 +1,5 @@
 -- What a line of port accesses prints.
-use Rattle.std.specs.Prelude.{ℕ, ◌/◌, Bool, true, false, List, [], ◌++◌, codes, nat_lt, if◌then◌else◌}
+use Rattle.std.specs.Prelude.{ℕ, ◌/◌, Bool, true, false, List, [], ◌∷◌, ◌++◌, codes, nat_lt, if◌then◌else◌}
 use Rattle.floppy_requests.specs.Spelling.{hex_digit, hex2}
 use Rattle.floppy_jobs.specs.declared.ports.PortLine.{PortLine}
 use Rattle.floppy_jobs.specs.declared.ports.PortLine.TheVariants as line
@@ -27,10 +27,10 @@ abbrev pub latch_text : Bool → List ℕ
 latch_text true = codes "irq 1\n"
 latch_text false = codes "irq 0\n"
 
--- what tells a line's answer: a medium that was put in or taken out, or not, as in a job
-unfoldable pub answer_text : PortLine → Answer → List ℕ
-answer_text asked answer.Nothing = []
-answer_text asked (answer.Byte port value) = codes "in " ++ (port_text port ++ (codes " " ++ (hex2 value ++ line_end)))
-answer_text asked (answer.Latch set) = latch_text set
-answer_text asked answer.Done = verb_text asked ++ codes " ok\n"
-answer_text asked (answer.Refused cause) = verb_text asked ++ (codes " refused " ++ (reason_text cause ++ line_end))
+-- the line that tells a line's answer, if it has one: a medium that was put in or taken out, or not, as in a job
+unfoldable pub answer_lines : PortLine → Answer → List (List ℕ)
+answer_lines asked answer.Nothing = []
+answer_lines asked (answer.Byte port value) = (codes "in " ++ (port_text port ++ (codes " " ++ (hex2 value ++ line_end)))) ∷ []
+answer_lines asked (answer.Latch set) = latch_text set ∷ []
+answer_lines asked answer.Done = (verb_text asked ++ codes " ok\n") ∷ []
+answer_lines asked (answer.Refused cause) = (verb_text asked ++ (codes " refused " ++ (reason_text cause ++ line_end))) ∷ []

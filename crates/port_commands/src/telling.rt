@@ -3,7 +3,7 @@ ghost use Rattle.std.specs.Prelude.{◌≡◌, ◌≢◌, ◌++◌, codes, Some,
 ghost use Rattle.floppy_requests.specs.Spelling.{hex2};
 ghost use Rattle.floppy_report.specs.Puts.{Puts, printed_of};
 ghost use Rattle.sector_model.specs.Texts.{reason_text, line_end};
-ghost use Rattle.port_commands.specs.Texts.{answer_text, latch_text, port_text, verb_text};
+ghost use Rattle.port_commands.specs.Texts.{answer_lines, latch_text, port_text, verb_text};
 
 use crate::answer::Answer;
 use flop_base::{Sink, Status};
@@ -80,14 +80,14 @@ fn refusal_line(alloc: Global, verb: &str, reason: Reason) -> Result<String, All
 }
 
 /// Puts the line that tells an answer, if it has one.
-#[tactic(auto, unfolding(crate::specs::Texts::answer_text))]
+#[tactic(auto, unfolding(crate::specs::Texts::answer_lines))]
 pub(crate) fn put_answer<K: Sink>(
     alloc: Global,
     out: &mut K,
     line: &PortLine,
     answer: &Answer,
 ) -> Result<(), Status>
-    ensures puts { Puts (answer_text line.now answer.now) (printed_of K.told K.fault_count out.old) result
+    ensures puts { Puts (answer_lines line.now answer.now) (printed_of K.told K.fault_count out.old) result
         (printed_of K.told K.fault_count out.new) }
     ensures tells { OnErr result (answer.now ≢ Answer.Nothing) }
 {

@@ -23,7 +23,7 @@ use Rattle.program_laws.specs.Made.{MakesFile, TellsSurveyOf}
 use Rattle.program_laws.proofs.OfForms.{form_well}
 
 -- a line that was put with status 0 was put whole
-put_well : (line : List ℕ) (wanted : Status) (old new : Option (List ℕ)) → Prints line wanted old new status.AllOk
+put_well : (line : List (List ℕ)) (wanted : Status) (old new : Option (List (List ℕ))) → Prints line wanted old new status.AllOk
     → (new ≡ grown old line) × (status.AllOk ≡ wanted)
 put_well line wanted old new (Whole is well) = (is, well)
 put_well line wanted old new (Part grows fault) = absurd fault

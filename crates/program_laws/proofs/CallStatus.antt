@@ -25,7 +25,6 @@ use Rattle.sector_model.specs.Steps.{StopsAt, IsAbsent, IsLonger}
 use Rattle.sector_model.specs.Texts.{stop_status}
 use Rattle.sector_model.specs.Runs.{Taken, IsEndStop}
 use Rattle.sector_model.specs.Plays.{World, IsText, Prints, Whole, Part, IsPutFault, most_job_bytes, whole_status}
-use Rattle.floppy_report.specs.Faults.{BlamesAlone}
 use Rattle.floppy_session.specs.Services.{record_requests, record_request, record_behind, place_of_record, put_requests, put_request, MovesRecords, All, UpToOne, MovesIn, AcksAlone, DoesWork}
 use Rattle.bios_commands.specs.Rounds.{Round, DoesLine, AreRounds, lines_of, has_refused, Breaks, AtStop, AtPut}
 use Rattle.bios_commands.specs.Courses.{ServesCalls, There, Missing, TooLong, Faulty, Starved, ServesParsed, ServesLines, Through, Broken, EndStopped}
@@ -171,7 +170,7 @@ put_answered status.FileFault fault = absurd fault
 put_answered status.BadJob fault = absurd fault
 put_answered status.BadWords fault = absurd fault
 
-prints_answered : (line : List ℕ) (wanted : Status) (old new : Option (List ℕ)) (ended : Status) → Prints line wanted old new ended → IsAnswered wanted
+prints_answered : (line : List (List ℕ)) (wanted : Status) (old new : Option (List (List ℕ))) (ended : Status) → Prints line wanted old new ended → IsAnswered wanted
     → IsAnswered ended
 prints_answered line wanted old new ended (Whole is well) by = subst IsAnswered (sym well) by
 prints_answered line wanted old new ended (Part grows fault) by = put_answered ended fault
@@ -217,7 +216,7 @@ calls_by name files text lines old course new ended told is spells inserts kept 
 
 -- with the faults that were counted
 counted_answered : (Such : Type 0) (old new : Stand) (ended : Status) → Blames (ended ≡ status.FileFault) old.desk.shelf_faults new.desk.shelf_faults
-    → BlamesAlone (ended ≡ status.SinkFault) old.desk.sink_faults new.desk.sink_faults → IsAnswered ended
+    → Blames (ended ≡ status.SinkFault) old.desk.sink_faults new.desk.sink_faults → IsAnswered ended
     → (IsEndStatus ended → Such) → EndsAnswered Such old new ended
 counted_answered Such old new status.AllOk shelf sink ends such = such tt
 counted_answered Such old new status.SomeRefused shelf sink ends such = such tt

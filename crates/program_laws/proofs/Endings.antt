@@ -15,7 +15,6 @@ use Rattle.rescue.specs.Course.{logged_keys}
 use Rattle.rescue.specs.declared.line.LogLine.{LogLine}
 use Rattle.rescue_commands.specs.Logs.{IsLogFound}
 use Rattle.sector_model.specs.Plays.{World}
-use Rattle.floppy_report.specs.Faults.{BlamesAlone}
 use Rattle.flat_commands.specs.FlatFiles.{IsFlatFile}
 use Rattle.scripts.specs.Leading.{Runs}
 use Rattle.floppy_words.specs.declared.form.Form.{Form}
@@ -41,7 +40,7 @@ use Rattle.program_laws.proofs.OfForms.{form_done}
 
 -- what of an end is the outside's was counted
 counted : (Inner Holds : Type 0) (old new : Stand) (ended : Status) → (Inner → Holds) → Blames (ended ≡ status.FileFault) old.desk.shelf_faults new.desk.shelf_faults
-    → BlamesAlone (ended ≡ status.SinkFault) old.desk.sink_faults new.desk.sink_faults → EndsWellOrOutside Inner ended → EndsWell Holds old new ended
+    → Blames (ended ≡ status.SinkFault) old.desk.sink_faults new.desk.sink_faults → EndsWellOrOutside Inner ended → EndsWell Holds old new ended
 counted Inner Holds old new status.AllOk means shelf sink ends = means ends
 counted Inner Holds old new status.NoMemory means shelf sink ends = tt
 counted Inner Holds old new status.FileFault means shelf sink ends = shelf.rose refl

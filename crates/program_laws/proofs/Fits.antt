@@ -14,7 +14,6 @@ use Rattle.sector_model.specs.declared.reply.Stop.{Stop}
 use Rattle.sector_model.specs.declared.reply.Stop.TheVariants as stop
 use Rattle.sector_model.specs.Faults.{Blames}
 use Rattle.sector_model.specs.Plays.{Prints, Whole, Part, IsPutFault}
-use Rattle.floppy_report.specs.Faults.{BlamesAlone}
 use Rattle.sector_model.specs.Texts.{stop_status}
 use Rattle.remaster.specs.declared.lines.SurveyLine.{SurveyLine}
 use Rattle.archive_commands.specs.Surveys.{SurveysFile, TellsSurvey}
@@ -37,7 +36,7 @@ one_read reading files name one other first second =
     let both = of_one (file_at files name) first second in
     sym both.3.1 ∙ both.2.1
 
-put_fit : (Made IsUnfit : Type 0) (old new : Stand) (ended : Status) → BlamesAlone (ended ≡ status.SinkFault) old.desk.sink_faults new.desk.sink_faults
+put_fit : (Made IsUnfit : Type 0) (old new : Stand) (ended : Status) → Blames (ended ≡ status.SinkFault) old.desk.sink_faults new.desk.sink_faults
     → IsPutFault ended → EndsByFit Made IsUnfit old new ended
 put_fit Made IsUnfit old new status.NoMemory sink fault = tt
 put_fit Made IsUnfit old new status.SinkFault sink fault = sink.rose refl
@@ -52,8 +51,8 @@ put_fit Made IsUnfit old new status.BadWords sink fault = absurd fault
 starved_fit : (Made IsUnfit : Type 0) (old new : Stand) (ended : Status) → ended ≡ status.NoMemory → EndsByFit Made IsUnfit old new ended
 starved_fit Made IsUnfit old new ended starved = subst (λ (s : Status). EndsByFit Made IsUnfit old new s) (sym starved) tt
 
-printed_fit : (Made IsUnfit : Type 0) (old new : Stand) (line : List ℕ) (wanted : Status) (report after : Option (List ℕ)) (ended : Status)
-    → BlamesAlone (ended ≡ status.SinkFault) old.desk.sink_faults new.desk.sink_faults → Prints line wanted report after ended
+printed_fit : (Made IsUnfit : Type 0) (old new : Stand) (line : List (List ℕ)) (wanted : Status) (report after : Option (List (List ℕ))) (ended : Status)
+    → Blames (ended ≡ status.SinkFault) old.desk.sink_faults new.desk.sink_faults → Prints line wanted report after ended
     → (ended ≡ wanted → EndsByFit Made IsUnfit old new ended) → EndsByFit Made IsUnfit old new ended
 printed_fit Made IsUnfit old new line wanted report after ended sink (Whole is well) by = by well
 printed_fit Made IsUnfit old new line wanted report after ended sink (Part grows fault) by = put_fit Made IsUnfit old new ended sink fault
@@ -61,7 +60,7 @@ printed_fit Made IsUnfit old new line wanted report after ended sink (Part grows
 module _ {T : Type 0} (reading : List ℕ → Result T ImageError) (Becomes : T → List ℕ → ℕ → Type 0) (Unfits : T → ℕ → ℕ → Type 0) (from to verb : List ℕ)
     (files : Files) (source : T) (old new : Stand) (ended : Status)
     (shelf : Blames (ended ≡ status.FileFault) old.desk.shelf_faults new.desk.shelf_faults)
-    (sink : BlamesAlone (ended ≡ status.SinkFault) old.desk.sink_faults new.desk.sink_faults)
+    (sink : Blames (ended ≡ status.SinkFault) old.desk.sink_faults new.desk.sink_faults)
     (reads : ReadsAs reading (Some files) from (Ok source)) where
   abbrev Made : Type 0
   Made = MakesFile (Makes reading Becomes Unfits from to) verb old.desk.desk new.desk.desk
@@ -149,7 +148,7 @@ well_by Holds old new status.BadWords ends = absurd ends
 
 module _ (name : List ℕ) (files : Files) (disk : Disk) (old new : Stand) (ended : Status)
     (shelf : Blames (ended ≡ status.FileFault) old.desk.shelf_faults new.desk.shelf_faults)
-    (sink : BlamesAlone (ended ≡ status.SinkFault) old.desk.sink_faults new.desk.sink_faults)
+    (sink : Blames (ended ≡ status.SinkFault) old.desk.sink_faults new.desk.sink_faults)
     (told : old.desk.desk.files ≡ Some files) (image : ReadsAs image_of (Some files) name (Ok disk)) where
   abbrev Told : Type 0
   Told = TellsSurveyOf name old.desk.desk new.desk.desk

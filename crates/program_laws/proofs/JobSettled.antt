@@ -9,7 +9,6 @@ use Rattle.sector_model.specs.Faults.{Blames}
 use Rattle.sector_model.specs.States.{State}
 use Rattle.sector_model.specs.Runs.{Taken}
 use Rattle.sector_model.specs.Plays.{World}
-use Rattle.floppy_report.specs.Faults.{BlamesAlone}
 use Rattle.job_completeness.specs.Determined.{AreBytes, BeginAlike, AreRegularBefore, AnswersAgree, IsFreeEnd, EndAlike, EndAlikeUnlessFree}
 use Rattle.job_completeness.proofs.PlaysAgree.{answers_determined}
 use Rattle.floppy_words.specs.declared.form.Form.TheVariants as form
@@ -42,7 +41,7 @@ both_settled job one one_after two two_after course other ended other_ended begi
 
 -- what the outside ended was counted
 free_counted : (old new : Stand) (ended : Status) → Blames (ended ≡ status.FileFault) old.desk.shelf_faults new.desk.shelf_faults
-    → BlamesAlone (ended ≡ status.SinkFault) old.desk.sink_faults new.desk.sink_faults → IsFreeEnd ended → EndsOutside old new ended
+    → Blames (ended ≡ status.SinkFault) old.desk.sink_faults new.desk.sink_faults → IsFreeEnd ended → EndsOutside old new ended
 free_counted old new status.NoMemory shelf sink free = tt
 free_counted old new status.FileFault shelf sink free = shelf.rose refl
 free_counted old new status.SinkFault shelf sink free = sink.rose refl

@@ -12,8 +12,8 @@ use Rattle.pc_bus.specs.Boards.{Board}
 use Rattle.floppy_requests.specs.Texts.{job_of}
 use Rattle.floppy_requests.specs.declared.request.Request.{Request}
 use Rattle.sector_model.specs.declared.reply.Stop.{Stop}
-use Rattle.sector_model.specs.Texts.{reply_text, is_refusal, stop_status}
-use Rattle.sector_model.specs.Runs.{Taken, requests_of, course_text, has_refusal}
+use Rattle.sector_model.specs.Texts.{reply_lines, is_refusal, stop_status}
+use Rattle.sector_model.specs.Runs.{Taken, requests_of, course_lines, has_refusal}
 use Rattle.sector_model.specs.Plays.{World, Plays, There, Missing, TooLong, Faulty, Starved, PlaysParsed, PlaysRequests, Played, Stopped, BrokenOff, EndStopped, Prints, Whole, Part, IsText, most_job_bytes, whole_status}
 use Rattle.archive_commands.specs.Files.{Desk}
 use Rattle.floppy_words.specs.declared.form.Form.TheVariants as form
@@ -22,17 +22,17 @@ use Rattle.floppy_forms.specs.Rounds.{world}
 use Rattle.floppy_tools.specs.Machines.{RunsOver}
 use Rattle.command_laws.specs.VerifyRuns.{IsEndStatus}
 use Rattle.command_laws.proofs.VerifyRun.{not_put, not_stop}
-use Rattle.program_laws.specs.Answered.{AnswersJob, replies_text, answers_of}
+use Rattle.program_laws.specs.Answered.{AnswersJob, replies_lines, answers_of}
 
-told_replies : (course : List Taken) → course_text course ≡ replies_text (requests_of course) (answers_of course)
+told_replies : (course : List Taken) → course_lines course ≡ replies_lines (requests_of course) (answers_of course)
 told_replies [] = refl
-told_replies (taken ∷ later) = ap (λ (rest : List ℕ). reply_text taken.asked taken.answer ++ rest) (told_replies later)
+told_replies (taken ∷ later) = ap (λ (rest : List (List ℕ)). reply_lines taken.asked taken.answer ++ rest) (told_replies later)
 
 some_refused : (course : List Taken) → has_refusal course ≡ list_any is_refusal (answers_of course)
 some_refused [] = refl
 some_refused (taken ∷ later) = ap (λ (rest : Bool). is_refusal taken.answer || rest) (some_refused later)
 
-pub put_end : (line : List ℕ) (wanted : Status) (old new : Option (List ℕ)) (ended : Status) → IsEndStatus ended → Prints line wanted old new ended → ended ≡ wanted
+pub put_end : (line : List (List ℕ)) (wanted : Status) (old new : Option (List (List ℕ))) (ended : Status) → IsEndStatus ended → Prints line wanted old new ended → ended ≡ wanted
 put_end line wanted old new ended whole (Whole is well) = well
 put_end line wanted old new ended whole (Part grows fault) = absurd (not_put ended whole fault)
 
@@ -62,8 +62,8 @@ module _ (job : List ℕ) (files : Files) (old : World) (course : List Taken) (n
     given = refl;
     each = length-map course (λ (taken : Taken). taken.answer) ∙ sym (length-map course (λ (taken : Taken). taken.asked))
         ∙ sym (ap (λ (row : List Request). length row) is.all);
-    report = is.report ∙ ap (λ (t : List ℕ). grown old.report t) (told_replies course
-        ∙ sym (ap (λ (row : List Request). replies_text row (answers_of course)) is.all));
+    report = is.report ∙ ap (λ (t : List (List ℕ)). grown old.report t) (told_replies course
+        ∙ sym (ap (λ (row : List Request). replies_lines row (answers_of course)) is.all));
     status = is.status ∙ ap whole_status (some_refused course);
   }
   requests_answered text requests there spells (Stopped is) =

@@ -11,7 +11,6 @@ use Rattle.sector_model.specs.Faults.{Blames}
 use Rattle.sector_model.specs.Runs.{Taken, has_refusal}
 use Rattle.sector_model.specs.Steps.{IsImageOf}
 use Rattle.sector_model.specs.Plays.{World}
-use Rattle.floppy_report.specs.Faults.{BlamesAlone}
 use Rattle.flat_commands.specs.FlatFiles.{IsFlatFile}
 use Rattle.floppy_words.specs.declared.form.Form.{Form}
 use Rattle.floppy_words.specs.declared.form.Form.TheVariants as form
@@ -35,7 +34,7 @@ use Rattle.sector_model.specs.Plays.{IsText}
 use Rattle.std.proofs.Common.{Ok}
 
 pub counted_by : (refused : Bool) (old new : Stand) (ended : Status) → Blames (ended ≡ status.FileFault) old.desk.shelf_faults new.desk.shelf_faults
-    → BlamesAlone (ended ≡ status.SinkFault) old.desk.sink_faults new.desk.sink_faults → EndsBy refused ended → EndsByReplies refused old new ended
+    → Blames (ended ≡ status.SinkFault) old.desk.sink_faults new.desk.sink_faults → EndsBy refused ended → EndsByReplies refused old new ended
 counted_by refused old new status.AllOk shelf sink ends = ends
 counted_by refused old new status.NoMemory shelf sink ends = tt
 counted_by refused old new status.FileFault shelf sink ends = shelf.rose refl
@@ -49,7 +48,7 @@ counted_by refused old new status.BadWords shelf sink ends = ends
 done_by : (asked : Form) (one two : World) (course : List Taken) (old new : Stand) (ended : Status)
     → (DoesForm asked one course two ended → EndsBy (has_refusal course) ended)
     → Blames (ended ≡ status.FileFault) old.desk.shelf_faults new.desk.shelf_faults
-    → BlamesAlone (ended ≡ status.SinkFault) old.desk.sink_faults new.desk.sink_faults
+    → Blames (ended ≡ status.SinkFault) old.desk.sink_faults new.desk.sink_faults
     → DoesOrStarves asked one course two ended → EndsByReplies (has_refusal course) old new ended
 done_by asked one two course old new ended by shelf sink (AsAsked does) = counted_by (has_refusal course) old new ended shelf sink (by does)
 done_by asked one two course old new ended by shelf sink (StarvesWords nothing idle) =

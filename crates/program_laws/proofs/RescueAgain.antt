@@ -68,14 +68,14 @@ inserts_tells bay name rest files disk old new (taken ∷ later) ended told imag
 module _ (name : List ℕ) (rest : Shape → Script) (files : Files) (disk : Disk) (image : IsImageOf (Some files) name disk) (new : World) (ended : Status)
     (next : (shape : Shape) (mid : World) (later : List Taken) → mid.files ≡ Some files → shape ≡ shape_of disk → RunsScript (rest shape) mid later new ended
     → EndsBy (has_refusal later) ended) where
-  by_shape : (old mid : State) (after : Option Files) (report : Option (List ℕ)) (later : List Taken) (answer : Reply) → is_refusal answer ≡ false
+  by_shape : (old mid : State) (after : Option Files) (report : Option (List (List ℕ))) (later : List Taken) (answer : Reply) → is_refusal answer ≡ false
       → Step (request.Insert 0 name) old (Some files) answer mid after
       → RunsScript (rest (shape_at mid 0)) (with_report mid after report) later new ended → EndsBy (has_refusal later) ended
   by_shape old mid after report later answer done step runs =
       next (shape_at mid 0) (with_report mid after report) later (done_does old mid (Some files) after (request.Insert 0 name) answer step done).1
       (ap (λ (o : Option Shape). unwrap_or o no_tracks) (put_shape name disk files old mid after answer image step done)) runs
 
-  by_answer : (old mid : State) (after : Option Files) (report : Option (List ℕ)) (later : List Taken) (answer : Reply)
+  by_answer : (old mid : State) (after : Option Files) (report : Option (List (List ℕ))) (later : List Taken) (answer : Reply)
       → Step (request.Insert 0 name) old (Some files) answer mid after
       → RunsScript (unless_refused (request.Insert 0 name) answer (rest (shape_at mid 0))) (with_report mid after report) later new ended
       → EndsBy (is_refusal answer || has_refusal later) ended

@@ -78,12 +78,12 @@ store_by refused status.SinkFault fault = absurd fault
 store_by refused status.BadJob fault = absurd fault
 store_by refused status.BadWords fault = absurd fault
 
-pub prints_by : (refused : Bool) (line : List ℕ) (wanted : Status) (old new : Option (List ℕ)) (ended : Status) → Prints line wanted old new ended
+pub prints_by : (refused : Bool) (line : List (List ℕ)) (wanted : Status) (old new : Option (List (List ℕ))) (ended : Status) → Prints line wanted old new ended
     → EndsBy refused wanted → EndsBy refused ended
 prints_by refused line wanted old new ended (Whole is well) by = subst (λ (s : Status). EndsBy refused s) (sym well) by
 prints_by refused line wanted old new ended (InPart grows fault) by = put_by refused ended fault
 
-told_by : (refused : Bool) (line : List ℕ) (wanted : Status) (old new : Option (List ℕ)) (ended : Status) → Prints line wanted old new ended
+told_by : (refused : Bool) (line : List (List ℕ)) (wanted : Status) (old new : Option (List (List ℕ))) (ended : Status) → Prints line wanted old new ended
     → wanted ≡ whole_status refused → EndsBy refused ended
 told_by refused line wanted old new ended prints is =
     prints_by refused line wanted old new ended prints (subst (λ (s : Status). EndsBy refused s) (sym is) (whole_by refused))
@@ -118,7 +118,7 @@ pub script_tells : (refused : Bool) (script : Script) (old new : World) (course 
 script_tells refused (Ends line wanted) old new [] ended is runs = at_end refused ended (told_by refused line wanted _ _ ended runs.report is)
 script_tells refused (Ends line wanted) old new (taken ∷ later) ended is runs = absurd runs
 script_tells refused (Says line rest) old new course ended is (inl runs) =
-    script_tells refused rest (record old { report = grown old.report line }) new course ended is runs
+    script_tells refused rest (record old { report = grown old.report (line ∷ []) }) new course ended is runs
 script_tells refused (Says line rest) old new course ended is (inr cut) = put_by (refused || has_refusal course) ended cut.1.1
 script_tells refused (Asks asked rest) old new [] ended is runs =
     at_end refused ended (prints_by refused _ _ _ _ ended runs.2 (stop_by refused old.files asked runs.0 runs.1.cause is.0))

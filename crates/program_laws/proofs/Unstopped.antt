@@ -67,20 +67,20 @@ Never script =
     (old new : World) (course : List Taken) (ended : Status) → IsEndStatus ended → IsNotToldStopped old.report new.report
     → RunsScript script old course new ended → ⊥
 
-put_whole : (line : List ℕ) (wanted : Status) (old new : Option (List ℕ)) (ended : Status) → IsEndStatus ended → Prints line wanted old new ended
+put_whole : (line : List (List ℕ)) (wanted : Status) (old new : Option (List (List ℕ))) (ended : Status) → IsEndStatus ended → Prints line wanted old new ended
     → (new ≡ grown old line) × (ended ≡ wanted)
 put_whole line wanted old new ended whole (Whole is well) = (is, well)
 put_whole line wanted old new ended whole (InPart grows fault) = absurd (not_put ended whole fault)
 
-tells_stop : (asked : Request) (cause : Reason) (wanted : Status) → Never (Ends (stopped_text asked cause) wanted)
+tells_stop : (asked : Request) (cause : Reason) (wanted : Status) → Never (Ends (stopped_text asked cause ∷ []) wanted)
 tells_stop asked cause wanted old new course ended whole fine runs =
-    let last = last_run (stopped_text asked cause) wanted old course new ended runs in
+    let last = last_run (stopped_text asked cause ∷ []) wanted old course new ended runs in
     fine asked cause (put_whole _ wanted old.report new.report ended whole last.1.report).0
 
 never_going : (script : Script) → Never script → Going script
 never_going script never old new course ended whole fine runs = absurd (never old new course ended whole fine runs)
 
-ask_stops : (cause : _) (line : List ℕ) (old new : Option (List ℕ)) (ended : Status) → IsEndStatus ended → Prints line (stop_status cause) old new ended → ⊥
+ask_stops : (cause : _) (line : List (List ℕ)) (old new : Option (List (List ℕ))) (ended : Status) → IsEndStatus ended → Prints line (stop_status cause) old new ended → ⊥
 ask_stops cause line old new ended whole prints = not_stop cause (subst IsEndStatus (put_whole line (stop_status cause) old new ended whole prints).1 whole)
 
 asks_going : (asked : Request) (rest : Reply → State → Script) → ((answer : Reply) (after : State) → Going (rest answer after)) → Going (Asks asked rest)
@@ -145,8 +145,8 @@ module _ (key : Chrn) (lines : List LogLine) (rest : List LogLine → Script) (g
       let line : LogLine = record { key = key; code = cause } in
       starves_going (rest (lines ++ line ∷ [])) (goes (lines ++ line ∷ []))
 
-  stop_going : (cause : Reason) → Going (Ends (stopped_text (read_of key) cause) status.SomeRefused)
-  stop_going cause = never_going (Ends (stopped_text (read_of key) cause) status.SomeRefused) (tells_stop (read_of key) cause status.SomeRefused)
+  stop_going : (cause : Reason) → Going (Ends (stopped_text (read_of key) cause ∷ []) status.SomeRefused)
+  stop_going cause = never_going (Ends (stopped_text (read_of key) cause ∷ []) status.SomeRefused) (tells_stop (read_of key) cause status.SomeRefused)
 
   refused_going : (cause : Code) → Going (follows key (reply.Refused (reason.Driver cause)) lines rest)
   unfolding follows does_next may_starve
@@ -200,7 +200,7 @@ found_strict to log shape found =
     starves_strict _ (prepares_strict to shape _ _
     (strictly _ (rescues_going (asked_keys shape found) [] _ (λ lines. carries_going (request.Eject 1) _ (stores_strict log (length (asked_keys shape found)) lines)))))
 
-ends_strict : (line : List ℕ) (wanted : Status) → Strict (Ends line wanted)
+ends_strict : (line : List (List ℕ)) (wanted : Status) → Strict (Ends line wanted)
 ends_strict line wanted old new course ended whole fine runs = none_stopped course (last_run line wanted old course new ended runs).0
 
 fails_strict : (cause : Status) → Strict (Fails cause)

@@ -6,20 +6,20 @@ use Rattle.flop_base.specs.Sink.{grown}
 use Rattle.flop_base.specs.declared.answers.Status.{Status}
 use Rattle.floppy_requests.specs.declared.request.Request.{Request}
 use Rattle.sector_model.specs.declared.reply.Reply.{Reply}
-use Rattle.sector_model.specs.Texts.{reply_text, is_refusal}
+use Rattle.sector_model.specs.Texts.{reply_lines, is_refusal}
 use Rattle.sector_model.specs.States.{State}
 use Rattle.sector_model.specs.Runs.{Taken, Run, requests_of, Ends}
 use Rattle.sector_model.specs.Plays.{World, IsText, whole_status}
 use Rattle.sector_model.specs.Ties.{IsJob}
 use Rattle.floppy_jobs.specs.Texts.{calls_of}
 use Rattle.floppy_jobs.specs.declared.calls.CallLine.{CallLine}
-use Rattle.bios_commands.specs.Rounds.{Round, AreRounds, lines_of, course_of, rounds_text, has_refused}
+use Rattle.bios_commands.specs.Rounds.{Round, AreRounds, lines_of, course_of, rounds_lines, has_refused}
 
--- the text of the replies to requests, one after the other
-abbrev pub replies_text : List Request → List Reply → List ℕ
-replies_text [] answers = []
-replies_text (asked ∷ later) [] = []
-replies_text (asked ∷ later) (answer ∷ rest) = reply_text asked answer ++ replies_text later rest
+-- the lines of the replies to requests, one after the other
+abbrev pub replies_lines : List Request → List Reply → List (List ℕ)
+replies_lines [] answers = []
+replies_lines (asked ∷ later) [] = []
+replies_lines (asked ∷ later) (answer ∷ rest) = reply_lines asked answer ++ replies_lines later rest
 
 -- the replies of a course
 abbrev pub answers_of : List Taken → List Reply
@@ -42,7 +42,7 @@ pub record AnswersJob (job : List ℕ) (old : World) (course : List Taken) (new 
   pub answers : List Reply
   pub given : answers ≡ answers_of course
   pub each : length answers ≡ length requests
-  pub report : new.report ≡ grown old.report (replies_text requests answers)
+  pub report : new.report ≡ grown old.report (replies_lines requests answers)
   pub status : ended ≡ whole_status (list_any is_refusal answers)
 
 -- lines were done one after the other, from the service as it comes, and then the media that were left in were stored
@@ -64,5 +64,5 @@ pub record AnswersCalls (name : List ℕ) (old : World) (course : List Taken) (n
   pub each : lines ≡ lines_of rounds
   pub ran : course ≡ course_of rounds
   pub done : RoundsToEnd old rounds new
-  pub report : new.report ≡ grown old.report (rounds_text rounds)
+  pub report : new.report ≡ grown old.report (rounds_lines rounds)
   pub status : ended ≡ whole_status (has_refused rounds)

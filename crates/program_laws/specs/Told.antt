@@ -1,5 +1,5 @@
 -- What the forms of the program tell, by the report before and after.
-use Rattle.std.specs.Prelude.{◌≡◌, ℕ, List, length, nat_le, Option}
+use Rattle.std.specs.Prelude.{◌≡◌, ℕ, List, [], ◌∷◌, length, nat_le, Option}
 use Rattle.flop_base.specs.Sink.{grown}
 use Rattle.flop_base.specs.declared.answers.Code.{Code}
 use Rattle.flop_base.specs.declared.answers.Status.{Status}
@@ -20,5 +20,5 @@ pub record ListsFailing (disk : Disk) (failed : List (Chrn × Code)) (before aft
   pub status : ended ≡ whole_status (nat_le 1 (length failed))
 
 -- the report doesn't tell that a refusal stopped the form
-abbrev pub IsNotToldStopped : Option (List ℕ) → Option (List ℕ) → Type 0
-IsNotToldStopped before after = (asked : Request) (cause : Reason) → after ≡ grown before (stopped_text asked cause) → ⊥
+abbrev pub IsNotToldStopped : Option (List (List ℕ)) → Option (List (List ℕ)) → Type 0
+IsNotToldStopped before after = (asked : Request) (cause : Reason) → after ≡ grown before (stopped_text asked cause ∷ []) → ⊥

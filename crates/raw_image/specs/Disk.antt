@@ -46,6 +46,10 @@ blank_disk cylinders heads words rate = record {
 abbrev pub with_word : Disk → ℕ → ℕ → ℕ → ℕ → Disk
 with_word d c h place word = record d { words = slice_set d.words (track_start d c h + place) word }
 
+-- the medium with its tab moved, so that it is write-protected, or not
+abbrev pub tabbed : Bool → Disk → Disk
+tabbed on d = record d { protected = on }
+
 -- `after` is the disk with these words as its track of a cylinder and head, and otherwise as it was
 pub record IsWithTrack (d : Disk) (c h : ℕ) (track : List ℕ) (after : Disk) : Type 0 where
   pub valid : IsDisk after

@@ -26,7 +26,7 @@ impl Model for Medium {
 }
 
 impl Medium {
-    ghost use Rattle.raw_image.specs.Disk.{IsDisk, HasTrack, IsWithTrack, track_start, track_of, blank_disk, with_word};
+    ghost use Rattle.raw_image.specs.Disk.{IsDisk, HasTrack, IsWithTrack, track_start, track_of, blank_disk, with_word, tabbed};
     ghost use Rattle.flop_base.specs.declared.answers.Rate.TheVariants.{R500};
     ghost use Rattle.raw_image.specs.Image.{disk_of};
     ghost use Rattle.raw_image.specs.Shape.{header_view};
@@ -99,6 +99,15 @@ impl Medium {
         ensures { result ≡ self.now.protected }
     {
         self.shape.protected
+    }
+
+    /// Protects the medium, or lets it be written: its tab is moved.
+    pub fn set_protected(&mut self, on: bool)
+        ensures becomes { self.new ≡ tabbed on self.old }
+        ensures words { self.new.words_per_track ≡ self.old.words_per_track }
+        ensures valid { IsDisk self.new }
+    {
+        self.shape.protected = on;
     }
 
     /// How many cylinders it has, 1 to 80. They are numbered from 0.

@@ -16,7 +16,7 @@ use Rattle.rescue.specs.declared.outcome.Outcome.{Outcome}
 use Rattle.rescue_commands.specs.Logs.{lines_found}
 use Rattle.rescue_commands.specs.Rescue.{stores_log, last_text, outcome_of, asked_keys, rescues_all, rescue_found}
 
-nothing_more : (report : Option (List ℕ)) → report ≡ grown report []
+nothing_more : (report : Option (List (List ℕ))) → report ≡ grown report []
 nothing_more None = refl
 nothing_more (Some told) = ap Some (sym (append-nil told))
 

@@ -19,11 +19,11 @@ use Rattle.rescue_commands.specs.Rescue.{rescue_found, bad_log_text, tells_no_lo
 
 pub by_rest : (told : Option Files) (to log : List ℕ) (shape : Shape) (P : Script → Type 0)
     → ((found : Option (List LogLine)) → IsLogFound told log (sectors_at shape.rate) found → P (rescue_found to log shape found))
-    → ((line : List ℕ) → P (Ends line status.BadJob)) → P (Fails status.FileFault) → P (Fails status.NoMemory)
+    → ((line : List (List ℕ)) → P (Ends line status.BadJob)) → P (Fails status.FileFault) → P (Fails status.NoMemory)
     → (answer : Result (Option (List LogLine)) NoLog) → IsFound told log (sectors_at shape.rate) answer → P (rescue_rest to log shape answer)
 unfolding tells_no_log
 by_rest told to log shape P rescued line fault memory (Ok found) there = rescued found there
-by_rest told to log shape P rescued line fault memory (Err (missing.BadLine n)) there = line (bad_log_text n)
+by_rest told to log shape P rescued line fault memory (Err (missing.BadLine n)) there = line (bad_log_text n ∷ [])
 by_rest told to log shape P rescued line fault memory (Err missing.FileFault) there = fault
 by_rest told to log shape P rescued line fault memory (Err missing.NoMemory) there = memory
 

@@ -8,7 +8,6 @@ use Rattle.flop_base.specs.declared.answers.Status.TheVariants as status
 use Rattle.sector_model.specs.Faults.{Blames}
 use Rattle.sector_model.specs.States.{State}
 use Rattle.sector_model.specs.Plays.{World}
-use Rattle.floppy_report.specs.Faults.{BlamesAlone}
 use Rattle.floppy_session.specs.Tries.{HasTries}
 use Rattle.floppy_session.specs.declared.shape.Shape.{Shape}
 use Rattle.scripts.specs.Scripts.{Script}
@@ -34,12 +33,13 @@ HasNextTries (next.Write asked) = HasTries asked
 HasNextTries (next.Log line) = Unit {0}
 HasNextTries (next.Stop code) = Unit {0}
 
--- a call that takes the sink alone through told how a script ended; a fault of the shelf was so before
+-- a call that takes the sink alone through told how a script ended; it tells a fault of the shelf just where that was so before
 pub record Tells (script : Script) (FileFault : Type 0) (old new : Printed) (ended : Status) : Type 0 where
   pub goes : (state : State) (files : Option Files) → Finishes script (with_report state files old.report) (with_report state files new.report) ended
   pub is_form : ended ≢ status.BadWords
   pub shelf_fault : ended ≡ status.FileFault → FileFault
-  pub sink_faults : BlamesAlone (ended ≡ status.SinkFault) old.faults new.faults
+  pub fault_told : FileFault → ended ≡ status.FileFault
+  pub sink_faults : Blames (ended ≡ status.SinkFault) old.faults new.faults
 
 -- the files of a shelf, with the faults that it counted
 pub record Shelved : Type 0 where
@@ -49,7 +49,7 @@ pub record Shelved : Type 0 where
 abbrev pub shelved_of : {S : Type 0} → (S → Option Files) → (S → ℕ) → S → Shelved
 shelved_of files count shelf = record { files = files shelf; faults = count shelf }
 
--- a log was looked for under a name, which changed no file, and a fault of the shelf was counted
+-- a log was looked for under a name, which changed no file, and a fault of the shelf was counted once where it tells one, and else none
 pub record Finds (name : List ℕ) (sectors : ℕ) (old new : Shelved) (result : Result (Option (Vec LogLine Global)) NoLog) : Type 0 where
   pub found : IsFound old.files name sectors (answer_found result)
   pub stays : new.files ≡ old.files

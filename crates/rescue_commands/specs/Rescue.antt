@@ -39,7 +39,7 @@ after_answer key (reply.Refused other) = Err other
 
 -- the read of a record was refused so that the rescue ends there
 abbrev pub gives_up : Chrn → Reason → Script
-gives_up key cause = Ends (stopped_text (read_of key) cause) status.SomeRefused
+gives_up key cause = Ends (stopped_text (read_of key) cause ∷ []) status.SomeRefused
 
 -- what is next is done: the record is written, or its line comes behind the new log, or the rescue ends there
 unfoldable pub does_next : Chrn → Result AfterRead Reason → List LogLine → Part (List LogLine)
@@ -114,7 +114,7 @@ bad_log_text line = codes "log line " ++ (decimal line ++ codes " not understood
 
 -- what is told where there is no log to go by
 unfoldable pub tells_no_log : NoLog → Script
-tells_no_log (missing.BadLine line) = Ends (bad_log_text line) status.BadJob
+tells_no_log (missing.BadLine line) = Ends (bad_log_text line ∷ []) status.BadJob
 tells_no_log missing.FileFault = Fails status.FileFault
 tells_no_log missing.NoMemory = Fails status.NoMemory
 

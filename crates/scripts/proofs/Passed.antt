@@ -430,7 +430,7 @@ pub record Said (line : List ℕ) (old : World) (course : List Taken) (none : Un
   pub nothing : course ≡ []
   pub state : mid.state ≡ old.state
   pub files : mid.files ≡ old.files
-  pub report : mid.report ≡ grown old.report line
+  pub report : mid.report ≡ grown old.report (line ∷ [])
 
 pub says_passes : (ended : Status) → IsWhole ended → (line : List ℕ) → Passes ended (says line) (Said line)
 unfolding says
@@ -438,7 +438,7 @@ says_passes ended whole line rest old course new (inl runs) = record {
   one = [];
   two = course;
   found = tt;
-  mid = record old { report = grown old.report line };
+  mid = record old { report = grown old.report (line ∷ []) };
   course_is = refl;
   knows = record { nothing = refl; state = refl; files = refl; report = refl };
   left = runs;
@@ -453,8 +453,8 @@ starve_passes ended whole rest old course new (inr none) = absurd (whole.put (su
 
 -- ---- The end.
 
--- a part was gone through, and then the last line was put
-pub record Over {Found : Type 0} (Knows : Known Found) (line : Found → List ℕ) (wanted : Found → Status) (old : World) (course : List Taken) (new : World)
+-- a part was gone through, and then the last lines were put
+pub record Over {Found : Type 0} (Knows : Known Found) (line : Found → List (List ℕ)) (wanted : Found → Status) (old : World) (course : List Taken) (new : World)
     (ended : Status) : Type 0 where
   pub found : Found
   pub mid : World
@@ -463,7 +463,7 @@ pub record Over {Found : Type 0} (Knows : Known Found) (line : Found → List �
   pub files : new.files ≡ mid.files
   pub prints : Prints (line found) (wanted found) mid.report new.report ended
 
-pub over : {Found : Type 0} (ended : Status) (part : Part Found) (Knows : Known Found) (line : Found → List ℕ) (wanted : Found → Status)
+pub over : {Found : Type 0} (ended : Status) (part : Part Found) (Knows : Known Found) (line : Found → List (List ℕ)) (wanted : Found → Status)
     → Passes ended part Knows
     → (old : World) (course : List Taken) (new : World)
     → RunsScript (part (λ found. Ends (line found) (wanted found))) old course new ended → Over Knows line wanted old course new ended

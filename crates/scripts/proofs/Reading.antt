@@ -12,7 +12,7 @@ use Rattle.sector_model.specs.declared.reply.Stop.{Stop}
 use Rattle.sector_model.specs.declared.reply.Stop.TheVariants as stop
 use Rattle.sector_model.specs.States.{State}
 use Rattle.sector_model.specs.Steps.{Step, StopsAt}
-use Rattle.sector_model.specs.Texts.{stop_text, stop_status, is_refusal}
+use Rattle.sector_model.specs.Texts.{stop_lines, stop_status, is_refusal}
 use Rattle.sector_model.specs.Runs.{Taken}
 use Rattle.sector_model.specs.Plays.{World, Prints, Whole, Part, IsPutFault}
 use Rattle.floppy_report.specs.LastLines.{stopped_text}
@@ -36,7 +36,7 @@ pub record IsStopped (asked : Request) (old : World) (course : List Taken) (new 
   pub cause : Stop
   pub nothing : course ≡ []
   pub stops : StopsAt asked old.state old.files cause new.state new.files
-  pub prints : Prints (stop_text cause) (stop_status cause) old.report new.report ended
+  pub prints : Prints (stop_lines cause) (stop_status cause) old.report new.report ended
 
 -- it was refused, and that ended the script
 pub record IsRefused (asked : Request) (old : World) (course : List Taken) (new : World) (ended : Status) : Type 0 where
@@ -47,7 +47,7 @@ pub record IsRefused (asked : Request) (old : World) (course : List Taken) (new 
   pub answered : taken.answer ≡ reply.Refused cause
   pub after : new.state ≡ taken.after
   pub step : Step asked old.state old.files (reply.Refused cause) new.state new.files
-  pub prints : Prints (stopped_text asked cause) status.SomeRefused old.report new.report ended
+  pub prints : Prints (stopped_text asked cause ∷ []) status.SomeRefused old.report new.report ended
 
 pub data AskRun (asked : Request) (rest : Reply → State → Script) (old : World) (course : List Taken) (new : World) (ended : Status) : Type 0 where
   Answered : IsAnswered asked rest old course new ended → AskRun asked rest old course new ended
@@ -78,7 +78,7 @@ pub data NeedRun (asked : Request) (rest : Reply → State → Script) (old : Wo
   Halted : IsStopped asked old course new ended → NeedRun asked rest old course new ended
 
 -- a last line was put
-pub last_run : (line : List ℕ) (wanted : Status) (old : World) (course : List Taken) (new : World) (ended : Status)
+pub last_run : (line : List (List ℕ)) (wanted : Status) (old : World) (course : List Taken) (new : World) (ended : Status)
     → RunsScript (Ends line wanted) old course new ended → (course ≡ []) × IsPrinted (λ before after. Prints line wanted before after ended) old new
 last_run line wanted old [] new ended runs = (refl, runs)
 last_run line wanted old (taken ∷ later) new ended runs = absurd runs
@@ -117,7 +117,7 @@ by_answer : (asked : Request) (rest : Reply → State → Script) (old : World) 
 by_answer asked rest old course new ended (reply.Refused cause) run is =
     let left = subst (λ (a : Reply). RunsScript (unless_refused asked a (rest a run.taken.after))
     (with_report run.taken.after run.files old.report) run.later new ended) is run.left in
-    let last = last_run (stopped_text asked cause) status.SomeRefused (with_report run.taken.after run.files old.report) run.later new ended left in
+    let last = last_run (stopped_text asked cause ∷ []) status.SomeRefused (with_report run.taken.after run.files old.report) run.later new ended left in
     Refused (record {
       taken = run.taken;
       cause = cause;
@@ -152,7 +152,7 @@ carry_run asked rest old course new ended runs = need_run asked (λ answer after
 -- ---- Of a script that ended well.
 
 -- a line that was printed whole, with its status
-pub prints_status : (report : Option (List ℕ)) (line : List ℕ) (wanted ended : Status) (after : Option (List ℕ)) → (IsPutFault ended → ⊥)
+pub prints_status : (report : Option (List (List ℕ))) (line : List (List ℕ)) (wanted ended : Status) (after : Option (List (List ℕ))) → (IsPutFault ended → ⊥)
     → Prints line wanted report after ended → (after ≡ grown report line) × (ended ≡ wanted)
 prints_status report line wanted ended after sound (Whole told same) = (told, same)
 prints_status report line wanted ended after sound (Part grows fault) = absurd (sound fault)

@@ -13,7 +13,7 @@ use Rattle.sector_model.specs.declared.reply.Reason.{Reason}
 use Rattle.sector_model.specs.declared.reply.Stop.{Stop}
 use Rattle.sector_model.specs.States.{State}
 use Rattle.sector_model.specs.Steps.{Step, StopsAt}
-use Rattle.sector_model.specs.Texts.{stop_text, stop_status, is_refusal}
+use Rattle.sector_model.specs.Texts.{stop_lines, stop_status, is_refusal}
 use Rattle.sector_model.specs.Runs.{Taken, Run}
 use Rattle.sector_model.specs.Ties.{TiesCounts}
 use Rattle.sector_model.specs.Plays.{World, Prints, IsPutFault}
@@ -40,17 +40,17 @@ answered asked rest answer old new step report end ended run = (
     refl,
     new.files,
     step,
-    subst (λ (r : Option (List ℕ)). RunsScript (rest answer new.state) (with_report new.state new.files r) run.0 end ended) report run.1,
+    subst (λ (r : Option (List (List ℕ))). RunsScript (rest answer new.state) (with_report new.state new.files r) run.0 end ended) report run.1,
   ),
 )
 
 stopped : (asked : Request) (rest : Reply → State → Script) (cause : Stop) (old new : World) (ended : Status)
-    → StopsAt asked old.state old.files cause new.state new.files → Prints (stop_text cause) (stop_status cause) old.report new.report ended
+    → StopsAt asked old.state old.files cause new.state new.files → Prints (stop_lines cause) (stop_status cause) old.report new.report ended
     → IsRunOf (Asks asked rest) old new ended
 unfolding IsRunOf
 stopped asked rest cause old new ended stops prints = ([], (cause, stops, prints))
 
-ended_by : (line : List ℕ) (wanted : Status) (old new : World) (ended : Status) → new.state ≡ old.state → new.files ≡ old.files
+ended_by : (line : List (List ℕ)) (wanted : Status) (old new : World) (ended : Status) → new.state ≡ old.state → new.files ≡ old.files
     → Prints line wanted old.report new.report ended → IsRunOf (Ends line wanted) old new ended
 unfolding IsRunOf
 ended_by line wanted old new ended state files prints = ([], record { state = state; files = files; report = prints })
@@ -64,7 +64,7 @@ asked_on whole start asked rest answer old new step report leads end ended run =
 
 -- it stopped the run
 pub asked_stops : (whole : Script) (start : World) (asked : Request) (rest : Reply → State → Script) (cause : Stop) (old new : World) (ended : Status)
-    → StopsAt asked old.state old.files cause new.state new.files → Prints (stop_text cause) (stop_status cause) old.report new.report ended
+    → StopsAt asked old.state old.files cause new.state new.files → Prints (stop_lines cause) (stop_status cause) old.report new.report ended
     → Leads whole start (asks asked rest) old → IsRunOf whole start new ended
 unfolding Leads asks
 asked_stops whole start asked rest cause old new ended stops prints leads = leads new ended (stopped asked rest cause old new ended stops prints)
@@ -88,16 +88,16 @@ needed_on whole start asked rest answer old new fine step report leads end ended
 -- it was refused, which ended the script
 pub needed_refused : (whole : Script) (start : World) (asked : Request) (rest : Reply → State → Script) (cause : Reason) (old new : World) (ended : Status)
     → Step asked old.state old.files (reply.Refused cause) new.state new.files
-    → Prints (stopped_text asked cause) status.SomeRefused old.report new.report ended → Leads whole start (needs asked rest) old
+    → Prints (stopped_text asked cause ∷ []) status.SomeRefused old.report new.report ended → Leads whole start (needs asked rest) old
     → IsRunOf whole start new ended
 unfolding Leads needs
 needed_refused whole start asked rest cause old new ended step prints leads =
     leads new ended (answered asked (λ given after. unless_refused asked given (rest given after)) (reply.Refused cause) old
     (with_report new.state new.files old.report) step refl new ended
-    (ended_by (stopped_text asked cause) status.SomeRefused (with_report new.state new.files old.report) new ended refl refl prints))
+    (ended_by (stopped_text asked cause ∷ []) status.SomeRefused (with_report new.state new.files old.report) new ended refl refl prints))
 
 pub needed_stops : (whole : Script) (start : World) (asked : Request) (rest : Reply → State → Script) (cause : Stop) (old new : World) (ended : Status)
-    → StopsAt asked old.state old.files cause new.state new.files → Prints (stop_text cause) (stop_status cause) old.report new.report ended
+    → StopsAt asked old.state old.files cause new.state new.files → Prints (stop_lines cause) (stop_status cause) old.report new.report ended
     → Leads whole start (needs asked rest) old → IsRunOf whole start new ended
 unfolding Leads needs
 needed_stops whole start asked rest cause old new ended stops prints leads =
@@ -105,46 +105,46 @@ needed_stops whole start asked rest cause old new ended stops prints leads =
 
 -- ---- Lines.
 
-said_run : (line : List ℕ) (rest : Script) (state : State) (files : Option Files) (before after : Option (List ℕ)) → after ≡ grown before line
+said_run : (line : List ℕ) (rest : Script) (state : State) (files : Option Files) (before after : Option (List (List ℕ))) → after ≡ grown before (line ∷ [])
     → (end : World) (ended : Status) → IsRunOf rest (with_report state files after) end ended
     → IsRunOf (Says line rest) (with_report state files before) end ended
 unfolding IsRunOf
 said_run line rest state files before after put end ended run =
-    (run.0, inl (subst (λ (r : Option (List ℕ)). RunsScript rest (with_report state files r) run.0 end ended) put run.1))
+    (run.0, inl (subst (λ (r : Option (List (List ℕ))). RunsScript rest (with_report state files r) run.0 end ended) put run.1))
 
-cut_run : (line : List ℕ) (rest : Script) (state : State) (files : Option Files) (before after : Option (List ℕ)) (ended : Status)
-    → GrowsByPart before line after → IsPutFault ended
+cut_run : (line : List ℕ) (rest : Script) (state : State) (files : Option Files) (before after : Option (List (List ℕ))) (ended : Status)
+    → GrowsByPart before (line ∷ []) after → IsPutFault ended
     → IsRunOf (Says line rest) (with_report state files before) (with_report state files after) ended
 unfolding IsRunOf
 cut_run line rest state files before after ended part fault = ([], inr (refl, (record { state = refl; files = refl; report = part }, fault)))
 
 pub said_on : (whole : Script) (start : World) (line : List ℕ) (rest : Unit {0} → Script) (state : State) (files : Option Files)
-    (before after : Option (List ℕ))
-    → after ≡ grown before line → Leads whole start (says line rest) (with_report state files before)
+    (before after : Option (List (List ℕ)))
+    → after ≡ grown before (line ∷ []) → Leads whole start (says line rest) (with_report state files before)
     → Leads whole start (rest tt) (with_report state files after)
 unfolding Leads says
 said_on whole start line rest state files before after put leads end ended run =
     leads end ended (said_run line (rest tt) state files before after put end ended run)
 
 pub said_cut : (whole : Script) (start : World) (line : List ℕ) (rest : Unit {0} → Script) (state : State) (files : Option Files)
-    (before after : Option (List ℕ)) (ended : Status)
-    → GrowsByPart before line after → IsPutFault ended → Leads whole start (says line rest) (with_report state files before)
+    (before after : Option (List (List ℕ))) (ended : Status)
+    → GrowsByPart before (line ∷ []) after → IsPutFault ended → Leads whole start (says line rest) (with_report state files before)
     → IsRunOf whole start (with_report state files after) ended
 unfolding Leads says
 said_cut whole start line rest state files before after ended part fault leads =
     leads _ ended (cut_run line (rest tt) state files before after ended part fault)
 
 -- whatever came of it
-pub said : (line : List ℕ) (state : State) (files : Option Files) (before after : Option (List ℕ)) (result : Result (Unit {0}) Status)
-    → OnOk result (after ≡ grown before line) → OnErr result (GrowsByPart before line after) → IfErr result IsPutFault
+pub said : (line : List ℕ) (state : State) (files : Option Files) (before after : Option (List (List ℕ))) (result : Result (Unit {0}) Status)
+    → OnOk result (after ≡ grown before (line ∷ [])) → OnErr result (GrowsByPart before (line ∷ []) after) → IfErr result IsPutFault
     → Goes (says line) (with_report state files before) result (with_report state files after)
 said line state files before after (Ok done) put part fault = λ whole start rest leads. said_on whole start line rest state files before after put leads
 said line state files before after (Err ended) put part fault = λ whole start rest leads.
     said_cut whole start line rest state files before after ended part fault leads
 
 -- the last line
-pub ends_here : (whole : Script) (start : World) (line : List ℕ) (wanted : Status) (state : State) (files : Option Files)
-    (before after : Option (List ℕ)) (ended : Status)
+pub ends_here : (whole : Script) (start : World) (line : List (List ℕ)) (wanted : Status) (state : State) (files : Option Files)
+    (before after : Option (List (List ℕ))) (ended : Status)
     → Prints line wanted before after ended → Leads whole start (Ends line wanted) (with_report state files before)
     → IsRunOf whole start (with_report state files after) ended
 unfolding Leads
@@ -197,13 +197,13 @@ pub data HasRun (old : World) (course : List Taken) (new : World) : Type 0 where
   Stopped : (mid : State) (files : Option Files) (asked : Request) (cause : Stop) → Run old.state old.files course mid files
       → StopsAt asked mid files cause new.state new.files → HasRun old course new
 
-has_more : (old new : World) (taken : Taken) (later : List Taken) (files : Option Files) (report : Option (List ℕ))
+has_more : (old new : World) (taken : Taken) (later : List Taken) (files : Option Files) (report : Option (List (List ℕ)))
     → Step taken.asked old.state old.files taken.answer taken.after files → HasRun (with_report taken.after files report) later new
     → HasRun old (taken ∷ later) new
 has_more old new taken later files report step (Through told run) = Through told (files, step, run)
 has_more old new taken later files report step (Stopped mid told asked cause run stops) = Stopped mid told asked cause (files, step, run) stops
 
-by_report : (old : World) (report : Option (List ℕ)) (course : List Taken) (new : World) → HasRun (record old { report = report }) course new
+by_report : (old : World) (report : Option (List (List ℕ))) (course : List Taken) (new : World) → HasRun (record old { report = report }) course new
     → HasRun old course new
 by_report old report course new (Through files run) = Through files run
 by_report old report course new (Stopped mid files asked cause run stops) = Stopped mid files asked cause run stops
@@ -218,7 +218,7 @@ pub script_ran : (script : Script) (old : World) (course : List Taken) (new : Wo
 script_ran (Ends line wanted) old [] new ended runs = Through new.files (runs.state, runs.files)
 script_ran (Ends line wanted) old (taken ∷ later) new ended runs = absurd runs
 script_ran (Says line rest) old course new ended (inl runs) =
-    by_report old (grown old.report line) course new (script_ran rest (record old { report = grown old.report line }) course new ended runs)
+    by_report old (grown old.report (line ∷ [])) course new (script_ran rest (record old { report = grown old.report (line ∷ []) }) course new ended runs)
 script_ran (Says line rest) old course new ended (inr cut) =
     subst (λ (steps : List Taken). HasRun old steps new) (sym cut.0) (Through new.files (cut.1.0.state, cut.1.0.files))
 script_ran (Asks asked rest) old [] new ended runs = Stopped old.state old.files asked runs.0 (refl, refl) runs.1

@@ -8,7 +8,6 @@ use Rattle.sector_model.specs.Faults.{Blames}
 use Rattle.sector_model.specs.States.{State}
 use Rattle.sector_model.specs.Runs.{Taken}
 use Rattle.sector_model.specs.Plays.{World}
-use Rattle.floppy_report.specs.Faults.{BlamesAlone}
 use Rattle.floppy_report.specs.Puts.{Printed}
 use Rattle.scripts.specs.Scripts.{Script, RunsScript}
 use Rattle.scripts.specs.Parts.{Part, each}
@@ -61,28 +60,28 @@ pub record Faulty : Type 0 where
   pub sink_faults : ℕ
 
 -- a session, a shelf and a sink, by what they show
-abbrev pub world_of : {S K : Type 0} → (S → Option Files) → (K → Option (List ℕ)) → State → S → K → World
+abbrev pub world_of : {S K : Type 0} → (S → Option Files) → (K → Option (List (List ℕ))) → State → S → K → World
 world_of files report session shelf out = record { state = session; files = files shelf; report = report out }
 
 -- with the faults that they counted
-abbrev pub faulty_of : {S K : Type 0} → (S → Option Files) → (S → ℕ) → (K → Option (List ℕ)) → (K → ℕ) → State → S → K → Faulty
+abbrev pub faulty_of : {S K : Type 0} → (S → Option Files) → (S → ℕ) → (K → Option (List (List ℕ))) → (K → ℕ) → State → S → K → Faulty
 faulty_of files shelf_count report sink_count session shelf out =
     record { world = world_of files report session shelf out; shelf_faults = shelf_count shelf; sink_faults = sink_count out }
 
--- a command that takes session, shelf and sink through did this, its words were a form, and each fault that its status tells was
--- counted
+-- a command that takes session, shelf and sink through did this, its words were a form, and a fault was counted once where its status
+-- tells it, and else none was
 pub record Ran (Does : World → World → Status → Type 0) (old new : Faulty) (ended : Status) : Type 0 where
   pub does : Does old.world new.world ended
   pub is_form : ended ≢ status.BadWords
   pub shelf_faults : Blames (ended ≡ status.FileFault) old.shelf_faults new.shelf_faults
-  pub sink_faults : BlamesAlone (ended ≡ status.SinkFault) old.sink_faults new.sink_faults
+  pub sink_faults : Blames (ended ≡ status.SinkFault) old.sink_faults new.sink_faults
 
 -- the same of a part of a command, whose error is the status
 pub record RanPart {T : Type 0} (Does : World → Result T Status → World → Type 0) (old : Faulty) (result : Result T Status) (new : Faulty) : Type 0 where
   pub goes : Does old.world result new.world
   pub is_form : result ≢ Err status.BadWords
   pub shelf_faults : Blames (IsErrOf result status.FileFault) old.shelf_faults new.shelf_faults
-  pub sink_faults : BlamesAlone (IsErrOf result status.SinkFault) old.sink_faults new.sink_faults
+  pub sink_faults : Blames (IsErrOf result status.SinkFault) old.sink_faults new.sink_faults
 
 -- what is done between two worlds, by some course
 pub record Runs (Does : World → List Taken → World → Status → Type 0) (old new : World) (ended : Status) : Type 0 where
@@ -91,14 +90,15 @@ pub record Runs (Does : World → List Taken → World → Status → Type 0) (o
 
 -- ---- Of calls that take the sink alone through.
 
--- a call that takes the sink alone through told how a command ended: its words were a form, a fault of a file was so before, and each
--- fault of the sink that it tells was counted
-pub record Told (Tells : Option (List ℕ) → Option (List ℕ) → Status → Type 0) (FileFault : Type 0) (old new : Printed) (ended : Status) : Type 0 where
+-- a call that takes the sink alone through told how a command ended: its words were a form, it tells a fault of a file just where that
+-- was so before, and a fault of the sink was counted once where it tells one, and else none was
+pub record Told (Tells : Option (List (List ℕ)) → Option (List (List ℕ)) → Status → Type 0) (FileFault : Type 0) (old new : Printed) (ended : Status) : Type 0 where
   pub tells : Tells old.report new.report ended
   pub is_form : ended ≢ status.BadWords
   pub shelf_fault : ended ≡ status.FileFault → FileFault
-  pub sink_faults : BlamesAlone (ended ≡ status.SinkFault) old.faults new.faults
+  pub fault_told : FileFault → ended ≡ status.FileFault
+  pub sink_faults : Blames (ended ≡ status.SinkFault) old.faults new.faults
 
 -- a world with another report
-abbrev pub with_report : State → Option Files → Option (List ℕ) → World
+abbrev pub with_report : State → Option Files → Option (List (List ℕ)) → World
 with_report state files report = record { state = state; files = files; report = report }

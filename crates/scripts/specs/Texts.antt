@@ -1,5 +1,5 @@
 -- A text that a command is to go by, and that isn't loaded.
-use Rattle.std.specs.Prelude.{◌≡◌, ℕ, List, Option}
+use Rattle.std.specs.Prelude.{◌≡◌, ℕ, List, [], ◌∷◌, Option}
 use Rattle.flop_base.specs.declared.answers.LoadError.{LoadError}
 use Rattle.flop_base.specs.declared.answers.LoadError.TheVariants as load
 use Rattle.flop_base.specs.declared.answers.Status.{Status}
@@ -8,8 +8,8 @@ use Rattle.sector_model.specs.Texts.{absent_text, bad_line_text}
 use Rattle.sector_model.specs.Plays.{Prints}
 
 -- why a text wasn't had, and what was printed of it; one that is too long has a bad line 0
-abbrev pub MissesText : LoadError → List ℕ → Option (List ℕ) → Option (List ℕ) → Status → Type 0
-MissesText load.Absent name old new ended = Prints (absent_text name) status.Absent old new ended
-MissesText load.TooLong name old new ended = Prints (bad_line_text 0) status.BadJob old new ended
+abbrev pub MissesText : LoadError → List ℕ → Option (List (List ℕ)) → Option (List (List ℕ)) → Status → Type 0
+MissesText load.Absent name old new ended = Prints (absent_text name ∷ []) status.Absent old new ended
+MissesText load.TooLong name old new ended = Prints (bad_line_text 0 ∷ []) status.BadJob old new ended
 MissesText load.Failed name old new ended = (new ≡ old) × (ended ≡ status.FileFault)
 MissesText load.NoMemory name old new ended = (new ≡ old) × (ended ≡ status.NoMemory)

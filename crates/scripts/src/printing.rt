@@ -1,9 +1,9 @@
 // Lines of a script.
-ghost use Rattle.std.specs.Prelude.{◌≡◌, ◌≢◌, List, Option, ℕ, Err, IfOk, IsErrOf, string_bytes};
+ghost use Rattle.std.specs.Prelude.{◌≡◌, ◌≢◌, ◌∷◌, [], List, Option, ℕ, Err, IfOk, IsErrOf, string_bytes};
 ghost use Rattle.flop_base.specs.Shelf.{Files};
 ghost use Rattle.sector_model.specs.States.{State};
 ghost use Rattle.sector_model.specs.Plays.{whole_status};
-ghost use Rattle.floppy_report.specs.Faults.{BlamesAlone};
+ghost use Rattle.sector_model.specs.Faults.{Blames};
 ghost use Rattle.scripts.specs.Scripts.{Ends};
 ghost use Rattle.scripts.specs.Parts.{says};
 ghost use Rattle.scripts.specs.Leading.{Goes, Finishes, IsTold, with_report};
@@ -18,7 +18,7 @@ pub fn say<K: Sink>(out: &mut K, line: Result<String, AllocError>) -> Result<(),
         → Goes (says text) (with_report state files (K.told out.old)) result (with_report state files (K.told out.new)) }
     ensures is_form { result ≢ Err Status.BadWords }
     ensures no_shelf_fault { result ≢ Err Status.FileFault }
-    ensures sink_faults { BlamesAlone (IsErrOf result Status.SinkFault) (K.fault_count out.old) (K.fault_count out.new) }
+    ensures sink_faults { Blames (IsErrOf result Status.SinkFault) (K.fault_count out.old) (K.fault_count out.new) }
 {
     put_line(out, line)
 }
@@ -27,10 +27,10 @@ pub fn say<K: Sink>(out: &mut K, line: Result<String, AllocError>) -> Result<(),
 pub fn finish<K: Sink>(out: &mut K, line: Result<String, AllocError>, status: Status) -> Status
     requires { IsTold status }
     ensures goes { (text : List ℕ) (state : State) (files : Option Files) → IfOk line (λ made. string_bytes made ≡ text)
-        → Finishes (Ends text status) (with_report state files (K.told out.old)) (with_report state files (K.told out.new)) result }
+        → Finishes (Ends (text ∷ []) status) (with_report state files (K.told out.old)) (with_report state files (K.told out.new)) result }
     ensures is_form { result ≢ Status.BadWords }
     ensures no_shelf_fault { result ≢ Status.FileFault }
-    ensures sink_faults { BlamesAlone (result ≡ Status.SinkFault) (K.fault_count out.old) (K.fault_count out.new) }
+    ensures sink_faults { Blames (result ≡ Status.SinkFault) (K.fault_count out.old) (K.fault_count out.new) }
 {
     put_last_line(out, line, status)
 }

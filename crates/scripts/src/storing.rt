@@ -2,7 +2,6 @@
 ghost use Rattle.std.specs.Prelude.{◌≡◌, ◌≢◌, List, ℕ, IfOk, string_bytes};
 ghost use Rattle.sector_model.specs.States.{State};
 ghost use Rattle.sector_model.specs.Faults.{Blames};
-ghost use Rattle.floppy_report.specs.Faults.{BlamesAlone};
 ghost use Rattle.scripts.specs.Scripts.{Stores};
 ghost use Rattle.scripts.specs.Leading.{Finishes, IsTold, with_report};
 
@@ -25,7 +24,7 @@ pub fn store_last<S: Shelf, K: Sink>(
         (with_report state (S.told shelf.new) (K.told out.new)) result }
     ensures is_form { result ≢ Status.BadWords }
     ensures shelf_faults { Blames (result ≡ Status.FileFault) (S.fault_count shelf.old) (S.fault_count shelf.new) }
-    ensures sink_faults { BlamesAlone (result ≡ Status.SinkFault) (K.fault_count out.old) (K.fault_count out.new) }
+    ensures sink_faults { Blames (result ≡ Status.SinkFault) (K.fault_count out.old) (K.fault_count out.new) }
 {
     match shelf.store(name, bytes) {
         Ok(()) => put_last_line(out, line, status),

@@ -5,8 +5,8 @@ use Rattle.flop_base.specs.Shelf.{Files}
 use Rattle.floppy_requests.specs.declared.request.Request.{Request}
 use Rattle.sector_model.specs.States.{State}
 use Rattle.sector_model.specs.Steps.{Step}
-use Rattle.sector_model.specs.Texts.{reply_text, is_refusal}
-use Rattle.sector_model.specs.Runs.{Taken, Run, requests_of, course_text, has_refusal}
+use Rattle.sector_model.specs.Texts.{reply_lines, is_refusal}
+use Rattle.sector_model.specs.Runs.{Taken, Run, requests_of, course_lines, has_refusal}
 
 pub run_more : (old mid : State) (told mid_told after : Option Files) (course : List Taken) (taken : Taken) → Run old told course mid mid_told → Step taken.asked mid mid_told taken.answer taken.after after → Run old told (course ++ taken ∷ []) taken.after after
 run_more old mid told mid_told after [] taken run step =
@@ -19,11 +19,11 @@ pub requests_more : (course : List Taken) (taken : Taken) → requests_of (cours
 requests_more [] taken = refl
 requests_more (first ∷ later) taken = ap (λ (rest : List Request). first.asked ∷ rest) (requests_more later taken)
 
-pub text_more : (course : List Taken) (taken : Taken) → course_text (course ++ taken ∷ []) ≡ course_text course ++ reply_text taken.asked taken.answer
-text_more [] taken = append-nil (reply_text taken.asked taken.answer)
+pub text_more : (course : List Taken) (taken : Taken) → course_lines (course ++ taken ∷ []) ≡ course_lines course ++ reply_lines taken.asked taken.answer
+text_more [] taken = append-nil (reply_lines taken.asked taken.answer)
 text_more (first ∷ later) taken =
-    ap (λ (rest : List ℕ). reply_text first.asked first.answer ++ rest) (text_more later taken)
-    ∙ sym (append_assoc (reply_text first.asked first.answer) (course_text later) (reply_text taken.asked taken.answer))
+    ap (λ (rest : List (List ℕ)). reply_lines first.asked first.answer ++ rest) (text_more later taken)
+    ∙ sym (append_assoc (reply_lines first.asked first.answer) (course_lines later) (reply_lines taken.asked taken.answer))
 
 or-false : (b : Bool) → (b || false) ≡ b
 or-false true = refl

@@ -1,8 +1,10 @@
 -- Faults of the outside, by the count of who had them.
-use Rattle.std.specs.Prelude.{ℕ, ◌≤◌}
-use Rattle.flop_base.specs.Counts.{Rose}
+use Rattle.std.specs.Prelude.{ℕ, ◌≡◌, ◌≤◌}
+use Rattle.flop_base.specs.Counts.{RoseOnce}
 
--- a count of faults never falls, and rose where an answer blames it
+-- a count of faults rose by one where an answer blames it, and stays where none does: of many calls one failed, and the answer
+-- tells it
 pub record Blames (blamed : Type 0) (old new : ℕ) : Type 0 where
-  pub rose : blamed → Rose old new
+  pub rose : blamed → RoseOnce old new
+  pub else_stays : (blamed → ⊥) → new ≡ old
   pub never_falls : old ≤ new

@@ -9,14 +9,14 @@ use Rattle.floppy_requests.specs.declared.request.Request.{Request}
 use Rattle.sector_model.specs.declared.reply.Stop.{Stop}
 use Rattle.sector_model.specs.States.{State}
 use Rattle.sector_model.specs.Steps.{Step, StopsAt, IsAbsent, IsLonger}
-use Rattle.sector_model.specs.Texts.{reply_text, stop_text, stop_status, bad_line_text, absent_text}
-use Rattle.sector_model.specs.Runs.{Taken, Run, requests_of, course_text, has_refusal, Ends, EndStopsAt, IsEndStop}
+use Rattle.sector_model.specs.Texts.{reply_lines, stop_lines, stop_status, bad_line_text, absent_text}
+use Rattle.sector_model.specs.Runs.{Taken, Run, requests_of, course_lines, has_refusal, Ends, EndStopsAt, IsEndStop}
 
 -- all that a play may change: the state of its session, the told files, and the told report
 pub record World : Type 0 where
   pub state : State
   pub files : Option Files
-  pub report : Option (List ℕ)
+  pub report : Option (List (List ℕ))
 
 -- the statuses of a put that failed
 abbrev pub IsPutFault : Status → Type 0
@@ -24,16 +24,16 @@ IsPutFault status.NoMemory = Unit {0}
 IsPutFault status.SinkFault = Unit {0}
 IsPutFault _ = ⊥
 
--- a last line was put, and the status is the wanted one; or it couldn't be put whole
-pub data Prints (line : List ℕ) (wanted : Status) (report after : Option (List ℕ)) (ended : Status) : Type 0 where
-  Whole : after ≡ grown report line → ended ≡ wanted → Prints line wanted report after ended
-  Part : GrowsByPart report line after → IsPutFault ended → Prints line wanted report after ended
+-- last lines were put, and the status is the wanted one; or they couldn't be put whole
+pub data Prints (lines : List (List ℕ)) (wanted : Status) (report after : Option (List (List ℕ))) (ended : Status) : Type 0 where
+  Whole : after ≡ grown report lines → ended ≡ wanted → Prints lines wanted report after ended
+  Part : GrowsByPart report lines after → IsPutFault ended → Prints lines wanted report after ended
 
 -- nothing was done but to print a line
 pub record Tells (line : List ℕ) (wanted : Status) (old new : World) (ended : Status) : Type 0 where
   pub state : new.state ≡ old.state
   pub files : new.files ≡ old.files
-  pub prints : Prints line wanted old.report new.report ended
+  pub prints : Prints (line ∷ []) wanted old.report new.report ended
 
 -- nothing was done
 pub record IsIdle (old new : World) (cause ended : Status) : Type 0 where
@@ -51,7 +51,7 @@ pub record IsPlayed (requests : List Request) (old : World) (course : List Taken
   pub run : Run old.state old.files course mid files
   pub all : requests ≡ requests_of course
   pub stored : Ends mid files new.state new.files
-  pub report : new.report ≡ grown old.report (course_text course)
+  pub report : new.report ≡ grown old.report (course_lines course)
   pub status : ended ≡ whole_status (has_refusal course)
 
 -- a request stopped the run, after all before it were run and told
@@ -64,7 +64,7 @@ pub record IsStopped (requests : List Request) (old : World) (course : List Take
   pub run : Run old.state old.files course mid files
   pub all : requests ≡ requests_of course ++ asked ∷ later
   pub stops : StopsAt asked mid files cause new.state new.files
-  pub prints : Prints (stop_text cause) (stop_status cause) (grown old.report (course_text course)) new.report ended
+  pub prints : Prints (stop_lines cause) (stop_status cause) (grown old.report (course_lines course)) new.report ended
 
 -- the answer to a request couldn't be told whole, after all before it were run and told
 pub record IsUnfinished (requests : List Request) (old : World) (course : List Taken) (new : World) (ended : Status) : Type 0 where
@@ -78,7 +78,7 @@ pub record IsUnfinished (requests : List Request) (old : World) (course : List T
   pub after : new.state ≡ last.after
   pub course_is : course ≡ before ++ last ∷ []
   pub all : requests ≡ requests_of before ++ last.asked ∷ later
-  pub part : GrowsByPart (grown old.report (course_text before)) (reply_text last.asked last.answer) new.report
+  pub part : GrowsByPart (grown old.report (course_lines before)) (reply_lines last.asked last.answer) new.report
   pub fault : IsPutFault ended
 
 -- all requests were run and told, and the end couldn't store what was left in
@@ -90,7 +90,7 @@ pub record IsEndStopped (requests : List Request) (old : World) (course : List T
   pub all : requests ≡ requests_of course
   pub only : IsEndStop cause
   pub stops : EndStopsAt mid files new.state new.files
-  pub report : new.report ≡ grown old.report (course_text course)
+  pub report : new.report ≡ grown old.report (course_lines course)
   pub status : ended ≡ stop_status cause
 
 -- how the requests of a job are played, and the course of their run

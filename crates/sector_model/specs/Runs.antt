@@ -1,4 +1,4 @@
--- Runs: steps one after the other, with the text that answers them; and the end of a run, which stores what is left in.
+-- Runs: steps one after the other, with the lines that answer them; and the end of a run, which stores what is left in.
 use Rattle.std.specs.Prelude.{◌≡◌, ℕ, Bool, true, false, ◌||◌, List, [], ◌∷◌, ◌++◌, map, Option, None}
 use Rattle.flop_base.specs.Shelf.{Files}
 use Rattle.floppy_requests.specs.declared.request.Request.{Request}
@@ -7,7 +7,7 @@ use Rattle.sector_model.specs.declared.reply.Stop.{Stop}
 use Rattle.sector_model.specs.declared.reply.Stop.TheVariants as stop
 use Rattle.sector_model.specs.States.{State, IsSame, ChangesMedium}
 use Rattle.sector_model.specs.Steps.{Step, StoresMedium, is_loaded}
-use Rattle.sector_model.specs.Texts.{reply_text, is_refusal}
+use Rattle.sector_model.specs.Texts.{reply_lines, is_refusal}
 
 -- a step of a run: the request, its answer, and the state that it leads to
 pub record Taken : Type 0 where
@@ -26,10 +26,10 @@ Run old told (taken ∷ later) new told_after =
 abbrev pub requests_of : List Taken → List Request
 requests_of course = map (λ taken. taken.asked) course
 
--- the text that answers them
-abbrev pub course_text : List Taken → List ℕ
-course_text [] = []
-course_text (taken ∷ later) = reply_text taken.asked taken.answer ++ course_text later
+-- the lines that answer them
+abbrev pub course_lines : List Taken → List (List ℕ)
+course_lines [] = []
+course_lines (taken ∷ later) = reply_lines taken.asked taken.answer ++ course_lines later
 
 -- some answer is a refusal
 abbrev pub has_refusal : List Taken → Bool

@@ -1,5 +1,5 @@
--- The printed text: the lines that answer a request, and the last line of a run that stopped.
-use Rattle.std.specs.Prelude.{ℕ, ◌+◌, ◌*◌, ◌/◌, Bool, true, false, List, [], ◌∷◌, ◌++◌, length, take, drop, codes}
+-- What is printed, line by line: the lines that answer a request, and the last line of a run that stopped.
+use Rattle.std.specs.Prelude.{ℕ, ◌+◌, ◌*◌, ◌/◌, Bool, true, false, List, [], ◌∷◌, ◌++◌, length, take, drop, map, codes}
 use Rattle.std.specs.Fmt.{decimal}
 use Rattle.std.specs.List.{range_with_len, flat_map}
 use Rattle.flop_base.specs.Numbers.{code_number}
@@ -36,16 +36,16 @@ unfoldable pub dump_line : ℕ → List ℕ → List ℕ
 dump_line address bytes = hex5 address ++ (flat_map dump_byte bytes ++ line_end)
 
 -- a dump: a line for each 16 bytes
-unfoldable pub dump_text : ℕ → List ℕ → List ℕ
-dump_text address bytes =
-    flat_map (λ i. dump_line (address + 16 * i) (take 16 (drop (16 * i) bytes))) (range_with_len 0 ((length bytes + 15) / 16))
+unfoldable pub dump_lines : ℕ → List ℕ → List (List ℕ)
+dump_lines address bytes =
+    map (λ i. dump_line (address + 16 * i) (take 16 (drop (16 * i) bytes))) (range_with_len 0 ((length bytes + 15) / 16))
 
 -- the lines that answer a request
-unfoldable pub reply_text : Request → Reply → List ℕ
-reply_text asked reply.Done = verb_text asked ++ codes " ok\n"
-reply_text asked reply.DoneDeleted = verb_text asked ++ codes " ok deleted\n"
-reply_text asked (reply.Bytes address content) = dump_text address content
-reply_text asked (reply.Refused cause) = verb_text asked ++ (codes " refused " ++ (reason_text cause ++ line_end))
+unfoldable pub reply_lines : Request → Reply → List (List ℕ)
+reply_lines asked reply.Done = (verb_text asked ++ codes " ok\n") ∷ []
+reply_lines asked reply.DoneDeleted = (verb_text asked ++ codes " ok deleted\n") ∷ []
+reply_lines asked (reply.Bytes address content) = dump_lines address content
+reply_lines asked (reply.Refused cause) = (verb_text asked ++ (codes " refused " ++ (reason_text cause ++ line_end))) ∷ []
 
 -- what is wrong with an image
 abbrev pub image_error_text : ImageError → List ℕ
@@ -65,12 +65,12 @@ abbrev pub absent_text : List ℕ → List ℕ
 absent_text name = name ++ codes " absent\n"
 
 -- the last line of a run that stopped; nothing is printed where the outside failed or memory couldn't be had
-unfoldable pub stop_text : Stop → List ℕ
-stop_text (stop.BadImage name error) = image_text name (image_error_text error)
-stop_text (stop.TooLong name most) = image_text name (codes "longer than " ++ (decimal most ++ line_end))
-stop_text (stop.Absent name) = absent_text name
-stop_text stop.FileFault = []
-stop_text stop.NoMemory = []
+unfoldable pub stop_lines : Stop → List (List ℕ)
+stop_lines (stop.BadImage name error) = image_text name (image_error_text error) ∷ []
+stop_lines (stop.TooLong name most) = image_text name (codes "longer than " ++ (decimal most ++ line_end)) ∷ []
+stop_lines (stop.Absent name) = absent_text name ∷ []
+stop_lines stop.FileFault = []
+stop_lines stop.NoMemory = []
 
 -- the line where a job's line isn't understood; line 0 where the text is too long
 unfoldable pub bad_line_text : ℕ → List ℕ

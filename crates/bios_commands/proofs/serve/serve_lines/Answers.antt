@@ -6,7 +6,7 @@ use Rattle.bios_commands.proofs.serve.serve_lines.Goals as goal
 pub loop-line-init : goal.loop-line-init
 loop-line-init g c = record {
   served = served_none (world_of g.S.Shelf.told g.K.Sink.told c.args.session.now c.args.shelf.now c.args.out.now) c.new-front.result c.new-front.ensures;
-  shelf_counts = omega arith;
+  shelf_counts = search rules;
   sink_counts = search rules;
 }
 
@@ -28,6 +28,6 @@ loop-line-preserved g c =
       served = served_next _ _ _ c.args.lines.now c.loop-line.line-index c.line-item.result c.loop-line.refused c.in-Ok.refusal
           c.either-refused.result c.loop-line.front c.serve_line.new.front c.loop-line.invariant.served c.in-Ok.ensures.goes within c.line-item.is
           c.either-refused.ensures;
-      shelf_counts = omega (arith, c.loop-line.invariant.shelf_counts, c.serve_line.ensures.shelf_faults.never_falls);
+      shelf_counts = search rules;
       sink_counts = search rules;
     }

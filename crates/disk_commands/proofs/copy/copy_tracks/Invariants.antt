@@ -1,4 +1,4 @@
-use Rattle.std.proofs.Common.{◌≡◌, ◌≤◌}
+use Rattle.std.proofs.Common.{◌≡◌}
 use Rattle.scripts.specs.Parts.{each}
 use Rattle.scripts.specs.Leading.{world_of, IsAtTurn}
 use Rattle.disk_commands.specs.Copy.{copies_track}
@@ -9,6 +9,6 @@ invariant-loop-c g l = record {
   turn : IsAtTurn 0 l.fn.cylinders (λ c. each 0 l.fn.heads (copies_track l.fn.sectors c)) tt
       (world_of g.S.Shelf.told g.K.Sink.told l.fn.session l.fn.shelf l.fn.out)
       l.c tt (world_of g.S.Shelf.told g.K.Sink.told l.session l.shelf l.out);
-  counted : g.S.Shelf.fault_count l.fn.shelf ≤ g.S.Shelf.fault_count l.shelf;
+  counted : g.S.Shelf.fault_count l.shelf ≡ g.S.Shelf.fault_count l.fn.shelf;
   stays : g.K.Sink.fault_count l.out ≡ g.K.Sink.fault_count l.fn.out;
 }

@@ -8,7 +8,7 @@ invariant-loop-r g l = record {
   turn : IsAtTurn 1 l.fn.sectors (verifies_record l.fn.c l.fn.h) l.fn.tally
       (world_of g.S.Shelf.told g.K.Sink.told l.fn.session l.fn.shelf l.fn.out)
       l.r l.now (world_of g.S.Shelf.told g.K.Sink.told l.session l.shelf l.out);
-  counted : g.S.Shelf.fault_count l.fn.shelf ≤ g.S.Shelf.fault_count l.shelf;
+  counted : g.S.Shelf.fault_count l.shelf ≡ g.S.Shelf.fault_count l.fn.shelf;
   stays : g.K.Sink.fault_count l.out ≡ g.K.Sink.fault_count l.fn.out;
   few : l.now.well + 1 ≤ l.fn.tally.well + l.r;
 }

@@ -9,7 +9,7 @@ invariant-loop-c g l = record {
   turn : IsAtTurn 0 l.fn.cylinders (λ c. each 0 l.fn.heads (verifies_track l.fn.sectors c)) l.fn.tally
       (world_of g.S.Shelf.told g.K.Sink.told l.fn.session l.fn.shelf l.fn.out)
       l.c l.now (world_of g.S.Shelf.told g.K.Sink.told l.session l.shelf l.out);
-  counted : g.S.Shelf.fault_count l.fn.shelf ≤ g.S.Shelf.fault_count l.shelf;
+  counted : g.S.Shelf.fault_count l.shelf ≡ g.S.Shelf.fault_count l.fn.shelf;
   stays : g.K.Sink.fault_count l.out ≡ g.K.Sink.fault_count l.fn.out;
   few : l.now.well ≤ l.fn.tally.well + 4590 * l.c;
 }

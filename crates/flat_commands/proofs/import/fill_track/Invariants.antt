@@ -1,4 +1,4 @@
-use Rattle.std.proofs.Common.{◌≡◌, ◌≤◌}
+use Rattle.std.proofs.Common.{◌≡◌}
 use Rattle.scripts.specs.Leading.{world_of, IsAtTurn}
 use Rattle.flat_image.specs.Flat.{sector_place}
 use Rattle.scripts.specs.Records.{record_address}
@@ -10,6 +10,6 @@ invariant-loop-r g l = record {
   turn : IsAtTurn 1 l.fn.sectors (λ r. fills_record l.fn.flat (sector_place l.fn.sectors l.fn.c l.fn.h r) (record_address r)) tt
       (world_of g.S.Shelf.told g.K.Sink.told l.fn.session l.fn.shelf l.fn.out)
       l.r tt (world_of g.S.Shelf.told g.K.Sink.told l.session l.shelf l.out);
-  counted : g.S.Shelf.fault_count l.fn.shelf ≤ g.S.Shelf.fault_count l.shelf;
+  counted : g.S.Shelf.fault_count l.shelf ≡ g.S.Shelf.fault_count l.fn.shelf;
   stays : g.K.Sink.fault_count l.out ≡ g.K.Sink.fault_count l.fn.out;
 }

@@ -1,4 +1,4 @@
-use Rattle.std.proofs.Common.{◌≡◌, ◌≤◌}
+use Rattle.std.proofs.Common.{◌≡◌}
 use Rattle.scripts.specs.Leading.{world_of, IsAtTurn}
 use Rattle.flat_commands.specs.Import.{imports_track}
 use Rattle.flat_commands.proofs.Tracks.{of_track}
@@ -9,6 +9,6 @@ invariant-loop-track g l = record {
   turn : IsAtTurn 0 160 (of_track (imports_track l.fn.flat l.fn.sectors)) tt
       (world_of g.S.Shelf.told g.K.Sink.told l.fn.session l.fn.shelf l.fn.out)
       l.track tt (world_of g.S.Shelf.told g.K.Sink.told l.session l.shelf l.out);
-  counted : g.S.Shelf.fault_count l.fn.shelf ≤ g.S.Shelf.fault_count l.shelf;
+  counted : g.S.Shelf.fault_count l.shelf ≡ g.S.Shelf.fault_count l.fn.shelf;
   stays : g.K.Sink.fault_count l.out ≡ g.K.Sink.fault_count l.fn.out;
 }

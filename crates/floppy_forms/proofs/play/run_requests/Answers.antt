@@ -19,6 +19,6 @@ loop-request-preserved g c =
     record {
       run = has-run-next _ _ _ c.args.requests.now c.loop-request.request-index c.request-item.result c.loop-request.refused c.in-Ok.refusal
           c.either-refused.result c.loop-request.invariant.run c.in-Ok.ensures.goes within c.request-item.is c.either-refused.ensures;
-      shelf_counts = omega (arith, c.loop-request.invariant.shelf_counts, c.run_one.ensures.shelf_faults.never_falls);
+      shelf_counts = search rules;
       sink_counts = search rules;
     }

@@ -20,6 +20,6 @@ loop-line-preserved g c =
     record {
       run = has-run-next (world_of g.D.Drive.state g.S.Shelf.told g.K.Sink.told c.args.machine.now c.args.names.now c.args.shelf.now c.args.out.now) (world_of g.D.Drive.state g.S.Shelf.told g.K.Sink.told c.loop-line.machine c.loop-line.names c.loop-line.shelf c.loop-line.out) (world_of g.D.Drive.state g.S.Shelf.told g.K.Sink.told c.run_one.new.machine c.run_one.new.names c.run_one.new.shelf c.run_one.new.out) c.args.lines.now c.loop-line.line-index c.line-item.result c.loop-line.refused c.in-Ok.refusal c.either-refused.result c.loop-line.invariant.run c.in-Ok.ensures.goes within c.line-item.is c.either-refused.ensures;
       named = c.run_one.ensures.named;
-      shelf_counts = omega (arith, c.loop-line.invariant.shelf_counts, c.run_one.ensures.shelf_faults.never_falls);
+      shelf_counts = search rules;
       sink_counts = search rules;
     }

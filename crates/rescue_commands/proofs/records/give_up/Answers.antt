@@ -8,5 +8,6 @@ returns g c = record {
       ends_here whole start _ _ state files _ _ _ (rw (sym c.read_request.ensures) c.put_last_stopped.ensures.prints) leads;
   is_form = search rules;
   shelf_fault = search rules;
+  fault_told = search rules;
   sink_faults = search rules;
 }

@@ -1,4 +1,4 @@
-use Rattle.std.proofs.Common.{◌≡◌, ◌≤◌, []}
+use Rattle.std.proofs.Common.{◌≡◌, []}
 use Rattle.scripts.specs.Leading.{world_of}
 use Rattle.rescue_commands.proofs.Turns.{IsAtKey}
 use Rattle.rescue_commands.proofs.records.rescue_records.Given as goal
@@ -7,6 +7,6 @@ abbrev pub invariant-loop-key : goal.invariant-loop-key
 invariant-loop-key g l = record {
   at : IsAtKey l.keys [] (world_of g.S.Shelf.told g.K.Sink.told l.fn.session l.fn.shelf l.fn.out)
       l.key-index l.log.items (world_of g.S.Shelf.told g.K.Sink.told l.session l.shelf l.out);
-  counted : g.S.Shelf.fault_count l.fn.shelf ≤ g.S.Shelf.fault_count l.shelf;
+  counted : g.S.Shelf.fault_count l.shelf ≡ g.S.Shelf.fault_count l.fn.shelf;
   stays : g.K.Sink.fault_count l.out ≡ g.K.Sink.fault_count l.fn.out;
 }
