@@ -42,7 +42,11 @@ pub(crate) fn takes(rt: &impl Abort, shelf: &mut impl Shelf, name: &str, bytes: 
 
 /// They aren't, by a fault.
 pub(crate) fn takes_none(rt: &impl Abort, shelf: &mut impl Shelf, name: &str, bytes: &[u8]) {
-    same(rt, &shelf.store(name, bytes).err(), &Some(StoreError::Failed));
+    same(
+        rt,
+        &shelf.store(name, bytes).err(),
+        &Some(StoreError::Failed),
+    );
 }
 
 /// So many faults were counted.

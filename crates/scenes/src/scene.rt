@@ -90,13 +90,7 @@ impl Scene {
     }
 
     /// Does a line that prints.
-    fn verb(
-        &mut self,
-        line: &str,
-        verb: &str,
-        fields: Line,
-        out: &mut Draft,
-    ) -> Result<(), Wrong> {
+    fn verb(&mut self, line: &str, verb: &str, fields: Line, out: &mut Draft) -> Result<(), Wrong> {
         let word = verb.as_bytes();
         if is_verb(word, "scene") {
             *self = Scene::new(self.alloc);

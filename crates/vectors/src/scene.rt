@@ -66,13 +66,7 @@ impl Scene {
         }
     }
 
-    fn verb(
-        &mut self,
-        line: &str,
-        verb: &str,
-        fields: Line,
-        out: &mut Draft,
-    ) -> Result<(), Wrong> {
+    fn verb(&mut self, line: &str, verb: &str, fields: Line, out: &mut Draft) -> Result<(), Wrong> {
         let word = verb.as_bytes();
         if is_verb(word, "scene") {
             out.line(line);

@@ -42,12 +42,7 @@ fn serve_all(
     Ok(())
 }
 
-fn serve(
-    alloc: Global,
-    bench: &mut DrivenBench,
-    call: &str,
-    out: &mut Draft,
-) -> Result<(), Wrong> {
+fn serve(alloc: Global, bench: &mut DrivenBench, call: &str, out: &mut Draft) -> Result<(), Wrong> {
     let words = words_in(alloc, call)?;
     let mut line = Line::of(&words);
     out.text(call);

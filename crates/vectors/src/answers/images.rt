@@ -54,7 +54,12 @@ fn put_medium(medium: &Medium, out: &mut Draft) {
         "open"
     });
     let (cylinders, heads, words) = (medium.cylinders(), medium.heads(), medium.words());
-    out.numbers(&[u64::from(cylinders), u64::from(heads), rate, u64::from(words)]);
+    out.numbers(&[
+        u64::from(cylinders),
+        u64::from(heads),
+        rate,
+        u64::from(words),
+    ]);
     out.line("");
 }
 

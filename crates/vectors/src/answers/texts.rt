@@ -194,11 +194,21 @@ fn put_fault(out: &mut Draft, fault: Fault) {
     match fault {
         Fault::Dropout { c, h, word, count } => {
             out.text(" drop");
-            out.numbers(&[u64::from(c), u64::from(h), u64::from(word), u64::from(count)]);
+            out.numbers(&[
+                u64::from(c),
+                u64::from(h),
+                u64::from(word),
+                u64::from(count),
+            ]);
         }
         Fault::Cut { c, h, word, count } => {
             out.text(" cut");
-            out.numbers(&[u64::from(c), u64::from(h), u64::from(word), u64::from(count)]);
+            out.numbers(&[
+                u64::from(c),
+                u64::from(h),
+                u64::from(word),
+                u64::from(count),
+            ]);
         }
         Fault::Lose { c, count } => {
             out.text(" lose");

@@ -95,7 +95,11 @@ fn turns(asked: Asked, line: &mut Line, out: &mut Draft) -> Result<(), Wrong> {
 fn second_turn(alloc: Global, track: &[u16], start: usize) -> Draft {
     let mut separator = Separator::new();
     let mut first = Draft::new(alloc);
-    feed(&mut separator, track.get(start..).unwrap_or(&[]), &mut first);
+    feed(
+        &mut separator,
+        track.get(start..).unwrap_or(&[]),
+        &mut first,
+    );
     let mut second = Draft::new(alloc);
     feed(&mut separator, track, &mut second);
     second
