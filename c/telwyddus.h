@@ -5,17 +5,23 @@
  * drivers; trays, in which media lie outside drives; shelves, on which the program runs; and disks, single sectors read and
  * written. The code behind them is proved: docs/C.md says what of, and how to build. For C and for C++.
  *
+ * A whole device of an emulator over the first face is demo/c/device.c, 150 lines; docs/C.md goes through it.
+ *
  * SLOTS. A slot holds one object or none. It is yours: on your stack, in your device's state. Begin it all 0 ("= {0}"). Don't
  * write its fields, and don't copy or move it while it holds something: a copy that is freed besides frees twice. A call on a
  * slot that holds nothing answers TELWYDDUS_EMPTY and does nothing, so freeing twice is harmless.
  *
- * WHAT YOU OWE. Pointers aren't null (a buffer's too, with length 0). A buffer has the length that is told, and no two pointers
- * of a call overlap. Calls on one slot come one at a time: a slot may go to another thread under a lock. No call comes from a
- * signal handler.
+ * WHAT YOU OWE. Pointers aren't null, but that of a buffer whose length is 0 may be (the macros at the end of this file see to it). A
+ * buffer has the length that is told, and no two pointers of a call overlap. No call comes from a signal handler.
+ *
+ * THREADS. Slots are independent of each other: calls on two of them may come at the same time. Calls on one slot come one at a time, those
+ * too that only look (lines, bay, image ..), since each takes the object out of its slot and puts it back: under a lock, by which a slot
+ * may also go to another thread. A tray and what its medium goes into are two slots of one call.
  *
  * WHAT YOU GET. Each call answers a code, below. What a call hands out through a pointer is set where it answers
  * TELWYDDUS_DONE; where it answers anything else it is left, but for the length of TELWYDDUS_TOO_SHORT, the line of
- * TELWYDDUS_BAD_PLAN, and the cylinder and head of TELWYDDUS_UNFIT; and so is the object, but where it says more.
+ * TELWYDDUS_BAD_PLAN, the cylinder and head of TELWYDDUS_UNFIT, and the lines of TELWYDDUS_NOT_ASKED; and so is the object, but where it
+ * says more. Compilers warn where a code isn't looked at of which something may come that you can't know.
  *
  * FULL SLOTS. A call that makes something in a slot (new, new_planned, blank, read, read_flat, read_imd; eject, in the tray) looks
  * at that slot first: where it holds something already the answer is TELWYDDUS_FULL, whatever else is wrong, and it stays. Any
@@ -30,15 +36,26 @@
 #include <stddef.h>
 #include <stdint.h>
 
+/* The version of this file, and the same as a number: 10,000 times the first, 100 times the second, and the third. Where the first number
+ * is another one, a program has to be compiled anew. */
+#define TELWYDDUS_VERSION "1.0.0"
+#define TELWYDDUS_VERSION_NUMBER 10000
+
+/* A call; and one whose code has news, so that it is to be looked at. */
 #if defined(__GNUC__)
-#define TELWYDDUS_CALL __attribute__((nonnull, warn_unused_result))
+#define TELWYDDUS_CALL __attribute__((nonnull))
+#define TELWYDDUS_NEWS __attribute__((nonnull, warn_unused_result))
 #else
 #define TELWYDDUS_CALL
+#define TELWYDDUS_NEWS
 #endif
 
 #ifdef __cplusplus
 extern "C" {
 #endif
+
+/* The version of the library that runs, as TELWYDDUS_VERSION_NUMBER has that of this file. */
+TELWYDDUS_CALL uint32_t telwyddus_version(void);
 
 typedef struct telwyddus_controller { void *at_; uint32_t tag_; } telwyddus_controller;
 typedef struct telwyddus_machine { void *at_; uint32_t tag_; } telwyddus_machine;
@@ -72,44 +89,54 @@ enum telwyddus_code {
     TELWYDDUS_BAD_STATE = 22    /* the bytes are no saved state */
 };
 
+/* The name of a code, as "NO_MEMORY"; "NO_CODE" of a number that is none. */
+static inline const char *telwyddus_code_name(uint32_t code) {
+    static const char *const names[] = {
+        "DONE", "EMPTY", "FULL", "NO_MEMORY", "OUT_OF_RANGE", "BAD_IMAGE", "HAS_MEDIUM", "NO_MEDIUM", "NOT_ASKED", "BAD_PLAN", "TOO_SHORT",
+        "NOT_TEXT", "NO_FILE", "NOT_READY", "CHANGED", "PROTECTED", "NO_MARK", "NOT_FOUND", "BAD_CRC", "OVERRUN", "SEEK", "UNFIT",
+        "BAD_STATE"
+    };
+    return code < sizeof names / sizeof *names ? names[code] : "NO_CODE";
+}
+
 /* ---------------------------------------------------------------------------------------------------------------------------
  * TRAYS. A medium outside a drive. Image files are those of the program `floppy`: raw cells of all tracks. */
 
 /* Makes a tray with the medium of an image file. DONE, FULL, NO_MEMORY, BAD_IMAGE. */
-TELWYDDUS_CALL uint32_t telwyddus_tray_read(telwyddus_tray *tray, const uint8_t *bytes, size_t length);
+TELWYDDUS_NEWS uint32_t telwyddus_tray_read(telwyddus_tray *tray, const uint8_t *bytes, size_t length);
 
 /* Writes the image file of its medium to the beginning of a buffer. *length is the file's, told where the buffer is too short
  * too. DONE, EMPTY, NO_MEMORY, NO_MEDIUM, TOO_SHORT. */
-TELWYDDUS_CALL uint32_t telwyddus_tray_write(telwyddus_tray *tray, uint8_t *out, size_t room, size_t *length);
+TELWYDDUS_NEWS uint32_t telwyddus_tray_write(telwyddus_tray *tray, uint8_t *out, size_t room, size_t *length);
 
 /* Frees a tray and its medium, if any. DONE, EMPTY. */
 TELWYDDUS_CALL uint32_t telwyddus_tray_free(telwyddus_tray *tray);
 
 /* Makes a tray with an unformatted medium of 1 to 80 cylinders and two heads, at 500 or 250 kbit/s. DONE, FULL, NO_MEMORY,
  * OUT_OF_RANGE. */
-TELWYDDUS_CALL uint32_t telwyddus_tray_blank(telwyddus_tray *tray, uint8_t cylinders, uint16_t kilobits);
+TELWYDDUS_NEWS uint32_t telwyddus_tray_blank(telwyddus_tray *tray, uint8_t cylinders, uint16_t kilobits);
 
 /* Makes a tray with the medium of a flat sector file of 1,474,560 bytes (1.44 MB) or 737,280 (720 KB): all its sectors, and no others.
  * DONE, FULL, NO_MEMORY, BAD_IMAGE for any other length. */
-TELWYDDUS_CALL uint32_t telwyddus_tray_read_flat(telwyddus_tray *tray, const uint8_t *bytes, size_t length);
+TELWYDDUS_NEWS uint32_t telwyddus_tray_read_flat(telwyddus_tray *tray, const uint8_t *bytes, size_t length);
 
 /* Writes the flat sector file of its medium to the beginning of a buffer: of 80 cylinders and two heads the sectors 1 to 18 at 500 kbit/s,
  * 1 to 9 at 250, each of 512 bytes. *length is the file's, told where the buffer is too short too. The file has each sector of the medium,
  * or there is none: UNFIT where an ImageDisk file can't have a track either; else where a track has more sectors than these, or one that is
  * marked deleted, or lacks one of these, or has it damaged. The cylinder and head of the first such track are told; both are 255 where the
  * medium has another shape. DONE, EMPTY, NO_MEMORY, NO_MEDIUM, TOO_SHORT, UNFIT. */
-TELWYDDUS_CALL uint32_t telwyddus_tray_write_flat(telwyddus_tray *tray, uint8_t *out, size_t room, size_t *length,
+TELWYDDUS_NEWS uint32_t telwyddus_tray_write_flat(telwyddus_tray *tray, uint8_t *out, size_t room, size_t *length,
     uint8_t *cylinder, uint8_t *head);
 
 /* Makes a tray with the medium of an ImageDisk file (MFM at 500 or 250 kbit/s): all its sectors, and no others. UNFIT where a track
  * has no room for its sectors: its cylinder and head are told. DONE, FULL, NO_MEMORY, BAD_IMAGE, UNFIT. */
-TELWYDDUS_CALL uint32_t telwyddus_tray_read_imd(telwyddus_tray *tray, const uint8_t *bytes, size_t length, uint8_t *cylinder,
+TELWYDDUS_NEWS uint32_t telwyddus_tray_read_imd(telwyddus_tray *tray, const uint8_t *bytes, size_t length, uint8_t *cylinder,
     uint8_t *head);
 
 /* Writes the ImageDisk file of its medium to the beginning of a buffer. *length is the file's, told where the buffer is too short
  * too. UNFIT where such a file can't have a track: its cylinder and head are told. DONE, EMPTY, NO_MEMORY, NO_MEDIUM, TOO_SHORT,
  * UNFIT. */
-TELWYDDUS_CALL uint32_t telwyddus_tray_write_imd(telwyddus_tray *tray, uint8_t *out, size_t room, size_t *length,
+TELWYDDUS_NEWS uint32_t telwyddus_tray_write_imd(telwyddus_tray *tray, uint8_t *out, size_t room, size_t *length,
     uint8_t *cylinder, uint8_t *head);
 
 /* Writes what stands on its medium to the beginning of a buffer: 11 bytes for each address field, by cylinder, head and place.
@@ -118,7 +145,7 @@ TELWYDDUS_CALL uint32_t telwyddus_tray_write_imd(telwyddus_tray *tray, uint8_t *
  *   6 to 9  C, H, R and N of the field
  *   10      00 the data is there, 01 and marked deleted, 02 there is none, 10 its check fails, FF N names no size
  * *length is told as by write. DONE, EMPTY, NO_MEMORY, NO_MEDIUM, TOO_SHORT. */
-TELWYDDUS_CALL uint32_t telwyddus_tray_survey(telwyddus_tray *tray, uint8_t *out, size_t room, size_t *length);
+TELWYDDUS_NEWS uint32_t telwyddus_tray_survey(telwyddus_tray *tray, uint8_t *out, size_t room, size_t *length);
 
 /* ---------------------------------------------------------------------------------------------------------------------------
  * THE CONTROLLER (82077AA, PC/AT mode), with two drives. Your emulator has the DMA controller, the interrupt controller and the
@@ -133,19 +160,23 @@ TELWYDDUS_CALL uint32_t telwyddus_tray_survey(telwyddus_tray *tray, uint8_t *out
  *     found: after a search, with INT and seven result bytes.
  *   - Where the guest's SPECIFY sets ND, bytes pass at 3F5, INT asks for each, and DRQ stays down: DACK answers NOT_ASKED.
  *   - Port accesses go to read and write as they come. Each word time is a step; run makes many.
- *   - LOOK AT THE LINES AFTER EVERY CALL, port accesses too: INT falls and rises in them, and DRQ may rise with the last byte of
- *     a command. Then DACK bytes while DRQ is up, as your channel lets you, and TC with the last one: before the next step.
- *   - Let the time that word_time tells pass for each step. */
+ *   - EACH CALL BY WHICH A LINE MAY CHANGE TELLS THE LINES BEHIND IT: attend to them after every one, port accesses too. INT falls and
+ *     rises in them, and DRQ may rise with the last byte of a command. With DMA a call that takes an interrupt leaves INT down, so no
+ *     edge is missed; tell your interrupt controller changes alone. INDEX ends no run: it is told for who wants to show or hear it.
+ *   - While DRQ is up let bytes pass by DACK, as your channel lets you, and TC with the last one: before the next step.
+ *   - Let the time that word_time tells pass for each step, and ask it again behind a write of 3F4 or 3F7. quiet tells how long you needn't
+ *     call at all.
+ *   - A second controller at 370 to 377 is another slot: give its ports as 0x3F0 | (port & 7). */
 
-enum telwyddus_lines { TELWYDDUS_INT = 1, TELWYDDUS_DRQ = 2, TELWYDDUS_TO_MEMORY = 4 };
+enum telwyddus_lines { TELWYDDUS_INT = 1, TELWYDDUS_DRQ = 2, TELWYDDUS_TO_MEMORY = 4, TELWYDDUS_INDEX = 8 };
 
 /* Makes a controller, held in reset, with two drives that have no medium in. DONE, FULL, NO_MEMORY. */
-TELWYDDUS_CALL uint32_t telwyddus_controller_new(telwyddus_controller *controller);
+TELWYDDUS_NEWS uint32_t telwyddus_controller_new(telwyddus_controller *controller);
 
 /* Makes one whose drives have the faults that a plan has for bays 0 and 1: the text that FLOPPY_PLAN names for the program `floppy`.
  * Its gaps, holds and strays aren't used, since bus and DMA are yours. Where a line isn't understood, *line is its number, counted
  * from 1; 0 where the text is too long. DONE, FULL, NO_MEMORY, BAD_PLAN. */
-TELWYDDUS_CALL uint32_t telwyddus_controller_new_planned(telwyddus_controller *controller, const uint8_t *plan, size_t length,
+TELWYDDUS_NEWS uint32_t telwyddus_controller_new_planned(telwyddus_controller *controller, const uint8_t *plan, size_t length,
     size_t *line);
 
 /* Frees it with its drives and media. DONE, EMPTY. */
@@ -155,24 +186,36 @@ TELWYDDUS_CALL uint32_t telwyddus_controller_free(telwyddus_controller *controll
  * whatever CONFIGURE sets, also behind a reset. Off at first. DONE, EMPTY. */
 TELWYDDUS_CALL uint32_t telwyddus_controller_strap_seeks(telwyddus_controller *controller, uint8_t on);
 
-/* A port, 3F0 to 3F7, is read or written. A port that nothing answers gives FF. DONE, EMPTY. */
-TELWYDDUS_CALL uint32_t telwyddus_controller_read(telwyddus_controller *controller, uint16_t port, uint8_t *value);
-TELWYDDUS_CALL uint32_t telwyddus_controller_write(telwyddus_controller *controller, uint16_t port, uint8_t value);
+/* A port, 3F0 to 3F7, is read or written. A port that nothing answers gives FF. A read of any but 3F5 changes nothing.
+ * DONE, EMPTY. */
+TELWYDDUS_CALL uint32_t telwyddus_controller_read(telwyddus_controller *controller, uint16_t port, uint8_t *value, uint8_t *lines);
+TELWYDDUS_CALL uint32_t telwyddus_controller_write(telwyddus_controller *controller, uint16_t port, uint8_t value, uint8_t *lines);
 
 /* One device step; device steps up to the one in which INT or DRQ changes, at most so many, and how many were made.
  * DONE, EMPTY. */
-TELWYDDUS_CALL uint32_t telwyddus_controller_step(telwyddus_controller *controller);
-TELWYDDUS_CALL uint32_t telwyddus_controller_run(telwyddus_controller *controller, uint32_t most, uint32_t *made);
+TELWYDDUS_CALL uint32_t telwyddus_controller_step(telwyddus_controller *controller, uint8_t *lines);
+TELWYDDUS_CALL uint32_t telwyddus_controller_run(telwyddus_controller *controller, uint32_t most, uint32_t *made, uint8_t *lines);
 
-/* INT, DRQ, and whether bytes go to memory. DONE, EMPTY. */
+/* So many device steps, `most` or fewer, surely change neither INT nor DRQ, while no other call comes between: `most` where nothing is under
+ * way, so that no timer is needed then. It is a lower bound, and may be 0. DONE, EMPTY. */
+TELWYDDUS_CALL uint32_t telwyddus_controller_quiet(telwyddus_controller *controller, uint32_t most, uint32_t *steps);
+
+/* INT, DRQ, whether bytes go to memory, and INDEX of the drive that DOR selects: up in the first 2 ms of a turn. DONE, EMPTY. */
 TELWYDDUS_CALL uint32_t telwyddus_controller_lines(telwyddus_controller *controller, uint8_t *lines);
 
-/* DACK: your channel takes a byte, or gives one. DONE, EMPTY, NOT_ASKED. */
-TELWYDDUS_CALL uint32_t telwyddus_controller_dack_read(telwyddus_controller *controller, uint8_t *byte);
-TELWYDDUS_CALL uint32_t telwyddus_controller_dack_write(telwyddus_controller *controller, uint8_t byte);
+/* DACK: your channel takes a byte, or gives one. DONE, EMPTY, NOT_ASKED (the lines are told then too). */
+TELWYDDUS_CALL uint32_t telwyddus_controller_dack_read(telwyddus_controller *controller, uint8_t *byte, uint8_t *lines);
+TELWYDDUS_CALL uint32_t telwyddus_controller_dack_write(telwyddus_controller *controller, uint8_t byte, uint8_t *lines);
+
+/* The same again and again, to the beginning of a buffer or from it, as long as DRQ asks in this direction and the buffer isn't through.
+ * *moved is how many passed: 0 where none was asked for. DONE, EMPTY. */
+TELWYDDUS_CALL uint32_t telwyddus_controller_dack_block_read(telwyddus_controller *controller, uint8_t *out, size_t room, size_t *moved,
+    uint8_t *lines);
+TELWYDDUS_CALL uint32_t telwyddus_controller_dack_block_write(telwyddus_controller *controller, const uint8_t *bytes, size_t length,
+    size_t *moved, uint8_t *lines);
 
 /* Terminal count: tell it with the last byte, behind its DACK. DONE, EMPTY. */
-TELWYDDUS_CALL uint32_t telwyddus_controller_tc(telwyddus_controller *controller);
+TELWYDDUS_CALL uint32_t telwyddus_controller_tc(telwyddus_controller *controller, uint8_t *lines);
 
 /* Nanoseconds of a device step at the rate that was chosen last: 16,000 at 500 kbit/s, 26,667 at 300 (two thirds, rounded up),
  * 32,000 at 250, as at power-up, 8,000 at 1 Mbit/s. DONE, EMPTY. */
@@ -180,14 +223,14 @@ TELWYDDUS_CALL uint32_t telwyddus_controller_word_time(telwyddus_controller *con
 
 /* Puts the medium of a tray into a bay, 0 or 1; the tray stays, with nothing in it. DONE, EMPTY, OUT_OF_RANGE, HAS_MEDIUM,
  * NO_MEDIUM. */
-TELWYDDUS_CALL uint32_t telwyddus_controller_insert(telwyddus_controller *controller, uint32_t bay, telwyddus_tray *tray);
+TELWYDDUS_NEWS uint32_t telwyddus_controller_insert(telwyddus_controller *controller, uint32_t bay, telwyddus_tray *tray);
 
 /* Takes the medium out of a bay into a tray, which is made. DONE, EMPTY, FULL (the tray), NO_MEMORY, OUT_OF_RANGE, NO_MEDIUM. */
-TELWYDDUS_CALL uint32_t telwyddus_controller_eject(telwyddus_controller *controller, uint32_t bay, telwyddus_tray *tray);
+TELWYDDUS_NEWS uint32_t telwyddus_controller_eject(telwyddus_controller *controller, uint32_t bay, telwyddus_tray *tray);
 
 /* Writes the image file of a bay's medium, which stays in and turns on, to the beginning of a buffer. DONE, EMPTY, NO_MEMORY,
  * OUT_OF_RANGE, NO_MEDIUM, TOO_SHORT. */
-TELWYDDUS_CALL uint32_t telwyddus_controller_image(telwyddus_controller *controller, uint32_t bay, uint8_t *out, size_t room,
+TELWYDDUS_NEWS uint32_t telwyddus_controller_image(telwyddus_controller *controller, uint32_t bay, uint8_t *out, size_t room,
     size_t *length);
 
 /* 1 where a word of a bay's medium was replaced since it was put in, or since that was last forgotten; else 0. An eject keeps what is
@@ -209,11 +252,11 @@ TELWYDDUS_CALL uint32_t telwyddus_controller_selected(telwyddus_controller *cont
 
 /* Writes the state to the beginning of a buffer; the controller goes on. *length is the state's, told where the buffer is too short
  * too. DONE, EMPTY, NO_MEMORY, TOO_SHORT. */
-TELWYDDUS_CALL uint32_t telwyddus_controller_save(telwyddus_controller *controller, uint8_t *out, size_t room, size_t *length);
+TELWYDDUS_NEWS uint32_t telwyddus_controller_save(telwyddus_controller *controller, uint8_t *out, size_t room, size_t *length);
 
 /* Makes the slot hold the controller that was saved, in place of what it holds, which is freed; a slot that holds nothing is filled.
  * Where the bytes are no state, all of them, or memory is out, the slot stays as it was. DONE, NO_MEMORY, BAD_STATE. */
-TELWYDDUS_CALL uint32_t telwyddus_controller_restore(telwyddus_controller *controller, const uint8_t *bytes, size_t length);
+TELWYDDUS_NEWS uint32_t telwyddus_controller_restore(telwyddus_controller *controller, const uint8_t *bytes, size_t length);
 
 /* ---------------------------------------------------------------------------------------------------------------------------
  * THE MACHINE: a smaller controller, channel 2 of an 8237A (ports 04, 05, 08 to 0F, 81), 1 MiB of memory, and a latch for IRQ 6.
@@ -221,12 +264,12 @@ TELWYDDUS_CALL uint32_t telwyddus_controller_restore(telwyddus_controller *contr
  * interrupt line strays. Its commands are those of docs/FORMATS.md alone, and each moves one sector: MT and SK are refused. */
 
 /* Makes a machine with two drives that have no faults. DONE, FULL, NO_MEMORY. */
-TELWYDDUS_CALL uint32_t telwyddus_machine_new(telwyddus_machine *machine);
+TELWYDDUS_NEWS uint32_t telwyddus_machine_new(telwyddus_machine *machine);
 
 /* Makes one with the faults and delays of a plan: the text that FLOPPY_PLAN names for the program `floppy`; what it plans for
  * spare drives isn't used. Where a line isn't understood, *line is its number, counted from 1; 0 where the text is too long.
  * DONE, FULL, NO_MEMORY, BAD_PLAN. */
-TELWYDDUS_CALL uint32_t telwyddus_machine_new_planned(telwyddus_machine *machine, const uint8_t *plan, size_t length,
+TELWYDDUS_NEWS uint32_t telwyddus_machine_new_planned(telwyddus_machine *machine, const uint8_t *plan, size_t length,
     size_t *line);
 
 /* Frees it with its drives and media. DONE, EMPTY. */
@@ -250,12 +293,12 @@ TELWYDDUS_CALL uint32_t telwyddus_machine_memory_set(telwyddus_machine *machine,
     size_t length);
 
 /* Media in and out, as at the controller. */
-TELWYDDUS_CALL uint32_t telwyddus_machine_insert(telwyddus_machine *machine, uint32_t bay, telwyddus_tray *tray);
-TELWYDDUS_CALL uint32_t telwyddus_machine_eject(telwyddus_machine *machine, uint32_t bay, telwyddus_tray *tray);
+TELWYDDUS_NEWS uint32_t telwyddus_machine_insert(telwyddus_machine *machine, uint32_t bay, telwyddus_tray *tray);
+TELWYDDUS_NEWS uint32_t telwyddus_machine_eject(telwyddus_machine *machine, uint32_t bay, telwyddus_tray *tray);
 
 /* A save state, as at the controller: with memory, the latch, and what is still to come of the plan. */
-TELWYDDUS_CALL uint32_t telwyddus_machine_save(telwyddus_machine *machine, uint8_t *out, size_t room, size_t *length);
-TELWYDDUS_CALL uint32_t telwyddus_machine_restore(telwyddus_machine *machine, const uint8_t *bytes, size_t length);
+TELWYDDUS_NEWS uint32_t telwyddus_machine_save(telwyddus_machine *machine, uint8_t *out, size_t room, size_t *length);
+TELWYDDUS_NEWS uint32_t telwyddus_machine_restore(telwyddus_machine *machine, const uint8_t *bytes, size_t length);
 
 /* ---------------------------------------------------------------------------------------------------------------------------
  * SHELVES. Files in memory, and the program `floppy` run on them, as often as you like: it formats, copies, verifies, imports
@@ -264,29 +307,29 @@ TELWYDDUS_CALL uint32_t telwyddus_machine_restore(telwyddus_machine *machine, co
  * touched. */
 
 /* Makes a shelf with no file. DONE, FULL, NO_MEMORY. */
-TELWYDDUS_CALL uint32_t telwyddus_shelf_new(telwyddus_shelf *shelf);
+TELWYDDUS_NEWS uint32_t telwyddus_shelf_new(telwyddus_shelf *shelf);
 
 /* Frees it with its files. DONE, EMPTY. */
 TELWYDDUS_CALL uint32_t telwyddus_shelf_free(telwyddus_shelf *shelf);
 
 /* Places a file under a name, in place of one of that name. Names are UTF-8. DONE, EMPTY, NO_MEMORY, NOT_TEXT. */
-TELWYDDUS_CALL uint32_t telwyddus_shelf_put(telwyddus_shelf *shelf, const uint8_t *name, size_t name_length,
+TELWYDDUS_NEWS uint32_t telwyddus_shelf_put(telwyddus_shelf *shelf, const uint8_t *name, size_t name_length,
     const uint8_t *bytes, size_t length);
 
 /* Copies a file to the beginning of a buffer. *length is the file's, told where the buffer is too short too. DONE, EMPTY,
  * NOT_TEXT, NO_FILE, TOO_SHORT. */
-TELWYDDUS_CALL uint32_t telwyddus_shelf_get(telwyddus_shelf *shelf, const uint8_t *name, size_t name_length, uint8_t *out,
+TELWYDDUS_NEWS uint32_t telwyddus_shelf_get(telwyddus_shelf *shelf, const uint8_t *name, size_t name_length, uint8_t *out,
     size_t room, size_t *length);
 
 /* Runs the program with words, which line feeds separate ("export\ndisk.rt\ndisk.flat", none at the end), on a new machine of
  * drives without faults. *status is its exit status: 0 where all was done, 2 where the words aren't understood, 7 where memory
  * ran out within. Where the call answers anything but DONE nothing ran, and the shelf is as it was. DONE, EMPTY, NO_MEMORY,
  * NOT_TEXT. */
-TELWYDDUS_CALL uint32_t telwyddus_shelf_run(telwyddus_shelf *shelf, const uint8_t *words, size_t length, uint32_t *status);
+TELWYDDUS_NEWS uint32_t telwyddus_shelf_run(telwyddus_shelf *shelf, const uint8_t *words, size_t length, uint32_t *status);
 
 /* Copies all that runs printed since the report was had last to the beginning of a buffer, and forgets it. Where the buffer is
  * too short it is kept, and *length is its length. DONE, EMPTY, TOO_SHORT. */
-TELWYDDUS_CALL uint32_t telwyddus_shelf_report(telwyddus_shelf *shelf, uint8_t *out, size_t room, size_t *length);
+TELWYDDUS_NEWS uint32_t telwyddus_shelf_report(telwyddus_shelf *shelf, uint8_t *out, size_t room, size_t *length);
 
 /* ---------------------------------------------------------------------------------------------------------------------------
  * DISKS. Single sectors, for tools: a PC/AT whose driver is set up, with two drives without faults. Each call is done by the driver
@@ -299,35 +342,96 @@ TELWYDDUS_CALL uint32_t telwyddus_shelf_report(telwyddus_shelf *shelf, uint8_t *
  *   - The first refusal that applies is answered: OUT_OF_RANGE, TOO_SHORT, CHANGED, PROTECTED, and then what is found on the track. */
 
 /* Makes a desk with two empty bays. DONE, FULL, NO_MEMORY. */
-TELWYDDUS_CALL uint32_t telwyddus_disk_new(telwyddus_disk *disk);
+TELWYDDUS_NEWS uint32_t telwyddus_disk_new(telwyddus_disk *disk);
 
 /* Frees it with its media. DONE, EMPTY. */
 TELWYDDUS_CALL uint32_t telwyddus_disk_free(telwyddus_disk *disk);
 
 /* Media in and out, as at the controller. The bay isn't acknowledged then. */
-TELWYDDUS_CALL uint32_t telwyddus_disk_insert(telwyddus_disk *disk, uint32_t bay, telwyddus_tray *tray);
-TELWYDDUS_CALL uint32_t telwyddus_disk_eject(telwyddus_disk *disk, uint32_t bay, telwyddus_tray *tray);
+TELWYDDUS_NEWS uint32_t telwyddus_disk_insert(telwyddus_disk *disk, uint32_t bay, telwyddus_tray *tray);
+TELWYDDUS_NEWS uint32_t telwyddus_disk_eject(telwyddus_disk *disk, uint32_t bay, telwyddus_tray *tray);
 
 /* Acknowledges the medium in a bay, and finds its rate by the address fields of cylinder 0, head 0. DONE, EMPTY, OUT_OF_RANGE,
  * NOT_READY. */
-TELWYDDUS_CALL uint32_t telwyddus_disk_acknowledge(telwyddus_disk *disk, uint32_t bay);
+TELWYDDUS_NEWS uint32_t telwyddus_disk_acknowledge(telwyddus_disk *disk, uint32_t bay);
 
 /* Sets the rate of an acknowledged bay, 500 or 250 kbit/s. DONE, EMPTY, OUT_OF_RANGE, CHANGED. */
-TELWYDDUS_CALL uint32_t telwyddus_disk_set_rate(telwyddus_disk *disk, uint32_t bay, uint16_t kilobits);
+TELWYDDUS_NEWS uint32_t telwyddus_disk_set_rate(telwyddus_disk *disk, uint32_t bay, uint16_t kilobits);
 
 /* Reads a sector to the beginning of a buffer of 128 << n bytes or more; *deleted is 1 where it is marked deleted, else 0. DONE, EMPTY,
  * OUT_OF_RANGE, TOO_SHORT, CHANGED, NO_MARK, NOT_FOUND, BAD_CRC, OVERRUN, SEEK. */
-TELWYDDUS_CALL uint32_t telwyddus_disk_read(telwyddus_disk *disk, uint32_t bay, uint8_t c, uint8_t h, uint8_t r, uint8_t n,
+TELWYDDUS_NEWS uint32_t telwyddus_disk_read(telwyddus_disk *disk, uint32_t bay, uint8_t c, uint8_t h, uint8_t r, uint8_t n,
     uint8_t *out, size_t room, uint8_t *deleted);
 
 /* Writes a sector of exactly 128 << n bytes, marked deleted where `deleted` isn't 0, and reads it back. Behind a refusal of the drive
  * the sector may have been written in part. DONE, EMPTY, OUT_OF_RANGE, CHANGED, PROTECTED, NO_MARK, NOT_FOUND, BAD_CRC, OVERRUN, SEEK. */
-TELWYDDUS_CALL uint32_t telwyddus_disk_write(telwyddus_disk *disk, uint32_t bay, uint8_t c, uint8_t h, uint8_t r, uint8_t n,
+TELWYDDUS_NEWS uint32_t telwyddus_disk_write(telwyddus_disk *disk, uint32_t bay, uint8_t c, uint8_t h, uint8_t r, uint8_t n,
     const uint8_t *bytes, size_t length, uint8_t deleted);
 
 /* Formats a track in the standard layout of the bay's rate: 18 records of 512 bytes F6 at 500 kbit/s, 9 at 250; and reads each back.
  * DONE, EMPTY, OUT_OF_RANGE, CHANGED, PROTECTED, NO_MARK, NOT_FOUND, BAD_CRC, OVERRUN, SEEK. */
-TELWYDDUS_CALL uint32_t telwyddus_disk_format(telwyddus_disk *disk, uint32_t bay, uint8_t c, uint8_t h);
+TELWYDDUS_NEWS uint32_t telwyddus_disk_format(telwyddus_disk *disk, uint32_t bay, uint8_t c, uint8_t h);
+
+/* ---------------------------------------------------------------------------------------------------------------------------
+ * NULL. A buffer's pointer may be null where its length is 0, as where a length alone is asked: save(&controller, NULL, 0, &length)
+ * answers TOO_SHORT. These put another address in its place; each argument is evaluated once. The calls behind them, (name)(..) and
+ * &name, want one that isn't null, and so does another language. */
+static inline uint8_t *telwyddus_out_(uint8_t *out) {
+    static uint8_t none;
+    return out != NULL ? out : &none;
+}
+static inline const uint8_t *telwyddus_in_(const uint8_t *bytes) {
+    static const uint8_t none = 0;
+    return bytes != NULL ? bytes : &none;
+}
+#define telwyddus_tray_read(tray, bytes, length) \
+    (telwyddus_tray_read)(tray, telwyddus_in_(bytes), length)
+#define telwyddus_tray_write(tray, out, room, length) \
+    (telwyddus_tray_write)(tray, telwyddus_out_(out), room, length)
+#define telwyddus_tray_read_flat(tray, bytes, length) \
+    (telwyddus_tray_read_flat)(tray, telwyddus_in_(bytes), length)
+#define telwyddus_tray_write_flat(tray, out, room, length, cylinder, head) \
+    (telwyddus_tray_write_flat)(tray, telwyddus_out_(out), room, length, cylinder, head)
+#define telwyddus_tray_read_imd(tray, bytes, length, cylinder, head) \
+    (telwyddus_tray_read_imd)(tray, telwyddus_in_(bytes), length, cylinder, head)
+#define telwyddus_tray_write_imd(tray, out, room, length, cylinder, head) \
+    (telwyddus_tray_write_imd)(tray, telwyddus_out_(out), room, length, cylinder, head)
+#define telwyddus_tray_survey(tray, out, room, length) \
+    (telwyddus_tray_survey)(tray, telwyddus_out_(out), room, length)
+#define telwyddus_controller_new_planned(controller, plan, length, line) \
+    (telwyddus_controller_new_planned)(controller, telwyddus_in_(plan), length, line)
+#define telwyddus_controller_dack_block_read(controller, out, room, moved, lines) \
+    (telwyddus_controller_dack_block_read)(controller, telwyddus_out_(out), room, moved, lines)
+#define telwyddus_controller_dack_block_write(controller, bytes, length, moved, lines) \
+    (telwyddus_controller_dack_block_write)(controller, telwyddus_in_(bytes), length, moved, lines)
+#define telwyddus_controller_image(controller, bay, out, room, length) \
+    (telwyddus_controller_image)(controller, bay, telwyddus_out_(out), room, length)
+#define telwyddus_controller_save(controller, out, room, length) \
+    (telwyddus_controller_save)(controller, telwyddus_out_(out), room, length)
+#define telwyddus_controller_restore(controller, bytes, length) \
+    (telwyddus_controller_restore)(controller, telwyddus_in_(bytes), length)
+#define telwyddus_machine_new_planned(machine, plan, length, line) \
+    (telwyddus_machine_new_planned)(machine, telwyddus_in_(plan), length, line)
+#define telwyddus_machine_memory_get(machine, address, out, length) \
+    (telwyddus_machine_memory_get)(machine, address, telwyddus_out_(out), length)
+#define telwyddus_machine_memory_set(machine, address, bytes, length) \
+    (telwyddus_machine_memory_set)(machine, address, telwyddus_in_(bytes), length)
+#define telwyddus_machine_save(machine, out, room, length) \
+    (telwyddus_machine_save)(machine, telwyddus_out_(out), room, length)
+#define telwyddus_machine_restore(machine, bytes, length) \
+    (telwyddus_machine_restore)(machine, telwyddus_in_(bytes), length)
+#define telwyddus_shelf_put(shelf, name, name_length, bytes, length) \
+    (telwyddus_shelf_put)(shelf, telwyddus_in_(name), name_length, telwyddus_in_(bytes), length)
+#define telwyddus_shelf_get(shelf, name, name_length, out, room, length) \
+    (telwyddus_shelf_get)(shelf, telwyddus_in_(name), name_length, telwyddus_out_(out), room, length)
+#define telwyddus_shelf_run(shelf, words, length, status) \
+    (telwyddus_shelf_run)(shelf, telwyddus_in_(words), length, status)
+#define telwyddus_shelf_report(shelf, out, room, length) \
+    (telwyddus_shelf_report)(shelf, telwyddus_out_(out), room, length)
+#define telwyddus_disk_read(disk, bay, c, h, r, n, out, room, deleted) \
+    (telwyddus_disk_read)(disk, bay, c, h, r, n, telwyddus_out_(out), room, deleted)
+#define telwyddus_disk_write(disk, bay, c, h, r, n, bytes, length, deleted) \
+    (telwyddus_disk_write)(disk, bay, c, h, r, n, telwyddus_in_(bytes), length, deleted)
 
 #ifdef __cplusplus
 }

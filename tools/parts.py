@@ -56,6 +56,31 @@ def pkg_config(prefix, libraries):
             f"Name: telwyddus\nDescription: {SUMMARY}\nVersion: {VERSION}\nLibs: -L${{libdir}} -ltelwyddus\nCflags: -I${{includedir}}\n")
 
 
+def cmake_config(folder):
+    """The files by which find_package(telwyddus) of CMake finds the library, in a folder telwyddus of cmake beside the libraries: the target
+    telwyddus::telwyddus, and the versions that it stands in for."""
+    (folder / "telwyddusConfig.cmake").write_text(f"""# The target telwyddus::telwyddus: the shared library, and where its header is.
+get_filename_component(telwyddus_libraries "${{CMAKE_CURRENT_LIST_DIR}}/../.." ABSOLUTE)
+find_path(telwyddus_INCLUDE_DIR telwyddus.h HINTS "${{telwyddus_libraries}}/../include" "${{telwyddus_libraries}}/../../include" NO_CACHE)
+if(NOT TARGET telwyddus::telwyddus)
+  add_library(telwyddus::telwyddus SHARED IMPORTED)
+  set_target_properties(telwyddus::telwyddus PROPERTIES
+    IMPORTED_LOCATION "${{telwyddus_libraries}}/{SHARED}"
+    IMPORTED_SONAME "{SONAME}"
+    INTERFACE_INCLUDE_DIRECTORIES "${{telwyddus_INCLUDE_DIR}}")
+endif()
+""", encoding="ascii")
+    (folder / "telwyddusConfigVersion.cmake").write_text(f"""set(PACKAGE_VERSION "{VERSION}")
+if(PACKAGE_FIND_VERSION_MAJOR STREQUAL "{ABI}" AND NOT PACKAGE_FIND_VERSION VERSION_GREATER PACKAGE_VERSION)
+  set(PACKAGE_VERSION_COMPATIBLE TRUE)
+endif()
+if(PACKAGE_FIND_VERSION VERSION_EQUAL PACKAGE_VERSION)
+  set(PACKAGE_VERSION_EXACT TRUE)
+endif()
+""", encoding="ascii")
+    return [folder / "telwyddusConfig.cmake", folder / "telwyddusConfigVersion.cmake"]
+
+
 def changes():
     """What CHANGELOG.md tells of each version, the newest first: its number, its day, and its points."""
     found = []

@@ -9,7 +9,7 @@ static telwyddus_controller controller;
 
 static void must(uint32_t code, const char *what) {
     if (code == TELWYDDUS_DONE) return;
-    fprintf(stderr, "%s gives code %u\n", what, (unsigned)code);
+    fprintf(stderr, "%s gives %s\n", what, telwyddus_code_name(code));
     exit(3);
 }
 
@@ -28,9 +28,9 @@ static bool machine_insert(const uint8_t *image, size_t length) {
 /* The medium goes out for it. */
 static uint8_t *machine_image(size_t *length) {
     telwyddus_tray tray = {0};
-    uint8_t none, *image;
+    uint8_t *image;
     must(telwyddus_machine_eject(&machine, 0, &tray), "machine_eject");
-    if (telwyddus_tray_write(&tray, &none, 0, length) != TELWYDDUS_TOO_SHORT) exit(3);
+    if (telwyddus_tray_write(&tray, NULL, 0, length) != TELWYDDUS_TOO_SHORT) exit(3);
     image = malloc(*length);
     must(telwyddus_tray_write(&tray, image, *length, length), "tray_write");
     must(telwyddus_tray_free(&tray), "tray_free");
@@ -81,41 +81,39 @@ bool chip_insert(const uint8_t *image, size_t length) {
 }
 
 uint8_t *chip_image(size_t *length) {
-    uint8_t none, *image;
-    if (telwyddus_controller_image(&controller, 0, &none, 0, length) != TELWYDDUS_TOO_SHORT) exit(3);
+    uint8_t *image;
+    if (telwyddus_controller_image(&controller, 0, NULL, 0, length) != TELWYDDUS_TOO_SHORT) exit(3);
     image = malloc(*length);
     must(telwyddus_controller_image(&controller, 0, image, *length, length), "controller_image");
     return image;
 }
 
+static uint8_t lines; /* as the last call told them */
+
 uint8_t chip_in(uint16_t port) {
     uint8_t value = 0;
-    must(telwyddus_controller_read(&controller, port, &value), "controller_read");
+    must(telwyddus_controller_read(&controller, port, &value, &lines), "controller_read");
     return value;
 }
 
-void chip_out(uint16_t port, uint8_t value) { must(telwyddus_controller_write(&controller, port, value), "controller_write"); }
+void chip_out(uint16_t port, uint8_t value) { must(telwyddus_controller_write(&controller, port, value, &lines), "controller_write"); }
 
 uint32_t chip_run(uint32_t most) {
     uint32_t made = 0;
-    must(telwyddus_controller_run(&controller, most, &made), "controller_run");
+    must(telwyddus_controller_run(&controller, most, &made, &lines), "controller_run");
     return made;
 }
 
-uint8_t chip_lines(void) {
-    uint8_t lines = 0;
-    must(telwyddus_controller_lines(&controller, &lines), "controller_lines");
-    return lines;
-}
+uint8_t chip_lines(void) { return lines; }
 
 uint8_t chip_dack_read(void) {
     uint8_t byte = 0;
-    must(telwyddus_controller_dack_read(&controller, &byte), "controller_dack_read");
+    must(telwyddus_controller_dack_read(&controller, &byte, &lines), "controller_dack_read");
     return byte;
 }
 
-void chip_dack_write(uint8_t byte) { must(telwyddus_controller_dack_write(&controller, byte), "controller_dack_write"); }
+void chip_dack_write(uint8_t byte) { must(telwyddus_controller_dack_write(&controller, byte, &lines), "controller_dack_write"); }
 
-void chip_tc(void) { must(telwyddus_controller_tc(&controller), "controller_tc"); }
+void chip_tc(void) { must(telwyddus_controller_tc(&controller, &lines), "controller_tc"); }
 
 void chip_strap(void) { must(telwyddus_controller_strap_seeks(&controller, 1), "controller_strap_seeks"); }

@@ -40,7 +40,7 @@ static void pass_portion(uint8_t asks, uint8_t *place, size_t count, int tells) 
     if (passed == before) return;
     need(portions < 2 * TRACK, "so many portions at most");
     portion[portions++] = (int)(passed - before);
-    if (passed == count && tells) MUST(telwyddus_controller_tc(&guest.controller));
+    if (passed == count && tells) MUST(telwyddus_controller_tc(&guest.controller, &guest.lines));
 }
 
 /* Runs up to the results, which are read. Behind the last byte none may be asked for, but by a FORMAT TRACK, which asks on. */
@@ -55,7 +55,7 @@ static void pass(const char *sent, uint8_t asks, uint8_t *place, size_t count, i
         pass_portion(asks, place, count, tells);
         if (passed == count && is_asked(asks) && !asks_on) is_as_wanted = 0;
         if (is_int()) make_steps(&guest, 1);
-        else MUST(telwyddus_controller_run(&guest.controller, 100000, &made));
+        else MUST(telwyddus_controller_run(&guest.controller, 100000, &made, &guest.lines));
     }
     is_as_wanted = is_as_wanted && is_int();
     finish(&guest);
@@ -160,7 +160,7 @@ static void others(void) {
     expect(status() == 0x30 && in(&guest, BYTES) == 0xFF && status() == 0x30, "where none is asked for the port gives FF");
     out(&guest, BYTES, 0x08);
     need(run(&guest, 40000), "a byte comes");
-    expect(telwyddus_controller_dack_read(&guest.controller, &byte) == TELWYDDUS_NOT_ASKED && status() == 0xF0, "DACK takes none");
+    expect(telwyddus_controller_dack_read(&guest.controller, &byte, &guest.lines) == TELWYDDUS_NOT_ASKED && status() == 0xF0, "DACK takes none");
     make_steps(&guest, 40);
     expect(status() == 0xD0, "a byte that isn't read in time ends the command");
     finish(&guest);

@@ -168,8 +168,8 @@ static int first_request(void) {
     channel(&guest, buffer, 0);
     say("46 00 00 00 01 02 12 1B FF");
     for (int i = 0; i < 40000 && !has_line(&guest, TELWYDDUS_DRQ); i++) make_steps(&guest, 1);
-    for (; has_line(&guest, TELWYDDUS_DRQ); count++) MUST(telwyddus_controller_dack_read(&guest.controller, &byte));
-    MUST(telwyddus_controller_tc(&guest.controller));
+    for (; has_line(&guest, TELWYDDUS_DRQ); count++) MUST(telwyddus_controller_dack_read(&guest.controller, &byte, &guest.lines));
+    MUST(telwyddus_controller_tc(&guest.controller, &guest.lines));
     finish(&guest);
     return count;
 }
@@ -343,7 +343,7 @@ static void while_moving(void) {
     expect(status() == 0xD1, "while such a result waits MSR is D1");
     finish(&guest);
     expect(status() == 0x81, "and then 81");
-    MUST(telwyddus_controller_run(&guest.controller, 1000, &made));
+    MUST(telwyddus_controller_run(&guest.controller, 1000, &made, &guest.lines));
     expect(is_int() && made == 61, "the seek takes its 60 pulses all the same");
     senses("20 3C", "and is there");
     gives("03 DF 02", "", "SPECIFY as it was");
@@ -566,8 +566,8 @@ static void verify_marks(void) {
     say("56 00 03 00 01 02 04 1B FF");
     make_steps(&guest, 2000);
     expect(status() == 0x10, "a VERIFY runs");
-    MUST(telwyddus_controller_tc(&guest.controller));
-    expect(telwyddus_controller_dack_read(&guest.controller, &byte) == TELWYDDUS_NOT_ASKED, "no byte is asked for");
+    MUST(telwyddus_controller_tc(&guest.controller, &guest.lines));
+    expect(telwyddus_controller_dack_read(&guest.controller, &byte, &guest.lines) == TELWYDDUS_NOT_ASKED, "no byte is asked for");
     out(&guest, BYTES, 0x08);
     expect(in(&guest, BYTES) == 0xFF && status() == 0x10, "none is given or taken at the port");
     finish(&guest);
@@ -622,13 +622,13 @@ static void count_between(void) {
     say("42 04 06 01 01 02 05 1B FF");
     for (long i = 0; i < 100000 && passed < 512; i++) {
         make_steps(&guest, 1);
-        for (; has_line(&guest, TELWYDDUS_DRQ); passed++) MUST(telwyddus_controller_dack_read(&guest.controller, buffer));
+        for (; has_line(&guest, TELWYDDUS_DRQ); passed++) MUST(telwyddus_controller_dack_read(&guest.controller, buffer, &guest.lines));
     }
     make_steps(&guest, 20);
-    MUST(telwyddus_controller_tc(&guest.controller));
+    MUST(telwyddus_controller_tc(&guest.controller, &guest.lines));
     for (long i = 0; i < 100000 && !is_int(); i++) {
         make_steps(&guest, 1);
-        for (; has_line(&guest, TELWYDDUS_DRQ); asked++) MUST(telwyddus_controller_dack_read(&guest.controller, buffer));
+        for (; has_line(&guest, TELWYDDUS_DRQ); asked++) MUST(telwyddus_controller_dack_read(&guest.controller, buffer, &guest.lines));
     }
     finish(&guest);
     expect_result(passed == 512 && asked == 0, "04 00 00 06 01 01 02", "with a terminal count between two sectors no byte more is asked for");

@@ -10,12 +10,12 @@
 
 static void must(uint32_t code, const char *call, int line) {
     if (code != TELWYDDUS_DONE) {
-        fprintf(stderr, "line %d: %s: code %u\n", line, call, (unsigned)code);
+        fprintf(stderr, "line %d: %s: %s\n", line, call, telwyddus_code_name(code));
         exit(1);
     }
 }
 
-static void check(int is_so, const char *what) {
+static inline void check(int is_so, const char *what) {
     printf("%s: %s\n", what, is_so ? "yes" : "NO");
     if (!is_so) exit(1);
 }

@@ -13,6 +13,7 @@ typedef struct {
     telwyddus_controller controller;
     uint8_t *place;             /* the channel: where its next byte lies, */
     size_t left, passed;        /* how many are still to pass, the terminal count with the last, and how many passed */
+    uint8_t lines;              /* as the last call told them */
     unsigned long steps;        /* device steps so far */
     uint8_t result[10];         /* the result bytes of the last command, */
     int results;                /* and how many it had */
@@ -25,21 +26,28 @@ static inline void need(int is_so, const char *what) {
     }
 }
 
+/* The lines that a call told are those that there are. */
+static inline void compare_lines(Guest *guest) {
+    uint8_t lines;
+    MUST(telwyddus_controller_lines(&guest->controller, &lines));
+    need(lines == guest->lines, "a call tells the lines behind it");
+}
+
 /* ---- the channel */
 
 /* Bytes pass while they are asked for, and the terminal count is told with the last. */
 static inline uint8_t serve(Guest *guest) {
-    for (;;) {
-        uint8_t lines;
-        MUST(telwyddus_controller_lines(&guest->controller, &lines));
-        if (!(lines & TELWYDDUS_DRQ)) return lines;
+    MUST(telwyddus_controller_lines(&guest->controller, &guest->lines));
+    while (guest->lines & TELWYDDUS_DRQ) {
         need(guest->left > 0, "DRQ is down behind the terminal count");
-        if (lines & TELWYDDUS_TO_MEMORY) MUST(telwyddus_controller_dack_read(&guest->controller, guest->place));
-        else MUST(telwyddus_controller_dack_write(&guest->controller, *guest->place));
+        if (guest->lines & TELWYDDUS_TO_MEMORY) MUST(telwyddus_controller_dack_read(&guest->controller, guest->place, &guest->lines));
+        else MUST(telwyddus_controller_dack_write(&guest->controller, *guest->place, &guest->lines));
         guest->place++;
         guest->passed++;
-        if (--guest->left == 0) MUST(telwyddus_controller_tc(&guest->controller));
+        if (--guest->left == 0) MUST(telwyddus_controller_tc(&guest->controller, &guest->lines));
     }
+    compare_lines(guest);
+    return guest->lines;
 }
 
 static inline void channel(Guest *guest, uint8_t *place, size_t count) {
@@ -53,7 +61,8 @@ static inline int run(Guest *guest, uint32_t most) {
     uint8_t lines = serve(guest);
     while (!(lines & TELWYDDUS_INT) && most > 0) {
         uint32_t made;
-        MUST(telwyddus_controller_run(&guest->controller, most, &made));
+        MUST(telwyddus_controller_run(&guest->controller, most, &made, &guest->lines));
+        compare_lines(guest);
         most -= made;
         guest->steps += made;
         lines = serve(guest);
@@ -68,7 +77,7 @@ static inline int has_line(Guest *guest, int line) {
 }
 
 static inline void make_steps(Guest *guest, int count) {
-    for (int i = 0; i < count; i++) MUST(telwyddus_controller_step(&guest->controller));
+    for (int i = 0; i < count; i++) MUST(telwyddus_controller_step(&guest->controller, &guest->lines));
     guest->steps += (unsigned long)count;
 }
 
@@ -76,12 +85,14 @@ static inline void make_steps(Guest *guest, int count) {
 
 static inline uint8_t in(Guest *guest, uint16_t port) {
     uint8_t value;
-    MUST(telwyddus_controller_read(&guest->controller, port, &value));
+    MUST(telwyddus_controller_read(&guest->controller, port, &value, &guest->lines));
+    compare_lines(guest);
     return value;
 }
 
 static inline void out(Guest *guest, uint16_t port, uint8_t value) {
-    MUST(telwyddus_controller_write(&guest->controller, port, value));
+    MUST(telwyddus_controller_write(&guest->controller, port, value, &guest->lines));
+    compare_lines(guest);
 }
 
 /* The bytes of a command, while the controller takes them. */

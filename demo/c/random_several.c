@@ -323,13 +323,13 @@ static size_t pass_by_port(uint8_t *place, size_t most) {
         if (!(is & NON_DMA)) return passed;
         if (!(is & RQM)) {
             if (has_line(&chip, TELWYDDUS_INT)) make_steps(&chip, 1);
-            else MUST(telwyddus_controller_run(&chip.controller, 100000, &made));
+            else MUST(telwyddus_controller_run(&chip.controller, 100000, &made, &chip.lines));
             continue;
         }
         need(passed < most, "no byte is asked for behind the terminal count");
         if (is & DIO) place[passed++] = in(&chip, BYTES);
         else out(&chip, BYTES, place[passed++]);
-        if (passed == most) MUST(telwyddus_controller_tc(&chip.controller));
+        if (passed == most) MUST(telwyddus_controller_tc(&chip.controller, &chip.lines));
     }
     need(0, "the command ends");
     return 0;

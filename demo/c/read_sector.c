@@ -6,6 +6,7 @@
 #include "common.h"
 
 static telwyddus_controller controller;
+static uint8_t lines;           /* as the last call told them */
 static unsigned long steps;
 
 /* ---- the channel: bytes between a buffer and the controller, TC with the last */
@@ -14,22 +15,22 @@ static uint8_t *place;
 static size_t left;
 
 static uint8_t serve(void) {
-    for (;;) {
-        uint8_t lines;
-        MUST(telwyddus_controller_lines(&controller, &lines));
-        if (!(lines & TELWYDDUS_DRQ) || left == 0) return lines;
-        if (lines & TELWYDDUS_TO_MEMORY) MUST(telwyddus_controller_dack_read(&controller, place));
-        else MUST(telwyddus_controller_dack_write(&controller, *place));
-        place++;
-        if (--left == 0) MUST(telwyddus_controller_tc(&controller));
+    while (lines & TELWYDDUS_DRQ && left > 0) {
+        size_t moved;
+        if (lines & TELWYDDUS_TO_MEMORY) MUST(telwyddus_controller_dack_block_read(&controller, place, left, &moved, &lines));
+        else MUST(telwyddus_controller_dack_block_write(&controller, place, left, &moved, &lines));
+        place += moved;
+        left -= moved;
+        if (left == 0) MUST(telwyddus_controller_tc(&controller, &lines));
     }
+    return lines;
 }
 
 /* Runs up to `most` steps, with the channel, and stops where INT is up. */
 static int run(unsigned long most) {
     while (!(serve() & TELWYDDUS_INT) && most > 0) {
         uint32_t made;
-        MUST(telwyddus_controller_run(&controller, most > 1000000 ? 1000000 : (uint32_t)most, &made));
+        MUST(telwyddus_controller_run(&controller, most > 1000000 ? 1000000 : (uint32_t)most, &made, &lines));
         most -= made;
         steps += made;
     }
@@ -40,11 +41,11 @@ static int run(unsigned long most) {
 
 static uint8_t in(uint16_t port) {
     uint8_t value;
-    MUST(telwyddus_controller_read(&controller, port, &value));
+    MUST(telwyddus_controller_read(&controller, port, &value, &lines));
     return value;
 }
 
-static void out(uint16_t port, uint8_t value) { MUST(telwyddus_controller_write(&controller, port, value)); }
+static void out(uint16_t port, uint8_t value) { MUST(telwyddus_controller_write(&controller, port, value, &lines)); }
 
 static void put(uint8_t value) {
     check((in(0x3F4) & 0xC0) == 0x80, "a byte can go to the controller");
@@ -118,7 +119,7 @@ static void interrupt_write(int bay, const uint8_t *key, uint8_t *bytes) {
     begin(0x45, bay, key, bytes);
     for (long i = 0; i < 30000 && !is_gate_open(bay); i++) {
         serve();
-        MUST(telwyddus_controller_step(&controller));
+        MUST(telwyddus_controller_step(&controller, &lines));
         steps++;
     }
     check(is_gate_open(bay), "the gate opens");

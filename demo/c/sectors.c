@@ -119,8 +119,8 @@ static void survey(telwyddus_tray *tray) {
 static void archive(telwyddus_tray *tray) {
     telwyddus_tray again = {0};
     size_t told;
-    uint8_t cylinder, head, none;
-    check(telwyddus_tray_write_imd(tray, &none, 0, &told, &cylinder, &head) == TELWYDDUS_TOO_SHORT, "its length is told");
+    uint8_t cylinder, head;
+    check(telwyddus_tray_write_imd(tray, NULL, 0, &told, &cylinder, &head) == TELWYDDUS_TOO_SHORT, "its length is told");
     uint8_t *file = (uint8_t *)malloc(told);
     MUST(telwyddus_tray_write_imd(tray, file, told, &told, &cylinder, &head));
     check(memcmp(file, "IMD ", 4) == 0, "an ImageDisk file");
@@ -195,8 +195,8 @@ static size_t with_one_more(const uint8_t *file, size_t length, const uint8_t *k
 static void one_more(telwyddus_tray *tray, const uint8_t *key) {
     telwyddus_tray more = {0};
     size_t told;
-    uint8_t cylinder, head, none;
-    check(telwyddus_tray_write_imd(tray, &none, 0, &told, &cylinder, &head) == TELWYDDUS_TOO_SHORT, "the length of its ImageDisk file is told");
+    uint8_t cylinder, head;
+    check(telwyddus_tray_write_imd(tray, NULL, 0, &told, &cylinder, &head) == TELWYDDUS_TOO_SHORT, "the length of its ImageDisk file is told");
     uint8_t *file = (uint8_t *)malloc(told), *other = (uint8_t *)malloc(told + 3);
     if (file == NULL || other == NULL) exit(1);
     MUST(telwyddus_tray_write_imd(tray, file, told, &told, &cylinder, &head));

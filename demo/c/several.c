@@ -277,7 +277,7 @@ static void early_count(void) {
     const uint8_t bytes[] = {READ | MT, 0, 60, 0, 4, 2, 18, GAP}, none[] = {0x00, 0, 0, 60, 0, 5, 2};
     channel(&guest, buffer, 0);
     put(&guest, bytes, 9);
-    MUST(telwyddus_controller_tc(&guest.controller));
+    MUST(telwyddus_controller_tc(&guest.controller, &guest.lines));
     finish(&guest);
     check(guest.results == 7 && memcmp(guest.result, none, 7) == 0 && guest.passed == 0, "the terminal count within an implied seek: no byte passes, one sector is searched");
 }
@@ -307,12 +307,9 @@ static void take_medium(size_t bytes_passed, uint32_t steps, size_t passed, cons
 /* The channel serves no more behind some bytes of the second sector. */
 static void starve(void) {
     static const uint8_t wanted[] = {0x40, 0x10, 0, 60, 0, 2, 2};
-    uint8_t lines = 0;
     begin_four(600);
-    while (!(lines & TELWYDDUS_INT)) {
-        MUST(telwyddus_controller_step(&guest.controller));
-        MUST(telwyddus_controller_lines(&guest.controller, &lines));
-    }
+    do MUST(telwyddus_controller_step(&guest.controller, &guest.lines));
+    while (!(guest.lines & TELWYDDUS_INT));
     finish(&guest);
     check(guest.results == 7 && memcmp(guest.result, wanted, 7) == 0, "bytes aren't taken: OR at their sector");
 }

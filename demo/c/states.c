@@ -30,20 +30,23 @@ typedef struct {
     int (*await)(unsigned long most);   /* up to so many steps, and whether the interrupt came */
 } Kind;
 
-#define KIND(kind, in, out) \
+static uint8_t told[3];         /* the lines of each controller, as its last call told them */
+
+/* Behind the names come further arguments of an access. */
+#define KIND(kind, in, out, ...) \
     static telwyddus_##kind kind##s[3]; \
     static int await_##kind(unsigned long most); \
     static uint32_t save_##kind(int at, uint8_t *bytes, size_t room, size_t *length) { return telwyddus_##kind##_save(&kind##s[at], bytes, room, length); } \
     static uint32_t restore_##kind(int at, const uint8_t *bytes, size_t length) { return telwyddus_##kind##_restore(&kind##s[at], bytes, length); } \
-    static uint32_t read_##kind(int at, uint16_t port, uint8_t *value) { return telwyddus_##kind##_##in(&kind##s[at], port, value); } \
-    static uint32_t write_##kind(int at, uint16_t port, uint8_t value) { return telwyddus_##kind##_##out(&kind##s[at], port, value); } \
+    static uint32_t read_##kind(int at, uint16_t port, uint8_t *value) { return telwyddus_##kind##_##in(&kind##s[at], port, value __VA_ARGS__); } \
+    static uint32_t write_##kind(int at, uint16_t port, uint8_t value) { return telwyddus_##kind##_##out(&kind##s[at], port, value __VA_ARGS__); } \
     static uint32_t insert_##kind(int at, uint32_t bay, telwyddus_tray *tray) { return telwyddus_##kind##_insert(&kind##s[at], bay, tray); } \
     static uint32_t eject_##kind(int at, uint32_t bay, telwyddus_tray *tray) { return telwyddus_##kind##_eject(&kind##s[at], bay, tray); } \
     static uint32_t end_##kind(int at) { return telwyddus_##kind##_free(&kind##s[at]); } \
     static const Kind kind##_kind = {#kind "s", save_##kind, restore_##kind, read_##kind, write_##kind, insert_##kind, eject_##kind, end_##kind, await_##kind};
 
-KIND(controller, read, write)
-KIND(machine, inb, outb)
+KIND(controller, read, write, , &told[at])
+KIND(machine, inb, outb, )
 
 /* The disks: of 4 cylinders at 500 kbit/s in bay 0, of 3 at 250 in bay 1. */
 static const uint8_t cylinders[2] = {4, 3}, sectors[2] = {18, 9}, rates[2] = {0, 2}, gaps[2] = {0x6C, 0x50};
@@ -211,7 +214,7 @@ static void look(void) {
 
 static void make_step(void) {
     turn();
-    for (int i = 0; i <= both; i++) MUST(telwyddus_controller_step(&controllers[now ^ i]));
+    for (int i = 0; i <= both; i++) MUST(telwyddus_controller_step(&controllers[now ^ i], &told[now ^ i]));
 }
 
 /* A byte passed. The terminal count is told with the last, or isn't. */
@@ -219,16 +222,16 @@ static void count_byte(void) {
     place++;
     if (left == 0 || --left > 0 || !counts) return;
     turn();
-    for (int i = 0; i <= both; i++) MUST(telwyddus_controller_tc(&controllers[now ^ i]));
+    for (int i = 0; i <= both; i++) MUST(telwyddus_controller_tc(&controllers[now ^ i], &told[now ^ i]));
 }
 
 static void pass_byte(int to_memory) {
     uint8_t byte[2] = {0, 0};
     turn();
     for (int i = 0; i <= both; i++)
-        if (to_memory) MUST(telwyddus_controller_dack_read(&controllers[now ^ i], &byte[i]));
-        else MUST(telwyddus_controller_dack_write(&controllers[now ^ i], memory[place]));
-    if (both) same(byte[0], byte[1], "a byte to memory");
+        if (to_memory) MUST(telwyddus_controller_dack_read(&controllers[now ^ i], &byte[i], &told[now ^ i]));
+        else MUST(telwyddus_controller_dack_write(&controllers[now ^ i], memory[place], &told[now ^ i]));
+    if (both) same(byte[0], byte[1], "a byte to memory"), same(told[0], told[1], "the lines behind it");
     if (to_memory) memory[place] = byte[0];
     count_byte();
 }
@@ -247,8 +250,8 @@ static int await_controller(unsigned long most) {
     uint8_t value = serve();
     while (!(value & TELWYDDUS_INT) && most > 0) {
         uint32_t steps = steps_before(most), made[2] = {0, 0};
-        for (int i = 0; i <= both; i++) MUST(telwyddus_controller_run(&controllers[now ^ i], steps, &made[i]));
-        if (both) same(made[0], made[1], "the steps of a run");
+        for (int i = 0; i <= both; i++) MUST(telwyddus_controller_run(&controllers[now ^ i], steps, &made[i], &told[now ^ i]));
+        if (both) same(made[0], made[1], "the steps of a run"), same(told[0], told[1], "the lines behind them");
         else if (counts_down()) until -= made[0];
         most -= made[0];
         look();

@@ -10,12 +10,13 @@ CONTENT = bytes((255 - 3 * i + C) % 256 for i in range(512))
 
 def serve(controller, memory, place):
     """The DMA channel: bytes between memory and the controller while DRQ is up, TC with the last."""
-    while Lines.DRQ in (lines := controller.lines()) and place < len(memory):
-        if Lines.TO_MEMORY in lines:
-            memory[place] = controller.dack_read()
+    while Lines.DRQ in controller.behind and place < len(memory):
+        if Lines.TO_MEMORY in controller.behind:
+            taken = controller.dack_block_read(len(memory) - place)
+            memory[place:place + len(taken)] = taken
+            place += len(taken)
         else:
-            controller.dack_write(memory[place])
-        place += 1
+            place += controller.dack_block_write(memory[place:])
         if place == len(memory):
             controller.tc()
     return place
@@ -24,7 +25,7 @@ def serve(controller, memory, place):
 def run(controller, memory=b"", most=1000000):
     """Up to the interrupt; tells the device steps, and how many bytes were moved."""
     steps = place = 0
-    while Lines.INT not in controller.lines():
+    while Lines.INT not in controller.behind:
         place = serve(controller, memory, place)
         made = controller.run(most - steps)
         steps += made

@@ -56,7 +56,7 @@ CODES = (None, Empty, Full, NoMemory, OutOfRange, BadImage, HasMedium, NoMedium,
 
 
 class Lines(enum.IntFlag):
-    INT, DRQ, TO_MEMORY = 1, 2, 4
+    INT, DRQ, TO_MEMORY, INDEX = 1, 2, 4, 8
 
 
 class Signs(enum.IntFlag):
@@ -83,6 +83,13 @@ def byte(value): return number(ctypes.c_uint8, value)
 def port(value): return number(ctypes.c_uint16, value)
 def count(value): return number(ctypes.c_uint32, value)
 def size(value): return number(ctypes.c_size_t, value)
+
+
+def version():
+    """The library's version: 10,000 times the first number, 100 times the second, and the third."""
+    answer = library.telwyddus_version
+    answer.restype = ctypes.c_uint32
+    return answer()
 
 
 def given(data):
@@ -238,19 +245,50 @@ class Planned(Saved):
 
 
 class Controller(Planned):
-    """The bare controller with two drives, for a bus of your own; its drives with the faults of a plan, if any."""
+    """The bare controller with two drives, for a bus of your own; its drives with the faults of a plan, if any.
+
+    `behind` has the lines as the last access, steps, bytes of the channel or terminal count told them."""
 
     kind = "controller"
+    behind = Lines(0)
+
+    def _telling(self, name, *values):
+        """A call whose last pointer takes the lines behind it; a byte that isn't asked for has them too."""
+        lines = ctypes.c_uint8(self.behind)
+        try:
+            self._call(name, *values, ctypes.byref(lines))
+        finally:
+            self.behind = Lines(lines.value)
+
+    def _telling_more(self, kind, name, *values):
+        """The same of one that tells another value before."""
+        told = kind()
+        self._telling(name, *values, ctypes.byref(told))
+        return told.value
 
     def strap_seeks(self, on): self._call("strap_seeks", byte(bool(on)))
-    def read(self, at): return self._told(ctypes.c_uint8, "read", port(at))
-    def write(self, at, value): self._call("write", port(at), byte(value))
-    def step(self): self._call("step")
-    def run(self, most): return self._told(ctypes.c_uint32, "run", count(most))
+    def read(self, at): return self._telling_more(ctypes.c_uint8, "read", port(at))
+    def write(self, at, value): self._telling("write", port(at), byte(value))
+    def step(self): self._telling("step")
+    def run(self, most): return self._telling_more(ctypes.c_uint32, "run", count(most))
     def lines(self): return Lines(self._told(ctypes.c_uint8, "lines"))
-    def dack_read(self): return self._told(ctypes.c_uint8, "dack_read")
-    def dack_write(self, value): self._call("dack_write", byte(value))
-    def tc(self): self._call("tc")
+    def dack_read(self): return self._telling_more(ctypes.c_uint8, "dack_read")
+    def dack_write(self, value): self._telling("dack_write", byte(value))
+    def tc(self): self._telling("tc")
+
+    def dack_block_read(self, room):
+        """As many bytes as are asked for, so many at most."""
+        out = ctypes.create_string_buffer(room + 1)
+        return out.raw[:self._telling_more(ctypes.c_size_t, "dack_block_read", out, size(room))]
+
+    def dack_block_write(self, data):
+        """Gives as many of the bytes as are asked for, and tells how many these are."""
+        return self._telling_more(ctypes.c_size_t, "dack_block_write", *given(data))
+
+    def quiet(self, most):
+        """So many device steps, `most` or fewer, surely change neither INT nor DRQ."""
+        return self._told(ctypes.c_uint32, "quiet", count(most))
+
     def word_time(self): return self._told(ctypes.c_uint32, "word_time")
     def image(self, bay): return self._bytes("image", count(bay))
     def is_written(self, bay): return bool(self._told(ctypes.c_uint8, "is_written", count(bay)))

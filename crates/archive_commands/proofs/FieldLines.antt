@@ -1,5 +1,5 @@
 -- The lines of a survey, one after the other, and what is put of them.
-use Rattle.std.proofs.Common.{◌≡◌, ℕ, ◌+◌, ◌<◌, suc, List, [], ◌∷◌, ◌++◌, length, take, drop, get_or, drop-cons, append-nil, append_assoc, ap, ◌∙◌, sym, subst, Option, None, Some}
+use Rattle.std.proofs.Common.{◌≡◌, ℕ, ◌+◌, ◌<◌, suc, List, [], ◌∷◌, ◌++◌, length, take, drop, get_or, drop-cons, ap, ◌∙◌, sym, subst, Option}
 use Rattle.std.proofs.lemmas.List.{take-append-drop, take_more, map-append}
 use Rattle.flop_base.specs.Sink.{grown, GrowsByPart}
 use Rattle.remaster.specs.declared.lines.SurveyLine.{SurveyLine}

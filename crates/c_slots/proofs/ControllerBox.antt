@@ -6,9 +6,9 @@ use Rattle.std.proofs.BoxSteps.Form.{Bx}
 use Rattle.std.specs.contracts.alloc.Global as Heap
 use Rattle.std.specs.contracts.prelude.GlobalAllocator.TheImpl.{ghosts, dict}
 use Rattle.std.proofs.alloc.Global.TheLaws as heap
-use Rattle.drive_model.specs.contracts.script.ScriptDrive as drive_of
+use Rattle.bay_drive.specs.contracts.bay.BayDrive as drive_of
 use Rattle.fdc_chip.proofs.chip.Chip.TheLaws as chip_laws
-use Rattle.drive_model.proofs.script.ScriptDrive.TheLaws as drive_laws
+use Rattle.bay_drive.proofs.bay.BayDrive.TheLaws as drive_laws
 use Rattle.c_slots.specs.contracts.loose.Loose as loose
 use Rattle.c_slots.specs.Controllers.{controller_row}
 use Rattle.c_slots.specs.contracts.controller.held.Held as held

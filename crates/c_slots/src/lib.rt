@@ -9,6 +9,7 @@ mod machine;
 mod shelf;
 mod tray;
 
+use bay_drive::BayDrive;
 pub use controller::ControllerSlot;
 pub use disk::DiskSlot;
 use drive_model::ScriptDrive;
@@ -22,8 +23,8 @@ pub use tray::TraySlot;
 /// The machine with drives that have the faults of a list, which may be empty.
 pub type BenchMachine = MachineOf<ScriptDrive>;
 
-/// The whole controller, with such drives.
-pub type WholeController = Chip<ScriptDrive>;
+/// The whole controller, with such drives, whose cables may be pulled.
+pub type WholeController = Chip<BayDrive>;
 
 /// What a medium lies in outside a drive.
 #[derive(Drop)]

@@ -1,7 +1,7 @@
 -- A whole command of a sound chip: it is done, begun or held, and the chip stays sound.
 use Rattle.std.proofs.Common.{◌≡◌, inl, inr, ℕ, ◌*◌, ◌<◌, ◌%◌, nat_le, List, Bool, true, false, ◌&&◌, Option, Some, None, [], ◌∷◌, is_some, bit_and, refl, sym, ◌∙◌, ap, subst, arith}
 use Rattle.std.specs.Int.RustNames.{bit_or}
-use Rattle.std.proofs.lemmas.Bool.{agree_below_at, and_parts, false≢true, leb-true}
+use Rattle.std.proofs.lemmas.Bool.{agree_below_at, and_parts, false≢true, leb-true, or_parts}
 use Rattle.flop_base.specs.declared.key.Chrn.{Chrn}
 use Rattle.fdc_commands.specs.declared.command.Command.TheVariants as command
 use Rattle.fdc_phases.specs.declared.phases.Phase.TheVariants.{Command as Taking}
@@ -14,7 +14,7 @@ use Rattle.fdc_sequencer.specs.Transfers.{size_of}
 use Rattle.fdc_sequencer.specs.declared.opcode.Opcode.{Opcode}
 use Rattle.fdc_chip.specs.Chips.{ChipState, KeepsRest, with_front}
 use Rattle.fdc_chip.specs.Codes.{code_of}
-use Rattle.fdc_chip.specs.Doing.{Asks, AttendsIf, AttendsTo, Begins, BeginsReadId, FormatsIf, Obeys, SendsOn, TransfersIf, absent_key, configured, configuring, drained, format_bytes, identifying, implies, is_size, moves_heads, needs_heads, no_key, ready, relative_target, sectors_verified, track_begun, verifying, with_last}
+use Rattle.fdc_chip.specs.Doing.{Asks, AttendsIf, AttendsTo, Begins, BeginsReadId, FormatsIf, MovesIf, Obeys, Sends, SendsOn, TransfersIf, absent_key, configured, configuring, drained, format_bytes, identifying, implies, is_moving, is_size, moves_heads, moving, needs_heads, no_key, ready, relative_target, sectors_verified, track_begun, verifying, with_keys, with_last}
 use Rattle.fdc_chip.specs.Interrupts.{cylinder_of}
 use Rattle.fdc_chip.specs.Orders.{order_bytes}
 use Rattle.fdc_chip.specs.declared.answer.Answer.TheVariants as answer
@@ -56,13 +56,13 @@ done_sound old set new basis rests stays idle is =
 
 -- ---- a command of the controller's own that is done at once
 
-free_stands : (chip : ChipState) → IsBasis chip → RestsBehind chip.front → moves_heads chip.front ≡ false → Stands chip.front
+pub free_stands : (chip : ChipState) → IsBasis chip → RestsBehind chip.front → is_moving chip ≡ false → Stands chip.front
 free_stands chip basis rests stands = record {
   through = rests.through;
   takes = rests.takes;
   none = basis.whole;
   free = basis.free;
-  rests = heads_stand chip.front rests.through basis.free rests.takes basis.whole rests.seek stands;
+  rests = heads_stand chip.front rests.through basis.free rests.takes basis.whole rests.seek (or_parts (is_some chip.pace) (moves_heads chip.front) stands).1;
   by_dma = basis.by_dma;
 }
 
@@ -99,29 +99,34 @@ moved_sound old new basis rest rests base =
     basis_rests new Ready (basis_same old new basis base (ap (λ (chip : ChipState). chip.count) rest) (ap (λ (chip : ChipState). chip.order) rest)) rests
     (ap (λ (chip : ChipState). chip.stage) rest) refl
 
-seek_sound : (unit target : ℕ) (old new : ChipState) → IsBasis old → Stands old.front → SendsOn (0x0F ∷ unit ∷ target ∷ []) (ready old) new → IsSound new
-seek_sound unit target old new basis stands (sends, rest) =
-    let obeyed = seek_obeyed unit target old.front new.front stands sends in
-    let is : new.front.board.controller ≡ seeking unit target (record old.front.board.controller { command = [] }) = obeyed.obeys.0 stands.rests in
-    moved_sound old new basis rest
-    (record {
-      through = obeyed.through;
-      takes = ap (λ (fdc : Fdc). fdc.phase) is ∙ stands.takes;
-      seek = subst (λ (fdc : Fdc). IsOfFour fdc.seeks.seek) (sym is) (few_four unit);
-    })
-    (record { dor = ap (λ (fdc : Fdc). fdc.dor) is; non_dma = ap (λ (fdc : Fdc). fdc.non_dma) is; command = ap (λ (fdc : Fdc). fdc.command) is })
+-- a SEEK or a RECALIBRATE is given behind
+pub given_moves : (unit : ℕ) (goal : Option ℕ) (start new : Front) → Stands start → Sends (moving unit goal) start new → RestsBehind new × IsBase start.board.controller new.board.controller
+given_moves unit (Some target) start new stands sends =
+    let obeyed = seek_obeyed unit target start new stands sends in
+    let is : new.board.controller ≡ seeking unit target (record start.board.controller { command = [] }) = obeyed.obeys.0 stands.rests in (
+      record {
+        through = obeyed.through;
+        takes = ap (λ (fdc : Fdc). fdc.phase) is ∙ stands.takes;
+        seek = subst (λ (fdc : Fdc). IsOfFour fdc.seeks.seek) (sym is) (few_four unit);
+      },
+      record { dor = ap (λ (fdc : Fdc). fdc.dor) is; non_dma = ap (λ (fdc : Fdc). fdc.non_dma) is; command = ap (λ (fdc : Fdc). fdc.command) is },
+    )
+given_moves unit None start new stands sends =
+    let obeyed = recalibrate_obeyed unit start new stands sends in
+    let is : new.board.controller ≡ recalibrating unit (record start.board.controller { command = [] }) = obeyed.obeys.0 stands.rests in (
+      record {
+        through = obeyed.through;
+        takes = ap (λ (fdc : Fdc). fdc.phase) is ∙ stands.takes;
+        seek = subst (λ (fdc : Fdc). IsOfFour fdc.seeks.seek) (sym is) (few_four unit);
+      },
+      record { dor = ap (λ (fdc : Fdc). fdc.dor) is; non_dma = ap (λ (fdc : Fdc). fdc.non_dma) is; command = ap (λ (fdc : Fdc). fdc.command) is },
+    )
 
-recalibrate_sound : (unit : ℕ) (old new : ChipState) → IsBasis old → Stands old.front → SendsOn (0x07 ∷ unit ∷ []) (ready old) new → IsSound new
-recalibrate_sound unit old new basis stands (sends, rest) =
-    let obeyed = recalibrate_obeyed unit old.front new.front stands sends in
-    let is : new.front.board.controller ≡ recalibrating unit (record old.front.board.controller { command = [] }) = obeyed.obeys.0 stands.rests in
-    moved_sound old new basis rest
-    (record {
-      through = obeyed.through;
-      takes = ap (λ (fdc : Fdc). fdc.phase) is ∙ stands.takes;
-      seek = subst (λ (fdc : Fdc). IsOfFour fdc.seeks.seek) (sym is) (few_four unit);
-    })
-    (record { dor = ap (λ (fdc : Fdc). fdc.dor) is; non_dma = ap (λ (fdc : Fdc). fdc.non_dma) is; command = ap (λ (fdc : Fdc). fdc.command) is })
+-- or its pulses are to come in time
+moves_sound : (b : Bool) (goal : Option ℕ) (old new : ChipState) → IsBasis old → RestsBehind old.front → Stands old.front → MovesIf b goal old new → IsSound new
+moves_sound true goal old new basis rests stands is = done_sound old _ new basis rests (record { front = refl; count = refl; order = refl }) refl is
+moves_sound false goal old new basis rests stands (sends, rest) =
+    let (still, base) = given_moves old.order.unit goal old.front new.front stands sends in moved_sound old new basis rest still base
 
 configure_sound : (old new : ChipState) → IsBasis old → Stands old.front → SendsOn (configuring old.order.key.c old.order.key.h) (configured old) new → IsSound new
 configure_sound old new basis stands (sends, rest) =
@@ -151,6 +156,9 @@ read_id_sound false old new basis stands begins = id_sound (task.Refused old.ord
 -- what DUMPREG gives is noted
 noted_basis : (last_sector : ℕ) (old : ChipState) → IsBasis old → IsBasis (with_last last_sector old)
 noted_basis last_sector old basis = record { by_dma = basis.by_dma; whole = basis.whole; free = basis.free; none = basis.none; code = basis.code }
+
+keyed_basis : (sectors : ℕ) (old : ChipState) → IsBasis old → IsBasis (with_keys sectors old)
+keyed_basis sectors old basis = record { by_dma = basis.by_dma; whole = basis.whole; free = basis.free; none = basis.none; code = basis.code }
 
 -- FORMAT TRACK
 formats_sound : (b mfm : Bool) (old new : ChipState) → IsBasis old → Stands old.front → (mfm && is_size old.order.key.c) ≡ b → FormatsIf b mfm old new → IsSound new
@@ -210,7 +218,7 @@ read_track_sound mfm old new basis stands obeys =
 
 -- ---- all commands
 
-obeys_sound : (code : Code) (old new : ChipState) → IsBasis old → RestsBehind old.front → code_of old.order.code ≡ Some code → (needs_heads code && moves_heads old.front) ≡ false → Obeys code old new → IsSound new
+obeys_sound : (code : Code) (old new : ChipState) → IsBasis old → RestsBehind old.front → code_of old.order.code ≡ Some code → (needs_heads code && is_moving old) ≡ false → Obeys code old new → IsSound new
 obeys_sound Specify old new basis rests found free is = done_sound old _ new basis rests (record { front = refl; count = refl; order = refl }) refl is
 obeys_sound SenseInterrupt old new basis rests found free is = done_sound old _ new basis rests (record { front = refl; count = refl; order = refl }) refl is
 obeys_sound Version old new basis rests found free is = done_sound old _ new basis rests (record { front = refl; count = refl; order = refl }) refl is
@@ -218,19 +226,20 @@ obeys_sound Perpendicular old new basis rests found free is = done_sound old _ n
 obeys_sound DumpRegisters old new basis rests found free is = done_sound old _ new basis rests (record { front = refl; count = refl; order = refl }) refl is
 obeys_sound (Lock on) old new basis rests found free is = done_sound old _ new basis rests (record { front = refl; count = refl; order = refl }) refl is
 obeys_sound SenseDrive old new basis rests found free asks = asks_sound old.order.unit old new basis (free_stands old basis rests free) asks
-obeys_sound Recalibrate old new basis rests found free sends = recalibrate_sound old.order.unit old new basis (free_stands old basis rests free) sends
-obeys_sound Seek old new basis rests found free sends = seek_sound old.order.unit old.order.key.c old new basis (free_stands old basis rests free) sends
-obeys_sound (RelativeSeek inward) old new basis rests found free sends =
-    seek_sound old.order.unit (relative_target inward (cylinder_of old.order.unit old.interrupts) old.order.key.c) old new basis (free_stands old basis rests free) sends
+obeys_sound Recalibrate old new basis rests found free moves = moves_sound old.paced None old new basis rests (free_stands old basis rests free) moves
+obeys_sound Seek old new basis rests found free moves = moves_sound old.paced (Some old.order.key.c) old new basis rests (free_stands old basis rests free) moves
+obeys_sound (RelativeSeek inward) old new basis rests found free moves =
+    moves_sound old.paced (Some (relative_target inward (cylinder_of old.order.unit old.interrupts) old.order.key.c)) old new basis rests (free_stands old basis rests free) moves
 obeys_sound Configure old new basis rests found free sends = configure_sound old new basis (free_stands old basis rests free) sends
 obeys_sound (ReadId mfm) old new basis rests found free begins = read_id_sound mfm old new basis (free_stands old basis rests free) begins
 obeys_sound (FormatTrack mfm) old new basis rests found free begins =
-    formats_sound (mfm && is_size old.order.key.c) mfm (with_last old.order.key.h old) new (noted_basis old.order.key.h old basis) (free_stands old basis rests free) refl begins
+    let noted = with_last old.order.key.h old in
+    formats_sound (mfm && is_size old.order.key.c) mfm (with_keys old.order.key.h noted) new (keyed_basis old.order.key.h noted (noted_basis old.order.key.h old basis)) (free_stands old basis rests free) refl begins
 obeys_sound (Transfer mfm) old new basis rests found free obeys = transfer_sound mfm old new basis (free_stands old basis rests free) found obeys
 obeys_sound (Verify mfm) old new basis rests found free obeys = verify_sound mfm old new basis (free_stands old basis rests free) obeys
 obeys_sound (ReadTrack mfm) old new basis rests found free obeys = read_track_sound mfm old new basis (free_stands old basis rests free) obeys
 
-attends_by : (b : Bool) (code : Code) (old new : ChipState) → IsBasis old → RestsBehind old.front → code_of old.order.code ≡ Some code → (needs_heads code && moves_heads old.front) ≡ b → AttendsIf b code old new → IsSound new
+attends_by : (b : Bool) (code : Code) (old new : ChipState) → IsBasis old → RestsBehind old.front → code_of old.order.code ≡ Some code → (needs_heads code && is_moving old) ≡ b → AttendsIf b code old new → IsSound new
 attends_by true code old new basis rests found moves is = done_sound old _ new basis rests (record { front = refl; count = refl; order = refl }) refl is
 attends_by false code old new basis rests found free obeys = obeys_sound code old new basis rests found free obeys
 
@@ -240,4 +249,4 @@ attended_sound None old new basis rests is told = done_sound old _ new basis res
 attended_sound (Some code) old new basis rests is attends =
     let set = drained old in
     let resting : IsResting old set = drained_rests 4 old basis.whole rests in
-    attends_by (needs_heads code && moves_heads set.front) code set new (basis_same old set basis resting.base resting.count resting.order) resting.rests (ap (λ (order : Order). code_of order.code) resting.order ∙ is) refl attends
+    attends_by (needs_heads code && is_moving set) code set new (basis_same old set basis resting.base resting.count resting.order) resting.rests (ap (λ (order : Order). code_of order.code) resting.order ∙ is) refl attends

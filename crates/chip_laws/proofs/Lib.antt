@@ -14,7 +14,9 @@ mod SoundParts
 mod Attended
 mod SoundSteps
 mod SoundCalls
+mod WholeTransfers
 mod Silences
 mod SinglesLast
 mod VerifiesLast
 mod TracksLast
+mod Edging

@@ -13,7 +13,7 @@ use Rattle.sequencer_laws.proofs.Sectors.{steps_both}
 use Rattle.sequencer_laws.proofs.Shown.{shows_busy}
 use Rattle.fdc_chip.specs.Chips.{ChipState, passes_by_channel, passes_by_port, with_front}
 use Rattle.fdc_chip.specs.Ending.{EndsIf, EndsSent, has_results, looks_for_cylinder, results_behind, results_taken}
-use Rattle.fdc_chip.specs.Ports.{GivesChipIf, GivesIf, ReadsAt, ReadsChip, ReadsIf, TakesByte, TakesIf, WritesChip, count_told, reset_if}
+use Rattle.fdc_chip.specs.Ports.{GivesChipIf, GivesIf, ReadsAt, ReadsChip, ReadsIf, TakesByte, TakesIf, WritesChip, count_told, gated_by, given_one, reset_if, value_behind}
 use Rattle.fdc_chip.specs.Steps.{Follows, StepsChip}
 use Rattle.fdc_chip.specs.declared.stage.Stage.{Stage}
 use Rattle.fdc_chip.specs.declared.stage.Stage.TheVariants.{Busy}
@@ -98,7 +98,7 @@ data_read true port value old new was under passes here reads = record {
 }
 data_read false port value old new was under passes here (none, is) = read_behind port value old new was (and_left (passes_by_port old) (port == 0x3F5) passes) is
 
-other_read : (port value : ℕ) (old new : ChipState) → (port == 0x3F5) ≡ false → ReadsChip port old value new → new ≡ old
+pub other_read : (port value : ℕ) (old new : ChipState) → (port == 0x3F5) ≡ false → ReadsChip port old value new → new ≡ old
 other_read port value old new no_data reads = either_way (port == 0x3F4)
     (λ status. (reads.status (eqb-true port 0x3F4 status)).1)
     (λ no_status. (reads.others no_status no_data).1)
@@ -121,11 +121,12 @@ data_write true port value old new was under passes here gives = record {
 }
 data_write false port value old new was under passes here is =
     let same : new.front ≡ old.front = ap (λ chip. chip.front) is in
+    let given = value_behind port value in
     record {
-      calls = behind.Writes port value ∷ [];
-      makes = subst (λ b. MakesWrite b port value (behind.Writes port value ∷ [])) (sym (and_left (passes_by_port old) (port == 0x3F5) passes)) refl;
-      within = single (behind.Writes port value) old.front new.front
-          (subst (behind.Does (behind.Writes port value) old.front) (sym same) (ignored_write port value old.front here was.under_way)) under;
+      calls = behind.Writes port given ∷ [];
+      makes = subst (λ b. MakesWrite b port value (behind.Writes port given ∷ [])) (sym (and_left (passes_by_port old) (port == 0x3F5) passes)) refl;
+      within = single (behind.Writes port given) old.front new.front
+          (subst (behind.Does (behind.Writes port given) old.front) (sym same) (ignored_write port given old.front here was.under_way)) under;
     }
 
 writes_on : (port value : ℕ) (old new : ChipState) → IsServing old → is_under_way new.front.stage ≡ true → WritesChip port value old new → IsPassedOn (made.Writes port value) old new
@@ -133,10 +134,12 @@ writes_on port value old new was under writes = either_way (port == 0x3F5)
     (λ here.
     let at : GivesIf (passes_by_port old) value old new = subst (λ stage. TakesByte stage value old new) was.sent (writes.bytes (eqb-true port 0x3F5 here)) in
     data_write (passes_by_port old) port value old new was under refl here at)
-    (λ no_data. record {
-      calls = behind.Writes port value ∷ [];
-      makes = subst (λ b. MakesWrite b port value (behind.Writes port value ∷ [])) (sym (and_right (passes_by_port old) (port == 0x3F5) no_data)) refl;
-      within = single (behind.Writes port value) old.front new.front (writes.others no_data).0 under;
+    (λ no_data.
+    let given = value_behind port value in
+    record {
+      calls = behind.Writes port given ∷ [];
+      makes = subst (λ b. MakesWrite b port value (behind.Writes port given ∷ [])) (sym (and_right (passes_by_port old) (port == 0x3F5) no_data)) refl;
+      within = single (behind.Writes port given) old.front new.front (writes.others no_data).0 under;
     })
 
 -- ---- all calls
@@ -166,6 +169,7 @@ one_passed made.Changes old new was does serving = record {
   within = single behind.Changes old.front new.front does.front serving.under_way;
 }
 one_passed (made.Straps on) old new was does serving = record { calls = []; makes = refl; within = ap (λ chip. chip.front) does }
+one_passed (made.StrapsSteps on) old new was does serving = record { calls = []; makes = refl; within = ap (λ chip. chip.front) does }
 
 -- device steps are device steps
 only_steps : (b : Bool) (call : behind.Call) → lasting.steps_of call ≡ 0 → lasting.steps_in (only_if b call) ≡ 0
@@ -189,6 +193,7 @@ one_steps (made.Reads port value) old calls makes = read_steps (is_data_access p
 one_steps (made.Writes port value) old calls makes = write_steps (is_data_access port old) port value calls makes
 one_steps made.Changes old calls is = ap lasting.steps_in is
 one_steps (made.Straps on) old calls is = ap lasting.steps_in is
+one_steps (made.StrapsSteps on) old calls is = ap lasting.steps_in is
 
 pub all_passed : (calls : List Call) (old new : ChipState) (served : AreServed calls old new) → IsServing old → ArePassedOn calls old new served
 all_passed [] old new same was = record { all = []; makes = refl; within = ap (λ chip. chip.front) same; steps = refl }
@@ -218,7 +223,7 @@ takes_serving false byte old new was (none, is) = same_serving old new is was
 
 gives_serving : (b : Bool) (byte : ℕ) (given : Bool) (old new : ChipState) → IsServing old → GivesChipIf b byte old given new → IsServing new
 gives_serving true byte given old new was (gives, rest) =
-    record { sent = same_stage old new rest was.sent; under_way = gives_under old.front.stage byte given old.front new.front refl was.under_way gives }
+    record { sent = same_stage (given_one given old) new rest was.sent; under_way = gives_under old.front.stage byte given old.front new.front refl was.under_way gives }
 gives_serving false byte given old new was (none, is) = same_serving old new is was
 
 read_serving : (b : Bool) (value : ℕ) (old new : ChipState) → IsServing old → ReadsIf b old value new → IsServing new
@@ -228,15 +233,15 @@ read_serving false value old new was (none, is) = same_serving old new is was
 
 write_serving : (b : Bool) (value : ℕ) (old new : ChipState) → IsServing old → GivesIf b value old new → IsServing new
 write_serving true value old new was gives =
-    record { sent = same_stage old new gives.rest was.sent; under_way = gives_under old.front.stage value gives.was old.front new.front refl was.under_way gives.gives }
+    record { sent = same_stage (given_one gives.was old) new gives.rest was.sent; under_way = gives_under old.front.stage value gives.was old.front new.front refl was.under_way gives.gives }
 write_serving false value old new was is = same_serving old new is was
 
-port_serving : (port value : ℕ) (old new : ChipState) → IsServing old → (port == 0x3F5) ≡ false → resets port value ≡ false → WritesChip port value old new → IsServing new
+port_serving : (port value : ℕ) (old new : ChipState) → IsServing old → (port == 0x3F5) ≡ false → resets port (value_behind port value) ≡ false → WritesChip port value old new → IsServing new
 port_serving port value old new was no_data no_reset writes =
     let (wrote, rest) = writes.others no_data in
     record {
-      sent = same_stage old new (subst (λ b. new ≡ with_front new.front (reset_if b old)) no_reset rest) was.sent;
-      under_way = writes_under port value old.front new.front was.under_way wrote no_reset;
+      sent = same_stage (gated_by port value old) new (subst (λ b. new ≡ with_front new.front (reset_if b (gated_by port value old))) no_reset rest) was.sent;
+      under_way = writes_under port (value_behind port value) old.front new.front was.under_way wrote no_reset;
     }
 
 pub call_serving : (call : Call) (old new : ChipState) → IsServing old → Does call old new → is_step call ≡ false → is_reset call ≡ false → IsServing new
@@ -255,4 +260,6 @@ call_serving (made.Writes port value) old new was does no_step no_reset = either
 call_serving made.Changes old new was does no_step no_reset =
     record { sent = same_stage old new does.rest was.sent; under_way = ap is_under_way does.front.stage ∙ was.under_way }
 call_serving (made.Straps on) old new was does no_step no_reset =
+    record { sent = ap (λ chip. chip.stage) does ∙ was.sent; under_way = ap (λ chip. is_under_way chip.front.stage) does ∙ was.under_way }
+call_serving (made.StrapsSteps on) old new was does no_step no_reset =
     record { sent = ap (λ chip. chip.stage) does ∙ was.sent; under_way = ap (λ chip. is_under_way chip.front.stage) does ∙ was.under_way }

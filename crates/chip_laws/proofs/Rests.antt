@@ -176,7 +176,7 @@ result_taken old takes none few = by_idle (is_idle old)
     by_idle true = by_result (seek_words.sensed old.seeks)
     by_idle false = record { base = base_same old none; takes = takes; seek = few }
 
-front_sensed : (front : Front) → front.board.controller.command ≡ [] → RestsBehind front
+pub front_sensed : (front : Front) → front.board.controller.command ≡ [] → RestsBehind front
     → RestsBehind (sensed_outside front) × IsBase front.board.controller (sensed_outside front).board.controller
 front_sensed front none rests =
     let fdc = front.board.controller in

@@ -6,8 +6,8 @@ use Rattle.fdc_commands.specs.declared.results.Results.{Results}
 use Rattle.fdc_core.specs.Ports.{resets}
 use Rattle.fdc_chip.specs.Chips.{ChipState, is_data, passes_by_channel, passes_by_port, with_front}
 use Rattle.fdc_chip.specs.Doing.{is_size}
-use Rattle.fdc_chip.specs.Ending.{Ends, EndsAddress, EndsAddressIf, EndsAt, EndsData, EndsIf, EndsIndex, EndsSent, LooksOn, has_results, is_over, looks_for_cylinder, met_key, results_behind, results_taken, told_results, without_one}
-use Rattle.fdc_chip.specs.Ports.{GivesChipIf, GivesIf, ReadsAt, ReadsChip, ReadsIf, TakesByte, TakesIf, WritesChip, count_told, counted_if, reset_if}
+use Rattle.fdc_chip.specs.Ending.{Ends, EndsAddress, EndsAddressIf, EndsAt, EndsData, EndsIf, EndsIndex, EndsSent, LooksOn, has_results, is_over, looks_for_cylinder, met_key, results_behind, results_taken, told_results, verified, without_one}
+use Rattle.fdc_chip.specs.Ports.{GivesChipIf, GivesIf, ReadsAt, ReadsChip, ReadsIf, TakesByte, TakesIf, WritesChip, count_told, counted_if, gated_by, given_one, reset_if, value_behind}
 use Rattle.fdc_chip.specs.Steps.{Follows, FollowsTask, StepsChip}
 use Rattle.fdc_chip.specs.declared.stage.Place.{Place}
 use Rattle.fdc_chip.specs.declared.stage.Place.TheVariants.{Index, Address, Data}
@@ -60,7 +60,7 @@ ends_go : (what : Task) (results : Results) (old new : ChipState) → Ends what 
 ends_go task.Sent results old new ends = sent_goes (looks_for_cylinder old.order results) results old new ends
 ends_go (task.Sought first) results old new is = tells _ old new is
 ends_go (task.Refused unit key mfm) results old new is = tells _ old new is
-ends_go (task.Verify left) results old new ends = sent_goes (looks_for_cylinder old.order results) results old new ends
+ends_go (task.Verify left) results old new ends = let told = verified old.order results in sent_goes (looks_for_cylinder old.order told) told old new ends
 ends_go (task.Track track) results old new ends = place_goes track.place track results old new ends
 
 may_go : (b : Bool) (what under : Task) (chip new : ChipState) → chip.stage ≡ Busy under → EndsIf b what chip new → IsBusyOrTells new
@@ -93,7 +93,7 @@ takes_go true what byte old new (takes, rest) at = rest_goes what old new rest a
 takes_go false what byte old new (none, is) at = same_goes what old new is at
 
 gives_go : (b : Bool) (what : Task) (byte : ℕ) (was : Bool) (old new : ChipState) → GivesChipIf b byte old was new → old.stage ≡ Busy what → IsBusyOrTells new
-gives_go true what byte was old new (gives, rest) at = rest_goes what old new rest at
+gives_go true what byte was old new (gives, rest) at = rest_goes what (given_one was old) new rest at
 gives_go false what byte was old new (none, is) at = same_goes what old new is at
 
 read_goes : (b : Bool) (what : Task) (value : ℕ) (old new : ChipState) → ReadsIf b old value new → old.stage ≡ Busy what → IsBusyOrTells new
@@ -101,7 +101,7 @@ read_goes true what value old new reads at = rest_goes what old new reads.rest a
 read_goes false what value old new (none, is) at = same_goes what old new is at
 
 write_goes : (b : Bool) (what : Task) (value : ℕ) (old new : ChipState) → GivesIf b value old new → old.stage ≡ Busy what → IsBusyOrTells new
-write_goes true what value old new gives at = rest_goes what old new gives.rest at
+write_goes true what value old new gives at = rest_goes what (given_one gives.was old) new gives.rest at
 write_goes false what value old new is at = same_goes what old new is at
 
 counted_goes : (b : Bool) (what : Task) (set new : ChipState) → new ≡ counted_if b set → set.stage ≡ Busy what → IsBusyOrTells new
@@ -121,9 +121,9 @@ other_read port value old new no_data reads = either_way (port == 0x3F4)
     (λ status. (reads.status (eqb-true port 0x3F4 status)).1)
     (λ no_status. (reads.others no_status no_data).1)
 
-other_write : (port value : ℕ) (what : Task) (old new : ChipState) → (port == 0x3F5) ≡ false → resets port value ≡ false → WritesChip port value old new → old.stage ≡ Busy what → IsBusyOrTells new
+other_write : (port value : ℕ) (what : Task) (old new : ChipState) → (port == 0x3F5) ≡ false → resets port (value_behind port value) ≡ false → WritesChip port value old new → old.stage ≡ Busy what → IsBusyOrTells new
 other_write port value what old new no_data quiet writes at =
-    rest_goes what old new (subst (λ b. new ≡ with_front new.front (reset_if b old)) quiet (writes.others no_data).1) at
+    rest_goes what (gated_by port value old) new (subst (λ b. new ≡ with_front new.front (reset_if b (gated_by port value old))) quiet (writes.others no_data).1) at
 
 pub call_goes : (call : Call) (what : Task) (old new : ChipState) → Does call old new → old.stage ≡ Busy what → is_reset call ≡ false → IsBusyOrTells new
 call_goes made.Steps what old new does at quiet = step_goes what old new does at
@@ -138,3 +138,4 @@ call_goes (made.Writes port value) what old new does at quiet = either_way (port
     (λ no_data. other_write port value what old new no_data quiet does at)
 call_goes made.Changes what old new does at quiet = rest_goes what old new does.rest at
 call_goes (made.Straps on) what old new does at quiet = busy what new (ap (λ (chip : ChipState). chip.stage) does ∙ at)
+call_goes (made.StrapsSteps on) what old new does at quiet = busy what new (ap (λ (chip : ChipState). chip.stage) does ∙ at)

@@ -13,8 +13,8 @@ use Rattle.fdc_sequencer.specs.Fronts.{Front, GivesFront, TakesFront, WritesFron
 use Rattle.fdc_sequencer.specs.Moves.{StepsFront}
 use Rattle.fdc_chip.specs.Chips.{ChipState, is_data, passes_by_channel, passes_by_port, with_front}
 use Rattle.fdc_chip.specs.Doing.{is_size}
-use Rattle.fdc_chip.specs.Ending.{Ends, EndsAddress, EndsAddressIf, EndsAt, EndsData, EndsIf, EndsIndex, EndsSent, MayEnd, is_over, looks_for_cylinder, results_behind, results_taken, without_one}
-use Rattle.fdc_chip.specs.Ports.{GivesChipIf, GivesIf, ReadsAt, ReadsChip, ReadsIf, TakesByte, TakesIf, count_told, counted_if, reset_if}
+use Rattle.fdc_chip.specs.Ending.{Ends, EndsAddress, EndsAddressIf, EndsAt, EndsData, EndsIf, EndsIndex, EndsSent, MayEnd, is_over, looks_for_cylinder, results_behind, results_taken, verified, without_one}
+use Rattle.fdc_chip.specs.Ports.{GivesChipIf, GivesIf, ReadsAt, ReadsChip, ReadsIf, TakesByte, TakesIf, count_told, counted_if, gated_by, reset_if, value_behind}
 use Rattle.fdc_chip.specs.Steps.{Follows, FollowsTask}
 use Rattle.fdc_chip.specs.declared.stage.Place.{Place}
 use Rattle.fdc_chip.specs.declared.stage.Place.TheVariants.{Index, Address, Data}
@@ -88,7 +88,8 @@ pub ends_leave : (what : Task) (results : Results) (old new : ChipState) → End
 ends_leave task.Sent results old new ends same = sent_leaves (looks_for_cylinder old.order results) 0 results old new refl refl ends same
 ends_leave (task.Sought first) results old new is same = other_kind 7 1 new refl (ap (λ (chip : ChipState). stage_kind chip.stage) is) same
 ends_leave (task.Refused unit key mfm) results old new is same = other_kind 7 2 new refl (ap (λ (chip : ChipState). stage_kind chip.stage) is) same
-ends_leave (task.Verify left) results old new ends same = sent_leaves (looks_for_cylinder old.order results) 3 results old new refl refl ends same
+ends_leave (task.Verify left) results old new ends same =
+    let told = verified old.order results in sent_leaves (looks_for_cylinder old.order told) 3 told old new refl refl ends same
 ends_leave (task.Track track) results old new ends same = place_leaves track.place track results old new ends same
 
 -- ---- one call
@@ -207,10 +208,10 @@ other_read port value old new no_data reads = either_way (port == 0x3F4)
     (λ status. (reads.status (eqb-true port 0x3F4 status)).1)
     (λ no_status. (reads.others no_status no_data).1)
 
-other_write : (b : Bool) (port value : ℕ) (what : Task) (old new : ChipState) → resets port value ≡ b → (port == 0x3F5) ≡ false → WritesFront port value old.front new.front → new ≡ with_front new.front (reset_if b old)
+other_write : (b : Bool) (port value : ℕ) (what : Task) (old set new : ChipState) → resets port value ≡ b → (port == 0x3F5) ≡ false → WritesFront port value old.front new.front → new ≡ with_front new.front (reset_if b set)
     → is_busy new.stage ≡ true → ExecutesBehind old.front → StaysSingle 0 old.front new.front
-other_write true port value what old new anew no_data writes rest still was = absurd (false≢true (sym (ap (λ (chip : ChipState). is_busy chip.stage) rest) ∙ still))
-other_write false port value what old new quiet no_data writes rest still was =
+other_write true port value what old set new anew no_data writes rest still was = absurd (false≢true (sym (ap (λ (chip : ChipState). is_busy chip.stage) rest) ∙ still))
+other_write false port value what old set new quiet no_data writes rest still was =
     phase_left old.front new.front (front_left port value old.front new.front writes no_data quiet).phase (port_executes port value old.front new.front writes no_data quiet was)
 
 pub single_call : (call : Call) (what : Task) (old new : ChipState) → IsSound old → old.stage ≡ Busy what → ExecutesBehind old.front → Does call old new → is_busy new.stage ≡ true
@@ -225,10 +226,14 @@ single_call (made.Reads port value) what old new sound at was does still same = 
     (λ no_data. same_single old.front new.front (ap (λ (chip : ChipState). chip.front) (other_read port value old new no_data does)) was)
 single_call (made.Writes port value) what old new sound at was does still same = either_way (port == 0x3F5)
     (λ here. write_if (passes_by_port old) value old new (subst (λ stage. TakesByte stage value old new) at (does.bytes (eqb-true port 0x3F5 here))) was)
-    (λ no_data. let (front, rest) = does.others no_data in other_write (resets port value) port value what old new refl no_data front rest still was)
+    (λ no_data.
+    let (front, rest) = does.others no_data in
+    let given = value_behind port value in
+    other_write (resets port given) port given what old (gated_by port value old) new refl no_data front rest still was)
 single_call made.Changes what old new sound at was does still same =
     phase_left old.front new.front (ap (λ (fdc : Fdc). fdc.phase) does.front.controller) (keeps_executes old.front new.front does.front was)
 single_call (made.Straps on) what old new sound at was does still same = same_single old.front new.front (ap (λ (chip : ChipState). chip.front) does) was
+single_call (made.StrapsSteps on) what old new sound at was does still same = same_single old.front new.front (ap (λ (chip : ChipState). chip.front) does) was
 
 -- ---- calls one behind the other
 

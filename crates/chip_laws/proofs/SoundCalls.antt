@@ -1,5 +1,5 @@
 -- A sound chip through each call.
-use Rattle.std.proofs.Common.{◌≡◌, inl, inr, ℕ, ◌+◌, ◌<◌, nat_le, Bool, true, false, not, ◌&&◌, ◌==◌, if◌then◌else◌, Option, [], length, refl, sym, ◌∙◌, ap, subst, arith}
+use Rattle.std.proofs.Common.{◌≡◌, inl, inr, ℕ, ◌+◌, ◌<◌, nat_le, Bool, true, false, not, ◌&&◌, ◌==◌, if◌then◌else◌, Option, List, [], ◌∷◌, length, refl, sym, ◌∙◌, ap, subst, arith}
 use Rattle.std.proofs.lemmas.Bool.{and_parts, eqb-true, false≢true, not-true, or_cases}
 use Rattle.drive_model.specs.Drive.{DriveState}
 use Rattle.fdc_seek.specs.Seeking.{Seeking, at_rest}
@@ -15,10 +15,10 @@ use Rattle.fdc_sequencer.specs.Fronts as fronts
 use Rattle.fdc_sequencer.specs.declared.stage.Stage.TheVariants.{Through}
 use Rattle.fdc_sequencer.specs.Senses as senses
 use Rattle.fdc_chip.specs.Answers.{answer_bytes, is_of_data}
-use Rattle.fdc_chip.specs.Chips.{ChipState, IsNewChip, KeepsChip, is_data, passes_at, passes_by_channel, passes_by_port, with_front}
+use Rattle.fdc_chip.specs.Chips.{ChipState, IsNewChip, KeepsChip, is_data, passes, passes_by_channel, passes_by_port, with_front}
 use Rattle.fdc_chip.specs.Codes.{code_of}
 use Rattle.fdc_chip.specs.Orders.{with_byte}
-use Rattle.fdc_chip.specs.Ports.{CollectsIf, ComesIf, GivesChipIf, GivesIf, ReadsAt, ReadsChip, ReadsIf, TakesByte, TakesIf, WritesChip, byte_told, count_told, counted_if, is_whole, may_come, quieted_if, reset_if, with_next}
+use Rattle.fdc_chip.specs.Ports.{CollectsIf, ComesIf, GivesChipIf, GivesIf, ReadsAt, ReadsChip, ReadsIf, TakesByte, TakesIf, WritesChip, byte_told, count_told, counted_if, gated_by, given_one, is_whole, may_come, quieted_if, reset_if, value_behind, with_next}
 use Rattle.fdc_chip.specs.Settings.{is_by_port}
 use Rattle.fdc_chip.specs.declared.answer.Answer.{Answer}
 use Rattle.fdc_chip.specs.declared.order.Order.{Order}
@@ -28,14 +28,14 @@ use Rattle.fdc_chip.specs.declared.stage.Task.{Task}
 use Rattle.fdc_chip.specs.declared.stage.Task.TheVariants as task
 use Rattle.chip_laws.specs.Beginning.{IsOfFour}
 use Rattle.chip_laws.specs.Calls as made
-use Rattle.chip_laws.specs.Calls.{Call, Does, WritesByte}
+use Rattle.chip_laws.specs.Calls.{AreMade, Call, Does, WritesByte}
 use Rattle.chip_laws.specs.Sound.{IsBusyWith, IsSound, IsSoundAt, RestsBehind}
 use Rattle.chip_laws.proofs.Attended.{attended_sound}
 use Rattle.chip_laws.proofs.Channels.{counts_busy, counts_front_base, front_left, gives_busy, gives_front_base, keeps_busy, port_busy, takes_busy, takes_front_base}
 use Rattle.chip_laws.proofs.FirstSectors.{IsBase}
 use Rattle.chip_laws.proofs.Rests.{base_same}
 use Rattle.chip_laws.proofs.SoundParts as parts
-use Rattle.chip_laws.proofs.SoundParts.{IsBasis, basis_busy, basis_rests, basis_same, busy_at, is_busy, not_ready, passing_at, rests_at, same_sound, sound_basis, stays_sound}
+use Rattle.chip_laws.proofs.SoundParts.{IsBasis, basis_busy, basis_rests, basis_same, busy_at, is_busy, not_ready, passing_of, rests_at, same_sound, sound_basis, stays_sound}
 use Rattle.chip_laws.proofs.SoundSteps.{step_sound}
 use Rattle.chip_laws.proofs.Standing.{ready_free}
 use Rattle.chip_laws.proofs.UnderWay.{clash, either_way, port_stage}
@@ -48,29 +48,33 @@ busy_sound what old new at sound rest busy base =
     basis_busy new what (basis_same old new (sound_basis old (ap parts.is_ready at) sound) base (ap (λ (chip : ChipState). chip.count) rest) (ap (λ (chip : ChipState). chip.order) rest)) busy
     (ap (λ (chip : ChipState). chip.stage) rest ∙ at)
 
-takes_sound : (b : Bool) (byte : Option ℕ) (old new : ChipState) → (not (is_by_port old.settings) && passes_at old.stage) ≡ b → IsSound old → TakesIf b old byte new → IsSound new
-takes_sound true byte old new passes sound (takes, rest) =
-    let (what, at) = passing_at old.stage (and_parts (not (is_by_port old.settings)) (passes_at old.stage) passes).1 in
-    busy_sound what old new at sound rest (takes_busy what old.front byte new.front takes (busy_at old what at sound)) (takes_front_base old.front byte new.front sound.whole takes)
-takes_sound false byte old new passes sound (none, is) = same_sound old new is sound
+-- of a FORMAT TRACK one byte fewer is left
+given_sound : (was : Bool) (old : ChipState) → IsSound old → IsSound (given_one was old)
+given_sound was old sound = record { by_dma = sound.by_dma; whole = sound.whole; held = sound.held; comes = sound.comes; code = sound.code; now = sound.now }
 
-gives_sound : (b : Bool) (byte : ℕ) (was : Bool) (old new : ChipState) → (not (is_by_port old.settings) && passes_at old.stage) ≡ b → IsSound old → GivesChipIf b byte old was new → IsSound new
-gives_sound true byte was old new passes sound (gives, rest) =
-    let (what, at) = passing_at old.stage (and_parts (not (is_by_port old.settings)) (passes_at old.stage) passes).1 in
-    busy_sound what old new at sound rest (gives_busy what byte old.front was new.front gives (busy_at old what at sound)) (gives_front_base byte old.front was new.front sound.whole gives)
-gives_sound false byte was old new passes sound (none, is) = same_sound old new is sound
+takes_sound : (b : Bool) (byte : Option ℕ) (old new : ChipState) → passes_by_channel old ≡ b → IsSound old → TakesIf b old byte new → IsSound new
+takes_sound true byte old new shown sound (takes, rest) =
+    let (what, at) = passing_of old (and_parts (old.gated && not (is_by_port old.settings)) (passes old) shown).1 in
+    busy_sound what old new at sound rest (takes_busy what old.front byte new.front takes (busy_at old what at sound)) (takes_front_base old.front byte new.front sound.whole takes)
+takes_sound false byte old new shown sound (none, is) = same_sound old new is sound
+
+gives_sound : (b : Bool) (byte : ℕ) (was : Bool) (old new : ChipState) → passes_by_channel old ≡ b → IsSound old → GivesChipIf b byte old was new → IsSound new
+gives_sound true byte was old new shown sound (gives, rest) =
+    let (what, at) = passing_of old (and_parts (old.gated && not (is_by_port old.settings)) (passes old) shown).1 in
+    busy_sound what (given_one was old) new at (given_sound was old sound) rest (gives_busy what byte old.front was new.front gives (busy_at old what at sound)) (gives_front_base byte old.front was new.front sound.whole gives)
+gives_sound false byte was old new shown sound (none, is) = same_sound old new is sound
 
 read_sound : (b : Bool) (value : ℕ) (old new : ChipState) → passes_by_port old ≡ b → IsSound old → ReadsIf b old value new → IsSound new
-read_sound true value old new passes sound reads =
-    let (what, at) = passing_at old.stage (and_parts (is_by_port old.settings) (passes_at old.stage) passes).1 in
+read_sound true value old new shown sound reads =
+    let (what, at) = passing_of old (and_parts (is_by_port old.settings) (passes old) shown).1 in
     busy_sound what old new at sound reads.rest (takes_busy what old.front reads.byte new.front reads.takes (busy_at old what at sound)) (takes_front_base old.front reads.byte new.front sound.whole reads.takes)
-read_sound false value old new passes sound (none, is) = same_sound old new is sound
+read_sound false value old new shown sound (none, is) = same_sound old new is sound
 
 write_sound : (b : Bool) (value : ℕ) (old new : ChipState) → passes_by_port old ≡ b → IsSound old → GivesIf b value old new → IsSound new
-write_sound true value old new passes sound gives =
-    let (what, at) = passing_at old.stage (and_parts (is_by_port old.settings) (passes_at old.stage) passes).1 in
-    busy_sound what old new at sound gives.rest (gives_busy what value old.front gives.was new.front gives.gives (busy_at old what at sound)) (gives_front_base value old.front gives.was new.front sound.whole gives.gives)
-write_sound false value old new passes sound is = same_sound old new is sound
+write_sound true value old new shown sound gives =
+    let (what, at) = passing_of old (and_parts (is_by_port old.settings) (passes old) shown).1 in
+    busy_sound what (given_one gives.was old) new at (given_sound gives.was old sound) gives.rest (gives_busy what value old.front gives.was new.front gives.gives (busy_at old what at sound)) (gives_front_base value old.front gives.was new.front sound.whole gives.gives)
+write_sound false value old new shown sound is = same_sound old new is sound
 
 -- ---- the terminal count
 
@@ -140,7 +144,7 @@ reads_sound port value old new sound reads = either_way (port == 0x3F5)
 -- ---- a byte of a command
 
 -- its code is a byte
-code_few : (place byte : ℕ) (order : Order) → byte < 256 → order.code < 256 → (with_byte place byte order).code < 256
+pub code_few : (place byte : ℕ) (order : Order) → byte < 256 → order.code < 256 → (with_byte place byte order).code < 256
 code_few place byte order few was = by_place (place == 0) (place == 1) (place == 2) (place == 3) (place == 4) (place == 5) (place == 6) (place == 7)
   where
     by_place : (a b c d e f g h : Bool) → (if a then record order { code = byte } else (
@@ -163,7 +167,7 @@ code_few place byte order few was = by_place (place == 0) (place == 1) (place ==
     by_place false false false false false false false false = was
 
 -- where one comes the controller isn't held in reset
-comes_free : (old : ChipState) → IsSound old → may_come old ≡ true → is_held old.front.board.controller ≡ false
+pub comes_free : (old : ChipState) → IsSound old → may_come old ≡ true → is_held old.front.board.controller ≡ false
 comes_free old sound comes = elim (or_cases (not (old.count == 0)) (senses.is_ready old.front) comes) [
   | inl begun ↦ either_way (is_held old.front.board.controller)
       (λ held. clash (old.count == 0) (not-true (old.count == 0) begun) (ap (λ n. n == 0) (sound.held held).1))
@@ -279,12 +283,19 @@ port_write false port value old new quiet no_data sound writes rest =
     by_stage (Telling answer read) now = rests now
     by_stage (Busy what) now = port_busy what port value old.front new.front writes no_data quiet now
 
+-- INT and DRQ are let out or kept in
+gated_sound : (port value : ℕ) (old : ChipState) → IsSound old → IsSound (gated_by port value old)
+gated_sound port value old sound = record { by_dma = sound.by_dma; whole = sound.whole; held = sound.held; comes = sound.comes; code = sound.code; now = sound.now }
+
 writes_sound : (port value : ℕ) (old new : ChipState) → value < 256 → IsSound old → WritesChip port value old new → IsSound new
 writes_sound port value old new few sound writes = either_way (port == 0x3F5)
     (λ here. data_write old.stage value old new refl few sound (writes.bytes (eqb-true port 0x3F5 here)))
-    (λ no_data. let (front, rest) = writes.others no_data in port_write (resets port value) port value old new refl no_data sound front rest)
+    (λ no_data.
+    let (front, rest) = writes.others no_data in
+    let given = value_behind port value in
+    port_write (resets port given) port given (gated_by port value old) new refl no_data (gated_sound port value old sound) front rest)
 
--- ---- media, and the strap
+-- ---- media, and the straps
 
 kept_at : (stage : Stage) (old new : Front) → KeepsFront old new → IsSoundAt stage old → IsSoundAt stage new
 kept_at stage old new keeps now = by_stage stage now
@@ -314,6 +325,10 @@ straps_sound : (on : Bool) (old new : ChipState) → new ≡ record old { strapp
 straps_sound on old new is sound =
     subst IsSound (sym is) (record { by_dma = sound.by_dma; whole = sound.whole; held = sound.held; comes = sound.comes; code = sound.code; now = sound.now })
 
+steps_sound : (on : Bool) (old new : ChipState) → new ≡ record old { paced = on } → IsSound old → IsSound new
+steps_sound on old new is sound =
+    subst IsSound (sym is) (record { by_dma = sound.by_dma; whole = sound.whole; held = sound.held; comes = sound.comes; code = sound.code; now = sound.now })
+
 -- ---- all calls
 
 pub call_sound : (call : Call) (old new : ChipState) → Does call old new → WritesByte call → IsSound old → IsSound new
@@ -325,6 +340,7 @@ call_sound (made.Reads port value) old new does few sound = reads_sound port val
 call_sound (made.Writes port value) old new does few sound = writes_sound port value old new few sound does
 call_sound made.Changes old new does few sound = changes_sound old new does sound
 call_sound (made.Straps on) old new does few sound = straps_sound on old new does sound
+call_sound (made.StrapsSteps on) old new does few sound = steps_sound on old new does sound
 
 -- ---- a new one
 
@@ -343,3 +359,11 @@ new_sound bay0 bay1 new is =
         seek = subst (λ (fdc : Fdc). IsOfFour fdc.seeks.seek) (sym controller) tt;
       });
     }
+
+-- and one that was used
+pub used_sound : (bay0 bay1 : DriveState) (calls : List Call) (start new : ChipState) → IsNewChip bay0 bay1 start → AreMade calls start new → IsSound new
+used_sound bay0 bay1 calls start new is all = on calls start new all (new_sound bay0 bay1 start is)
+  where
+    on : (calls : List Call) (old new : ChipState) → AreMade calls old new → IsSound old → IsSound new
+    on [] old new same sound = same_sound old new same sound
+    on (call ∷ calls) old new (between, does, few, rest) sound = on calls between new rest (call_sound call old between does few sound)

@@ -1,9 +1,10 @@
 -- What makes a chip sound, from what it was.
-use Rattle.std.proofs.Common.{◌≡◌, ◌<◌, Bool, true, false, ◌==◌, [], refl, sym, ◌∙◌, ap, subst}
-use Rattle.std.proofs.lemmas.Bool.{eqb-true, false≢true}
+use Rattle.std.proofs.Common.{◌≡◌, ◌<◌, Bool, true, false, not, ◌&&◌, ◌==◌, [], refl, sym, ◌∙◌, ap, subst}
+use Rattle.std.proofs.lemmas.Bool.{and_parts, eqb-true, false≢true}
 use Rattle.fdc_core.specs.State.{is_held}
 use Rattle.fdc_sequencer.specs.Fronts.{Front}
-use Rattle.fdc_chip.specs.Chips.{ChipState, passes_at, with_front}
+use Rattle.fdc_chip.specs.Chips.{ChipState, passes, passes_at, with_front}
+use Rattle.fdc_chip.specs.Orders.{is_format}
 use Rattle.fdc_chip.specs.declared.order.Order.{Order}
 use Rattle.fdc_chip.specs.declared.stage.Stage.{Stage}
 use Rattle.fdc_chip.specs.declared.stage.Stage.TheVariants.{Ready, Held, Busy, Telling}
@@ -28,11 +29,14 @@ pub not_ready : (stage : Stage) → is_ready stage ≡ false → stage ≡ Ready
 not_ready stage other is = false≢true (sym other ∙ ap is_ready is)
 
 -- bytes pass only where something is executed
-pub passing_at : (stage : Stage) → passes_at stage ≡ true → (task : Task) × (stage ≡ Busy task)
+passing_at : (stage : Stage) → passes_at stage ≡ true → (task : Task) × (stage ≡ Busy task)
 passing_at Ready passes = absurd (false≢true passes)
 passing_at Held passes = absurd (false≢true passes)
 passing_at (Busy task) passes = (task, refl)
 passing_at (Telling answer read) passes = absurd (false≢true passes)
+
+pub passing_of : (chip : ChipState) → passes chip ≡ true → (task : Task) × (chip.stage ≡ Busy task)
+passing_of chip is = passing_at chip.stage (and_parts (passes_at chip.stage) (not (is_format chip.order && (chip.keys == 0))) is).0
 
 -- ---- what stands behind at a stage
 

@@ -1,6 +1,6 @@
 -- A sound chip through device steps.
-use Rattle.std.proofs.Common.{◌≡◌, ◌⊎◌, inl, inr, ℕ, zero, suc, Bool, true, false, not, ◌&&◌, ◌==◌, if◌then◌else◌, Option, Some, None, [], bit_and, refl, sym, ◌∙◌, ap, subst}
-use Rattle.std.proofs.lemmas.Bool.{and_parts}
+use Rattle.std.proofs.Common.{◌≡◌, ◌⊎◌, inl, inr, ℕ, zero, suc, nat_lt, Bool, true, false, not, ◌&&◌, ◌==◌, if◌then◌else◌, Option, Some, None, [], bit_and, refl, sym, ◌∙◌, ap, subst}
+use Rattle.std.proofs.lemmas.Bool.{and_parts, not-true}
 use Rattle.flop_base.specs.declared.key.Chrn.{Chrn}
 use Rattle.fdc_registers.specs.St1.{missing_mark}
 use Rattle.fdc_commands.specs.declared.results.Results.{Results}
@@ -8,11 +8,15 @@ use Rattle.fdc_core.specs.State.{is_held}
 use Rattle.fdc_sequencer.specs.Fronts.{Front, TakesFront, interrupts_outside, told_front}
 use Rattle.fdc_sequencer.specs.Moves.{StepsFront}
 use Rattle.fdc_sequencer.specs.Opcodes.{opcode_of}
+use Rattle.fdc_sequencer.specs.Senses.{is_ready as is_ready_behind, sensed_outside}
 use Rattle.fdc_chip.specs.Chips.{ChipState, asks_chip, interrupts_chip, with_front}
 use Rattle.fdc_chip.specs.Codes.{code_of}
-use Rattle.fdc_chip.specs.Doing.{SendsOn, drained, identifying, is_size, reading_one}
-use Rattle.fdc_chip.specs.Ending.{Ends, EndsAddress, EndsAddressIf, EndsAt, EndsData, EndsIf, EndsIndex, EndsSent, LooksOn, MayEnd, ReadsOn, has_results, is_over, looks_for_cylinder, met_key, results_behind, results_taken, told_results, track_at, unit_of, without_one}
+use Rattle.fdc_chip.specs.Doing.{SendsOn, drained, identifying, is_size, moves_heads, moving, reading_one}
+use Rattle.fdc_chip.specs.Ending.{Ends, EndsAddress, EndsAddressIf, EndsAt, EndsData, EndsIf, EndsIndex, EndsSent, LooksOn, MayEnd, ReadsOn, has_results, is_over, looks_for_cylinder, met_key, results_behind, results_taken, told_results, track_at, unit_of, verified, without_one}
+use Rattle.fdc_chip.specs.Paces.{GoesOnIf, Paces, PulsesIf, is_due, stepped, target_of}
+use Rattle.fdc_chip.specs.Settings.{step_words}
 use Rattle.fdc_chip.specs.Steps.{Follows, FollowsTask, RunsChip, RunsChipWith, StepsChip, Swallows, SwallowsAs, SwallowsBy}
+use Rattle.fdc_chip.specs.declared.pace.Pace.{Pace}
 use Rattle.fdc_chip.specs.declared.stage.Place.{Place}
 use Rattle.fdc_chip.specs.declared.stage.Place.TheVariants.{Index, Address, Data}
 use Rattle.fdc_chip.specs.declared.stage.Stage.{Stage}
@@ -21,17 +25,17 @@ use Rattle.fdc_chip.specs.declared.stage.Task.{Task}
 use Rattle.fdc_chip.specs.declared.stage.Task.TheVariants as task
 use Rattle.fdc_chip.specs.declared.stage.Track.{Track}
 use Rattle.chip_laws.specs.Sound.{ExecutesBehind, IsBusyAt, IsBusyWith, IsSound, RestsBehind, ServesBehind}
-use Rattle.chip_laws.proofs.Attended.{attended_sound, done_sound, one_order, some_of}
+use Rattle.chip_laws.proofs.Attended.{attended_sound, done_sound, given_moves, one_order, some_of}
 use Rattle.chip_laws.proofs.Channels.{IsOverBehind, counts_busy, counts_front_base, counts_over, takes_busy, takes_front_base, takes_over}
 use Rattle.chip_laws.proofs.CommandsBegun.{strapped_stands}
 use Rattle.chip_laws.proofs.FirstSectors.{IsBase}
 use Rattle.chip_laws.proofs.PassedOn.{none_wait}
-use Rattle.chip_laws.proofs.Rests.{base_on, drained_rests, front_rests, stands_rests}
+use Rattle.chip_laws.proofs.Rests.{IsResting, base_on, base_same, drained_rests, front_rests, front_sensed, stands_rests}
 use Rattle.chip_laws.proofs.Sending.{id_obeyed}
 use Rattle.chip_laws.proofs.ServedSteps.{order_serves, serves_step, tells_shown, tells_taken}
 use Rattle.chip_laws.proofs.Singles.{executes_none, executes_step, id_executes, waits_shown, waits_taken}
 use Rattle.chip_laws.proofs.SoundParts.{IsBasis, at_rest, basis_busy, basis_front, basis_same, busy_at, is_busy, is_ready, rests_at, sound_basis, stays_sound}
-use Rattle.chip_laws.proofs.Standing.{Stands}
+use Rattle.chip_laws.proofs.Standing.{Stands, heads_stand, ready_free}
 
 -- ---- what comes of results
 
@@ -105,7 +109,8 @@ ends_sound : (what : Task) (results : Results) (old new : ChipState) → IsBasis
 ends_sound task.Sent results old new basis stands ends = sent_sound (looks_for_cylinder old.order results) results old new basis stands ends
 ends_sound (task.Sought first) results old new basis stands is = told_sound _ old new basis stands is
 ends_sound (task.Refused unit key mfm) results old new basis stands is = told_sound _ old new basis stands is
-ends_sound (task.Verify left) results old new basis stands ends = sent_sound (looks_for_cylinder old.order results) results old new basis stands ends
+ends_sound (task.Verify left) results old new basis stands ends =
+    let told = verified old.order results in sent_sound (looks_for_cylinder old.order told) told old new basis stands ends
 ends_sound (task.Track track) results old new basis stands ends = place_sound track.place track results old new basis stands ends
 
 -- ---- what may wait behind a step
@@ -242,27 +247,90 @@ stage_rests : (old new : ChipState) → IsSound old → is_busy old.stage ≡ fa
     → new.order ≡ old.order → IsSound new
 stage_rests old new sound idle rests base stage count order = stays_sound old new sound base stage count order (rests_at old.stage new.front idle rests)
 
-ready_step : (b : Bool) (old : ChipState) (between : Front) (new : ChipState) → IsSound old → is_busy old.stage ≡ false → RestsBehind between → IsBase old.front.board.controller between.board.controller
-    → new ≡ (if b then drained (with_front between old) else with_front between old) → IsSound new
-ready_step true old between new sound idle rests base is =
-    let set = with_front between old in
-    let resting = drained_rests 4 set base.command rests in
-    subst IsSound (sym is) (stage_rests old (drained set) sound idle resting.rests (base_on old.front.board.controller between.board.controller (drained set).front.board.controller base resting.base)
-    resting.stage resting.count resting.order)
-ready_step false old between new sound idle rests base is = subst IsSound (sym is) (stage_rests old (with_front between old) sound idle rests base refl refl refl)
+-- ---- a seek whose pulses come in time
+
+-- a command of it is given behind
+gives_rests : (unit : ℕ) (goal : Option ℕ) (old set new : ChipState) → Stands old.front → set.front ≡ old.front → set.stage ≡ old.stage → set.count ≡ old.count → set.order ≡ old.order
+    → SendsOn (moving unit goal) set new → IsResting old new
+gives_rests unit goal old set new stands front stage count order (sends, rest) =
+    let (rests, base) = given_moves unit goal set.front new.front (subst Stands (sym front) stands) sends in
+    record {
+      rests = rests;
+      base = subst (λ (f : Front). IsBase f.board.controller new.front.board.controller) front base;
+      stage = ap (λ (chip : ChipState). chip.stage) rest ∙ stage;
+      count = ap (λ (chip : ChipState). chip.count) rest ∙ count;
+      order = ap (λ (chip : ChipState). chip.order) rest ∙ order;
+    }
+
+pulses_rest : (b : Bool) (pace : Pace) (old new : ChipState) → Stands old.front → PulsesIf b pace old new → IsResting old new
+pulses_rest true pace old new stands ends = gives_rests pace.unit pace.goal old (record old { pace = None }) new stands refl refl refl refl ends
+pulses_rest false pace old new stands pulses =
+    let next : Pace = stepped (step_words old.settings) pace in
+    gives_rests pace.unit (Some next.cylinder) old (record old { pace = Some next }) new stands refl refl refl refl pulses
+
+goes_rests : (b : Bool) (pace : Pace) (old new : ChipState) → old.front.board.controller.non_dma ≡ false → old.front.board.controller.command ≡ [] → RestsBehind old.front → is_due pace old ≡ b
+    → GoesOnIf b pace old new → IsResting old new
+goes_rests true pace old new by_dma none rests due pulses =
+    let waited = not (nat_lt 1 pace.wait) in
+    let (timed, still) = and_parts (waited && is_ready_behind old.front) (not (moves_heads old.front)) due in
+    let free = ready_free old.front (and_parts waited (is_ready_behind old.front) timed).1 in
+    pulses_rest (pace.cylinder == target_of pace) pace old new (record {
+      through = rests.through;
+      takes = rests.takes;
+      none = none;
+      free = free;
+      rests = heads_stand old.front rests.through free rests.takes none rests.seek (not-true (moves_heads old.front) still);
+      by_dma = by_dma;
+    }) pulses
+goes_rests false pace old new by_dma none rests due is =
+    subst (IsResting old) (sym is) (record { rests = rests; base = base_same old.front.board.controller none; stage = refl; count = refl; order = refl })
+
+-- what stands behind rests still
+paces_rest : (pace : Option Pace) (old new : ChipState) → old.front.board.controller.non_dma ≡ false → old.front.board.controller.command ≡ [] → RestsBehind old.front → Paces pace old new → IsResting old new
+paces_rest None old new by_dma none rests is =
+    subst (IsResting old) (sym is) (record { rests = rests; base = base_same old.front.board.controller none; stage = refl; count = refl; order = refl })
+paces_rest (Some pace) old new by_dma none rests goes =
+    let set = with_front (sensed_outside old.front) old in
+    let (still, base) = front_sensed old.front none rests in
+    let on = goes_rests (is_due pace set) pace set new (base.non_dma ∙ by_dma) base.command still refl goes in
+    record {
+      rests = on.rests;
+      base = base_on old.front.board.controller set.front.board.controller new.front.board.controller base on.base;
+      stage = on.stage;
+      count = on.count;
+      order = on.order;
+    }
+
+stepped_rests : (old : ChipState) (between : Front) (new : ChipState) → IsSound old → is_busy old.stage ≡ false → StepsFront old.front between → Paces old.pace (with_front between old) new → IsResting old new
+stepped_rests old between new sound idle step paces =
+    let (rests, base) = front_rests old.front between step sound.whole (at_rest old.stage old.front idle sound.now) in
+    let on = paces_rest old.pace (with_front between old) new (base.non_dma ∙ sound.by_dma) base.command rests paces in
+    record {
+      rests = on.rests;
+      base = base_on old.front.board.controller between.board.controller new.front.board.controller base on.base;
+      stage = on.stage;
+      count = on.count;
+      order = on.order;
+    }
+
+-- ---- a device step of any chip
+
+ready_step : (b : Bool) (old set new : ChipState) → IsSound old → is_busy old.stage ≡ false → IsResting old set → new ≡ (if b then drained set else set) → IsSound new
+ready_step true old set new sound idle was is =
+    let resting = drained_rests 4 set was.base.command was.rests in
+    subst IsSound (sym is) (stage_rests old (drained set) sound idle resting.rests (base_on old.front.board.controller set.front.board.controller (drained set).front.board.controller was.base resting.base)
+    (resting.stage ∙ was.stage) (resting.count ∙ was.count) (resting.order ∙ was.order))
+ready_step false old set new sound idle was is = subst IsSound (sym is) (stage_rests old set sound idle was.rests was.base was.stage was.count was.order)
 
 step_at : (stage : Stage) (old : ChipState) (between : Front) (new : ChipState) → old.stage ≡ stage → IsSound old → StepsFront old.front between → Follows stage (with_front between old) new → IsSound new
-step_at Ready old between new at sound step follows =
-    let idle = ap is_busy at in
-    let (rests, base) = front_rests old.front between step sound.whole (at_rest old.stage old.front idle sound.now) in
-    ready_step (interrupts_outside between) old between new sound idle rests base follows
-step_at Held old between new at sound step attends =
-    let (rests, base) = front_rests old.front between step sound.whole (at_rest old.stage old.front (ap is_busy at) sound.now) in
-    attended_sound (code_of old.order.code) (with_front between old) new (basis_front between old (sound_basis old (ap is_ready at) sound) base) rests refl attends
-step_at (Telling answer read) old between new at sound step is =
-    let idle = ap is_busy at in
-    let (rests, base) = front_rests old.front between step sound.whole (at_rest old.stage old.front idle sound.now) in
-    subst IsSound (sym is) (stage_rests old (with_front between old) sound idle rests base refl refl refl)
+step_at Ready old between new at sound step (paced, paces, is) =
+    ready_step (interrupts_outside paced.front) old paced new sound (ap is_busy at) (stepped_rests old between paced sound (ap is_busy at) step paces) is
+step_at Held old between new at sound step (paced, paces, attends) =
+    let was = stepped_rests old between paced sound (ap is_busy at) step paces in
+    attended_sound (code_of paced.order.code) paced new (basis_same old paced (sound_basis old (ap is_ready at) sound) was.base was.count was.order) was.rests refl attends
+step_at (Telling answer read) old between new at sound step paces =
+    let was = stepped_rests old between new sound (ap is_busy at) step paces in
+    stage_rests old new sound (ap is_busy at) was.rests was.base was.stage was.count was.order
 step_at (Busy what) old between new at sound step follows =
     busy_step what old between new at (sound_basis old (ap is_ready at) sound) (front_stepped what old.front between step sound.whole sound.by_dma (busy_at old what at sound)) follows
 

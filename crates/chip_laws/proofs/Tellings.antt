@@ -1,14 +1,14 @@
 -- What the sequencer tells, read by the chip in the step in which it comes.
 use Rattle.std.proofs.Common.{◌≡◌, inl, inr, ℕ, Bool, true, false, not, ◌&&◌, ◌||◌, ◌==◌, if◌then◌else◌, bit_and, bit_or, refl, sym, ◌∙◌, ap, subst}
-use Rattle.std.proofs.lemmas.Bool.{and_right}
+use Rattle.std.proofs.lemmas.Bool.{and_left, and_right}
 use Rattle.std.proofs.lemmas.Nat.{or_comm}
 use Rattle.fdc_registers.specs.St2.{wrong_cylinder, bad_cylinder}
 use Rattle.fdc_commands.specs.declared.results.Results.{Results}
-use Rattle.fdc_core.specs.State.{is_gated}
 use Rattle.fdc_sequencer.specs.Fronts.{Front, asks_outside, status_at}
 use Rattle.fdc_sequencer.specs.declared.stage.Stage.TheVariants as behind
-use Rattle.fdc_chip.specs.Chips.{ChipState, asks_chip, interrupts_chip, passes_at, shows_behind, with_front}
+use Rattle.fdc_chip.specs.Chips.{ChipState, asks_chip, interrupts_chip, passes, passes_at, shows_behind, with_front}
 use Rattle.fdc_chip.specs.Ending.{EndsIf, EndsSent, MayEnd, cylinder_bits, has_results, looks_for_cylinder, results_behind, results_taken, with_cylinder_passed}
+use Rattle.fdc_chip.specs.Orders.{is_format}
 use Rattle.fdc_chip.specs.Settings.{is_by_port}
 use Rattle.fdc_chip.specs.Steps.{Follows, StepsChip}
 use Rattle.fdc_chip.specs.declared.stage.Stage.TheVariants.{Busy}
@@ -85,23 +85,21 @@ cylinder_told first old new step sought =
 
 -- ---- the lines
 
-or_none : (b : Bool) → (b || false) ≡ b
-or_none true = refl
-or_none false = refl
+and_all : (b : Bool) → (b && true) ≡ b
+and_all true = refl
+and_all false = refl
 
 -- no byte passes
-no_bytes : (results : Results) (chip : ChipState) → Tells results chip → passes_at chip.stage ≡ false
-no_bytes results chip tells = ap passes_at tells.stage
+no_bytes : (results : Results) (chip : ChipState) → Tells results chip → passes chip ≡ false
+no_bytes results chip tells = and_left (passes_at chip.stage) (not (is_format chip.order && (chip.keys == 0))) (ap passes_at tells.stage)
 
-pub told_interrupts : (results : Results) (chip : ChipState) → Tells results chip → interrupts_chip chip ≡ is_gated chip.front.board.controller
+pub told_interrupts : (results : Results) (chip : ChipState) → Tells results chip → interrupts_chip chip ≡ chip.gated
 told_interrupts results chip tells =
     let asks = asks_outside chip.front in
-    let gated = is_gated chip.front.board.controller in
-    ap (λ b. if b then asks else ((chip.interrupts.line && gated) || shows_behind chip.stage chip.front))
-    (and_right (is_by_port chip.settings) (passes_at chip.stage) (no_bytes results chip tells))
-    ∙ (ap (λ line. (line && gated) || shows_behind chip.stage chip.front) tells.line
-    ∙ (ap (λ stage. gated || shows_behind stage chip.front) tells.stage ∙ or_none gated))
+    ap (λ b. chip.gated && (if b then asks else (chip.interrupts.line || shows_behind chip.stage chip.front)))
+    (and_right (is_by_port chip.settings) (passes chip) (no_bytes results chip tells))
+    ∙ (ap (λ line. chip.gated && (line || shows_behind chip.stage chip.front)) tells.line ∙ and_all chip.gated)
 
 pub told_asks : (results : Results) (chip : ChipState) → Tells results chip → asks_chip chip ≡ false
 told_asks results chip tells =
-    ap (λ b. b && asks_outside chip.front) (and_right (not (is_by_port chip.settings)) (passes_at chip.stage) (no_bytes results chip tells))
+    ap (λ b. b && asks_outside chip.front) (and_right (chip.gated && not (is_by_port chip.settings)) (passes chip) (no_bytes results chip tells))

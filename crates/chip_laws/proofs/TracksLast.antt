@@ -23,7 +23,7 @@ use Rattle.sequencer_laws.proofs.Lasted.{Lasts, call_lasts, calls_last, first_la
 use Rattle.fdc_chip.specs.Chips.{ChipState, is_data, passes_by_channel, passes_by_port, with_front}
 use Rattle.fdc_chip.specs.Doing.{Obeys, Sends, TransfersIf, absent_key, implies, is_size, reading_one, track_begun, with_last}
 use Rattle.fdc_chip.specs.Ending.{EndsAddress, EndsAddressIf, EndsAt, EndsData, EndsIf, EndsIndex, LooksOn, ReadsOn, has_results, is_over, met_key, results_behind, results_taken, without_one}
-use Rattle.fdc_chip.specs.Ports.{GivesChipIf, GivesIf, ReadsAt, ReadsChip, ReadsIf, TakesByte, TakesIf, count_told, counted_if, reset_if}
+use Rattle.fdc_chip.specs.Ports.{GivesChipIf, GivesIf, ReadsAt, ReadsChip, ReadsIf, TakesByte, TakesIf, count_told, counted_if, gated_by, reset_if, value_behind}
 use Rattle.fdc_chip.specs.Steps.{Follows, StepsChip}
 use Rattle.fdc_chip.specs.declared.code.Code.TheVariants.{ReadTrack}
 use Rattle.fdc_chip.specs.declared.stage.Place.{Place}
@@ -311,10 +311,10 @@ other_read port value old new no_data reads = either_way (port == 0x3F4)
     (λ status. (reads.status (eqb-true port 0x3F4 status)).1)
     (λ no_status. (reads.others no_status no_data).1)
 
-port_passes : (b : Bool) (port value : ℕ) (track : Track) (old new : ChipState) → old.stage ≡ Busy (task.Track track) → IsTracking new → WritesFront port value old.front new.front → new ≡ with_front new.front (reset_if b old)
+port_passes : (b : Bool) (port value : ℕ) (track : Track) (old set new : ChipState) → old.stage ≡ Busy (task.Track track) → IsTracking new → WritesFront port value old.front new.front → set.stage ≡ old.stage → new ≡ with_front new.front (reset_if b set)
     → IsPassing track old new
-port_passes true port value track old new at tracks writes rest = told_none new tracks (ap (λ (chip : ChipState). is_busy chip.stage) rest)
-port_passes false port value track old new at tracks writes rest = passing_one (behind.Writes port value) track old new at writes refl (ap (λ (chip : ChipState). chip.stage) rest)
+port_passes true port value track old set new at tracks writes same rest = told_none new tracks (ap (λ (chip : ChipState). is_busy chip.stage) rest)
+port_passes false port value track old set new at tracks writes same rest = passing_one (behind.Writes port value) track old new at writes refl (ap (λ (chip : ChipState). chip.stage) rest ∙ same)
 
 call_passes : (call : Call) (track : Track) (old new : ChipState) → old.stage ≡ Busy (task.Track track) → Does call old new → is_step call ≡ false → IsTracking new → IsPassing track old new
 call_passes made.Steps track old new at does other tracks = absurd (false≢true (sym other))
@@ -326,9 +326,16 @@ call_passes (made.Reads port value) track old new at does other tracks = either_
     (λ no_data. passing_none track old new at (other_read port value old new no_data does))
 call_passes (made.Writes port value) track old new at does other tracks = either_way (port == 0x3F5)
     (λ here. write_passes (passes_by_port old) value track old new at (subst (λ stage. TakesByte stage value old new) at (does.bytes (eqb-true port 0x3F5 here))))
-    (λ no_data. let (front, rest) = does.others no_data in port_passes (resets port value) port value track old new at tracks front rest)
+    (λ no_data.
+    let (front, rest) = does.others no_data in
+    let given = value_behind port value in
+    port_passes (resets port given) port given track old (gated_by port value old) new at tracks front refl rest)
 call_passes made.Changes track old new at does other tracks = passing_one behind.Changes track old new at does.front refl (ap (λ (chip : ChipState). chip.stage) does.rest)
 call_passes (made.Straps on) track old new at does other tracks = record {
+  kept = kept_at track old new at (ap (λ (chip : ChipState). chip.stage) does);
+  within = λ under. none_within old.front new.front (ap (λ (chip : ChipState). chip.front) does);
+}
+call_passes (made.StrapsSteps on) track old new at does other tracks = record {
   kept = kept_at track old new at (ap (λ (chip : ChipState). chip.stage) does);
   within = λ under. none_within old.front new.front (ap (λ (chip : ChipState). chip.front) does);
 }
@@ -367,6 +374,7 @@ none_of (made.Reads port value) other = refl
 none_of (made.Writes port value) other = refl
 none_of made.Changes other = refl
 none_of (made.Straps on) other = refl
+none_of (made.StrapsSteps on) other = refl
 
 other_leaves : (call : Call) (n : ℕ) (old new : ChipState) → IsSound old → IsSound new → Leaves n old → Does call old new → is_step call ≡ false → IsTracking new → Leaves n new
 other_leaves call n old new sound still was does other tracks =
@@ -401,6 +409,7 @@ call_leaves call n old new sound still was does tracks = either_way (is_step cal
     by_step (made.Writes port value) is does = absurd (false≢true is)
     by_step made.Changes is does = absurd (false≢true is)
     by_step (made.Straps on) is does = absurd (false≢true is)
+    by_step (made.StrapsSteps on) is does = absurd (false≢true is)
 
 index_some : (here left n : ℕ) → 1 ≤ left → here + 131328 * left ≤ n → 0 < n
 index_some here left n some few = omega arith

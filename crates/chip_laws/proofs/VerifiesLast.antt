@@ -1,6 +1,6 @@
 -- A VERIFY is a READ DATA behind whose bytes go nowhere, and ends as that does; so does a transfer.
-use Rattle.std.proofs.Common.{◌≡◌, ℕ, zero, suc, ◌+◌, ◌*◌, ◌<◌, Bool, true, false, not, ◌==◌, if◌then◌else◌, Option, Some, None, List, [], ◌∷◌, ◌++◌, refl, sym, ◌∙◌, ap, subst}
-use Rattle.std.proofs.lemmas.Bool.{and_right, eqb-true, false≢true}
+use Rattle.std.proofs.Common.{◌≡◌, ℕ, zero, suc, ◌+◌, ◌*◌, ◌<◌, Bool, true, false, not, ◌&&◌, ◌==◌, if◌then◌else◌, Option, Some, None, List, [], ◌∷◌, ◌++◌, refl, sym, ◌∙◌, ap, subst}
+use Rattle.std.proofs.lemmas.Bool.{and_left, and_right, eqb-true, false≢true}
 use Rattle.fdc_commands.specs.declared.results.Results.{Results}
 use Rattle.fdc_core.specs.Ranges.{IsInRange}
 use Rattle.fdc_sequencer.specs.Fronts.{Front, TakesAt, count_told as front_told, told_front}
@@ -16,11 +16,11 @@ use Rattle.sequencer_laws.specs.Lasting.{HasByteRecords, is_under_way, most_step
 use Rattle.sequencer_laws.proofs.Called.{both_within}
 use Rattle.sequencer_laws.proofs.Lasted.{command_within}
 use Rattle.sequencer_laws.proofs.Sectors.{steps_both}
-use Rattle.fdc_chip.specs.Chips.{ChipState, passes_at, passes_by_channel, passes_by_port, with_front}
+use Rattle.fdc_chip.specs.Chips.{ChipState, passes, passes_at, passes_by_channel, passes_by_port, with_front}
 use Rattle.fdc_chip.specs.Doing.{Obeys, TransfersIf, implies, is_size, sectors_verified, verifying, with_last}
-use Rattle.fdc_chip.specs.Ending.{EndsIf, EndsSent, has_results, looks_for_cylinder, results_behind, results_taken}
-use Rattle.fdc_chip.specs.Orders.{order_bytes}
-use Rattle.fdc_chip.specs.Ports.{GivesChipIf, GivesIf, ReadsAt, ReadsChip, ReadsIf, TakesByte, TakesIf, count_told}
+use Rattle.fdc_chip.specs.Ending.{EndsIf, EndsSent, has_results, looks_for_cylinder, results_behind, results_taken, verified}
+use Rattle.fdc_chip.specs.Orders.{is_format, order_bytes}
+use Rattle.fdc_chip.specs.Ports.{GivesChipIf, GivesIf, ReadsAt, ReadsChip, ReadsIf, TakesByte, TakesIf, count_told, value_behind}
 use Rattle.fdc_chip.specs.Settings.{is_by_port}
 use Rattle.fdc_chip.specs.Steps.{Follows, StepsChip, Swallows, SwallowsAs, SwallowsBy}
 use Rattle.fdc_chip.specs.declared.code.Code.TheVariants.{Verify as VerifyCode}
@@ -151,7 +151,7 @@ verify_over false results old new is = ap (λ (chip : ChipState). is_verify chip
 
 verify_same : (b : Bool) (left : ℕ) (old new : ChipState) → is_verify new.stage ≡ true → EndsIf b (Verify left) old new → new ≡ old
 verify_same true left old new still ends =
-    let results = results_behind old.front in
+    let results = verified old.order (results_behind old.front) in
     absurd (false≢true (sym (verify_over (looks_for_cylinder old.order results) results (with_front (results_taken old.front) old) new ends) ∙ still))
 verify_same false left old new still is = is
 
@@ -167,8 +167,14 @@ step_within left old new at step still =
 
 -- ---- other calls: no byte of it is the host's
 
-none_passes : (left : ℕ) (old : ChipState) → old.stage ≡ Busy (Verify left) → passes_at old.stage ≡ false
-none_passes left old at = ap passes_at at
+none_passes : (left : ℕ) (old : ChipState) → old.stage ≡ Busy (Verify left) → passes old ≡ false
+none_passes left old at = and_left (passes_at old.stage) (not (is_format old.order && (old.keys == 0))) (ap passes_at at)
+
+none_by_channel : (left : ℕ) (old : ChipState) → old.stage ≡ Busy (Verify left) → passes_by_channel old ≡ false
+none_by_channel left old at = and_right (old.gated && not (is_by_port old.settings)) (passes old) (none_passes left old at)
+
+none_by_port : (left : ℕ) (old : ChipState) → old.stage ≡ Busy (Verify left) → passes_by_port old ≡ false
+none_by_port left old at = and_right (is_by_port old.settings) (passes old) (none_passes left old at)
 
 takes_within : (b : Bool) (byte : Option ℕ) (old new : ChipState) → b ≡ false → TakesIf b old byte new → IsWithin 0 old.front new.front
 takes_within true byte old new passes takes = absurd (false≢true (sym passes))
@@ -193,19 +199,20 @@ other_read port value old new no_data reads = either_way (port == 0x3F4)
 
 call_within : (call : Call) (left : ℕ) (old new : ChipState) → old.stage ≡ Busy (Verify left) → Does call old new → IsVerifying new → IsWithin (steps_of call) old.front new.front
 call_within made.Steps left old new at does still = step_within left old new at does still
-call_within (made.Takes byte) left old new at does still = takes_within (passes_by_channel old) byte old new (and_right (not (is_by_port old.settings)) (passes_at old.stage) (none_passes left old at)) does
-call_within (made.Gives byte given) left old new at does still = gives_within (passes_by_channel old) byte given old new (and_right (not (is_by_port old.settings)) (passes_at old.stage) (none_passes left old at)) does
+call_within (made.Takes byte) left old new at does still = takes_within (passes_by_channel old) byte old new (none_by_channel left old at) does
+call_within (made.Gives byte given) left old new at does still = gives_within (passes_by_channel old) byte given old new (none_by_channel left old at) does
 call_within made.Counts left old new at does still = none_within old.front new.front (ap (λ (chip : ChipState). chip.front) (subst (λ stage. new ≡ count_told stage old) at does))
 call_within (made.Reads port value) left old new at does still = either_way (port == 0x3F5)
-    (λ here. read_within (passes_by_port old) value old new (and_right (is_by_port old.settings) (passes_at old.stage) (none_passes left old at))
+    (λ here. read_within (passes_by_port old) value old new (none_by_port left old at)
     (subst (λ stage. ReadsAt stage old value new) at (does.byte (eqb-true port 0x3F5 here))))
     (λ no_data. none_within old.front new.front (ap (λ (chip : ChipState). chip.front) (other_read port value old new no_data does)))
 call_within (made.Writes port value) left old new at does still = either_way (port == 0x3F5)
-    (λ here. write_within (passes_by_port old) value old new (and_right (is_by_port old.settings) (passes_at old.stage) (none_passes left old at))
+    (λ here. write_within (passes_by_port old) value old new (none_by_port left old at)
     (subst (λ stage. TakesByte stage value old new) at (does.bytes (eqb-true port 0x3F5 here))))
-    (λ no_data. one_within (behind.Writes port value) old.front new.front (does.others no_data).0 still.under_way)
+    (λ no_data. one_within (behind.Writes port (value_behind port value)) old.front new.front (does.others no_data).0 still.under_way)
 call_within made.Changes left old new at does still = one_within behind.Changes old.front new.front does.front still.under_way
 call_within (made.Straps on) left old new at does still = none_within old.front new.front (ap (λ (chip : ChipState). chip.front) does)
+call_within (made.StrapsSteps on) left old new at does still = none_within old.front new.front (ap (λ (chip : ChipState). chip.front) does)
 
 -- ---- calls one behind the other
 

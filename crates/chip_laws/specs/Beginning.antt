@@ -1,8 +1,9 @@
 -- How a command of several sectors begins, and what is then known of it.
-use Rattle.std.specs.Prelude.{◌≡◌, ◌<◌, ℕ, true, false, List, [], ◌∷◌, ◌++◌, Option, Some, None}
+use Rattle.std.specs.Prelude.{◌≡◌, ◌<◌, ℕ, Bool, true, false, List, [], ◌∷◌, ◌++◌, Option, Some, None}
 use Rattle.fdc_seek.specs.declared.motion.Seek.{Seek}
 use Rattle.fdc_commands.specs.declared.results.Results.{Results}
 use Rattle.fdc_sequencer.specs.Fronts.{Front, WritesFront}
+use Rattle.fdc_sequencer.specs.Opcodes.{opcode_of}
 use Rattle.fdc_sequencer.specs.Senses.{is_ready}
 use Rattle.fdc_sequencer.specs.Transfers.{transfer_with}
 use Rattle.fdc_sequencer.specs.declared.opcode.Opcode.{Opcode}
@@ -12,9 +13,14 @@ use Rattle.sequencer_laws.specs.Calls as behind
 use Rattle.sequencer_laws.specs.Calls.{IsLastByte, Served}
 use Rattle.sequencer_laws.specs.Serving.{Serves, nothing_moved}
 use Rattle.fdc_chip.specs.Chips.{ChipState}
-use Rattle.fdc_chip.specs.Doing.{moves_heads}
+use Rattle.fdc_chip.specs.Codes.{code_of, parameters}
+use Rattle.fdc_chip.specs.Doing.{Obeys, drained, is_size, moves_heads}
+use Rattle.fdc_chip.specs.Orders.{with_byte}
 use Rattle.fdc_chip.specs.Steps.{StepsChip}
+use Rattle.fdc_chip.specs.declared.code.Code.{Code}
+use Rattle.fdc_chip.specs.declared.code.Code.TheVariants.{Transfer as TransferCode}
 use Rattle.fdc_chip.specs.declared.order.Order.{Order}
+use Rattle.fdc_chip.specs.declared.stage.Stage.TheVariants.{Held}
 use Rattle.chip_laws.specs.Calls.{AreServed, Call, IsServing, MakesAll}
 
 -- a seek is of one of four drives
@@ -53,3 +59,46 @@ pub record IsServed (first : Transfer) (calls : List Call) (begun last new : Chi
   pub makes : MakesAll calls begun last served all
   pub within : behind.AreWithin (all ++ behind.Steps ∷ []) begun.front step.between
   pub moved : Served first (all ++ behind.Steps ∷ []) begun.front step.between within results
+
+-- ---- the last byte of a command
+
+-- what came of it, with this byte
+abbrev pub completed : ℕ → ChipState → Order
+completed byte chip = with_byte chip.count byte chip.order
+
+-- as many bytes came as follow its code, and this is the last
+pub record Completes (code : Code) (byte : ℕ) (old : ChipState) : Type 0 where
+  pub others : old.count ≡ parameters code
+  pub whole : code_of (completed byte old).code ≡ Some code
+
+-- a command of several sectors that this medium can have, which the sequencer serves
+pub record IsTransferOf (opcode : Opcode) (order : Order) : Type 0 where
+  pub code : code_of order.code ≡ Some (TransferCode true)
+  pub served : opcode_of order.code ≡ Some opcode
+  pub size : is_size order.key.n ≡ true
+
+-- eight bytes of one came, and this is the ninth
+pub record CompletesTransfer (opcode : Opcode) (byte : ℕ) (old : ChipState) : Type 0 where
+  pub eight : old.count ≡ 8
+  pub whole : IsTransferOf opcode (completed byte old)
+
+-- heads move behind, once results of seeks were taken over
+abbrev pub moves_behind : ChipState → Bool
+moves_behind chip = moves_heads (drained chip).front
+
+-- a whole command is held while they do
+pub record IsHeldFor (order : Order) (chip : ChipState) : Type 0 where
+  pub held : chip.stage ≡ Held
+  pub order_is : chip.order ≡ order
+
+-- it is, or it begins
+abbrev pub BeginsUnless : Bool → Opcode → Order → ChipState → Type 0
+BeginsUnless true opcode order new = IsHeldFor order new
+BeginsUnless false opcode order new = IsBegun (transfer_sent opcode order) new
+
+-- a command is done by a chip behind which it is free
+pub record IsDoneFree (code : Code) (order : Order) (new : ChipState) : Type 0 where
+  pub set : ChipState
+  pub order_is : set.order ≡ order
+  pub free : IsFreeBehind set.front
+  pub obeys : Obeys code set new

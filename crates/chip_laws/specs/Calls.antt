@@ -2,7 +2,7 @@
 use Rattle.std.specs.Prelude.{◌≡◌, ℕ, ◌+◌, ◌<◌, Bool, true, false, ◌&&◌, ◌==◌, Option, List, [], ◌∷◌, ◌++◌, unwrap_or}
 use Rattle.fdc_core.specs.Ports.{resets}
 use Rattle.fdc_chip.specs.Chips.{ChipState, KeepsChip, passes_by_channel, passes_by_port}
-use Rattle.fdc_chip.specs.Ports.{GivesChip, ReadsChip, TakesChip, WritesChip, told_chip}
+use Rattle.fdc_chip.specs.Ports.{GivesChip, ReadsChip, TakesChip, WritesChip, told_chip, value_behind}
 use Rattle.fdc_chip.specs.Steps.{StepsChip}
 use Rattle.fdc_chip.specs.declared.stage.Stage.TheVariants.{Busy}
 use Rattle.fdc_chip.specs.declared.stage.Task.TheVariants.{Sent}
@@ -11,7 +11,8 @@ use Rattle.sequencer_laws.specs.Lasting as lasting
 use Rattle.sequencer_laws.specs.Lasting.{is_under_way}
 
 -- a call: a device step; the channel takes a byte or finds none; it gives one, which is taken or not; it tells the terminal
--- count; a port is read, which gives a value, or written; a medium is put in or taken out; the strap for seeks is set or not
+-- count; a port is read, which gives a value, or written; a medium is put in or taken out; the strap for implied seeks is set or not, or
+-- that for the time of step pulses
 pub data Call : Type 0 where
   Steps : Call
   Takes : Option ℕ → Call
@@ -21,6 +22,7 @@ pub data Call : Type 0 where
   Writes : ℕ → ℕ → Call
   Changes : Call
   Straps : Bool → Call
+  StrapsSteps : Bool → Call
 
 -- what it does
 abbrev pub Does : Call → ChipState → ChipState → Type 0
@@ -32,20 +34,26 @@ Does (Reads port value) old new = ReadsChip port old value new
 Does (Writes port value) old new = WritesChip port value old new
 Does Changes old new = KeepsChip old new
 Does (Straps on) old new = new ≡ record old { strapped = on }
+Does (StrapsSteps on) old new = new ≡ record old { paced = on }
 
 abbrev pub is_step : Call → Bool
 is_step Steps = true
 is_step _ = false
 
--- it resets the controller
+-- it resets the controller, by what it gives behind
 abbrev pub is_reset : Call → Bool
-is_reset (Writes port value) = resets port value
+is_reset (Writes port value) = resets port (value_behind port value)
 is_reset _ = false
 
 -- what is written is a byte
 abbrev pub WritesByte : Call → Type 0
 WritesByte (Writes port value) = value < 256
 WritesByte _ = Unit {0}
+
+-- these calls, one behind the other
+abbrev pub AreMade : List Call → ChipState → ChipState → Type 0
+AreMade [] old new = new ≡ old
+AreMade (made ∷ calls) old new = (between : ChipState) × Does made old between × WritesByte made × AreMade calls between new
 
 -- how many of the calls are device steps
 abbrev pub steps_of : Call → ℕ
@@ -75,13 +83,13 @@ MakesRead false port value calls = calls ≡ behind.Reads port ∷ []
 -- and a write of it gives one
 abbrev pub MakesWrite : Bool → ℕ → ℕ → List behind.Call → Type 0
 MakesWrite true port value calls = (was : Bool) × (calls ≡ behind.Gives value was ∷ [])
-MakesWrite false port value calls = calls ≡ behind.Writes port value ∷ []
+MakesWrite false port value calls = calls ≡ behind.Writes port (value_behind port value) ∷ []
 
 -- bytes pass there, and it is the data port
 abbrev pub is_data_access : ℕ → ChipState → Bool
 is_data_access port chip = passes_by_port chip && (port == 0x3F5)
 
--- the calls of the sequencer that a call comes to: the channel's where bytes pass by it, and none where the strap is set
+-- the calls of the sequencer that a call comes to: the channel's where bytes pass by it, and none where a strap is set
 abbrev pub Makes : Call → ChipState → List behind.Call → Type 0
 Makes Steps old calls = calls ≡ behind.Steps ∷ []
 Makes (Takes byte) old calls = calls ≡ only_if (passes_by_channel old) (behind.Takes byte)
@@ -91,6 +99,7 @@ Makes (Reads port value) old calls = MakesRead (is_data_access port old) port va
 Makes (Writes port value) old calls = MakesWrite (is_data_access port old) port value calls
 Makes Changes old calls = calls ≡ behind.Changes ∷ []
 Makes (Straps on) old calls = calls ≡ []
+Makes (StrapsSteps on) old calls = calls ≡ []
 
 -- a call is those of the sequencer
 pub record IsPassedOn (made : Call) (old new : ChipState) : Type 0 where

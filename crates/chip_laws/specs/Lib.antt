@@ -3,3 +3,4 @@ pub mod Told
 pub mod Beginning
 pub mod Sound
 pub mod Lasting
+pub mod Edges

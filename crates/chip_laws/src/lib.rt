@@ -2,6 +2,7 @@
 //! that tells is told; the chip's parts agree at each time; and each command ends.
 #![tactic(auto)]
 
+pub mod edges;
 pub mod endings;
 pub mod media;
 pub mod soundness;

@@ -2,7 +2,6 @@
 // from what each call does.
 ghost use Rattle.std.specs.Prelude.{◌≡◌, ◌<◌, ℕ, true, false, IsSome, Some, List};
 ghost use Rattle.fdc_commands.specs.declared.results.Results.{Results};
-ghost use Rattle.fdc_core.specs.State.{is_gated};
 ghost use Rattle.fdc_sequencer.specs.Opcodes.{opcode_of};
 ghost use Rattle.fdc_sequencer.specs.declared.opcode.Opcode.{Opcode};
 ghost use Rattle.fdc_sequencer.specs.declared.stage.Stage.TheVariants as behind;
@@ -49,7 +48,7 @@ pub fn what_the_sequencer_tells_is_told()
     ensures looks { (results : Results) (old new : ChipState) (step : StepsChip old new) → old.stage ≡ Busy Sent → step.between.stage ≡ behind.Telling results 0
         → looks_for_cylinder old.order results ≡ true → LooksFor results step.between new }
     ensures cylinder { (first : Results) (old new : ChipState) → StepsChip old new → old.stage ≡ Busy (Sought first) → LooksOrTells first new }
-    ensures interrupt { (results : Results) (chip : ChipState) → Tells results chip → interrupts_chip chip ≡ is_gated chip.front.board.controller }
+    ensures interrupt { (results : Results) (chip : ChipState) → Tells results chip → interrupts_chip chip ≡ chip.gated }
     ensures request { (results : Results) (chip : ChipState) → Tells results chip → asks_chip chip ≡ false }
 {}
 

@@ -17,6 +17,9 @@ const CCR: u16 = 0x3F7;
 /// Device steps within which each command here ends: a turn of the disk has 12,500.
 const MOST_STEPS: u32 = 100_000;
 
+/// The device steps of a second at 500 kbit/s.
+const SECOND: u32 = 62_500;
+
 /// The bytes behind which the channel of a read tells the terminal count.
 const FOUR_SECTORS: usize = 2048;
 
@@ -43,6 +46,13 @@ fn start(controller: &mut Controller) {
     sense(controller);
     // The medium is at speed 6,250 word times after the motor was turned on. No line changes meanwhile.
     controller.run(6_250);
+}
+
+/// A second in which nothing is called: in how many of its device steps no line surely changes. They are made, and none does.
+pub(crate) fn rest(controller: &mut Controller) -> Result<u32, Trouble> {
+    let quiet = controller.quiet(SECOND);
+    must(controller.run(SECOND) == SECOND)?;
+    Ok(quiet)
 }
 
 /// SENSE INTERRUPT, and its two results.

@@ -10,7 +10,11 @@ mod tools;
 mod trouble;
 
 use files::{flat_bytes, must_give, replace};
+<<<<<<< HEAD
 use guest::{Controller, Reading, dump, end, give_all, read_on, results, send, set_up};
+=======
+use guest::{Controller, dump, end, give_all, read_on, rest, results, send, set_up};
+>>>>>>> 76b2425a299f8c00a5ce69d2fea3aa5f1e606060
 use std::alloc::Global;
 use std::io;
 use telwyddus::disk::{Medium, flat_medium};
@@ -56,6 +60,8 @@ fn read_four(
     flat: &[u8],
 ) -> Result<TwoResults, Trouble> {
     send(controller, &READ);
+    // The next step may change a line.
+    must(controller.quiet(1) == 0)?;
     let begun = read_on(alloc, controller, &[], 700)?;
     if begun.stayed {
         go_on_twice(alloc, controller, &begun.bytes, flat)
@@ -127,6 +133,7 @@ fn must_hold(alloc: Global, controller: &Controller, flat: &[u8]) -> Result<(), 
 /// What came of all that is done at the controller.
 #[derive(Clone, Copy)]
 struct Told {
+    quiet: u32,
     read: [u8; 7],
     read_by_twin: [u8; 7],
     written: [u8; 7],
@@ -134,6 +141,7 @@ struct Told {
     registers: [u8; 10],
 }
 
+<<<<<<< HEAD
 /// All that is done at the controller.
 fn use_controller(
     alloc: Global,
@@ -143,7 +151,19 @@ fn use_controller(
     let (read, read_by_twin) = read_four(alloc, controller, flat)?;
     let written = write_two(alloc, controller, flat)?;
     let refused = end(controller, &REFUSED)?;
+=======
+/// All but the shelf. No line is printed while a controller is there.
+fn work(alloc: Global, flat: &[u8]) -> Result<Told, Trouble> {
+    let mut controller = set_up(alloc, medium_of(alloc, flat)?)?;
+    let quiet = rest(&mut controller)?;
+    let (read, read_by_twin) = read_four(alloc, &mut controller, flat)?;
+    let written = write_two(alloc, &mut controller, flat)?;
+    let refused = end(&mut controller, &REFUSED)?;
+    let registers = dump(&mut controller);
+    let deleted = use_desk(alloc, controller.eject(0))?;
+>>>>>>> 76b2425a299f8c00a5ce69d2fea3aa5f1e606060
     Ok(Told {
+        quiet,
         read,
         read_by_twin,
         written,
@@ -183,6 +203,9 @@ fn print_results(rt: &impl Print, told: &[u8]) -> io::Result<()> {
 
 fn print_told(rt: &impl Print, told: &Told, deleted: bool) -> io::Result<()> {
     println!(rt; "a flat file makes a medium, which gives it back")?;
+    // Nothing runs, though the motor is on: all that was asked for.
+    let quiet = told.quiet;
+    println!(rt; "no line changes in {quiet} device steps")?;
     println!(rt; "READ DATA of four sectors is saved behind 700 bytes, and restored")?;
     println!(rt; "both give the bytes of the file, with INT and DRQ alike")?;
     println!(rt; "drive and medium stay, as is seen at each step")?;

@@ -1,2 +1,3 @@
 pub mod Runs
 pub mod RateLemmas
+mod Standing

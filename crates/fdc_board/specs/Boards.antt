@@ -32,6 +32,10 @@ pub record SameDrives {D : Type 0} (old new : FdcBoard D) : Type 0 where
 abbrev pub drive_at : BoardState → ℕ → DriveState
 drive_at board bay = if bay == 0 then board.first else board.second
 
+-- the drive itself
+abbrev pub drive_held : {D : Type 0} → FdcBoard D → ℕ → D
+drive_held board bay = if bay == 0 then board.first else board.second
+
 -- the drive that DOR selects: those of bays 2 and 3 are absent
 abbrev pub selected_at : BoardState → ℕ
 selected_at board = selected_by board.controller

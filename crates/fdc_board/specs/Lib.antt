@@ -3,3 +3,4 @@ pub mod Boards
 pub mod History
 pub mod Senses
 pub mod Saving
+pub mod Still

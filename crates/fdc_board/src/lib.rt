@@ -7,7 +7,9 @@
 mod bays;
 mod board;
 mod rates;
+mod refitting;
 mod senses;
+mod still;
 mod whole;
 
 pub use board::FdcBoard;

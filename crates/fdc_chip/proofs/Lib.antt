@@ -1,2 +1,3 @@
 pub mod Runs
 mod Lists
+mod Quieting

@@ -1,4 +1,6 @@
 -- Bytes that are sent one by one, results that are taken over one by one, bytes that go nowhere one by one.
+use Rattle.std.specs.Prelude.{Option, Some, None, ⊤}
+use Rattle.std.specs.Option.{ForSome}
 use Rattle.std.proofs.Common.{◌≡◌, ◌<◌, ◌≤◌, ℕ, suc, zero, ◌+◌, List, [], ◌∷◌, ◌++◌, length, take, get_or, refl, sym, ap, ◌∙◌, subst, add-one, arith}
 use Rattle.std.proofs.lemmas.List.{take_more, take_all}
 use Rattle.fdc_sequencer.specs.Fronts.{Front, WritesFront}
@@ -29,6 +31,12 @@ drained_none chip = refl
 pub drained_more : (n : ℕ) (start between new : ChipState) → between ≡ drained_by n start → new ≡ drained_one between → new ≡ drained_by (n + 1) start
 unfolding drained_by
 drained_more n start between new was is = rw add-one (is ∙ ap drained_one was)
+
+-- ---- a value that may be missing, of which each fits
+
+pub all_fit : {A : Type 0} (value : Option A) → ForSome value (λ _. ⊤)
+all_fit None = tt
+all_fit (Some value) = tt
 
 -- ---- bytes that go nowhere
 

@@ -1,13 +1,13 @@
 -- Device steps one by one, and those that what stands behind makes at once.
 use Rattle.std.proofs.Common.{◌≡◌, ◌≤◌, ℕ, zero, suc, ◌+◌, Bool, true, false, refl, sym, ap, subst, ◌∙◌, arith, add-suc}
-use Rattle.std.specs.Prelude.{not, ◌&&◌, ◌||◌, if◌then◌else◌}
-use Rattle.fdc_core.specs.State.{is_gated}
+use Rattle.std.specs.Prelude.{Option, None, not, ◌&&◌, ◌||◌, if◌then◌else◌}
 use Rattle.fdc_sequencer.specs.Fronts.{Front, interrupts_outside, asks_outside}
 use Rattle.fdc_sequencer.specs.Moves.{HasLinesOutside, StepsFront, RunsFrontWith, RunsFront}
 use Rattle.fdc_chip.specs.Chips.{ChipState, with_front, interrupts_chip, asks_chip}
 use Rattle.fdc_chip.specs.Doing.{drained}
 use Rattle.fdc_chip.specs.Settings.{is_by_port}
 use Rattle.fdc_chip.specs.Steps.{HasLinesChip, StepsChip, Follows, RunsChipWith}
+use Rattle.fdc_chip.specs.declared.pace.Pace.{Pace}
 use Rattle.fdc_chip.specs.declared.stage.Stage.{Stage}
 use Rattle.fdc_chip.specs.declared.stage.Stage.TheVariants.{Ready}
 
@@ -40,9 +40,9 @@ runs_on int drq n m old between new runs lines more =
 
 -- ---- nothing is under way
 
--- the same chip with this behind it, and nothing under way
+-- the same chip with this behind it, nothing under way and no pulses to come
 abbrev idle : ChipState → Front → ChipState
-idle chip front = record chip { front = front; stage = Ready }
+idle chip front = record chip { front = front; stage = Ready; pace = None }
 
 by_none : {A : Type 0} (b : Bool) (x y : A) → (if b && false then x else y) ≡ y
 by_none true x y = refl
@@ -52,25 +52,25 @@ none_asks : (b asks : Bool) → ((b && false) && asks) ≡ false
 none_asks true asks = refl
 none_asks false asks = refl
 
--- INT is then that of what stands behind, where none was up, and DRQ is down
-idle_interrupts : (chip : ChipState) (front : Front) → chip.interrupts.line ≡ false → interrupts_chip (idle chip front) ≡ interrupts_outside front
+-- INT is then that of what stands behind, where none was up and DOR lets it out, and DRQ is down
+idle_interrupts : (chip : ChipState) (front : Front) → chip.interrupts.line ≡ false → interrupts_chip (idle chip front) ≡ (chip.gated && interrupts_outside front)
 idle_interrupts chip front down =
-    by_none (is_by_port chip.settings) _ _ ∙ ap (λ line. (line && is_gated front.board.controller) || interrupts_outside front) down
+    ap (λ up. chip.gated && up) (by_none (is_by_port chip.settings) _ _ ∙ ap (λ line. line || interrupts_outside front) down)
 
 idle_asks : (chip : ChipState) (front : Front) → asks_chip (idle chip front) ≡ false
-idle_asks chip front = none_asks (not (is_by_port chip.settings)) (asks_outside front)
+idle_asks chip front = none_asks (chip.gated && not (is_by_port chip.settings)) (asks_outside front)
 
 -- the lines are those of another such chip
 idle_lines : (chip : ChipState) (old front : Front) → chip.interrupts.line ≡ false → interrupts_outside old ≡ false → interrupts_outside front ≡ false
     → HasLinesChip (interrupts_chip (idle chip old)) (asks_chip (idle chip old)) (idle chip front)
 idle_lines chip old front down was quiet = (
-  idle_interrupts chip front down ∙ quiet ∙ sym was ∙ sym (idle_interrupts chip old down),
+  idle_interrupts chip front down ∙ ap (λ up. chip.gated && up) (quiet ∙ sym was) ∙ sym (idle_interrupts chip old down),
   idle_asks chip front ∙ sym (idle_asks chip old),
 )
 
 -- while INT is down behind nothing follows a step
 follows_nothing : (chip : ChipState) (front : Front) → interrupts_outside front ≡ false → Follows Ready (idle chip front) (idle chip front)
-follows_nothing chip front quiet = sym (ap (λ b. if b then drained (idle chip front) else idle chip front) quiet)
+follows_nothing chip front quiet = (idle chip front, refl, sym (ap (λ b. if b then drained (idle chip front) else idle chip front) quiet))
 
 idle_runs : (chip : ChipState) (drq : Bool) (n : ℕ) (old front : Front) → chip.interrupts.line ≡ false → interrupts_outside old ≡ false
     → RunsFrontWith false drq n old front → interrupts_outside front ≡ false
@@ -106,13 +106,15 @@ ready_some most zero old front some runs =
     absurd (omega (arith, some, all))
 ready_some most (suc made) old front some runs = omega arith
 
-pub ready_runs : (most made : ℕ) (old : ChipState) (front : Front) (new : ChipState) → 1 ≤ most → old.stage ≡ Ready → old.interrupts.line ≡ false
+pub ready_runs : (most made : ℕ) (old : ChipState) (front : Front) (new : ChipState) → 1 ≤ most → old.stage ≡ Ready → old.pace ≡ None → old.interrupts.line ≡ false
     → interrupts_outside old.front ≡ false → RunsFront most old.front made front → Follows old.stage (with_front front old) new
     → RunsChipWith (interrupts_chip old) (asks_chip old) made old new
-ready_runs most made old front new some is down quiet runs follows =
-    let at : Stage → ChipState = λ stage. record old { stage = stage } in
+ready_runs most made old front new some is stands down quiet runs follows =
+    let at : Stage → Option Pace → ChipState = λ stage pace. record old { stage = stage; pace = pace } in
     let begins = subst (λ (int : Bool). RunsFrontWith int (asks_outside old.front) made old.front front) quiet runs.runs in
-    subst (λ (stage : Stage). Follows stage (with_front front (at stage)) new → RunsChipWith (interrupts_chip (at stage)) (asks_chip (at stage)) made (at stage) new)
+    subst (λ (stage : Stage). Follows stage (with_front front (at stage old.pace)) new → RunsChipWith (interrupts_chip (at stage old.pace)) (asks_chip (at stage old.pace)) made (at stage old.pace) new)
     (sym is)
-    (λ follows. idle_runs_to old (asks_outside old.front) made old.front front new down quiet (ready_some most made old.front front some runs) begins follows)
+    (subst (λ (pace : Option Pace). Follows Ready (with_front front (at Ready pace)) new → RunsChipWith (interrupts_chip (at Ready pace)) (asks_chip (at Ready pace)) made (at Ready pace) new)
+    (sym stands)
+    (λ follows. idle_runs_to old (asks_outside old.front) made old.front front new down quiet (ready_some most made old.front front some runs) begins follows))
     follows

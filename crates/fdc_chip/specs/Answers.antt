@@ -6,8 +6,8 @@ use Rattle.fdc_chip.specs.declared.answer.Answer.{Answer}
 use Rattle.fdc_chip.specs.declared.answer.Answer.TheVariants as answer
 use Rattle.fdc_chip.specs.declared.answer.Registers.{Registers}
 
--- DUMPREG: the present cylinder numbers; SRT and HUT; HLT and ND; SC or EOT; LOCK, D3 to D0, GAP and WGATE; EIS, EFIFO, POLL and
--- FIFOTHR; PRETRK
+-- DUMPREG: the present cylinder numbers; SRT and HUT; HLT and ND; SC or EOT; LOCK, which drives are perpendicular, GAP and
+-- WGATE; EIS, EFIFO, POLL and FIFOTHR; PRETRK
 abbrev pub register_bytes : Registers → List ℕ
 register_bytes registers = let settings = registers.settings in
     registers.first ∷ registers.second ∷ registers.third ∷ registers.fourth

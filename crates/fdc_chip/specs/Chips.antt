@@ -1,17 +1,21 @@
 -- The whole controller with its drives, as contracts see it: its state and its lines.
-use Rattle.std.specs.Prelude.{◌≡◌, ℕ, Bool, true, false, not, ◌==◌, ◌&&◌, ◌||◌, if◌then◌else◌, bit_and}
+use Rattle.std.specs.Prelude.{◌≡◌, ℕ, Bool, true, false, not, ◌==◌, ◌&&◌, ◌||◌, Option, Some, None, ◌%◌, if◌then◌else◌, bit_and, nat_le, nat_lt}
 use Rattle.std.specs.Int.RustNames.{bit_or}
-use Rattle.drive_model.specs.Drive.{DriveState}
+use Rattle.flop_base.specs.declared.answers.Rate.{Rate}
+use Rattle.flop_base.specs.declared.answers.Rate.TheVariants.{R500, R250}
+use Rattle.drive_model.specs.Drive.{DriveState, place_under, rate_of}
+use Rattle.fdc_board.specs.Boards.{drive_at, selected_at}
+use Rattle.fdc_registers.specs.Dor.{gate}
 use Rattle.fdc_registers.specs.Msr.{rqm, dio, non_dma, busy}
 use Rattle.fdc_core.specs.Dma.{to_memory_of}
-use Rattle.fdc_core.specs.State.{is_gated}
 use Rattle.fdc_sequencer.specs.Fronts.{Front, front_state, IsNewFront, KeepsFront, interrupts_outside, asks_outside, value_outside}
 use Rattle.fdc_sequencer.specs.declared.sequencer.Sequencer.{Sequencer}
 use Rattle.fdc_chip.specs.Interrupts.{Interrupting, at_rest, seek_bits}
-use Rattle.fdc_chip.specs.Orders.{blank}
+use Rattle.fdc_chip.specs.Orders.{blank, is_format}
 use Rattle.fdc_chip.specs.Settings.{at_power_up, is_by_port}
 use Rattle.fdc_chip.specs.declared.chip.Chip.{Chip}
 use Rattle.fdc_chip.specs.declared.order.Order.{Order}
+use Rattle.fdc_chip.specs.declared.pace.Pace.{Pace}
 use Rattle.fdc_chip.specs.declared.settings.Settings.{Settings}
 use Rattle.fdc_chip.specs.declared.stage.Place.{Place}
 use Rattle.fdc_chip.specs.declared.stage.Place.TheVariants.{Data}
@@ -21,7 +25,8 @@ use Rattle.fdc_chip.specs.declared.stage.Task.{Task}
 use Rattle.fdc_chip.specs.declared.stage.Task.TheVariants.{Sent, Track}
 
 -- what stands behind, what is under way, the command that came last and how many bytes came of one that isn't whole, results and
--- interrupt line, what commands set, and the strap for implied seeks
+-- interrupt line, what commands set, and the strap for implied seeks; how many bytes of keys a FORMAT TRACK still takes, whether DOR
+-- lets INT and DRQ out, a seek whose pulses come in the time that SPECIFY sets, and the strap for such seeks
 pub record ChipState : Type 0 where
   pub front : Front
   pub stage : Stage
@@ -30,6 +35,10 @@ pub record ChipState : Type 0 where
   pub interrupts : Interrupting
   pub settings : Settings
   pub strapped : Bool
+  pub keys : ℕ
+  pub gated : Bool
+  pub pace : Option Pace
+  pub paced : Bool
 
 abbrev pub chip_state : {D : Type 0} → (D → DriveState) → Chip D → ChipState
 chip_state state chip = record {
@@ -40,6 +49,10 @@ chip_state state chip = record {
   interrupts = chip.interrupts;
   settings = chip.settings;
   strapped = chip.strapped;
+  keys = chip.keys;
+  gated = chip.gated;
+  pace = chip.pace;
+  paced = chip.paced;
 }
 
 -- what stands behind
@@ -62,6 +75,9 @@ pub record IsNewChip (bay0 bay1 : DriveState) (new : ChipState) : Type 0 where
   pub interrupts : new.interrupts ≡ at_rest
   pub settings : new.settings ≡ at_power_up
   pub strapped : new.strapped ≡ false
+  pub gated : new.gated ≡ false
+  pub pace : new.pace ≡ None
+  pub paced : new.paced ≡ false
 
 -- all but the drives stays
 pub record KeepsChip (old new : ChipState) : Type 0 where
@@ -85,27 +101,50 @@ abbrev pub passes_at : Stage → Bool
 passes_at (Busy task) = passes_bytes task
 passes_at _ = false
 
--- they pass by the data port, or by the channel
+-- and it takes or gives more of them: a FORMAT TRACK takes four for each of its sectors
+abbrev pub passes : ChipState → Bool
+passes chip = passes_at chip.stage && not (is_format chip.order && chip.keys == 0)
+
+-- they pass by the data port; or by the channel, where DOR lets DRQ out
 abbrev pub passes_by_port : ChipState → Bool
-passes_by_port chip = is_by_port chip.settings && passes_at chip.stage
+passes_by_port chip = is_by_port chip.settings && passes chip
 
 abbrev pub passes_by_channel : ChipState → Bool
-passes_by_channel chip = not (is_by_port chip.settings) && passes_at chip.stage
+passes_by_channel chip = (chip.gated && not (is_by_port chip.settings)) && passes chip
 
 -- INT of what stands behind shows while nothing is under way
 abbrev pub shows_behind : Stage → Front → Bool
 shows_behind Ready front = interrupts_outside front
 shows_behind _ front = false
 
--- INT: a byte is asked for at the data port; or a result is there, or a seek or poll has ended
+-- INT, where DOR lets it out: a byte is asked for at the data port; or a result is there, or a seek or poll has ended
 abbrev pub interrupts_chip : ChipState → Bool
 interrupts_chip chip =
-    if passes_by_port chip then asks_outside chip.front
-    else ((chip.interrupts.line && is_gated chip.front.board.controller) || shows_behind chip.stage chip.front)
+    chip.gated
+    && (if passes_by_port chip then asks_outside chip.front else (chip.interrupts.line || shows_behind chip.stage chip.front))
 
 -- DRQ
 abbrev pub asks_chip : ChipState → Bool
 asks_chip chip = passes_by_channel chip && asks_outside chip.front
+
+-- the words of a track that begin in its first 2 ms: one takes 16 µs at 500 kbit/s, and 32 µs at 250
+abbrev pub index_words : Rate → ℕ
+index_words R500 = 125
+index_words R250 = 63
+
+-- a place is among so many words behind the index
+abbrev pub is_among : ℕ → Option ℕ → Bool
+is_among words None = false
+is_among words (Some place) = nat_lt place words
+
+-- INDEX of a drive: up in the first 2 ms behind the index, while a medium turns at speed
+abbrev pub indexes : DriveState → Bool
+indexes drive = is_among (index_words (rate_of drive.medium)) (place_under drive)
+
+-- INDEX of the drive that DOR selects; an absent drive's is low
+abbrev pub indexes_chip : ChipState → Bool
+indexes_chip chip = let bay = selected_at chip.front.board in
+    if nat_le bay 1 then indexes (drive_at chip.front.board bay) else false
 
 -- ---- MSR
 
@@ -123,9 +162,27 @@ abbrev pub stage_bits : Stage → ChipState → ℕ
 stage_bits Ready chip = bit_or (value_outside 0x3F4 chip.front) (if chip.count == 0 then 0 else busy)
 stage_bits Held chip = bit_or (bit_and (value_outside 0x3F4 chip.front) 0x0F) busy
 stage_bits (Busy task) chip =
-    execution_bits (is_by_port chip.settings) (passes_bytes task && asks_outside chip.front) (to_memory_of chip.front.board.controller)
+    execution_bits (is_by_port chip.settings) (passes chip && asks_outside chip.front) (to_memory_of chip.front.board.controller)
 stage_bits (Telling answer read) chip = bit_or (bit_and (value_outside 0x3F4 chip.front) 0x0F) (bit_or (bit_or rqm dio) busy)
 
--- MSR: the bits of what is under way, and the seek bits of drives whose results wait
+-- the seek bit of a drive whose pulses come in the time that SPECIFY sets
+abbrev pub unit_bit : ℕ → ℕ
+unit_bit unit = if unit % 4 == 0 then 1 else (if unit % 4 == 1 then 2 else (if unit % 4 == 2 then 4 else 8))
+
+abbrev pub pace_bit : Option Pace → ℕ
+pace_bit None = 0
+pace_bit (Some pace) = unit_bit pace.unit
+
+-- MSR: the bits of what is under way, and the seek bits of drives whose results wait or whose pulses come
 abbrev pub status_of : ChipState → ℕ
-status_of chip = bit_or (stage_bits chip.stage chip) (seek_bits chip.interrupts)
+status_of chip = bit_or (bit_or (stage_bits chip.stage chip) (seek_bits chip.interrupts)) (pace_bit chip.pace)
+
+-- ---- DOR
+
+-- as it was written
+abbrev pub output_of : ChipState → ℕ
+output_of chip = bit_or (bit_and (value_outside 0x3F2 chip.front) 0xF7) (if chip.gated then gate else 0)
+
+-- what a port gives but MSR and the data port
+abbrev pub value_of : ℕ → ChipState → ℕ
+value_of port chip = if port == 0x3F2 then output_of chip else value_outside port chip.front

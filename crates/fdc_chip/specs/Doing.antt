@@ -1,5 +1,5 @@
 -- What a whole command does.
-use Rattle.std.specs.Prelude.{◌≡◌, ℕ, zero, suc, ◌+◌, ◌-◌, ◌*◌, ◌%◌, Bool, true, false, not, ◌==◌, ◌&&◌, ◌||◌, List, [], ◌∷◌, Option, Some, None, if◌then◌else◌, nat_le, bit_and, min}
+use Rattle.std.specs.Prelude.{◌≡◌, ℕ, zero, suc, ◌+◌, ◌-◌, ◌*◌, ◌%◌, Bool, true, false, not, ◌==◌, ◌&&◌, ◌||◌, List, [], ◌∷◌, Option, Some, None, is_some, if◌then◌else◌, nat_le, bit_and, min}
 use Rattle.std.specs.Int.RustNames.{bit_or}
 use Rattle.flop_base.specs.declared.key.Chrn.{Chrn}
 use Rattle.fdc_sequencer.specs.Fronts.{Front, WritesFront, after_reading, value_outside}
@@ -15,6 +15,7 @@ use Rattle.fdc_chip.specs.declared.answer.Answer.TheVariants as answer
 use Rattle.fdc_chip.specs.declared.code.Code.{Code}
 use Rattle.fdc_chip.specs.declared.code.Code.TheVariants.{ReadTrack, Specify, SenseDrive, Transfer, Recalibrate, SenseInterrupt, ReadId, FormatTrack, DumpRegisters, Seek, RelativeSeek, Version, Perpendicular, Configure, Lock, Verify}
 use Rattle.fdc_chip.specs.declared.order.Order.{Order}
+use Rattle.fdc_chip.specs.declared.pace.Pace.{Pace}
 use Rattle.fdc_chip.specs.declared.stage.Place.TheVariants.{Index}
 use Rattle.fdc_chip.specs.declared.stage.Stage.TheVariants.{Ready, Held, Busy, Telling}
 use Rattle.fdc_chip.specs.declared.stage.Task.{Task}
@@ -52,6 +53,10 @@ drained old = drained_by 4 old
 -- heads move: a seek bit is set behind
 abbrev pub moves_heads : Front → Bool
 moves_heads front = not (bit_and (value_outside 0x3F4 front) 0x0F == 0)
+
+-- or pulses are to come in the time that SPECIFY sets
+abbrev pub is_moving : ChipState → Bool
+is_moving chip = is_some chip.pace || moves_heads chip.front
 
 -- ---- answers
 
@@ -116,6 +121,26 @@ pub record Asks (bytes : List ℕ) (old new : ChipState) : Type 0 where
   pub sent : ChipState
   pub sends : SendsOn bytes old sent
   pub told_is : new ≡ told_byte (value_outside 0x3F5 sent.front) (with_front (after_reading 0x3F5 sent.front) sent)
+
+-- ---- seeks
+
+-- a RECALIBRATE, or a SEEK of a cylinder
+abbrev pub moving : ℕ → Option ℕ → List ℕ
+moving unit None = 0x07 ∷ unit ∷ []
+moving unit (Some target) = 0x0F ∷ unit ∷ target ∷ []
+
+-- from the cylinder number that the controller counts, the first pulse at once
+abbrev pub pace_begun : ℕ → ℕ → Option ℕ → Pace
+pace_begun unit cylinder goal = record { unit = unit; cylinder = cylinder; goal = goal; wait = 0 }
+
+-- its pulses come in the time that SPECIFY sets, or it is given behind
+abbrev pub MovesIf : Bool → Option ℕ → ChipState → ChipState → Type 0
+MovesIf true goal old new = let unit = old.order.unit in
+    new ≡ record (ready old) { pace = Some (pace_begun unit (cylinder_of unit old.interrupts) goal) }
+MovesIf false goal old new = SendsOn (moving old.order.unit goal) (ready old) new
+
+abbrev pub Moves : Option ℕ → ChipState → ChipState → Type 0
+Moves goal old new = MovesIf old.paced goal old new
 
 -- ---- data commands
 
@@ -183,9 +208,14 @@ abbrev pub FormatsIf : Bool → Bool → ChipState → ChipState → Type 0
 FormatsIf true mfm old new = Begins task.Sent false (format_bytes old.order) old new
 FormatsIf false mfm old new = Refuses no_key mfm old new
 
+-- it takes four bytes for each of its sectors
+abbrev pub with_keys : ℕ → ChipState → ChipState
+with_keys sectors old = record old { keys = 4 * sectors }
+
 -- its size code is the third byte, and its sectors the fourth
 abbrev pub Formats : Bool → ChipState → ChipState → Type 0
-Formats mfm old new = FormatsIf (mfm && is_size old.order.key.c) mfm (with_last old.order.key.h old) new
+Formats mfm old new =
+    FormatsIf (mfm && is_size old.order.key.c) mfm (with_keys old.order.key.h (with_last old.order.key.h old)) new
 
 -- a command of sectors that this medium can have, or not
 abbrev pub TransfersIf : Bool → Bool → Task → List ℕ → ChipState → ChipState → Type 0
@@ -250,10 +280,10 @@ abbrev pub Obeys : Code → ChipState → ChipState → Type 0
 Obeys Specify old new = new ≡ specified old
 Obeys SenseDrive old new = Asks (0x04 ∷ old.order.unit ∷ []) old new
 Obeys SenseInterrupt old new = new ≡ sensing old
-Obeys Recalibrate old new = SendsOn (0x07 ∷ old.order.unit ∷ []) (ready old) new
-Obeys Seek old new = SendsOn (0x0F ∷ old.order.unit ∷ old.order.key.c ∷ []) (ready old) new
+Obeys Recalibrate old new = Moves None old new
+Obeys Seek old new = Moves (Some old.order.key.c) old new
 Obeys (RelativeSeek inward) old new =
-    SendsOn (0x0F ∷ old.order.unit ∷ relative_target inward (cylinder_of old.order.unit old.interrupts) old.order.key.c ∷ []) (ready old) new
+    Moves (Some (relative_target inward (cylinder_of old.order.unit old.interrupts) old.order.key.c)) old new
 Obeys Version old new = new ≡ told_byte 0x90 old
 Obeys Perpendicular old new = new ≡ made_perpendicular old
 Obeys Configure old new = SendsOn (configuring old.order.key.c old.order.key.h) (configured old) new
@@ -281,7 +311,7 @@ AttendsIf false code old new = Obeys code old new
 
 -- a whole command: it is done, or held while heads move
 abbrev pub Attends : Code → ChipState → ChipState → Type 0
-Attends code old new = AttendsIf (needs_heads code && moves_heads (drained old).front) code (drained old) new
+Attends code old new = AttendsIf (needs_heads code && is_moving (drained old)) code (drained old) new
 
 -- by its code; 80 where there is none
 abbrev pub AttendsTo : Option Code → ChipState → ChipState → Type 0

@@ -1,5 +1,6 @@
 -- How what is executed behind ends, and what comes of it.
-use Rattle.std.specs.Prelude.{◌≡◌, ℕ, ◌-◌, Bool, true, false, not, ◌==◌, ◌&&◌, ◌||◌, if◌then◌else◌, bit_and}
+use Rattle.std.specs.Prelude.{◌≡◌, ℕ, ◌+◌, ◌-◌, ◌%◌, Bool, true, false, not, ◌==◌, ◌&&◌, ◌||◌, if◌then◌else◌, bit_and}
+use Rattle.std.specs.Int.Bits.{bit_xor}
 use Rattle.std.specs.Int.RustNames.{bit_or}
 use Rattle.flop_base.specs.declared.key.Chrn.{Chrn}
 use Rattle.fdc_registers.specs.St0.{abnormal}
@@ -8,6 +9,7 @@ use Rattle.fdc_registers.specs.St2.{wrong_cylinder, bad_cylinder}
 use Rattle.fdc_commands.specs.declared.results.Results.{Results}
 use Rattle.fdc_sequencer.specs.Fronts.{Front, after_reading, value_outside}
 use Rattle.fdc_chip.specs.Chips.{ChipState, with_front}
+use Rattle.fdc_chip.specs.Codes.{has_bit, has_multitrack}
 use Rattle.fdc_chip.specs.Doing.{SendsOn, told, identifying, is_size, reading_one}
 use Rattle.fdc_chip.specs.declared.answer.Answer.TheVariants as answer
 use Rattle.fdc_chip.specs.declared.order.Order.{Order}
@@ -88,6 +90,10 @@ abbrev pub with_cylinder_passed : Results → Results → Results
 with_cylinder_passed first passed =
     if passed.st1.0 == 0 then record first { st2 = record { 0 = bit_or first.st2.0 (cylinder_bits first.key.c passed.key.c) } } else first
 
+-- address marks passed, though none of an intact field may have
+abbrev pub saw_marks : Results → Bool
+saw_marks results = bit_and results.st1.0 missing_mark == 0
+
 -- the results in place of a command that this medium can't have: ND where address marks pass, and MA where none does
 abbrev pub refusal : ℕ → Chrn → Bool → Results
 refusal unit key marks = record {
@@ -96,6 +102,27 @@ refusal unit key marks = record {
   st2 = record { 0 = 0 };
   key = key;
 }
+
+-- ---- VERIFY
+
+-- the key of the sector behind EOT, with MT behind that of head 1
+abbrev pub behind_last : Bool → Chrn → Chrn
+behind_last multitrack key = record key {
+  c = (key.c + 1) % 256;
+  h = if multitrack then bit_xor key.h 1 else key.h;
+  r = 1;
+}
+
+-- one that doesn't count its sectors is done behind EOT, where the sequencer ends with EN since sectors were passed over
+abbrev pub is_done : Order → Results → Bool
+is_done order results = not (has_bit order.unit 0x80) && results.st1.0 == end_of_cylinder
+
+abbrev pub verified : Order → Results → Results
+verified order results = if is_done order results then record results {
+  st0 = record { 0 = unit_of results };
+  st1 = record { 0 = 0 };
+  key = behind_last (has_multitrack order.code) results.key;
+} else results
 
 -- ---- READ TRACK
 
@@ -194,8 +221,8 @@ EndsSent false results old new = new ≡ told_results results old
 abbrev pub Ends : Task → Results → ChipState → ChipState → Type 0
 Ends task.Sent results old new = EndsSent (looks_for_cylinder old.order results) results old new
 Ends (task.Sought first) results old new = new ≡ told_results (with_cylinder_passed first results) old
-Ends (task.Refused unit key mfm) results old new = new ≡ told_results (refusal unit key (mfm && results.st1.0 == 0)) old
-Ends (task.Verify _) results old new = EndsSent (looks_for_cylinder old.order results) results old new
+Ends (task.Refused unit key mfm) results old new = new ≡ told_results (refusal unit key (mfm && saw_marks results)) old
+Ends (task.Verify _) results old new = let told = verified old.order results in EndsSent (looks_for_cylinder old.order told) told old new
 Ends (task.Track track) results old new = EndsAt track.place track results old new
 
 abbrev pub EndsIf : Bool → Task → ChipState → ChipState → Type 0

@@ -5,7 +5,10 @@ pub mod Settings
 pub mod Answers
 pub mod Chips
 pub mod Doing
+pub mod Paces
 pub mod Ending
 pub mod Steps
 pub mod Ports
+pub mod Pins
 pub mod Saving
+pub mod Quiet

@@ -1,5 +1,5 @@
 -- The bytes of a command, as they come.
-use Rattle.std.specs.Prelude.{ℕ, ◌==◌, List, [], ◌∷◌, if◌then◌else◌}
+use Rattle.std.specs.Prelude.{ℕ, Bool, ◌==◌, List, [], ◌∷◌, if◌then◌else◌, bit_and}
 use Rattle.flop_base.specs.declared.key.Chrn.{Chrn}
 use Rattle.fdc_chip.specs.declared.order.Order.{Order}
 
@@ -12,6 +12,10 @@ blank = record {
   gap = 0;
   length = 0;
 }
+
+-- a FORMAT TRACK
+abbrev pub is_format : Order → Bool
+is_format order = bit_and order.code 0x1F == 0x0D
 
 -- with the byte at a place
 abbrev pub with_byte : ℕ → ℕ → Order → Order

@@ -1,11 +1,13 @@
 -- Port accesses, and the side of the channel.
-use Rattle.std.specs.Prelude.{◌≡◌, ℕ, ◌+◌, ◌%◌, Bool, true, false, not, ◌==◌, ◌&&◌, ◌||◌, Option, Some, None, if◌then◌else◌, nat_le, get_or, length, unwrap_or}
+use Rattle.std.specs.Prelude.{◌≡◌, ℕ, ◌+◌, ◌-◌, ◌%◌, Bool, true, false, not, ◌==◌, ◌&&◌, ◌||◌, Option, Some, None, if◌then◌else◌, nat_le, get_or, length, unwrap_or}
+use Rattle.std.specs.Int.RustNames.{bit_or}
+use Rattle.fdc_registers.specs.Dor.{gate}
 use Rattle.fdc_core.specs.Ports.{resets}
-use Rattle.fdc_sequencer.specs.Fronts.{Front, WritesFront, TakesFront, GivesFront, value_outside, told_front}
+use Rattle.fdc_sequencer.specs.Fronts.{Front, WritesFront, TakesFront, GivesFront, told_front}
 use Rattle.fdc_sequencer.specs.Senses.{is_ready}
 use Rattle.fdc_chip.specs.Answers.{answer_bytes, is_of_data}
-use Rattle.fdc_chip.specs.Chips.{ChipState, with_front, KeepsRest, status_of, passes_by_port, passes_by_channel, is_data}
-use Rattle.fdc_chip.specs.Codes.{code_of, parameters}
+use Rattle.fdc_chip.specs.Chips.{ChipState, with_front, KeepsRest, status_of, value_of, passes_by_port, passes_by_channel, is_data}
+use Rattle.fdc_chip.specs.Codes.{code_of, has_bit, parameters}
 use Rattle.fdc_chip.specs.Doing.{AttendsTo}
 use Rattle.fdc_chip.specs.Interrupts.{at_rest}
 use Rattle.fdc_chip.specs.Orders.{with_byte}
@@ -49,7 +51,7 @@ ReadsAt _ old value new = ReadsIf (passes_by_port old) old value new
 pub record ReadsChip (port : ℕ) (old : ChipState) (value : ℕ) (new : ChipState) : Type 0 where
   pub status : port ≡ 0x3F4 → (value ≡ status_of old) × (new ≡ old)
   pub byte : port ≡ 0x3F5 → ReadsAt old.stage old value new
-  pub others : (port == 0x3F4) ≡ false → (port == 0x3F5) ≡ false → (value ≡ value_outside port old.front) × (new ≡ old)
+  pub others : (port == 0x3F4) ≡ false → (port == 0x3F5) ≡ false → (value ≡ value_of port old) × (new ≡ old)
 
 -- ---- writes
 
@@ -78,11 +80,15 @@ abbrev pub ComesIf : Bool → ℕ → ChipState → ChipState → Type 0
 ComesIf true byte old new = Collects (with_next byte old) new
 ComesIf false byte old new = new ≡ old
 
+-- of a FORMAT TRACK one byte fewer is left
+abbrev pub given_one : Bool → ChipState → ChipState
+given_one was old = record old { keys = if was then old.keys - 1 else old.keys }
+
 -- a byte of the command in execution
 pub record PassesIn (byte : ℕ) (old new : ChipState) : Type 0 where
   pub was : Bool
   pub gives : GivesFront byte old.front was new.front
-  pub rest : KeepsRest old new
+  pub rest : KeepsRest (given_one was old) new
 
 abbrev pub GivesIf : Bool → ℕ → ChipState → ChipState → Type 0
 GivesIf true byte old new = PassesIn byte old new
@@ -95,13 +101,21 @@ TakesByte _ byte old new = GivesIf (passes_by_port old) byte old new
 
 -- a reset ends what is under way, and forgets results, cylinders and what CONFIGURE set but LOCK doesn't keep
 abbrev pub reset_if : Bool → ChipState → ChipState
-reset_if true old = record old { stage = Ready; count = 0; interrupts = at_rest; settings = reset old.settings }
+reset_if true old = record old { stage = Ready; count = 0; interrupts = at_rest; settings = reset old.settings; pace = None }
 reset_if false old = old
+
+-- DOR lets INT and DRQ out or keeps them in here, and behind they are let out always
+abbrev pub gated_by : ℕ → ℕ → ChipState → ChipState
+gated_by port value old = record old { gated = if port == 0x3F2 then has_bit value gate else old.gated }
+
+abbrev pub value_behind : ℕ → ℕ → ℕ
+value_behind port value = if port == 0x3F2 then bit_or value gate else value
 
 -- a byte is written to a port
 pub record WritesChip (port value : ℕ) (old new : ChipState) : Type 0 where
   pub bytes : port ≡ 0x3F5 → TakesByte old.stage value old new
-  pub others : (port == 0x3F5) ≡ false → WritesFront port value old.front new.front × KeepsRest (reset_if (resets port value) old) new
+  pub others : (port == 0x3F5) ≡ false → WritesFront port (value_behind port value) old.front new.front
+      × KeepsRest (reset_if (resets port (value_behind port value)) (gated_by port value old)) new
 
 -- ---- the channel
 
@@ -114,7 +128,7 @@ abbrev pub TakesChip : ChipState → Option ℕ → ChipState → Type 0
 TakesChip old byte new = TakesIf (passes_by_channel old) old byte new
 
 abbrev pub GivesChipIf : Bool → ℕ → ChipState → Bool → ChipState → Type 0
-GivesChipIf true byte old was new = GivesFront byte old.front was new.front × KeepsRest old new
+GivesChipIf true byte old was new = GivesFront byte old.front was new.front × KeepsRest (given_one was old) new
 GivesChipIf false byte old was new = (was ≡ false) × (new ≡ old)
 
 -- the channel gives a byte, where one is asked for in this direction

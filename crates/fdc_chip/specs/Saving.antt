@@ -9,6 +9,7 @@ use Rattle.fdc_chip.specs.declared.answer.Registers.{Registers}
 use Rattle.fdc_chip.specs.declared.chip.Chip.{Chip}
 use Rattle.fdc_chip.specs.Interrupts.{Interrupting, AreFour}
 use Rattle.fdc_chip.specs.declared.order.Order.{Order}
+use Rattle.fdc_chip.specs.declared.pace.Pace.{Pace}
 use Rattle.fdc_chip.specs.declared.settings.Settings.{Settings}
 use Rattle.fdc_chip.specs.declared.stage.Place.{Place}
 use Rattle.fdc_chip.specs.declared.stage.Place.TheVariants as place
@@ -66,6 +67,11 @@ spelled_task (task.Refused unit key mfm) rest = 2 ∷ spelled_byte unit (spelled
 spelled_task (task.Verify left) rest = 3 ∷ spelled_double left rest
 spelled_task (task.Track track) rest = 4 ∷ spelled_track track rest
 
+-- a seek whose pulses come in the time that SPECIFY sets
+unfoldable pub spelled_pace : Pace → List ℕ → List ℕ
+spelled_pace pace rest =
+    spelled_byte pace.unit (spelled_byte pace.cylinder (spelled_option spelled_byte pace.goal (spelled_word pace.wait rest)))
+
 -- what is under way
 unfoldable pub spelled_stage : Stage → List ℕ → List ℕ
 spelled_stage stage.Ready rest = 0 ∷ rest
@@ -81,4 +87,5 @@ ChipFits fits chip = SequencerFits fits chip.behind × AreFour chip.interrupts
 unfoldable pub spelled_chip : {D : Type 0} → (D → List ℕ → List ℕ) → Chip D → List ℕ → List ℕ
 spelled_chip spelled chip rest =
     71 ∷ spelled_sequencer spelled chip.behind (spelled_stage chip.stage (spelled_order chip.order (spelled_byte chip.count
-    (spelled_interrupts chip.interrupts (spelled_settings chip.settings (spelled_flag chip.strapped rest))))))
+    (spelled_interrupts chip.interrupts (spelled_settings chip.settings (spelled_flag chip.strapped (spelled_word chip.keys
+    (spelled_flag chip.gated (spelled_option spelled_pace chip.pace (spelled_flag chip.paced rest))))))))))

@@ -1,5 +1,5 @@
 -- What commands set, and what a reset leaves of it.
-use Rattle.std.specs.Prelude.{ℕ, Bool, true, false, if◌then◌else◌, bit_and}
+use Rattle.std.specs.Prelude.{ℕ, ◌-◌, ◌*◌, ◌/◌, Bool, true, false, if◌then◌else◌, bit_and}
 use Rattle.std.specs.Int.RustNames.{bit_or}
 use Rattle.fdc_chip.specs.Codes.{has_bit}
 use Rattle.fdc_chip.specs.declared.settings.Settings.{Settings}
@@ -35,7 +35,12 @@ is_by_port settings = has_bit settings.head_load 0x01
 abbrev pub implies_seeks : Settings → Bool
 implies_seeks settings = has_bit settings.options 0x40
 
--- PERPENDICULAR MODE sets GAP and WGATE, and with OW D3 to D0 too
+-- the word times from one step pulse to the next: SRT stands in the high four bits, and the millisecond of 500 kbit/s in which the
+-- data sheet gives it is 62.5 word times at each rate
+abbrev pub step_words : Settings → ℕ
+step_words settings = (16 - settings.step_rate / 16) * 125 / 2
+
+-- PERPENDICULAR MODE sets GAP and WGATE, and with OW which drives are perpendicular
 abbrev pub perpendicular_set : ℕ → Settings → Settings
 perpendicular_set mode old = record old {
   perpendicular = if has_bit mode 0x80 then bit_and mode 0x3F else bit_or (bit_and old.perpendicular 0x3C) (bit_and mode 0x03);

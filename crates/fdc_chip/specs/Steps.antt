@@ -6,6 +6,7 @@ use Rattle.fdc_chip.specs.Chips.{ChipState, with_front, KeepsRest, interrupts_ch
 use Rattle.fdc_chip.specs.Codes.{code_of}
 use Rattle.fdc_chip.specs.Doing.{AttendsTo, drained}
 use Rattle.fdc_chip.specs.Ending.{MayEnd}
+use Rattle.fdc_chip.specs.Paces.{Paces}
 use Rattle.fdc_chip.specs.declared.stage.Stage.{Stage}
 use Rattle.fdc_chip.specs.declared.stage.Stage.TheVariants.{Ready, Held, Busy, Telling}
 use Rattle.fdc_chip.specs.declared.stage.Task.{Task}
@@ -44,12 +45,14 @@ FollowsTask (Verify left) old new =
     (between : ChipState) × SwallowsAll left old between × MayEnd (Verify left) between new
 FollowsTask task old new = MayEnd task old new
 
--- results of seeks and polls are taken over, once INT rises behind; a command that is held is done once heads stand
+-- a seek goes on whose pulses come in time; results of seeks and polls are taken over, once INT rises behind; a command that is held is
+-- done once heads stand
 abbrev pub Follows : Stage → ChipState → ChipState → Type 0
-Follows Ready old new = new ≡ (if interrupts_outside old.front then drained old else old)
-Follows Held old new = AttendsTo (code_of old.order.code) old new
+Follows Ready old new =
+    (paced : ChipState) × Paces old.pace old paced × (new ≡ (if interrupts_outside paced.front then drained paced else paced))
+Follows Held old new = (paced : ChipState) × Paces old.pace old paced × AttendsTo (code_of paced.order.code) paced new
 Follows (Busy task) old new = FollowsTask task old new
-Follows (Telling answer read) old new = new ≡ old
+Follows (Telling answer read) old new = Paces old.pace old new
 
 -- one device step
 pub record StepsChip (old new : ChipState) : Type 0 where

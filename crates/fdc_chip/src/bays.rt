@@ -1,16 +1,27 @@
 // The bays, and what a front end shows: as behind.
 ghost use Rattle.std.specs.Prelude.{◌≡◌, ◌≤◌, ◌-◌, ◌+◌, ◌%◌, ◌↔◌, IfErr, OnOk, IsErr, IsSome, IsTrue, IsBitSet};
 ghost use Rattle.std.specs.Option.{option_copied};
-ghost use Rattle.drive_model.specs.Drive.{Becomes, loaded, unloaded, forgotten};
+ghost use Rattle.drive_model.specs.Drive.{Becomes, loaded, unloaded, forgotten, rate_of};
 ghost use Rattle.fdc_board.specs.Boards.{controller_of, drive_at};
 ghost use Rattle.fdc_board.specs.WordTimes.{nanoseconds};
 ghost use Rattle.fdc_core.specs.State.{dor_of, data_rate};
 ghost use Rattle.fdc_sequencer.specs.Fronts.{board_of};
-ghost use Rattle.fdc_chip.specs.Chips.{chip_state, behind_of, KeepsChip};
+ghost use Rattle.fdc_chip.specs.Chips.{chip_state, behind_of, KeepsChip, index_words, indexes, indexes_chip};
 
 use crate::chip::Chip;
 use drive_model::Inspect;
+use flop_base::Rate;
 use raw_image::Medium;
+
+/// The words of a track that begin in its first 2 ms: one takes 16 µs at 500 kbit/s, and 32 µs at 250.
+fn index_words(rate: Rate) -> u16
+    ensures { result ≡ index_words rate }
+{
+    match rate {
+        Rate::R500 => 125,
+        Rate::R250 => 63,
+    }
+}
 
 impl<D: Inspect> Chip<D> {
     /// Puts a medium into a bay, of which no word was replaced yet. Where one is in already, the new one is given back.
@@ -106,6 +117,37 @@ impl<D: Inspect> Chip<D> {
         ensures { result ≡ dor_of (controller_of (board_of (behind_of self.now))) % 4 }
     {
         self.behind.selected()
+    }
+
+    /// The rate of the medium in a bay, R500 where none is in.
+    fn rate(&self, bay: u8) -> Rate
+        requires { bay ≤ 1 }
+        ensures { result ≡ rate_of (drive_at (chip_state D.state self.now).front.board bay).medium }
+    {
+        match self.medium(bay) {
+            Some(medium) => medium.rate(),
+            None => Rate::R500,
+        }
+    }
+
+    /// Whether INDEX of the drive in a bay is up.
+    fn indexes(&self, bay: u8) -> bool
+        requires { bay ≤ 1 }
+        ensures { result ≡ indexes (drive_at (chip_state D.state self.now).front.board bay) }
+    {
+        match self.behind.place(bay) {
+            Some(place) => place < index_words(self.rate(bay)),
+            None => false,
+        }
+    }
+
+    /// The INDEX line of the drive that DOR selects: up in the first 2 ms behind the index, while a medium turns at speed. An
+    /// absent drive's is low.
+    pub fn index(&self) -> bool
+        ensures { result ≡ indexes_chip (chip_state D.state self.now) }
+    {
+        let bay = self.selected();
+        bay <= 1 && self.indexes(bay)
     }
 
     /// The nanoseconds of a word time at the rate that was chosen last.

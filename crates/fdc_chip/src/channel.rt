@@ -1,9 +1,9 @@
 // The side of the DMA channel.
 ghost use Rattle.std.specs.Prelude.{◌≡◌, true};
 ghost use Rattle.fdc_board.specs.Boards.{SameDrives};
-ghost use Rattle.fdc_sequencer.specs.Fronts.{board_of};
-ghost use Rattle.fdc_chip.specs.Chips.{chip_state, behind_of, is_data};
-ghost use Rattle.fdc_chip.specs.Ports.{TakesChip, GivesChip, counted_if, told_chip};
+ghost use Rattle.fdc_sequencer.specs.Fronts.{board_of, GivesFront};
+ghost use Rattle.fdc_chip.specs.Chips.{chip_state, behind_of, is_data, KeepsRest};
+ghost use Rattle.fdc_chip.specs.Ports.{TakesChip, GivesChip, given_one, counted_if, told_chip};
 
 use crate::chip::Chip;
 use crate::stage::{Place, Stage, Task, Track};
@@ -28,10 +28,24 @@ impl<D: Inspect> Chip<D> {
         ensures drives { SameDrives (board_of (behind_of self.old)) (board_of (behind_of self.new)) }
     {
         if self.passes_by_channel() {
-            self.behind.dack_write(byte)
+            self.give(byte)
         } else {
             false
         }
+    }
+
+    /// Gives a byte of the command in execution behind, where one is asked for, and tells whether one was. Of a FORMAT TRACK one
+    /// byte fewer is left then.
+    pub(crate) fn give(&mut self, byte: u8) -> bool
+        ensures gives { GivesFront byte (chip_state D.state self.old).front result (chip_state D.state self.new).front }
+        ensures rest { KeepsRest (given_one result (chip_state D.state self.old)) (chip_state D.state self.new) }
+        ensures drives { SameDrives (board_of (behind_of self.old)) (board_of (behind_of self.new)) }
+    {
+        let was = self.behind.dack_write(byte);
+        if was {
+            self.keys = self.keys.saturating_sub(1);
+        }
+        was
     }
 
     /// The channel tells the terminal count: the command ends behind its sector.

@@ -3,11 +3,12 @@ ghost use Rattle.std.specs.Prelude.{◌≡◌, IfOk, IsTrue, IsFalse};
 ghost use Rattle.fdc_board.specs.Boards.{controller_of, SameDrives};
 ghost use Rattle.fdc_core.specs.Dma.{to_memory_of};
 ghost use Rattle.fdc_sequencer.specs.Fronts.{board_of};
-ghost use Rattle.fdc_chip.specs.Chips.{chip_state, behind_of, IsNewChip, interrupts_chip, asks_chip, passes_by_port, passes_by_channel, passes_at, passes_bytes, is_data};
+ghost use Rattle.fdc_chip.specs.Chips.{chip_state, behind_of, IsNewChip, interrupts_chip, asks_chip, passes, passes_by_port, passes_by_channel, passes_at, passes_bytes, is_data};
 ghost use Rattle.fdc_chip.specs.Steps.{HasLinesChip};
 
 use crate::interrupts::Interrupts;
 use crate::order::Order;
+use crate::pace::Pace;
 use crate::settings::Settings;
 use crate::stage::{Place, Stage, Task};
 use drive_model::Inspect;
@@ -28,6 +29,14 @@ pub struct Chip<D> {
     pub(crate) settings: Settings,
     /// Seeks are implied by a strap of the board.
     pub(crate) strapped: bool,
+    /// How many bytes of keys a FORMAT TRACK still takes.
+    pub(crate) keys: u16,
+    /// DOR lets INT and DRQ out.
+    pub(crate) gated: bool,
+    /// A seek whose pulses come in the time that SPECIFY sets.
+    pub(crate) pace: Option<Pace>,
+    /// The pulses of seeks come so by a strap of the board.
+    pub(crate) paced: bool,
 }
 
 impl Task {
@@ -56,6 +65,10 @@ impl<D: Inspect> Chip<D> {
             interrupts: Interrupts::new(),
             settings: Settings::new(),
             strapped: false,
+            keys: 0,
+            gated: false,
+            pace: None,
+            paced: false,
         })
     }
 
@@ -68,14 +81,30 @@ impl<D: Inspect> Chip<D> {
         self.strapped = on;
     }
 
-    /// Whether the bytes of a command pass.
-    fn passes(&self) -> bool
+    /// Lets the pulses of SEEK, RELATIVE SEEK and RECALIBRATE come in the time that SPECIFY sets; or one in each word time. A
+    /// RECALIBRATE gives those of the cylinders that the controller has counted so, and what is left to track 0 in a word time each.
+    pub fn strap_steps(&mut self, on: bool)
+        ensures state { chip_state D.state self.new ≡ record (chip_state D.state self.old) { paced = on } }
+        ensures drives { SameDrives (board_of (behind_of self.old)) (board_of (behind_of self.new)) }
+    {
+        self.paced = on;
+    }
+
+    /// Whether what is under way passes bytes.
+    fn passes_at(&self) -> bool
         ensures { result ≡ passes_at (chip_state D.state self.now).stage }
     {
         match &self.stage {
             Stage::Busy { task } => task.passes_bytes(),
             _ => false,
         }
+    }
+
+    /// Whether the bytes of a command pass: a FORMAT TRACK takes no more than its keys.
+    pub(crate) fn passes(&self) -> bool
+        ensures { result ≡ passes (chip_state D.state self.now) }
+    {
+        self.passes_at() && !(self.order.is_format() && self.keys == 0)
     }
 
     /// Whether they pass by the data port.
@@ -85,24 +114,27 @@ impl<D: Inspect> Chip<D> {
         self.settings.is_by_port() && self.passes()
     }
 
-    /// Whether they pass by the channel.
+    /// Whether they pass by the channel, where DOR lets DRQ out.
     pub(crate) fn passes_by_channel(&self) -> bool
         ensures { result ≡ passes_by_channel (chip_state D.state self.now) }
     {
-        !self.settings.is_by_port() && self.passes()
+        self.gated && !self.settings.is_by_port() && self.passes()
     }
 
-    /// The interrupt line. In the non-DMA mode it asks for a byte; else it rises with results and with the end of a seek.
+    /// The interrupt line, where DOR lets it out. In the non-DMA mode it asks for a byte; else it rises with results and with the
+    /// end of a seek.
     pub fn int(&self) -> bool
         ensures { result ≡ interrupts_chip (chip_state D.state self.now) }
     {
+        if !self.gated {
+            return false;
+        }
         if self.passes_by_port() {
             return self.behind.drq();
         }
-        let is_up = self.interrupts.is_up() && self.behind.is_gated();
         match self.stage {
-            Stage::Ready => is_up || self.behind.int(),
-            _ => is_up,
+            Stage::Ready => self.interrupts.is_up() || self.behind.int(),
+            _ => self.interrupts.is_up(),
         }
     }
 

@@ -2,13 +2,14 @@
 ghost use Rattle.std.specs.Prelude.{◌≡◌};
 ghost use Rattle.fdc_sequencer.specs.Fronts.{front_state};
 ghost use Rattle.fdc_chip.specs.Chips.{chip_state, behind_of, KeepsRest};
-ghost use Rattle.fdc_chip.specs.Doing.{Sends, SendsOn, drained_one, drained, moves_heads, told, ready, sensing, specified, configured, configuring, dumped, locked, made_perpendicular, relative_target, Asks, Obeys, AttendsTo, Attends, needs_heads};
+ghost use Rattle.fdc_chip.specs.Doing.{Sends, SendsOn, drained_one, drained, moves_heads, is_moving, told, ready, sensing, specified, configured, configuring, dumped, locked, made_perpendicular, relative_target, Asks, Moves, Obeys, AttendsTo, Attends, needs_heads};
 ghost use Rattle.fdc_chip.specs.Interrupts.{cylinder_of};
 
 use crate::answer::{Answer, Registers};
 use crate::chip::Chip;
 use crate::code::Code;
 use crate::order::Order;
+use crate::pace::Pace;
 use crate::settings::Settings;
 use crate::stage::{Stage, Task};
 use drive_model::Inspect;
@@ -97,12 +98,20 @@ impl<D: Inspect> Chip<D> {
         }
     }
 
-    /// Whether heads move.
-    fn moves_heads(&mut self) -> bool
+    /// Whether heads move behind.
+    pub(crate) fn moves_heads(&mut self) -> bool
         ensures moves { result ≡ moves_heads (chip_state D.state self.old).front }
         ensures same { chip_state D.state self.new ≡ chip_state D.state self.old }
     {
         self.behind.read(STATUS) & SEEKING != 0
+    }
+
+    /// Whether heads move, or are to.
+    fn is_moving(&mut self) -> bool
+        ensures moves { result ≡ is_moving (chip_state D.state self.old) }
+        ensures same { chip_state D.state self.new ≡ chip_state D.state self.old }
+    {
+        self.pace.is_some() || self.moves_heads()
     }
 
     /// A whole command came, of this code if there is one.
@@ -120,7 +129,7 @@ impl<D: Inspect> Chip<D> {
         ensures { Attends code (chip_state D.state self.old) (chip_state D.state self.new) }
     {
         self.drain();
-        if code.needs_heads() && self.moves_heads() {
+        if code.needs_heads() && self.is_moving() {
             self.stage = Stage::Held;
             return;
         }
@@ -137,8 +146,8 @@ impl<D: Inspect> Chip<D> {
             Code::Specify => self.specify(),
             Code::SenseDrive => self.ask(&[0x04, unit]),
             Code::SenseInterrupt => self.sense_interrupt(),
-            Code::Recalibrate => self.move_heads(&[0x07, unit]),
-            Code::Seek => self.move_heads(&[0x0F, unit, key.c]),
+            Code::Recalibrate => self.move_heads(None),
+            Code::Seek => self.move_heads(Some(key.c)),
             Code::RelativeSeek { inward } => self.seek_from_here(inward),
             Code::Version => self.tell(Answer::Byte { byte: ENHANCED }),
             Code::Perpendicular => self.make_perpendicular(),
@@ -185,12 +194,18 @@ impl<D: Inspect> Chip<D> {
         self.tell(answer);
     }
 
-    /// A command whose heads move behind.
-    fn move_heads(&mut self, bytes: &[u8])
-        ensures { SendsOn bytes.now (ready (chip_state D.state self.old)) (chip_state D.state self.new) }
+    /// The heads go to a cylinder; or to track 0, where there is none. Their pulses come in the time that SPECIFY sets, or it is
+    /// given behind.
+    fn move_heads(&mut self, goal: Option<u8>)
+        ensures { Moves goal (chip_state D.state self.old) (chip_state D.state self.new) }
     {
         self.stage = Stage::Ready;
-        self.send(bytes);
+        let unit = self.order.unit;
+        if self.paced {
+            self.pace = Some(Pace::of(unit, self.interrupts.cylinder(unit), goal));
+        } else {
+            self.send_move(unit, goal);
+        }
     }
 
     /// RELATIVE SEEK.
@@ -199,7 +214,7 @@ impl<D: Inspect> Chip<D> {
     {
         let Order { unit, key, .. } = self.order;
         let target = relative_target(inward, self.interrupts.cylinder(unit), key.c);
-        self.move_heads(&[0x0F, unit, target]);
+        self.move_heads(Some(target));
     }
 
     /// PERPENDICULAR MODE, which has no effect at these rates but on what DUMPREG gives.

@@ -2,13 +2,15 @@
 ghost use Rattle.std.specs.Prelude.{◌≡◌, ◌==◌, not};
 ghost use Rattle.fdc_sequencer.specs.Fronts.{Front, front_state};
 ghost use Rattle.fdc_chip.specs.Chips.{chip_state, behind_of, with_front};
-ghost use Rattle.fdc_chip.specs.Ending.{behind_one, byte_behind, results_behind, results_taken, has_results, told_results, has_key, looks_for_cylinder, unit_of, cylinder_bits, with_cylinder_passed, refusal, EndsSent, Ends, MayEnd};
+ghost use Rattle.fdc_chip.specs.Ending.{behind_one, byte_behind, results_behind, results_taken, has_results, told_results, has_key, looks_for_cylinder, unit_of, cylinder_bits, with_cylinder_passed, saw_marks, refusal, behind_last, is_done, verified, EndsSent, Ends, MayEnd};
 
 use crate::answer::Answer;
 use crate::chip::Chip;
+use crate::code::{MULTITRACK, has_bit};
 use crate::doing::{DATA, STATUS};
 use crate::order::Order;
 use crate::stage::{Stage, Task};
+use crate::starting::COUNTS;
 use drive_model::Inspect;
 use fdc_commands::Results;
 use fdc_registers::{Flags, Msr, St0, St1, St2};
@@ -54,6 +56,25 @@ fn with_cylinder_passed(first: Results, passed: Results) -> Results
     }
 }
 
+/// Whether address marks passed, though none of an intact field may have.
+fn saw_marks(results: Results) -> bool
+    ensures { result ≡ saw_marks results }
+{
+    results.st1.bits() & St1::MISSING_MARK.bits() == 0
+}
+
+/// The key of the sector behind EOT, with MT behind that of head 1.
+fn behind_last(multitrack: bool, key: Chrn) -> Chrn
+    ensures { result ≡ behind_last multitrack key }
+{
+    Chrn {
+        c: key.c.wrapping_add(1),
+        h: if multitrack { key.h ^ 1 } else { key.h },
+        r: 1,
+        ..key
+    }
+}
+
 /// The results in place of a command that this medium can't have. `marks` says that address marks pass.
 fn refusal(unit: u8, key: Chrn, marks: bool) -> Results
     ensures { result ≡ refusal unit key marks }
@@ -76,6 +97,29 @@ impl Order {
         ensures { result ≡ has_key self }
     {
         self.code & COMMAND != READ_ANY_ID
+    }
+
+    /// Whether a VERIFY is done, though the sequencer ends with EN behind EOT since sectors were passed over: one that doesn't
+    /// count its sectors.
+    fn is_done(self, results: Results) -> bool
+        ensures { result ≡ is_done self results }
+    {
+        !has_bit(self.unit, COUNTS) && results.st1.bits() == St1::END_OF_CYLINDER.bits()
+    }
+
+    /// The results of a VERIFY, from those of its READ DATA.
+    fn verified(self, results: Results) -> Results
+        ensures { result ≡ verified self results }
+    {
+        if !self.is_done(results) {
+            return results;
+        }
+        Results {
+            st0: St0(results.st0.bits() & UNIT),
+            st1: St1(0),
+            key: behind_last(has_bit(self.code, MULTITRACK), results.key),
+            ..results
+        }
     }
 }
 
@@ -140,12 +184,13 @@ impl<D: Inspect> Chip<D> {
         ensures { Ends task results (chip_state D.state self.old) (chip_state D.state self.new) }
     {
         match task {
-            Task::Sent | Task::Verify { .. } => self.end_sent(results),
+            Task::Sent => self.end_sent(results),
+            Task::Verify { .. } => self.end_sent(self.order.verified(results)),
             Task::Sought { results: first } => {
                 self.tell_results(with_cylinder_passed(first, results));
             }
             Task::Refused { unit, key, mfm } => {
-                self.tell_results(refusal(unit, key, mfm && results.st1.bits() == 0));
+                self.tell_results(refusal(unit, key, mfm && saw_marks(results)));
             }
             Task::Track { track } => self.end_part(track, results),
         }

@@ -3,7 +3,8 @@
 //!
 //! A command's bytes are collected here. What stands behind is then given what it can do, and the rest is made of that: a
 //! command that this medium can't have ends as a search does, with INT and its results. The results of seeks are kept here, so
-//! that commands come while some are pending.
+//! that commands come while some are pending. DOR lets INT and DRQ out here: behind they are always let out, so that MSR asks for
+//! bytes all the same.
 #![tactic(auto)]
 
 mod answer;
@@ -16,7 +17,11 @@ mod ending;
 mod interrupts;
 mod moving;
 mod order;
+mod pace;
+mod pin;
 mod ports;
+mod quiet;
+mod refitting;
 mod saving;
 mod settings;
 mod stage;
@@ -28,5 +33,6 @@ pub use chip::Chip;
 pub use code::Code;
 pub use interrupts::Interrupts;
 pub use order::Order;
+pub use pace::Pace;
 pub use settings::Settings;
 pub use stage::{Place, Stage, Task, Track};

@@ -1,7 +1,8 @@
 // Device steps.
-ghost use Rattle.std.specs.Prelude.{◌≡◌, ◌≤◌, true, false};
+ghost use Rattle.std.specs.Prelude.{◌≡◌, ◌≤◌, true, false, None, if◌then◌else◌};
 ghost use Rattle.fdc_sequencer.specs.Fronts.{front_state, interrupts_outside};
 ghost use Rattle.fdc_chip.specs.Chips.{chip_state, behind_of, interrupts_chip, asks_chip};
+ghost use Rattle.fdc_chip.specs.Doing.{drained};
 ghost use Rattle.fdc_chip.specs.Steps.{Swallows, SwallowsAll, Follows, FollowsTask, StepsChip, RunsChipWith, RunsChip};
 ghost use Rattle.fdc_chip.specs.declared.stage.Stage.TheVariants.{Ready};
 
@@ -28,13 +29,24 @@ impl<D: Inspect> Chip<D> {
     {
         match self.stage {
             Stage::Ready => {
-                if self.behind.int() {
-                    self.drain();
-                }
+                self.keep_pace();
+                self.take_over();
             }
-            Stage::Held => self.attend_to(Code::of(self.order.code)),
+            Stage::Held => {
+                self.keep_pace();
+                self.attend_to(Code::of(self.order.code));
+            }
             Stage::Busy { task } => self.follow_task(task),
-            Stage::Telling { .. } => {}
+            Stage::Telling { .. } => self.keep_pace(),
+        }
+    }
+
+    /// Takes over the results of seeks and polls, once INT rises behind.
+    fn take_over(&mut self)
+        ensures { chip_state D.state self.new ≡ (if interrupts_outside (chip_state D.state self.old).front then drained (chip_state D.state self.old) else chip_state D.state self.old) }
+    {
+        if self.behind.int() {
+            self.drain();
         }
     }
 
@@ -102,20 +114,17 @@ impl<D: Inspect> Chip<D> {
             (chip_state D.state self.old) (chip_state D.state self.new) }
     {
         match self.stage {
-            Stage::Ready if !self.interrupts.is_up() && !self.behind.int() => {
-                self.advance_ready(most)
-            }
-            _ => {
-                self.step();
-                1
-            }
+            Stage::Ready if self.pace.is_none() && !self.interrupts.is_up() && !self.behind.int() =>
+                { self.advance_ready(most) }
+            _ => self.advance_other(most),
         }
     }
 
-    /// The same while nothing is under way and INT is down, where many steps are made at once.
+    /// The same while nothing is under way, no pulses are to come and INT is down, where many steps are made at once.
     fn advance_ready(&mut self, most: u32) -> u32
         requires some { 1 ≤ most }
         requires ready { self.old.stage ≡ Ready }
+        requires stands { self.old.pace ≡ None }
         requires down { self.old.interrupts.line ≡ false }
         requires quiet { interrupts_outside (chip_state D.state self.old).front ≡ false }
         ensures some { 1 ≤ result }

@@ -1,8 +1,13 @@
 // The bytes of a command, as they come.
 ghost use Rattle.std.specs.Prelude.{◌≡◌};
-ghost use Rattle.fdc_chip.specs.Orders.{blank, with_byte, order_bytes};
+ghost use Rattle.fdc_chip.specs.Orders.{blank, is_format, with_byte, order_bytes};
 
 use flop_base::Chrn;
+
+/// Which command a code is, and FORMAT TRACK among these.
+const COMMAND: u8 = 0x1F;
+
+const FORMAT_ANY_TRACK: u8 = 0x0D;
 
 /// The bytes of a command, named as in those that have nine: a shorter command has the first of them.
 #[derive(Clone, Copy, PartialEq, Eq, Debug)]
@@ -36,6 +41,13 @@ impl Order {
             gap: 0,
             length: 0,
         }
+    }
+
+    /// Whether it is a FORMAT TRACK.
+    pub(crate) fn is_format(self) -> bool
+        ensures { result ≡ is_format self }
+    {
+        self.code & COMMAND == FORMAT_ANY_TRACK
     }
 
     /// With the byte at a place, counted from 0.

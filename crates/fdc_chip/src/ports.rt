@@ -2,18 +2,25 @@
 ghost use Rattle.std.specs.Prelude.{◌≡◌, ◌==◌, ◌&&◌};
 ghost use Rattle.fdc_board.specs.Boards.{SameDrives};
 ghost use Rattle.fdc_sequencer.specs.Fronts.{board_of};
-ghost use Rattle.fdc_chip.specs.Chips.{chip_state, behind_of, status_of, stage_bits, execution_bits, port_bits};
-ghost use Rattle.fdc_chip.specs.Ports.{ReadsChip, ReadsAt, PassesOut, byte_told, WritesChip, TakesByte, Collects, may_come, with_next, PassesIn, is_whole};
+ghost use Rattle.fdc_chip.specs.Chips.{chip_state, behind_of, status_of, stage_bits, execution_bits, port_bits, output_of};
+ghost use Rattle.fdc_chip.specs.Ports.{ReadsChip, ReadsAt, PassesOut, byte_told, WritesChip, TakesByte, Collects, may_come, with_next, PassesIn, is_whole, gated_by, value_behind};
 
 use crate::answer::{Answer, NOTHING};
 use crate::chip::Chip;
-use crate::code::Code;
+use crate::code::{Code, has_bit};
 use crate::doing::{DATA, STATUS};
 use crate::interrupts::Interrupts;
+use crate::pace::pace_bit;
 use crate::stage::Stage;
 use drive_model::Inspect;
 use fdc_core::Fdc;
-use fdc_registers::{Flags, Msr};
+use fdc_registers::{Dor, Flags, Msr};
+
+/// DOR.
+const OUTPUT: u16 = 0x3F2;
+
+/// All of DOR but the bit that lets INT and DRQ out.
+const WITHOUT_GATE: u8 = 0xF7;
 
 /// The seek bits of MSR.
 const SEEKING: u8 = 0x0F;
@@ -61,6 +68,7 @@ impl<D: Inspect> Chip<D> {
         match port {
             STATUS => self.status(),
             DATA => self.give_byte(),
+            OUTPUT => self.output(),
             _ => self.behind.read(port),
         }
     }
@@ -72,7 +80,18 @@ impl<D: Inspect> Chip<D> {
         ensures drives { SameDrives (board_of (behind_of self.old)) (board_of (behind_of self.new)) }
     {
         let seeks = Msr(self.interrupts.seek_bits());
-        self.stage_bits().union(seeks).bits()
+        let pace = Msr(pace_bit(self.pace));
+        self.stage_bits().union(seeks).union(pace).bits()
+    }
+
+    /// DOR, as it was written.
+    fn output(&mut self) -> u8
+        ensures value { result ≡ output_of (chip_state D.state self.old) }
+        ensures same { chip_state D.state self.new ≡ chip_state D.state self.old }
+        ensures drives { SameDrives (board_of (behind_of self.old)) (board_of (behind_of self.new)) }
+    {
+        let gate = if self.gated { Dor::GATE.bits() } else { 0 };
+        self.behind.read(OUTPUT) & WITHOUT_GATE | gate
     }
 
     /// Its bits by what is under way.
@@ -87,8 +106,8 @@ impl<D: Inspect> Chip<D> {
                 Msr(self.behind.read(STATUS)).union(begun)
             }
             Stage::Held => Msr(self.behind.read(STATUS) & SEEKING).union(Msr::BUSY),
-            Stage::Busy { task } => {
-                let asked = task.passes_bytes() && self.behind.drq();
+            Stage::Busy { .. } => {
+                let asked = self.passes() && self.behind.drq();
                 execution_bits(self.settings.is_by_port(), asked, self.behind.to_memory())
             }
             Stage::Telling { .. } => {
@@ -155,13 +174,29 @@ impl<D: Inspect> Chip<D> {
             self.take_byte(value);
             return;
         }
-        if Fdc::is_reset_by(port, value) {
+        let given = self.gate(port, value);
+        if Fdc::is_reset_by(port, given) {
             self.stage = Stage::Ready;
             self.count = 0;
             self.interrupts = Interrupts::new();
             self.settings = self.settings.reset();
+            self.pace = None;
         }
-        self.behind.write(port, value);
+        self.behind.write(port, given);
+    }
+
+    /// Lets INT and DRQ out or keeps them in, where this is DOR, and gives what goes behind: there they are always let out, so that
+    /// MSR asks for bytes all the same.
+    fn gate(&mut self, port: u16, value: u8) -> u8
+        ensures given { result ≡ value_behind port value }
+        ensures gated { chip_state D.state self.new ≡ gated_by port value (chip_state D.state self.old) }
+    {
+        if port != OUTPUT {
+            return value;
+        }
+        let gate = Dor::GATE.bits();
+        self.gated = has_bit(value, gate);
+        value | gate
     }
 
     /// A byte is written to the data port.
@@ -213,6 +248,6 @@ impl<D: Inspect> Chip<D> {
     fn pass_in(&mut self, byte: u8)
         ensures { PassesIn byte (chip_state D.state self.old) (chip_state D.state self.new) }
     {
-        self.behind.dack_write(byte);
+        self.give(byte);
     }
 }

@@ -3,6 +3,7 @@ use crate::answer::{Answer, Registers};
 use crate::chip::Chip;
 use crate::interrupts::Interrupts;
 use crate::order::Order;
+use crate::pace::Pace;
 use crate::settings::Settings;
 use crate::stage::{Place, Stage, Task, Track};
 use fdc_commands::Results;
@@ -313,6 +314,37 @@ impl Saved for Task {
     }
 }
 
+impl Saved for Pace {
+    ghost use Rattle.std.specs.Prelude.{⊤};
+    ghost use Rattle.fdc_chip.specs.Saving.{spelled_pace};
+
+    ghost spelled = { spelled_pace };
+
+    ghost Fits = { λ _. ⊤ };
+
+    #[tactic(auto, unfolding(crate::specs::Saving::spelled_pace))]
+    fn save(&self, to: &mut Sink) {
+        self.unit.save(to);
+        self.cylinder.save(to);
+        self.goal.save(to);
+        self.wait.save(to);
+    }
+
+    #[tactic(auto, unfolding(crate::specs::Saving::spelled_pace))]
+    fn load(from: &mut Source<'_>) -> Pace {
+        let unit = u8::load(from);
+        let cylinder = u8::load(from);
+        let goal = Option::<u8>::load(from);
+        let wait = u16::load(from);
+        Pace {
+            unit,
+            cylinder,
+            goal,
+            wait,
+        }
+    }
+}
+
 impl Saved for Stage {
     ghost use Rattle.std.specs.Prelude.{⊤};
     ghost use Rattle.fdc_chip.specs.Saving.{spelled_stage};
@@ -373,6 +405,10 @@ impl<D: SavedWhole + Drop> SavedWhole for Chip<D> {
         self.interrupts.save(to);
         self.settings.save(to);
         self.strapped.save(to);
+        self.keys.save(to);
+        self.gated.save(to);
+        self.pace.save(to);
+        self.paced.save(to);
     }
 
     #[tactic(auto, unfolding(crate::specs::Saving::spelled_chip))]
@@ -385,6 +421,10 @@ impl<D: SavedWhole + Drop> SavedWhole for Chip<D> {
         let interrupts = Interrupts::load(from);
         let settings = Settings::load(from);
         let strapped = bool::load(from);
+        let keys = u16::load(from);
+        let gated = bool::load(from);
+        let pace = Option::<Pace>::load(from);
+        let paced = bool::load(from);
         Ok(Chip {
             behind,
             stage,
@@ -393,6 +433,10 @@ impl<D: SavedWhole + Drop> SavedWhole for Chip<D> {
             interrupts,
             settings,
             strapped,
+            keys,
+            gated,
+            pace,
+            paced,
         })
     }
 }

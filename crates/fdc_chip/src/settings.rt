@@ -1,6 +1,6 @@
 // What commands set, and what a reset leaves of it.
 ghost use Rattle.std.specs.Prelude.{◌≡◌};
-ghost use Rattle.fdc_chip.specs.Settings.{at_power_up, reset, is_by_port, implies_seeks, perpendicular_set};
+ghost use Rattle.fdc_chip.specs.Settings.{at_power_up, reset, step_words, is_by_port, implies_seeks, perpendicular_set};
 
 use crate::code::has_bit;
 
@@ -15,7 +15,7 @@ pub struct Settings {
     pub last_sector: u8,
     /// LOCK.
     pub locked: bool,
-    /// D3 to D0, GAP and WGATE in bits 5 to 0.
+    /// Which drives are perpendicular in bits 5 to 2, GAP and WGATE in bits 1 and 0.
     pub perpendicular: u8,
     /// EIS, EFIFO, POLL and FIFOTHR.
     pub options: u8,
@@ -37,13 +37,16 @@ const FIFO: u8 = 0x2F;
 /// EFIFO: the FIFO is off.
 const FIFO_OFF: u8 = 0x20;
 
-/// OW in the byte of PERPENDICULAR MODE: it sets D3 to D0 too.
+/// The steps of SRT in a byte of SPECIFY.
+const STEP_RATE: u8 = 16;
+
+/// OW in the byte of PERPENDICULAR MODE: it sets which drives are perpendicular too.
 const OVERWRITE: u8 = 0x80;
 
-/// D3 to D0, GAP and WGATE.
+/// Which drives are perpendicular, GAP and WGATE.
 const PERPENDICULAR: u8 = 0x3F;
 
-/// D3 to D0.
+/// Which drives are perpendicular.
 const PERPENDICULAR_DRIVES: u8 = 0x3C;
 
 /// GAP and WGATE.
@@ -83,6 +86,13 @@ impl Settings {
             forgotten: self.locked,
             ..self
         }
+    }
+
+    /// The word times from one step pulse to the next: 16 less SRT milliseconds at 500 kbit/s, and at another rate as many word times.
+    pub(crate) fn step_words(self) -> u16
+        ensures { result ≡ step_words self }
+    {
+        (16 - u16::from(self.step_rate / STEP_RATE)) * 125 / 2
     }
 
     /// Bytes pass by the data port.

@@ -2,7 +2,7 @@
 ghost use Rattle.std.specs.Prelude.{◌≡◌, ◌≤◌, ◌*◌};
 ghost use Rattle.fdc_sequencer.specs.Transfers.{size_of};
 ghost use Rattle.fdc_chip.specs.Chips.{chip_state};
-ghost use Rattle.fdc_chip.specs.Doing.{SendsOn, Begins, Remembers, Refuses, BeginsReadId, Formats, FormatsIf, Transfers, TransfersIf, Verifies, ReadsTrack, with_last, implies, sought_if, is_size, no_key, sectors_to, sectors_verified, verifying, track_begun, absent_key, reading_one};
+ghost use Rattle.fdc_chip.specs.Doing.{SendsOn, Begins, Remembers, Refuses, BeginsReadId, Formats, FormatsIf, Transfers, TransfersIf, Verifies, ReadsTrack, with_last, with_keys, implies, sought_if, is_size, no_key, sectors_to, sectors_verified, verifying, track_begun, absent_key, reading_one};
 ghost use Rattle.fdc_chip.specs.Orders.{order_bytes};
 
 use crate::chip::Chip;
@@ -30,7 +30,7 @@ const UNIT: u8 = 0x07;
 const HEAD: u8 = 0x04;
 
 /// EC in the second byte of VERIFY: it counts its sectors.
-const COUNTS: u8 = 0x80;
+pub(crate) const COUNTS: u8 = 0x80;
 
 /// The key where none was sent.
 const NO_KEY: Chrn = Chrn {
@@ -206,6 +206,7 @@ impl<D: Inspect> Chip<D> {
     {
         let Order { unit, key, .. } = self.order;
         self.note(key.h);
+        self.keys = 4 * u16::from(key.h);
         if mfm && is_size(key.c) {
             self.begin(
                 Task::Sent,

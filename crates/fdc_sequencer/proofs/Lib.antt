@@ -1,3 +1,4 @@
 mod Runs
 pub mod Codes
 mod Begun
+mod Standing

@@ -4,3 +4,4 @@ pub mod Fronts
 pub mod Moves
 pub mod Senses
 pub mod Saving
+pub mod Still

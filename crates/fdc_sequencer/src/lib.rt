@@ -9,10 +9,12 @@ mod channel;
 mod moving;
 mod opcode;
 mod ports;
+mod refitting;
 mod saving;
 mod senses;
 mod sequencer;
 mod stage;
+mod still;
 mod transfer;
 
 pub use opcode::{Opcode, Operation};

@@ -13,7 +13,7 @@ is_name_text bytes = nat_le 1 (length bytes) && nat_le (length bytes) 64 && not 
     && not (slice_index bytes 0 == 45) && list_all is_name_byte bytes
 
 -- the name that a word is
-unfoldable pub name_of : List ℕ → Option (List (List ℕ))
+unfoldable pub name_of : List ℕ → Option (List ℕ)
 name_of word = if is_name_text word then Some word else None
 
 abbrev pub IsName : List ℕ → Type 0

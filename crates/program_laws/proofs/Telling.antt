@@ -90,7 +90,7 @@ told_by refused line wanted old new ended prints is =
 
 stored_by : (refused : Bool) (name bytes line : List ℕ) (wanted : Status) (old new : World) (ended : Status)
     → StoresLast name bytes line wanted old new ended → wanted ≡ whole_status refused → EndsBy refused ended
-stored_by refused name bytes line wanted old new ended (IsStored state files prints) is = told_by refused line wanted _ _ ended prints is
+stored_by refused name bytes line wanted old new ended (IsStored state files prints) is = told_by refused (line ∷ []) wanted _ _ ended prints is
 stored_by refused name bytes line wanted old new ended (NotStored same fault) is = store_by refused ended fault
 
 -- what stops a request that puts nothing in is the outside's

@@ -1,5 +1,5 @@
 -- What comes behind the disk that was put in: a rescue by the log that was found, or the last line where there is none to go by.
-use Rattle.std.proofs.Common.{arith, ◌≡◌, ◌<◌, ◌≤◌, List, ℕ, length, Option, Some, None, Result, Ok, Err, inl, inr, subst}
+use Rattle.std.proofs.Common.{arith, ◌≡◌, ◌<◌, ◌≤◌, List, [], ◌∷◌, ℕ, length, Option, Some, None, Result, Ok, Err, inl, inr, subst}
 use Rattle.std.specs.Prelude.{IsSomeAnd}
 use Rattle.flop_base.specs.Shelf.{Files, file_at}
 use Rattle.flop_base.specs.Standard.{sectors_at}

@@ -1,7 +1,7 @@
 -- What a shelf shows on which the program runs.
 use Rattle.std.specs.Prelude.{ℕ, List, Some}
 use Rattle.flop_base.specs.MemShelf.{files_of}
-use Rattle.flop_base.specs.MemSink.{bytes_of}
+use Rattle.flop_base.specs.MemSink.{lines_of}
 use Rattle.flop_base.specs.Shelf.{Files}
 use Rattle.flop_base.specs.declared.answers.Status.{Status}
 use Rattle.drive_model.specs.PlainDrive.{plain_state}
@@ -15,9 +15,9 @@ use Rattle.run_shelf.specs.declared.shelf.RunShelf.{RunShelf}
 abbrev pub files_in : RunShelf → Files
 files_in shelf = files_of shelf.shelf
 
--- what was printed, and not forgotten
-abbrev pub report_in : RunShelf → List ℕ
-report_in shelf = bytes_of shelf.sink
+-- the lines that were printed, and not forgotten
+abbrev pub report_in : RunShelf → List (List ℕ)
+report_in shelf = lines_of shelf.sink
 
 -- both, as a command sees them
 abbrev pub desk_in : RunShelf → Desk

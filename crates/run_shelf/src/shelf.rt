@@ -1,6 +1,7 @@
 // A shelf in memory on which the program runs.
 ghost use Rattle.std.specs.Prelude.{◌≡◌, [], map, string_bytes, OnOk, OnErr, MatchOption, option_copied};
 ghost use Rattle.flop_base.specs.Shelf.{no_files, file_at, stored};
+ghost use Rattle.flop_base.specs.Sink.{joined};
 ghost use Rattle.run_shelf.specs.Shelves.{desk_in, files_in, report_in, RanPlain};
 
 use flop_base::{MemShelf, MemSink, NoMemory, Status};
@@ -42,9 +43,9 @@ impl RunShelf {
         self.shelf.file(name)
     }
 
-    /// What was printed, and not forgotten.
+    /// What was printed, and not forgotten: its lines, one behind the other.
     pub fn report(&self) -> &[u8]
-        ensures { result.now ≡ report_in self.now }
+        ensures { result.now ≡ joined (report_in self.now) }
     {
         self.sink.bytes()
     }

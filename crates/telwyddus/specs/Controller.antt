@@ -11,4 +11,5 @@ pub use Rattle.fdc_board.specs.History
 pub use Rattle.fdc_sequencer.specs.Fronts
 pub use Rattle.fdc_chip.specs.Chips
 pub use Rattle.fdc_chip.specs.Ports as ChipPorts
+pub use Rattle.fdc_chip.specs.Quiet
 pub use Rattle.fdc_chip.specs.Steps

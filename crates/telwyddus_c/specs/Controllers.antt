@@ -1,14 +1,15 @@
 -- Calls on the controller.
 use Rattle.std.specs.Prelude.{◌≤◌, ◌≡◌, ◌↔◌, ◌+◌, ◌-◌, ◌==◌, ℕ, Bool, true, false, Option, Some, None, is_some, IsTrue, IsBitSet, if◌then◌else◌}
+use Rattle.bay_drive.specs.Bays.{bay_state}
 use Rattle.c_slots.specs.Controllers.{ControllerValue}
 use Rattle.c_slots.specs.Trays.{TrayValue}
 use Rattle.drive_model.specs.Drive.{DriveState, forgotten}
 use Rattle.drive_model.specs.Fault.{total_left}
 use Rattle.drive_model.specs.Mechanics.{at_rest}
-use Rattle.drive_model.specs.ScriptDrive.{script_state, told}
+use Rattle.drive_model.specs.ScriptDrive.{told}
 use Rattle.fault_plan.specs.Plan.{Plan}
 use Rattle.fdc_board.specs.Boards.{SameDrives, drive_at, selected_at}
-use Rattle.fdc_chip.specs.Chips.{ChipState, chip_state, behind_of, IsNewChip, KeepsChip, interrupts_chip, asks_chip}
+use Rattle.fdc_chip.specs.Chips.{ChipState, chip_state, behind_of, IsNewChip, KeepsChip, interrupts_chip, asks_chip, indexes_chip}
 use Rattle.fdc_chip.specs.Ports.{TakesChip, GivesChip}
 use Rattle.fdc_core.specs.Dma.{to_memory_of}
 use Rattle.fdc_core.specs.State.{dor_of}
@@ -18,7 +19,7 @@ use Rattle.telwyddus_c.specs.Slots.{DoneOr}
 
 -- the controller with the states of both drives, what is under way, and what commands set
 abbrev pub state_of : ControllerValue → ChipState
-state_of controller = chip_state script_state controller
+state_of controller = chip_state bay_state controller
 
 -- both drives are as they were
 abbrev pub KeepsDrives : ControllerValue → ControllerValue → Type 0
@@ -37,10 +38,10 @@ IsPlanned plan controller =
 abbrev pub drive_of : ControllerValue → ℕ → DriveState
 drive_of controller bay = drive_at (state_of controller).front.board bay
 
--- the lines in a byte: 1 is the interrupt line, 2 the request line, and 4 the direction to memory
+-- the lines in a byte: 1 is the interrupt line, 2 the request line, 4 the direction to memory, and 8 the index of the selected drive
 abbrev pub lines_byte : ChipState → ℕ
 lines_byte chip = (if interrupts_chip chip then 1 else 0) + (if asks_chip chip then 2 else 0)
-    + (if to_memory_of chip.front.board.controller then 4 else 0)
+    + (if to_memory_of chip.front.board.controller then 4 else 0) + (if indexes_chip chip then 8 else 0)
 
 -- the channel takes a byte: 0. None is asked for in this direction: 8
 abbrev pub TakesByte : ℕ → ChipState → (was byte : ℕ) → ChipState → Type 0

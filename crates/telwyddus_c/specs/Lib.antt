@@ -1,4 +1,5 @@
 pub mod Blanks
+pub mod Blocks
 pub mod Buffers
 pub mod Controllers
 pub mod Disks
@@ -9,7 +10,10 @@ pub mod Machines
 pub mod Media
 pub mod Plans
 pub mod Rates
+pub mod Shapes
 pub mod Shelves
 pub mod Slots
 pub mod States
 pub mod Surveys
+pub mod Tabs
+pub mod Tracks

@@ -5,6 +5,7 @@ use Rattle.archive_commands.specs.Files.{Desk}
 use Rattle.c_slots.specs.Shelves.{ShelfValue}
 use Rattle.flop_base.specs.Numbers.{status_number}
 use Rattle.flop_base.specs.Shelf.{no_files, stored}
+use Rattle.flop_base.specs.Sink.{joined}
 use Rattle.flop_base.specs.declared.answers.Status.{Status}
 use Rattle.run_shelf.specs.Shelves.{files_in, report_in, RanPlain}
 use Rattle.run_shelf.specs.Words.{words_in}
@@ -38,8 +39,8 @@ RunsWords text code was status old new =
     (MatchBool (code == 3) ((new ≡ old) × (status ≡ was))
     (MatchBool (code == 11) (¬ (All IsUtf8 (words_in text)) × (new ≡ old) × (status ≡ was)) ⊥))
 
--- what was printed is copied to a buffer and forgotten: 0. The buffer is too short, 10: it is kept
+-- the lines that were printed are copied to a buffer, one behind the other, and forgotten: 0. The buffer is too short, 10: it is kept
 pub record HandsOut (code : ℕ) (old new : List ℕ) (told : ℕ) (before after : ShelfValue) : Type 0 where
-  pub copied : WritesBytes (report_in before) code old new told
+  pub copied : WritesBytes (joined (report_in before)) code old new told
   pub left : report_in after ≡ if code == 0 then [] else report_in before
   pub files : files_in after ≡ files_in before

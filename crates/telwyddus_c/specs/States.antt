@@ -1,6 +1,7 @@
 -- Saved states in buffers of C.
-use Rattle.std.specs.Prelude.{◌≡◌, ℕ, ◌==◌, List, [], Option, Some, Result, Ok, Err, MatchBool, ⊤}
+use Rattle.std.specs.Prelude.{◌≡◌, ℕ, ◌==◌, List, [], ◌∷◌, ◌++◌, Option, Some, Result, Ok, Err, MatchBool, ⊤}
 use Rattle.std.specs.Global.{Box}
+use Rattle.bay_drive.specs.Saving.{spelled_bay, BayFits}
 use Rattle.c_slots.specs.Controllers.{ControllerValue}
 use Rattle.c_slots.specs.Machines.{MachineValue}
 use Rattle.drive_model.specs.Saving.{spelled_script_drive}
@@ -10,16 +11,24 @@ use Rattle.saved_state.specs.declared.whole.RestoreError.{RestoreError}
 use Rattle.saved_state.specs.declared.whole.RestoreError.TheVariants.{NoState, NoMemory}
 use Rattle.telwyddus_c.specs.Buffers.{WritesOr}
 
+-- what each state begins with: the name TELWYDD, and the number of the form of what comes behind it, 1
+abbrev pub state_name : List ℕ
+state_name = 0x54 ∷ 0x45 ∷ 0x4C ∷ 0x57 ∷ 0x59 ∷ 0x44 ∷ 0x44 ∷ 0x01 ∷ []
+
+-- the bytes of a value behind that
+abbrev pub named : {V : Type 0} → (V → List ℕ → List ℕ) → V → List ℕ → List ℕ
+named spelled value rest = state_name ++ spelled value rest
+
 -- the bytes of a controller with its drives and their media, and what is so of each that code holds
 abbrev pub spelled_controller : ControllerValue → List ℕ → List ℕ
-spelled_controller = spelled_chip spelled_script_drive
+spelled_controller = named (spelled_chip spelled_bay)
 
 abbrev pub ControllerFits : ControllerValue → Type 0
-ControllerFits = ChipFits (λ _. ⊤)
+ControllerFits = ChipFits BayFits
 
 -- the same of a machine with its memory, what its plan has still to come, its drives and their media
 abbrev pub spelled_bench : MachineValue → List ℕ → List ℕ
-spelled_bench = spelled_machine spelled_script_drive
+spelled_bench = named (spelled_machine spelled_script_drive)
 
 abbrev pub BenchFits : MachineValue → Type 0
 BenchFits = MachineFits (λ _. ⊤)

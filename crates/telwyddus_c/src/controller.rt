@@ -1,6 +1,12 @@
 // The controller with its drives, for a bus of C's own.
 mod bays;
+mod blocks;
 mod dack;
+mod lines;
 mod making;
+mod media;
+mod pin;
 mod ports;
 mod saving;
+mod steps;
+mod tab;

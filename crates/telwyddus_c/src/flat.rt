@@ -57,7 +57,7 @@ pub extern "C" fn telwyddus_tray_write_flat(
 }
 
 /// The same of a medium, where there is one.
-fn write_file(
+pub(crate) fn write_file(
     alloc: Global,
     medium: Option<&Medium>,
     out: &mut [u8],

@@ -1,10 +1,44 @@
 // Saved states in buffers of C.
-ghost use Rattle.telwyddus_c.specs.States.{WritesState, FindsState};
+ghost use Rattle.std.specs.Prelude.{◌≡◌, ◌⊎◌, [], IfOk, Ok, Err};
+ghost use Rattle.saved_state.specs.declared.whole.RestoreError.TheVariants as cause;
+ghost use Rattle.telwyddus_c.specs.States.{WritesState, FindsState, named};
 
 use crate::buffer::write_bytes;
 use crate::code::NO_MEMORY;
-use saved_state::{RestoreError, SavedWhole, restore_state, save_state};
+use flop_base::NoMemory;
+use saved_state::{RestoreError, SavedWhole, Sink, Source};
 use std::alloc::Global;
+
+/// What each state begins with: a name, and the number of the form that the bytes behind it have.
+const NAME: [u8; 8] = *b"TELWYDD\x01";
+
+/// The bytes of a state, behind its name.
+fn save_named<T: SavedWhole>(alloc: Global, state: &T) -> Result<Vec<u8>, NoMemory>
+    ensures fits { T.Fits state.now }
+    ensures spelled { IfOk result (λ bytes. bytes.items ≡ named T.spelled state.now []) }
+{
+    let mut sink = Sink::new(alloc);
+    sink.part(&NAME);
+    state.save(alloc, &mut sink);
+    sink.finish()
+}
+
+/// The state whose bytes these are behind its name, all of them. Another name is none.
+fn restore_named<T: SavedWhole + Drop>(alloc: Global, bytes: &[u8]) -> Result<T, RestoreError>
+    ensures found { IfOk result (λ state. T.Fits state × (bytes.now ≡ named T.spelled state [])) }
+    ensures only { (state : T) → T.Fits state → bytes.now ≡ named T.spelled state []
+        → (result ≡ Ok state) ⊎ (result ≡ Err cause.NoMemory) }
+{
+    let mut from = Source::new(bytes);
+    from.part(NAME.len());
+    let state = T::load(alloc, &mut from)?;
+    let again = save_named(alloc, &state)?;
+    if again.as_slice() == bytes {
+        Ok(state)
+    } else {
+        Err(RestoreError::NoState)
+    }
+}
 
 /// Writes the bytes of a state to the beginning of a buffer, and tells how many. Where the buffer is too short it is left, and
 /// their number is told all the same.
@@ -14,9 +48,9 @@ pub(crate) fn write_state<T: SavedWhole>(
     out: &mut [u8],
     length: &mut usize,
 ) -> u32
-    ensures { WritesState T.Fits T.spelled state.now result out.old out.new length.old length.new }
+    ensures { WritesState T.Fits (named T.spelled) state.now result out.old out.new length.old length.new }
 {
-    match save_state(alloc, state) {
+    match save_named(alloc, state) {
         Err(_) => NO_MEMORY,
         Ok(bytes) => write_bytes(bytes.as_slice(), out, length),
     }
@@ -27,9 +61,9 @@ pub(crate) fn read_state<T: SavedWhole + Drop>(
     alloc: Global,
     bytes: &[u8],
 ) -> Result<Box<T>, RestoreError>
-    ensures { FindsState T.Fits T.spelled bytes.now result }
+    ensures { FindsState T.Fits (named T.spelled) bytes.now result }
 {
-    match restore_state(alloc, bytes) {
+    match restore_named(alloc, bytes) {
         Err(error) => Err(error),
         Ok(state) => match Box::new(alloc, state) {
             Err(_) => Err(RestoreError::NoMemory),

@@ -1,27 +1,29 @@
-// The controller's side of a DMA channel of C's own.
-ghost use Rattle.std.specs.Prelude.{◌≡◌, ⊤};
+// The controller's side of a DMA channel of C's own: byte by byte.
+ghost use Rattle.std.specs.Prelude.{◌≡◌};
 ghost use Rattle.fdc_chip.specs.Ports.{told_chip};
-ghost use Rattle.telwyddus_c.specs.Controllers.{state_of, KeepsDrives, TakesByte, GivesByte};
+ghost use Rattle.telwyddus_c.specs.Controllers.{state_of, KeepsDrives, lines_byte, TakesByte, GivesByte};
 ghost use Rattle.telwyddus_c.specs.Slots.{Serves};
 
 use crate::code::{DONE, EMPTY, NOT_ASKED};
+use crate::controller::lines::lines_of;
 use c_slots::{ControllerSlot, WholeController};
 use std::alloc::Global;
 
-/// The channel takes a byte, where one is asked for.
+/// The channel takes a byte, where one is asked for. The lines behind that are told, also where none is.
 #[unsafe(no_mangle)]
 pub extern "C" fn telwyddus_controller_dack_read(
     alloc: Global,
     slot: &mut ControllerSlot,
     byte: &mut u8,
+    lines: &mut u8,
 ) -> u32
-    ensures { Serves (λ code old new. TakesByte code (state_of old) byte.old byte.new (state_of new) × KeepsDrives old new) (byte.new ≡ byte.old)
-        result slot.old.held.controller slot.new.held.controller }
+    ensures { Serves (λ code old new. TakesByte code (state_of old) byte.old byte.new (state_of new) × KeepsDrives old new × (lines.new ≡ lines_byte (state_of new)))
+        ((byte.new ≡ byte.old) × (lines.new ≡ lines.old)) result slot.old.held.controller slot.new.held.controller }
 {
     match slot.take(alloc) {
         None => EMPTY,
         Some(mut controller) => {
-            let code = take_byte(&mut controller, byte);
+            let code = take_telling(&mut controller, byte, lines);
             slot.put(controller);
             code
         }
@@ -29,6 +31,17 @@ pub extern "C" fn telwyddus_controller_dack_read(
 }
 
 /// The same of a controller.
+fn take_telling(controller: &mut WholeController, byte: &mut u8, lines: &mut u8) -> u32
+    ensures takes { TakesByte result (state_of controller.old) byte.old byte.new (state_of controller.new) }
+    ensures drives { KeepsDrives controller.old controller.new }
+    ensures told { lines.new ≡ lines_byte (state_of controller.new) }
+{
+    let code = take_byte(controller, byte);
+    *lines = lines_of(controller);
+    code
+}
+
+/// The same without the lines.
 fn take_byte(controller: &mut WholeController, byte: &mut u8) -> u32
     ensures takes { TakesByte result (state_of controller.old) byte.old byte.new (state_of controller.new) }
     ensures drives { KeepsDrives controller.old controller.new }
@@ -42,20 +55,21 @@ fn take_byte(controller: &mut WholeController, byte: &mut u8) -> u32
     }
 }
 
-/// The channel gives a byte, where one is asked for.
+/// The channel gives a byte, where one is asked for. The lines behind that are told, also where none is.
 #[unsafe(no_mangle)]
 pub extern "C" fn telwyddus_controller_dack_write(
     alloc: Global,
     slot: &mut ControllerSlot,
     byte: u8,
+    lines: &mut u8,
 ) -> u32
-    ensures { Serves (λ code old new. GivesByte byte code (state_of old) (state_of new) × KeepsDrives old new) ⊤
-        result slot.old.held.controller slot.new.held.controller }
+    ensures { Serves (λ code old new. GivesByte byte code (state_of old) (state_of new) × KeepsDrives old new × (lines.new ≡ lines_byte (state_of new)))
+        (lines.new ≡ lines.old) result slot.old.held.controller slot.new.held.controller }
 {
     match slot.take(alloc) {
         None => EMPTY,
         Some(mut controller) => {
-            let code = give_byte(&mut controller, byte);
+            let code = give_telling(&mut controller, byte, lines);
             slot.put(controller);
             code
         }
@@ -63,6 +77,17 @@ pub extern "C" fn telwyddus_controller_dack_write(
 }
 
 /// The same of a controller.
+fn give_telling(controller: &mut WholeController, byte: u8, lines: &mut u8) -> u32
+    ensures gives { GivesByte byte result (state_of controller.old) (state_of controller.new) }
+    ensures drives { KeepsDrives controller.old controller.new }
+    ensures told { lines.new ≡ lines_byte (state_of controller.new) }
+{
+    let code = give_byte(controller, byte);
+    *lines = lines_of(controller);
+    code
+}
+
+/// The same without the lines.
 fn give_byte(controller: &mut WholeController, byte: u8) -> u32
     ensures gives { GivesByte byte result (state_of controller.old) (state_of controller.new) }
     ensures drives { KeepsDrives controller.old controller.new }
@@ -74,18 +99,32 @@ fn give_byte(controller: &mut WholeController, byte: u8) -> u32
     }
 }
 
-/// The channel tells the terminal count.
+/// The channel tells the terminal count. The lines behind that are told.
 #[unsafe(no_mangle)]
-pub extern "C" fn telwyddus_controller_tc(alloc: Global, slot: &mut ControllerSlot) -> u32
-    ensures { Serves (λ code old new. (code ≡ 0) × (state_of new ≡ told_chip (state_of old)) × KeepsDrives old new) ⊤
-        result slot.old.held.controller slot.new.held.controller }
+pub extern "C" fn telwyddus_controller_tc(
+    alloc: Global,
+    slot: &mut ControllerSlot,
+    lines: &mut u8,
+) -> u32
+    ensures { Serves (λ code old new. (code ≡ 0) × (state_of new ≡ told_chip (state_of old)) × KeepsDrives old new × (lines.new ≡ lines_byte (state_of new)))
+        (lines.new ≡ lines.old) result slot.old.held.controller slot.new.held.controller }
 {
     match slot.take(alloc) {
         None => EMPTY,
         Some(mut controller) => {
-            controller.tc();
+            count_out(&mut controller, lines);
             slot.put(controller);
             DONE
         }
     }
+}
+
+/// The same of a controller.
+fn count_out(controller: &mut WholeController, lines: &mut u8)
+    ensures counted { state_of controller.new ≡ told_chip (state_of controller.old) }
+    ensures drives { KeepsDrives controller.old controller.new }
+    ensures told { lines.new ≡ lines_byte (state_of controller.new) }
+{
+    controller.tc();
+    *lines = lines_of(controller);
 }

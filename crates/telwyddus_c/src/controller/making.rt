@@ -4,8 +4,8 @@ ghost use Rattle.telwyddus_c.specs.Plans.{FillsPlanned};
 ghost use Rattle.telwyddus_c.specs.Slots.{Fills, Frees};
 
 use crate::code::{BAD_PLAN, DONE, EMPTY, FULL, NO_MEMORY};
+use bay_drive::BayDrive;
 use c_slots::ControllerSlot;
-use drive_model::ScriptDrive;
 use fault_plan::{PlanError, plan_of};
 use fdc_chip::Chip;
 use std::alloc::Global;
@@ -18,8 +18,8 @@ pub extern "C" fn telwyddus_controller_new(alloc: Global, slot: &mut ControllerS
     if slot.is_full() {
         return FULL;
     }
-    let first = ScriptDrive::new(Vec::new(alloc));
-    let second = ScriptDrive::new(Vec::new(alloc));
+    let first = BayDrive::new(Vec::new(alloc));
+    let second = BayDrive::new(Vec::new(alloc));
     match Chip::new(alloc, first, second) {
         Ok(controller) => match Box::new(alloc, controller) {
             Ok(controller) => {
@@ -53,8 +53,8 @@ pub extern "C" fn telwyddus_controller_new_planned(
             BAD_PLAN
         }
         Ok(plan) => {
-            let first = ScriptDrive::new(plan.bay0);
-            let second = ScriptDrive::new(plan.bay1);
+            let first = BayDrive::new(plan.bay0);
+            let second = BayDrive::new(plan.bay1);
             match Chip::new(alloc, first, second) {
                 Ok(controller) => match Box::new(alloc, controller) {
                     Ok(controller) => {

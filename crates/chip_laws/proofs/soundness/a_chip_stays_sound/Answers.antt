@@ -1,4 +1,4 @@
-use Rattle.chip_laws.proofs.SoundCalls.{call_sound, new_sound}
+use Rattle.chip_laws.proofs.SoundCalls.{call_sound, new_sound, used_sound}
 use Rattle.chip_laws.proofs.SoundSteps.{run_sound}
 use Rattle.chip_laws.proofs.soundness.a_chip_stays_sound.Goals as goal
 
@@ -10,3 +10,6 @@ returns-clause-calls c = call_sound
 
 pub returns-clause-runs : goal.returns-clause-runs
 returns-clause-runs c = run_sound
+
+pub returns-clause-used : goal.returns-clause-used
+returns-clause-used c = used_sound

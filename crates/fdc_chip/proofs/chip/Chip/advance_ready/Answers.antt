@@ -11,4 +11,4 @@ returns-clause-few g c = c.run-made.ensures.within
 pub returns-clause-runs : goal.returns-clause-runs
 returns-clause-runs g c =
     ready_runs c.args.most c.run-made.result (chip_state g.D.Drive.state c.args.self.now) _ (chip_state g.D.Drive.state c.follow.new.self)
-    c.requires.some c.requires.ready c.requires.down c.requires.quiet c.run-made.ensures c.follow.ensures
+    c.requires.some c.requires.ready c.requires.stands c.requires.down c.requires.quiet c.run-made.ensures c.follow.ensures

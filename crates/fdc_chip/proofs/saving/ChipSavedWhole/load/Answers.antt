@@ -1,5 +1,6 @@
 use Rattle.std.proofs.Common.{refl}
 use Rattle.fdc_chip.specs.Saving.{spelled_chip}
+use Rattle.fdc_chip.proofs.Lists.{all_fit}
 use Rattle.fdc_chip.proofs.saving.ChipSavedWhole.load.Goals as goal
 
 pub returns : goal.returns
@@ -13,8 +14,12 @@ returns g c = record {
       let count = c.load-count.ensures.gives value.count _ tt order.1 in
       let interrupts = c.load-interrupts.ensures.gives value.interrupts _ fits.1 count.1 in
       let settings = c.load-settings.ensures.gives value.settings _ tt interrupts.1 in
-      let strapped = c.load-strapped.ensures.gives value.strapped rest tt settings.1 in (
-        rw (behind.0, stage.0, order.0, count.0, interrupts.0, settings.0, strapped.0) refl,
-        strapped.1,
+      let strapped = c.load-strapped.ensures.gives value.strapped _ tt settings.1 in
+      let keys = c.load-keys.ensures.gives value.keys _ tt strapped.1 in
+      let gated = c.load-gated.ensures.gives value.gated _ tt keys.1 in
+      let pace = c.load-pace.ensures.gives value.pace _ (all_fit value.pace) gated.1 in
+      let paced = c.load-paced.ensures.gives value.paced rest tt pace.1 in (
+        rw (behind.0, stage.0, order.0, count.0, interrupts.0, settings.0, strapped.0, keys.0, gated.0, pace.0, paced.0) refl,
+        paced.1,
       );
 }

@@ -1,0 +1,32 @@
+-- Which tracks were written, a bit for each.
+use Rattle.std.specs.Prelude.{◌≡◌, length, ℕ, Bool, ◌+◌, ◌*◌, ◌/◌, ◌%◌, ◌==◌, nat_lt, List, replicate, slice_index, slice_set, if◌then◌else◌}
+use Rattle.std.specs.Int.RustNames.{bit_or}
+
+-- no track
+abbrev pub no_tracks : List ℕ
+no_tracks = replicate 20 0
+
+-- a track's number, by cylinder, then head
+abbrev pub track_number : (c h : ℕ) → ℕ
+track_number c h = 2 * c + h
+
+-- the bit of a number in its byte, the lowest first
+abbrev pub bit_of : ℕ → ℕ
+bit_of place =
+    if place == 0 then 1 else (if place == 1 then 2 else (if place == 2 then 4 else (if place == 3 then 8 else (
+    if place == 4 then 16 else (if place == 5 then 32 else (if place == 6 then 64 else 128))))))
+
+-- the track of a cylinder and a head besides: its bit is set, in the byte of its number by 8
+abbrev pub marked : (c h : ℕ) → List ℕ → List ℕ
+marked c h map =
+    if nat_lt (track_number c h) 160
+    then slice_set map (track_number c h / 8) (bit_or (slice_index map (track_number c h / 8)) (bit_of (track_number c h % 8)))
+    else map
+
+-- the same where a word was replaced
+abbrev pub marked_if : Bool → (c h : ℕ) → List ℕ → List ℕ
+marked_if wrote c h map = if wrote then marked c h map else map
+
+-- a map has 20 bytes
+abbrev pub IsMap : List ℕ → Type 0
+IsMap map = length map ≡ 20

@@ -1,0 +1,5 @@
+use Rattle.fdc_board.proofs.Standing.{stands}
+use Rattle.fdc_board.proofs.board.FdcBoard.is_still.Goals as goal
+
+pub returns : goal.returns
+returns g c = λ is. stands c.args.self.now.controller (c.is_still.ensures is)

@@ -1,0 +1,59 @@
+// What is done to a drive by hand: to the notch of its medium, to the medium itself, and to the whole drive.
+ghost use Rattle.std.specs.Prelude.{◌≡◌, ◌≤◌, ◌-◌, ◌↔◌, Some, IsErr, OnOk, IfOk, IfErr, false};
+ghost use Rattle.drive_model.specs.Drive.{with_protection, same_length, exchanged};
+
+use crate::board::FdcBoard;
+use drive_model::Inspect;
+use raw_image::Medium;
+use std::mem;
+
+impl<D: Inspect> FdcBoard<D> {
+    ghost use Rattle.fdc_board.specs.Boards.{board_state, controller_of, drive_at, drive_held};
+
+    /// Covers the write-protect notch of the medium in a bay, or opens it. Where none is in, nothing changes.
+    pub fn set_protected(&mut self, bay: u8, on: bool)
+        requires { bay ≤ 1 }
+        ensures controller { controller_of self.new ≡ controller_of self.old }
+        ensures other { drive_at (board_state D.state self.new) (1 - bay) ≡ drive_at (board_state D.state self.old) (1 - bay) }
+        ensures becomes { drive_at (board_state D.state self.new) bay ≡ with_protection on (drive_at (board_state D.state self.old) bay) }
+    {
+        if bay == 0 {
+            self.first.set_protected(on);
+        } else {
+            self.second.set_protected(on);
+        }
+    }
+
+    /// Puts a medium in place of the one in a bay, which is given back, as if it had always been the one that turns there. Where none is
+    /// in, or the tracks of the two differ in length, the new one is given back.
+    pub fn exchange(&mut self, bay: u8, medium: Medium) -> Result<Medium, Medium>
+        requires { bay ≤ 1 }
+        ensures controller { controller_of self.new ≡ controller_of self.old }
+        ensures other { drive_at (board_state D.state self.new) (1 - bay) ≡ drive_at (board_state D.state self.old) (1 - bay) }
+        ensures refused { IsErr result ↔ (same_length medium (drive_at (board_state D.state self.old) bay).medium ≡ false) }
+        ensures ok { OnOk result (drive_at (board_state D.state self.new) bay ≡ exchanged medium (drive_at (board_state D.state self.old) bay)) }
+        ensures before { IfOk result (λ before. Some before ≡ (drive_at (board_state D.state self.old) bay).medium) }
+        ensures err { IfErr result (λ back. (back ≡ medium) × (drive_at (board_state D.state self.new) bay ≡ drive_at (board_state D.state self.old) bay)) }
+    {
+        if bay == 0 {
+            self.first.exchange(medium)
+        } else {
+            self.second.exchange(medium)
+        }
+    }
+
+    /// Puts a drive into a bay with all that is in it, and gives the one that was there: nothing else learns of it.
+    pub fn swap_drive(&mut self, bay: u8, drive: &mut D)
+        requires { bay ≤ 1 }
+        ensures controller { controller_of self.new ≡ controller_of self.old }
+        ensures other { drive_held self.new (1 - bay) ≡ drive_held self.old (1 - bay) }
+        ensures taken { drive.new ≡ drive_held self.old bay }
+        ensures put { drive_held self.new bay ≡ drive.old }
+    {
+        if bay == 0 {
+            mem::swap(&mut self.first, drive);
+        } else {
+            mem::swap(&mut self.second, drive);
+        }
+    }
+}

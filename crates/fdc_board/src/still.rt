@@ -1,0 +1,17 @@
+// Whether the controller does anything.
+ghost use Rattle.std.specs.Prelude.{◌≡◌, true};
+ghost use Rattle.fdc_board.specs.Still.{Stands};
+
+use crate::board::FdcBoard;
+use drive_model::Inspect;
+
+impl<D: Inspect> FdcBoard<D> {
+    ghost use Rattle.fdc_board.specs.Boards.{controller_of};
+
+    /// Whether a device step changes nothing but the drives, and so each further one.
+    pub fn is_still(&self) -> bool
+        ensures { result ≡ true → Stands (controller_of self.now) }
+    {
+        self.controller.is_still()
+    }
+}

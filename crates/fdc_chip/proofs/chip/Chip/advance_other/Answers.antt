@@ -1,0 +1,18 @@
+use Rattle.std.proofs.Common.{refl}
+use Rattle.fdc_chip.specs.Chips.{chip_state}
+use Rattle.fdc_chip.proofs.Quieting.{still_runs_on}
+use Rattle.fdc_chip.proofs.Runs.{ready_some, runs_one}
+use Rattle.fdc_chip.proofs.chip.Chip.advance_other.Goals as goal
+
+pub returns-then-is_still-clause-some : goal.returns-then-is_still-clause-some
+returns-then-is_still-clause-some g c = ready_some c.args.most c.run.result (chip_state g.D.Drive.state c.args.self.now).front _ c.requires c.run.ensures
+
+pub returns-then-is_still-clause-few : goal.returns-then-is_still-clause-few
+returns-then-is_still-clause-few g c = c.run.ensures.within
+
+pub returns-then-is_still-clause-runs : goal.returns-then-is_still-clause-runs
+returns-then-is_still-clause-runs g c =
+    still_runs_on c.args.most c.run.result (chip_state g.D.Drive.state c.args.self.now) _ (c.is_still.ensures c.if-is_still.true) c.run.ensures
+
+pub returns-clause-runs : goal.returns-clause-runs
+returns-clause-runs g c = runs_one _ _ (chip_state g.D.Drive.state c.args.self.now) (chip_state g.D.Drive.state c.step.new.self) (refl, refl) c.step.ensures

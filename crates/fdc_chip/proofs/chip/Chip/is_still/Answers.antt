@@ -1,0 +1,9 @@
+use Rattle.std.proofs.Common.{sym, ◌∙◌}
+use Rattle.fdc_chip.proofs.chip.Chip.is_still.Goals as goal
+
+pub returns-then-is_idle : goal.returns-then-is_idle
+returns-then-is_idle g c = λ is. record {
+  idle = c.is_idle.ensures c.if-is_idle.true;
+  down = sym c.int.ensures ∙ c.if-int.false;
+  stands = c.is_still.ensures is;
+}

@@ -1,0 +1,142 @@
+// Seeks whose pulses come in the time that SPECIFY sets: behind, each is a SEEK by one cylinder.
+ghost use Rattle.std.specs.Prelude.{◌≡◌, ◌==◌, Some};
+ghost use Rattle.fdc_chip.specs.Chips.{chip_state, pace_bit};
+ghost use Rattle.fdc_chip.specs.Doing.{SendsOn, moving, pace_begun};
+ghost use Rattle.fdc_chip.specs.Interrupts.{cylinder_of};
+ghost use Rattle.fdc_chip.specs.Paces.{target_of, stepped, is_due, PulsesIf, GoesOn, Paces};
+
+use crate::chip::Chip;
+use drive_model::Inspect;
+use fdc_registers::{Flags, Msr};
+
+/// RECALIBRATE.
+const RECALIBRATE: u8 = 0x07;
+
+/// SEEK.
+const SEEK: u8 = 0x0F;
+
+/// A seek that goes on cylinder by cylinder.
+#[derive(Clone, Copy, PartialEq, Eq, Debug)]
+pub struct Pace {
+    /// The head in bit 2 and the drive in bits 1 and 0.
+    pub unit: u8,
+    /// The cylinder that it has come to, by the number that the controller counts.
+    pub cylinder: u8,
+    /// Where it goes; none for a RECALIBRATE.
+    pub goal: Option<u8>,
+    /// The word times until the next pulse.
+    pub wait: u16,
+}
+
+/// The seek bit of the drive whose pulses come so.
+pub(crate) fn pace_bit(pace: Option<Pace>) -> u8
+    ensures { result ≡ pace_bit pace }
+{
+    let Some(pace) = pace else {
+        return 0;
+    };
+    match pace.unit % 4 {
+        0 => Msr::SEEKING_0.bits(),
+        1 => Msr::SEEKING_1.bits(),
+        2 => Msr::SEEKING_2.bits(),
+        _ => Msr::SEEKING_3.bits(),
+    }
+}
+
+impl Pace {
+    /// It begins, from the number that the controller counts.
+    pub(crate) fn of(unit: u8, cylinder: u8, goal: Option<u8>) -> Pace
+        ensures { result ≡ pace_begun unit cylinder goal }
+    {
+        Pace {
+            unit,
+            cylinder,
+            goal,
+            wait: 0,
+        }
+    }
+
+    /// The number of the cylinder where it goes.
+    fn target(self) -> u8
+        ensures { result ≡ target_of self }
+    {
+        match self.goal {
+            Some(target) => target,
+            None => 0,
+        }
+    }
+
+    /// A cylinder nearer, and so many word times until the next.
+    fn stepped(self, words: u16) -> Pace
+        ensures { result ≡ stepped words self }
+    {
+        let cylinder = if self.cylinder < self.target() {
+            self.cylinder + 1
+        } else {
+            self.cylinder.saturating_sub(1)
+        };
+        Pace {
+            cylinder,
+            wait: words,
+            ..self
+        }
+    }
+}
+
+impl<D: Inspect> Chip<D> {
+    /// Gives a SEEK of a cylinder or a RECALIBRATE behind.
+    pub(crate) fn send_move(&mut self, unit: u8, goal: Option<u8>)
+        ensures { SendsOn (moving unit goal) (chip_state D.state self.old) (chip_state D.state self.new) }
+    {
+        match goal {
+            Some(target) => self.send(&[SEEK, unit, target]),
+            None => self.send(&[RECALIBRATE, unit]),
+        }
+    }
+
+    /// A device step of such a seek, if one is under way. What a SEEK by one cylinder came to isn't told.
+    pub(crate) fn keep_pace(&mut self)
+        ensures { Paces self.old.pace (chip_state D.state self.old) (chip_state D.state self.new) }
+    {
+        if let Some(pace) = self.pace {
+            let _untold = self.behind.sense();
+            self.pace_on(pace);
+        }
+    }
+
+    /// The same, once what stands behind has nothing to tell of it.
+    fn pace_on(&mut self, pace: Pace)
+        ensures { GoesOn pace (chip_state D.state self.old) (chip_state D.state self.new) }
+    {
+        if self.is_due(pace) {
+            self.pulse(pace);
+        } else {
+            self.pace = Some(Pace {
+                wait: pace.wait.saturating_sub(1),
+                ..pace
+            });
+        }
+    }
+
+    /// Whether the next pulse is due, and what stands behind takes the next command.
+    fn is_due(&mut self, pace: Pace) -> bool
+        ensures due { result ≡ is_due pace (chip_state D.state self.old) }
+        ensures same { chip_state D.state self.new ≡ chip_state D.state self.old }
+    {
+        pace.wait <= 1 && self.behind.is_ready() && !self.moves_heads()
+    }
+
+    /// The next pulse; or the command that ends the seek, where it is there by the number that is counted.
+    fn pulse(&mut self, pace: Pace)
+        ensures { PulsesIf (pace.cylinder == target_of pace) pace (chip_state D.state self.old) (chip_state D.state self.new) }
+    {
+        if pace.cylinder == pace.target() {
+            self.pace = None;
+            self.send_move(pace.unit, pace.goal);
+            return;
+        }
+        let next = pace.stepped(self.settings.step_words());
+        self.pace = Some(next);
+        self.send_move(next.unit, Some(next.cylinder));
+    }
+}

@@ -1,0 +1,88 @@
+// How long no line changes, and device steps while nothing runs.
+ghost use Rattle.std.specs.Prelude.{◌≡◌, ◌≤◌, true};
+ghost use Rattle.fdc_chip.specs.Chips.{chip_state, interrupts_chip, asks_chip};
+ghost use Rattle.fdc_chip.specs.Quiet.{IsIdle, IsQuietFor, IsShut, IsStill, rests_at};
+ghost use Rattle.fdc_chip.specs.Steps.{RunsChipWith};
+
+use crate::chip::Chip;
+use crate::stage::Stage;
+use drive_model::Inspect;
+
+/// Nothing is said of the next device step.
+const UNKNOWN: u32 = 0;
+
+impl Stage {
+    /// Whether no command is under way that a device step goes on with.
+    fn rests(&self) -> bool
+        ensures { result ≡ rests_at self.now }
+    {
+        matches!(self, Stage::Ready | Stage::Telling { .. })
+    }
+}
+
+impl<D: Inspect> Chip<D> {
+    /// So many device steps, `most` at most, surely leave INT and DRQ as they are, whatever the drives do. It is `most` where no
+    /// command is executed and no heads move, motors on or off, or where moreover DOR lets no line out, so that no timer is needed
+    /// until the next call; and 0 where the next step may change a line.
+    pub fn quiet(&self, most: u32) -> u32
+        ensures few { result ≤ most }
+        ensures lines { IsQuietFor result (chip_state D.state self.now) }
+    {
+        if self.is_still() {
+            return most;
+        }
+        if self.is_shut() {
+            return most;
+        }
+        UNKNOWN
+    }
+
+    /// Whether a device step goes on with nothing here.
+    fn is_idle(&self) -> bool
+        ensures { result ≡ true → IsIdle (chip_state D.state self.now) }
+    {
+        match self.pace {
+            None => self.stage.rests(),
+            Some(_) => false,
+        }
+    }
+
+    /// Whether device steps change nothing but the drives.
+    fn is_still(&self) -> bool
+        ensures { result ≡ true → IsStill (chip_state D.state self.now) }
+    {
+        if self.behind.int() {
+            return false;
+        }
+        if self.is_idle() {
+            return self.behind.is_still();
+        }
+        false
+    }
+
+    /// Whether DOR lets no line out, and a device step goes on with nothing here.
+    fn is_shut(&self) -> bool
+        ensures { result ≡ true → IsShut (chip_state D.state self.now) }
+    {
+        if self.gated {
+            return false;
+        }
+        self.is_idle()
+    }
+
+    /// At least one device step, `most` at most, and none behind one in which a line changes; tells how many: all of them at once
+    /// while nothing runs.
+    pub(crate) fn advance_other(&mut self, most: u32) -> u32
+        requires { 1 ≤ most }
+        ensures some { 1 ≤ result }
+        ensures few { result ≤ most }
+        ensures runs { RunsChipWith (interrupts_chip (chip_state D.state self.old)) (asks_chip (chip_state D.state self.old)) result
+            (chip_state D.state self.old) (chip_state D.state self.new) }
+    {
+        if self.is_still() {
+            return self.behind.run(most);
+        }
+        self.step();
+        1
+    }
+}

@@ -1,0 +1,16 @@
+-- A front in which nothing is done.
+use Rattle.std.specs.Prelude.{Bool, true, false}
+use Rattle.fdc_sequencer.specs.Fronts.{Front, KeepsFront}
+use Rattle.fdc_sequencer.specs.Moves.{StepsFront}
+use Rattle.fdc_sequencer.specs.declared.stage.Stage.{Stage}
+use Rattle.fdc_sequencer.specs.declared.stage.Stage.TheVariants.{Seeking, Moving}
+
+-- a device step is the board's, and nothing is done behind it
+abbrev pub rests_at : Stage → Bool
+rests_at (Seeking _ _) = false
+rests_at (Moving _) = false
+rests_at _ = true
+
+-- each device step leaves all but the drives as it is
+abbrev pub StandsFront : Front → Type 0
+StandsFront front = (old new : Front) → KeepsFront front old → StepsFront old new → KeepsFront front new

@@ -1,0 +1,46 @@
+// What is done to a drive by hand: to the notch of its medium, to the medium itself, and to the whole drive.
+ghost use Rattle.std.specs.Prelude.{◌≡◌, ◌≤◌, ◌-◌, ◌↔◌, Some, IsErr, OnOk, IfOk, IfErr, false};
+ghost use Rattle.drive_model.specs.Drive.{with_protection, same_length, exchanged};
+ghost use Rattle.fdc_board.specs.Boards.{drive_at, drive_held};
+ghost use Rattle.fdc_sequencer.specs.Fronts.{front_state, board_of, KeepsFront};
+
+use crate::sequencer::Sequencer;
+use drive_model::Inspect;
+use raw_image::Medium;
+
+impl<D: Inspect> Sequencer<D> {
+    /// Covers the write-protect notch of the medium in a bay, or opens it. Where none is in, nothing changes.
+    pub fn set_protected(&mut self, bay: u8, on: bool)
+        requires { bay ≤ 1 }
+        ensures keeps { KeepsFront (front_state D.state self.old) (front_state D.state self.new) }
+        ensures other { drive_at (front_state D.state self.new).board (1 - bay) ≡ drive_at (front_state D.state self.old).board (1 - bay) }
+        ensures becomes { drive_at (front_state D.state self.new).board bay ≡ with_protection on (drive_at (front_state D.state self.old).board bay) }
+    {
+        self.board.set_protected(bay, on);
+    }
+
+    /// Puts a medium in place of the one in a bay, which is given back, as if it had always been the one that turns there. Where none is
+    /// in, or the tracks of the two differ in length, the new one is given back.
+    pub fn exchange(&mut self, bay: u8, medium: Medium) -> Result<Medium, Medium>
+        requires { bay ≤ 1 }
+        ensures keeps { KeepsFront (front_state D.state self.old) (front_state D.state self.new) }
+        ensures other { drive_at (front_state D.state self.new).board (1 - bay) ≡ drive_at (front_state D.state self.old).board (1 - bay) }
+        ensures refused { IsErr result ↔ (same_length medium (drive_at (front_state D.state self.old).board bay).medium ≡ false) }
+        ensures ok { OnOk result (drive_at (front_state D.state self.new).board bay ≡ exchanged medium (drive_at (front_state D.state self.old).board bay)) }
+        ensures before { IfOk result (λ before. Some before ≡ (drive_at (front_state D.state self.old).board bay).medium) }
+        ensures err { IfErr result (λ back. (back ≡ medium) × (drive_at (front_state D.state self.new).board bay ≡ drive_at (front_state D.state self.old).board bay)) }
+    {
+        self.board.exchange(bay, medium)
+    }
+
+    /// Puts a drive into a bay with all that is in it, and gives the one that was there: nothing else learns of it.
+    pub fn swap_drive(&mut self, bay: u8, drive: &mut D)
+        requires { bay ≤ 1 }
+        ensures keeps { KeepsFront (front_state D.state self.old) (front_state D.state self.new) }
+        ensures other { drive_held (board_of self.new) (1 - bay) ≡ drive_held (board_of self.old) (1 - bay) }
+        ensures taken { drive.new ≡ drive_held (board_of self.old) bay }
+        ensures put { drive_held (board_of self.new) bay ≡ drive.old }
+    {
+        self.board.swap_drive(bay, drive);
+    }
+}

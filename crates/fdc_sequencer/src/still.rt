@@ -1,0 +1,30 @@
+// Whether anything is done.
+ghost use Rattle.std.specs.Prelude.{◌≡◌, true};
+ghost use Rattle.fdc_sequencer.specs.Fronts.{front_state};
+ghost use Rattle.fdc_sequencer.specs.Still.{rests_at, StandsFront};
+
+use crate::sequencer::Sequencer;
+use crate::stage::Stage;
+use drive_model::Inspect;
+
+impl<D: Inspect> Sequencer<D> {
+    /// Whether a device step is the board's alone: no command of several sectors is under way.
+    fn rests(&self) -> bool
+        ensures { result ≡ rests_at (front_state D.state self.now).stage }
+    {
+        match self.stage {
+            Stage::Seeking { .. } | Stage::Moving { .. } => false,
+            _ => true,
+        }
+    }
+
+    /// Whether a device step changes nothing but the drives, and so each further one.
+    pub fn is_still(&self) -> bool
+        ensures { result ≡ true → StandsFront (front_state D.state self.now) }
+    {
+        if self.rests() {
+            return self.board.is_still();
+        }
+        false
+    }
+}

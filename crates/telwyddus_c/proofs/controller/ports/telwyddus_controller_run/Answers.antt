@@ -1,5 +1,0 @@
-use Rattle.std.proofs.Common.{refl, sym}
-use Rattle.telwyddus_c.proofs.controller.ports.telwyddus_controller_run.Goals as goal
-
-pub returns-in-Some : goal.returns-in-Some
-returns-in-Some c = rw (sym c.in-Some.ensures.taken) (_, c.put.ensures, rw (sym c.deref_mut.ensures.value) (refl, c.run_steps.ensures))

@@ -1,0 +1,36 @@
+// The write-protect tab of media outside drives.
+ghost use Rattle.std.specs.Prelude.{◌==◌, not, ⊤};
+ghost use Rattle.telwyddus_c.specs.Slots.{Serves};
+ghost use Rattle.telwyddus_c.specs.Tabs.{MovesTab};
+
+use crate::code::{DONE, EMPTY, NO_MEDIUM};
+use c_slots::{MediumTray, TraySlot};
+use std::alloc::Global;
+
+/// Protects the medium in a tray from writes, or, where `on` is 0, lets it be written.
+#[unsafe(no_mangle)]
+pub extern "C" fn telwyddus_tray_protect(alloc: Global, slot: &mut TraySlot, on: u8) -> u32
+    ensures { Serves (MovesTab (not (on == 0))) ⊤ result slot.old.held.tray slot.new.held.tray }
+{
+    match slot.take(alloc) {
+        None => EMPTY,
+        Some(mut tray) => {
+            let code = move_tab(&mut tray, on != 0);
+            slot.put(tray);
+            code
+        }
+    }
+}
+
+/// The same of a tray.
+fn move_tab(tray: &mut MediumTray, on: bool) -> u32
+    ensures { MovesTab on result tray.old tray.new }
+{
+    match &mut tray.medium {
+        None => NO_MEDIUM,
+        Some(medium) => {
+            medium.set_protected(on);
+            DONE
+        }
+    }
+}

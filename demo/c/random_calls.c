@@ -1,0 +1,727 @@
+/* random_calls CALLS SEED - so many random calls of all that the library has, on a few slots of each kind. Each answers a code that is
+ * right for what the slots hold, or one of those that the header has for it; what is handed out stays where it has to; the lines that a
+ * call tells are those that there are; quiet device steps change no line; and at the end no block is out. Now and then a request for memory
+ * is refused, by a heap that stands in place of c/heap.c: then NO_MEMORY may come, and nothing has changed. */
+#include "common.h"
+#include <stdbool.h>
+
+/* ---- the heap */
+
+typedef struct { bool is_ok; void *at; } tried;
+static char nothing;
+static int served = -1; /* how many requests are served before one is refused; all, below 0 */
+static long blocks;     /* how many are out */
+static bool was_short;  /* a request was refused in the last call */
+
+static bool refuses(void) {
+    bool is_now = served >= 0 && served-- == 0;
+    was_short = was_short || is_now;
+    return is_now;
+}
+
+static tried tell(void *at) { return (tried){at != NULL, at != NULL ? at : &nothing}; }
+
+tried rattle_alloc(size_t size, size_t align) {
+    void *at = refuses() ? NULL : malloc(size != 0 ? size : align);
+    blocks += at != NULL;
+    return tell(at);
+}
+
+tried rattle_realloc(void *old, size_t kept, size_t size, size_t align) {
+    (void)kept;
+    return tell(refuses() ? NULL : realloc(old, size != 0 ? size : align));
+}
+
+void rattle_dealloc(void *at) {
+    blocks--;
+    free(at);
+}
+
+/* ---- what is drawn */
+
+static uint64_t seed;
+static unsigned long calls, refused, whole; /* calls; those that answered anything but DONE; how many are to be made */
+
+static unsigned below(unsigned bound) {
+    seed = seed * 6364136223846793005u + 1442695040888963407u;
+    return (unsigned)(seed >> 33) % bound;
+}
+
+static uint8_t byte(void) { return (uint8_t)below(256); }
+
+/* ---- what is asked of a code */
+
+static void fail(const char *call, uint32_t code, const char *what) {
+    printf("call %lu: %s: %s: %s\n", calls, call, telwyddus_code_name(code), what);
+    exit(1);
+}
+
+/* A call, in which a request for memory may be refused. */
+#define CALL(call) (calls++, was_short = false, served = below(40) ? -1 : (int)below(8), the_call = #call, the_code = (call), served = -1, refused += the_code != TELWYDDUS_DONE)
+static const char *the_call;
+static uint32_t the_code;
+
+static void so(bool is, const char *what) {
+    if (!is) fail(the_call, the_code, what);
+}
+
+/* It was done, or answered what was wanted in place of that; or memory was short. True where it was done. */
+static bool wanted(uint32_t want) {
+    if (the_code == TELWYDDUS_NO_MEMORY && was_short) return false;
+    so(the_code == want, telwyddus_code_name(want));
+    return want == TELWYDDUS_DONE;
+}
+
+/* The same of several codes, with DONE among them or not. */
+#define AMONG(...) among((const uint32_t[]){__VA_ARGS__}, sizeof (const uint32_t[]){__VA_ARGS__} / sizeof(uint32_t))
+static bool among(const uint32_t *codes, size_t count) {
+    if (the_code == TELWYDDUS_NO_MEMORY && was_short) return false;
+    for (size_t i = 0; i < count; i++)
+        if (the_code == codes[i]) return the_code == TELWYDDUS_DONE;
+    so(false, "none of the codes that it has");
+    return false;
+}
+
+/* ---- what the slots hold, as it is to be */
+
+typedef struct { bool is; size_t image; } Medium;                       /* whether there is one, and the length of its image file, 0 unknown */
+typedef struct { bool is; Medium bay[2]; } Drives;
+typedef struct { bool is; uint8_t bytes[5 << 20]; size_t length; Drives drives; } State;
+
+static telwyddus_tray trays[4];
+static telwyddus_controller controllers[2];
+static telwyddus_machine machines[2];
+static telwyddus_disk disks[2];
+static telwyddus_shelf shelves[2];
+static struct { bool is; Medium medium; } tray_is[4];
+static Drives controller_is[2], machine_is[2], disk_is[2];
+static struct { bool is, knows; size_t length; uint8_t first; } shelf_is[2]; /* a file "note", which no run touches, where it is known */
+static State controller_state, machine_state;
+
+static uint32_t missing(bool is) { return is ? TELWYDDUS_DONE : TELWYDDUS_EMPTY; }
+
+/* ---- buffers that a call writes to: 16 bytes behind one stay, and where it isn't done its edges too */
+
+#define POOL (5 << 20)
+static uint8_t pool[POOL + 16], given[POOL];
+
+static void fill(size_t room) {
+    size_t edge = room < 64 ? room : 64;
+    memset(pool, 0xA5, edge);
+    memset(pool + room - edge, 0xA5, edge);
+    memset(pool + room, 0xA5, 16);
+}
+
+static void kept(size_t room, size_t from) {
+    for (size_t i = 0; i < 16; i++) so(pool[room + i] == 0xA5, "written behind the buffer");
+    for (size_t i = from; i < room && i < 64; i++) so(pool[i] == 0xA5, "the buffer is left");
+    for (size_t i = room > 64 && room - 64 > from ? room - 64 : room; i < room; i++) so(pool[i] == 0xA5, "the rest of the buffer is left");
+}
+
+/* A room for so many bytes, that isn't known: none, too little, exactly, more. */
+static size_t draw_room(size_t size) {
+    switch (below(4)) {
+    case 0: return 0;
+    case 1: return size > 0 ? size - 1 : 0;
+    case 2: return size;
+    default: return size + below(100);
+    }
+}
+
+static uint8_t *buffer(size_t room) { return room == 0 && below(2) ? NULL : pool; }
+
+/* A call has written a file of this size, where it is known, and told its length. */
+static void wrote(uint32_t want, size_t room, size_t told, size_t size) {
+    const size_t untold = (size_t)-1;
+    bool is_served = want == TELWYDDUS_DONE;
+    if (is_served && size != 0) want = room < size ? (uint32_t)TELWYDDUS_TOO_SHORT : want;
+    if (is_served && size == 0) AMONG(TELWYDDUS_DONE, TELWYDDUS_TOO_SHORT, TELWYDDUS_UNFIT);
+    else wanted(want);
+    bool is_told = the_code == TELWYDDUS_DONE || the_code == TELWYDDUS_TOO_SHORT;
+    so(is_told != (told == untold), "the length is told with DONE and TOO_SHORT alone");
+    if (is_told && size != 0) so(told == size, "the length is that of the file");
+    if (the_code == TELWYDDUS_TOO_SHORT) so(told > room, "the file has no room");
+    kept(room, the_code == TELWYDDUS_DONE ? told : 0);
+}
+
+/* ---- trays */
+
+static uint8_t sample[14 + 2 * 12500], archive[60000], flat[737280];
+static size_t archive_length;
+
+static void tray_blank(void) {
+    unsigned at = below(4), cylinders = below(20) ? 1 + below(3) : below(90), kilobits = (const unsigned[]){500, 250, 250, 300}[below(4)];
+    CALL(telwyddus_tray_blank(&trays[at], (uint8_t)cylinders, (uint16_t)kilobits));
+    bool may_be = cylinders >= 1 && cylinders <= 80 && kilobits != 300;
+    if (!wanted(tray_is[at].is ? TELWYDDUS_FULL : may_be ? TELWYDDUS_DONE : TELWYDDUS_OUT_OF_RANGE)) return;
+    tray_is[at].is = true;
+    tray_is[at].medium = (Medium){true, 14 + cylinders * 2 * (kilobits == 500 ? 25000u : 12500u)};
+}
+
+/* Of a file, a part of it, another one, or none. */
+static void tray_read(void) {
+    unsigned at = below(4), way = below(6);
+    size_t length = way == 0 ? 0 : way == 1 ? sizeof sample - 1 : sizeof sample;
+    memcpy(given, sample, sizeof sample);
+    if (way == 2) given[below(4)] ^= 1;
+    CALL(telwyddus_tray_read(&trays[at], way == 0 ? NULL : given, length));
+    if (!wanted(tray_is[at].is ? TELWYDDUS_FULL : way < 3 ? TELWYDDUS_BAD_IMAGE : TELWYDDUS_DONE)) return;
+    tray_is[at].is = true;
+    tray_is[at].medium = (Medium){true, sizeof sample};
+}
+
+static void tray_read_flat(void) {
+    unsigned at = below(4);
+    bool may_be = below(2);
+    CALL(telwyddus_tray_read_flat(&trays[at], flat, may_be ? sizeof flat : below(3) ? sizeof flat - 512 : 0));
+    if (!wanted(tray_is[at].is ? TELWYDDUS_FULL : may_be ? TELWYDDUS_DONE : TELWYDDUS_BAD_IMAGE)) return;
+    tray_is[at].is = true;
+    tray_is[at].medium = (Medium){true, 14 + 160 * 12500};
+}
+
+static void tray_read_imd(void) {
+    unsigned at = below(4), way = below(4);
+    uint8_t cylinder, head;
+    memcpy(given, archive, archive_length);
+    if (way == 1) given[below((unsigned)archive_length)] ^= (uint8_t)(1 + below(255));
+    CALL(telwyddus_tray_read_imd(&trays[at], way == 0 ? NULL : given, way == 0 ? 0 : archive_length, &cylinder, &head));
+    if (tray_is[at].is) wanted(TELWYDDUS_FULL);
+    else if (way == 1) AMONG(TELWYDDUS_DONE, TELWYDDUS_BAD_IMAGE, TELWYDDUS_UNFIT);
+    else wanted(way == 0 ? TELWYDDUS_BAD_IMAGE : TELWYDDUS_DONE);
+    if (the_code != TELWYDDUS_DONE) return;
+    tray_is[at].is = true;
+    tray_is[at].medium = (Medium){true, 0};
+}
+
+static void tray_free(void) {
+    unsigned at = below(4);
+    CALL(telwyddus_tray_free(&trays[at]));
+    wanted(missing(tray_is[at].is));
+    tray_is[at].is = false;
+}
+
+/* The image file, or what is made of it. */
+static void tray_write(void) {
+    unsigned at = below(4), way = below(8);
+    const Medium medium = tray_is[at].is ? tray_is[at].medium : (Medium){false, 0};
+    uint32_t want = !tray_is[at].is ? TELWYDDUS_EMPTY : medium.is ? TELWYDDUS_DONE : TELWYDDUS_NO_MEDIUM;
+    size_t size = way > 2 ? medium.image : 0, room = draw_room(size != 0 ? size : below(60000)), told = (size_t)-1;
+    uint8_t cylinder = 0, head = 0;
+    fill(room);
+    if (way == 0) CALL(telwyddus_tray_write_flat(&trays[at], buffer(room), room, &told, &cylinder, &head));
+    else if (way == 1) CALL(telwyddus_tray_write_imd(&trays[at], buffer(room), room, &told, &cylinder, &head));
+    else if (way == 2) CALL(telwyddus_tray_survey(&trays[at], buffer(room), room, &told));
+    else CALL(telwyddus_tray_write(&trays[at], buffer(room), room, &told));
+    so(way < 2 || the_code != TELWYDDUS_UNFIT, "no UNFIT here");
+    wrote(want, room, told, size);
+}
+
+/* ---- media between trays and bays, at each kind that has bays */
+
+static bool is_bay(uint32_t bay) { return bay < 2; }
+
+static void inserted(Drives *drives, uint32_t bay, unsigned tray) {
+    if (!drives->is) wanted(TELWYDDUS_EMPTY);
+    else if (!is_bay(bay)) wanted(TELWYDDUS_OUT_OF_RANGE);
+    else if (!tray_is[tray].is || !tray_is[tray].medium.is) wanted(TELWYDDUS_NO_MEDIUM);
+    else if (drives->bay[bay].is) wanted(TELWYDDUS_HAS_MEDIUM);
+    else if (wanted(TELWYDDUS_DONE)) {
+        drives->bay[bay] = tray_is[tray].medium;
+        tray_is[tray].medium.is = false;
+    }
+}
+
+static void ejected(Drives *drives, uint32_t bay, unsigned tray) {
+    if (!drives->is) wanted(TELWYDDUS_EMPTY);
+    else if (!is_bay(bay)) wanted(TELWYDDUS_OUT_OF_RANGE);
+    else if (tray_is[tray].is) wanted(TELWYDDUS_FULL);
+    else if (!drives->bay[bay].is) wanted(TELWYDDUS_NO_MEDIUM);
+    else if (wanted(TELWYDDUS_DONE)) {
+        tray_is[tray].is = true;
+        tray_is[tray].medium = drives->bay[bay];
+        drives->bay[bay].is = false;
+    }
+}
+
+static void move_medium(void) {
+    unsigned at = below(2), tray = below(4);
+    uint32_t bay = below(30) ? below(2) : 2 + below(300);
+    switch (below(6)) {
+    case 0: CALL(telwyddus_controller_insert(&controllers[at], bay, &trays[tray])); inserted(&controller_is[at], bay, tray); break;
+    case 1: CALL(telwyddus_machine_insert(&machines[at], bay, &trays[tray])); inserted(&machine_is[at], bay, tray); break;
+    case 2: CALL(telwyddus_disk_insert(&disks[at], bay, &trays[tray])); inserted(&disk_is[at], bay, tray); break;
+    case 3: CALL(telwyddus_controller_eject(&controllers[at], bay, &trays[tray])); ejected(&controller_is[at], bay, tray); break;
+    case 4: CALL(telwyddus_machine_eject(&machines[at], bay, &trays[tray])); ejected(&machine_is[at], bay, tray); break;
+    default: CALL(telwyddus_disk_eject(&disks[at], bay, &trays[tray])); ejected(&disk_is[at], bay, tray);
+    }
+}
+
+/* ---- making and freeing */
+
+static const char *const plans[] = {"drop 0 0 0 500 3\nlose 1 2 1\n", "cut 1 0 1 90 2\nstick 0 1 1\ngap 1 5\nhold 2 9\nstray 700 1\n", "gap 1 1\ndrop 0 0\n"};
+
+static void made(Drives *drives, uint32_t want, bool has_line, size_t line) {
+    if (drives->is) want = TELWYDDUS_FULL;
+    bool is_made = wanted(want);
+    if (has_line) so((the_code == TELWYDDUS_BAD_PLAN) == (line == 2), "the line is told with BAD_PLAN alone");
+    if (is_made) *drives = (Drives){.is = true};
+}
+
+static void make(void) {
+    unsigned at = below(2), plan = below(4);
+    size_t line = 0, length = plan == 3 ? 0 : strlen(plans[plan]);
+    const uint8_t *text = plan == 3 ? NULL : (const uint8_t *)plans[plan];
+    uint32_t want = plan == 2 ? TELWYDDUS_BAD_PLAN : TELWYDDUS_DONE;
+    switch (below(6)) {
+    case 0: CALL(telwyddus_controller_new(&controllers[at])); made(&controller_is[at], TELWYDDUS_DONE, false, 0); break;
+    case 1: CALL(telwyddus_controller_new_planned(&controllers[at], text, length, &line)); made(&controller_is[at], want, true, line); break;
+    case 2: CALL(telwyddus_machine_new(&machines[at])); made(&machine_is[at], TELWYDDUS_DONE, false, 0); break;
+    case 3: CALL(telwyddus_machine_new_planned(&machines[at], text, length, &line)); made(&machine_is[at], want, true, line); break;
+    case 4: CALL(telwyddus_disk_new(&disks[at])); made(&disk_is[at], TELWYDDUS_DONE, false, 0); break;
+    default:
+        CALL(telwyddus_shelf_new(&shelves[at]));
+        if (wanted(shelf_is[at].is ? TELWYDDUS_FULL : TELWYDDUS_DONE)) shelf_is[at].is = true, shelf_is[at].knows = false;
+    }
+}
+
+static void end(void) {
+    unsigned at = below(2);
+    switch (below(4)) {
+    case 0: CALL(telwyddus_controller_free(&controllers[at])); wanted(missing(controller_is[at].is)); controller_is[at].is = false; break;
+    case 1: CALL(telwyddus_machine_free(&machines[at])); wanted(missing(machine_is[at].is)); machine_is[at].is = false; break;
+    case 2: CALL(telwyddus_disk_free(&disks[at])); wanted(missing(disk_is[at].is)); disk_is[at].is = false; break;
+    default: CALL(telwyddus_shelf_free(&shelves[at])); wanted(missing(shelf_is[at].is)); shelf_is[at].is = false;
+    }
+}
+
+/* ---- the controller: ports, steps, the channel */
+
+static unsigned here; /* the controller that calls go to */
+
+static bool is_here(void) { return controller_is[here].is; }
+
+/* The lines that there are, or none where there is no controller. */
+static uint8_t lines_now(void) {
+    uint8_t lines = 0xEE;
+    CALL(telwyddus_controller_lines(&controllers[here], &lines));
+    wanted(missing(is_here()));
+    so(is_here() ? lines < 16 : lines == 0xEE, "the lines are told, or left");
+    return is_here() ? lines : 0;
+}
+
+/* A call that tells the lines has told them, if there is a controller. */
+static void lines_told(uint8_t lines) {
+    if (!is_here()) so(lines == 0xEE, "the lines are left");
+    else if (below(4) == 0) {
+        const char *call = the_call;
+        uint8_t now = lines_now();
+        the_call = call;
+        so(lines == now, "the lines are those that there are");
+    }
+}
+
+static void write_port(uint16_t port, uint8_t value) {
+    uint8_t lines = 0xEE;
+    CALL(telwyddus_controller_write(&controllers[here], port, value, &lines));
+    wanted(missing(is_here()));
+    lines_told(lines);
+}
+
+static uint8_t read_port(uint16_t port) {
+    uint8_t value = 0xEE, lines = 0xEE;
+    CALL(telwyddus_controller_read(&controllers[here], port, &value, &lines));
+    if (!wanted(missing(is_here()))) so(value == 0xEE, "the value is left");
+    lines_told(lines);
+    return value;
+}
+
+/* Any access, or the bytes of a command that there is. */
+static void access_ports(void) {
+    static const uint8_t codes[] = {0xE6, 0x46, 0xC5, 0x45, 0x4C, 0x49, 0x66, 0x4A, 0x4D, 0x42, 0x56, 0x07, 0x0F, 0x8F, 0xCF, 0x08, 0x08, 0x04, 0x03, 0x13,
+        0x94, 0x14, 0x0E, 0x12, 0x10, 0x06, 0x11};
+    switch (below(8)) {
+    case 0: write_port((uint16_t)below(65536), byte()); return;
+    case 1: read_port((uint16_t)(below(10) ? 0x3F0 + below(8) : below(65536))); return;
+    case 2: write_port(0x3F2, (uint8_t)(below(6) ? 0x3C | below(2) : byte())); return;
+    case 3: write_port(below(4) ? 0x3F7 : 0x3F4, (uint8_t)below(4)); return;
+    case 4: case 5:
+        for (int i = 0; i < 12 && (read_port(0x3F4) & 0xC0) == 0xC0; i++) read_port(0x3F5);
+        return;
+    default:
+        write_port(0x3F5, codes[below(sizeof codes)]);
+        for (int i = 0; i < 8 && is_here() && (read_port(0x3F4) & 0xD0) == 0x90; i++)
+            write_port(0x3F5, below(8) == 0 ? byte() : (const uint8_t[]){(uint8_t)below(8), 0, (uint8_t)below(2), 1, 2, 9, 0x1B, 0xFF}[i]);
+    }
+}
+
+/* Steps that surely change no line change none. */
+static void make_quiet(void) {
+    uint32_t most = below(3) ? below(70000) : UINT32_MAX, steps = 0xEEEEEEEE, made = 0;
+    uint8_t before = lines_now(), lines = 0xEE;
+    CALL(telwyddus_controller_quiet(&controllers[here], most, &steps));
+    if (!wanted(missing(is_here()))) {
+        so(steps == 0xEEEEEEEE, "the steps are left");
+        return;
+    }
+    so(steps <= most, "as many as were asked for at most");
+    uint32_t some = steps > 200000 ? 200000 : steps;
+    CALL(telwyddus_controller_run(&controllers[here], some, &made, &lines));
+    wanted(TELWYDDUS_DONE);
+    so(made == some && ((lines ^ before) & (TELWYDDUS_INT | TELWYDDUS_DRQ)) == 0, "quiet steps change neither INT nor DRQ");
+}
+
+static void make_steps(void) {
+    uint8_t before = lines_now(), lines = 0xEE;
+    uint32_t most = below(4) ? below(300) : below(20000), made = 0xEEEEEEEE;
+    if (below(3) == 0) {
+        CALL(telwyddus_controller_step(&controllers[here], &lines));
+        wanted(missing(is_here()));
+    } else {
+        CALL(telwyddus_controller_run(&controllers[here], most, &made, &lines));
+        if (!wanted(missing(is_here()))) so(made == 0xEEEEEEEE, "the steps are left");
+        else so(made == most || (made < most && ((lines ^ before) & (TELWYDDUS_INT | TELWYDDUS_DRQ)) != 0), "a run ends where a line changes");
+    }
+    lines_told(lines);
+}
+
+static void take_bytes(uint8_t before) {
+    bool asks = (before & TELWYDDUS_DRQ) != 0 && (before & TELWYDDUS_TO_MEMORY) != 0;
+    uint8_t value = 0xEE, lines = 0xEE;
+    size_t room = below(40), moved = (size_t)-1;
+    if (below(2)) {
+        CALL(telwyddus_controller_dack_read(&controllers[here], &value, &lines));
+        if (!wanted(!is_here() ? TELWYDDUS_EMPTY : asks ? TELWYDDUS_DONE : TELWYDDUS_NOT_ASKED)) so(value == 0xEE, "the byte is left");
+    } else {
+        fill(room);
+        CALL(telwyddus_controller_dack_block_read(&controllers[here], buffer(room), room, &moved, &lines));
+        if (!wanted(missing(is_here()))) so(moved == (size_t)-1, "the count is left");
+        else {
+            so(moved <= room && (moved > 0) == (asks && room > 0), "bytes pass where they are asked for, and there is room");
+            so(moved == room || (lines & (TELWYDDUS_DRQ | TELWYDDUS_TO_MEMORY)) != (TELWYDDUS_DRQ | TELWYDDUS_TO_MEMORY), "as many as are asked for");
+        }
+        kept(room, the_code == TELWYDDUS_DONE ? moved : 0);
+    }
+    lines_told(lines);
+}
+
+static void give_bytes(uint8_t before) {
+    bool asks = (before & TELWYDDUS_DRQ) != 0 && (before & TELWYDDUS_TO_MEMORY) == 0;
+    uint8_t lines = 0xEE;
+    size_t length = below(40), moved = (size_t)-1;
+    if (below(2)) {
+        CALL(telwyddus_controller_dack_write(&controllers[here], byte(), &lines));
+        wanted(!is_here() ? TELWYDDUS_EMPTY : asks ? TELWYDDUS_DONE : TELWYDDUS_NOT_ASKED);
+    } else {
+        CALL(telwyddus_controller_dack_block_write(&controllers[here], length == 0 ? NULL : given, length, &moved, &lines));
+        if (!wanted(missing(is_here()))) so(moved == (size_t)-1, "the count is left");
+        else so(moved <= length && (moved > 0) == (asks && length > 0) && (moved == length || (lines & TELWYDDUS_DRQ) == 0 || (lines & TELWYDDUS_TO_MEMORY) != 0), "as many as are asked for");
+    }
+    lines_told(lines);
+}
+
+static void pass_bytes(void) {
+    uint8_t before = lines_now(), lines = 0xEE;
+    if (below(12) == 0) {
+        CALL(telwyddus_controller_tc(&controllers[here], &lines));
+        wanted(missing(is_here()));
+        lines_told(lines);
+    } else if (below(8) == 0 ? below(2) : before & TELWYDDUS_TO_MEMORY) take_bytes(before);
+    else give_bytes(before);
+}
+
+/* A guest goes on with one controller for some calls. */
+static void drive(void) {
+    here = below(2);
+    for (unsigned i = below(40); i > 0; i--) {
+        if (below(4) == 0) access_ports();
+        else if (below(3) == 0) make_steps();
+        else if (below(20) == 0) make_quiet();
+        else pass_bytes();
+    }
+}
+
+/* ---- what a front end asks of a controller */
+
+static void look(void) {
+    unsigned at = below(2);
+    uint32_t bay = below(10) ? below(2) : 2 + below(9), time = 7;
+    bool is = controller_is[at].is;
+    uint32_t want = !is ? TELWYDDUS_EMPTY : is_bay(bay) ? TELWYDDUS_DONE : TELWYDDUS_OUT_OF_RANGE;
+    uint8_t one = 0xEE, other = 0xEE;
+    switch (below(6)) {
+    case 0:
+        CALL(telwyddus_controller_bay(&controllers[at], bay, &one, &other));
+        if (wanted(want)) so(one <= 82 && other < 16 && ((other & TELWYDDUS_MEDIUM) != 0) == controller_is[at].bay[bay].is, "what is shown can be");
+        else so(one == 0xEE && other == 0xEE, "what is shown is left");
+        return;
+    case 1: CALL(telwyddus_controller_is_written(&controllers[at], bay, &one)); so(wanted(want) ? one < 2 : one == 0xEE, "0 or 1"); return;
+    case 2: CALL(telwyddus_controller_written(&controllers[at], bay, &one)); so(wanted(want) ? one < 2 : one == 0xEE, "0 or 1"); return;
+    case 3: CALL(telwyddus_controller_selected(&controllers[at], &one)); so(wanted(missing(is)) ? one < 4 : one == 0xEE, "0 to 3"); return;
+    case 4:
+        CALL(telwyddus_controller_word_time(&controllers[at], &time));
+        so(wanted(missing(is)) ? time == 16000 || time == 26667 || time == 32000 || time == 8000 : time == 7, "a time of the table");
+        return;
+    default: CALL(telwyddus_controller_strap_seeks(&controllers[at], (uint8_t)below(3))); wanted(missing(is));
+    }
+}
+
+static void image(void) {
+    unsigned at = below(2);
+    uint32_t bay = below(10) ? below(2) : 2 + below(9);
+    const Medium medium = controller_is[at].is && is_bay(bay) ? controller_is[at].bay[bay] : (Medium){false, 0};
+    uint32_t want = !controller_is[at].is ? TELWYDDUS_EMPTY : !is_bay(bay) ? TELWYDDUS_OUT_OF_RANGE : medium.is ? TELWYDDUS_DONE : TELWYDDUS_NO_MEDIUM;
+    size_t room = draw_room(medium.image), told = (size_t)-1;
+    fill(room);
+    CALL(telwyddus_controller_image(&controllers[at], bay, buffer(room), room, &told));
+    wrote(want, room, told, medium.image);
+}
+
+/* ---- states */
+
+static void saved(State *state, const Drives *drives, size_t room, size_t told) {
+    uint32_t want = missing(drives->is);
+    if (want == TELWYDDUS_DONE && the_code == TELWYDDUS_TOO_SHORT) {
+        so(told > room, "the state has no room");
+        kept(room, 0);
+        return;
+    }
+    if (!wanted(want)) return;
+    state->is = true;
+    state->length = told;
+    state->drives = *drives;
+    memcpy(state->bytes, pool, told);
+}
+
+/* The bytes were a state of this kind, or weren't. */
+static void restored(const State *state, Drives *drives, bool is_state) {
+    if (wanted(state->is && is_state ? TELWYDDUS_DONE : TELWYDDUS_BAD_STATE)) *drives = state->drives;
+}
+
+static void move_state(void) {
+    unsigned at = below(2), way = below(8);
+    size_t room = below(3) ? POOL : below(2000), told = 0;
+    const State *state = below(2) ? &controller_state : &machine_state;
+    size_t length = way == 0 ? 0 : way == 1 ? state->length / 2 : state->length;
+    fill(room);
+    switch (below(4)) {
+    case 0: CALL(telwyddus_controller_save(&controllers[at], buffer(room), room, &told)); saved(&controller_state, &controller_is[at], room, told); break;
+    case 1: CALL(telwyddus_machine_save(&machines[at], buffer(room), room, &told)); saved(&machine_state, &machine_is[at], room, told); break;
+    case 2:
+        CALL(telwyddus_controller_restore(&controllers[at], length == 0 ? NULL : state->bytes, length));
+        restored(state, &controller_is[at], state == &controller_state && way > 1);
+        break;
+    default:
+        CALL(telwyddus_machine_restore(&machines[at], length == 0 ? NULL : state->bytes, length));
+        restored(state, &machine_is[at], state == &machine_state && way > 1);
+    }
+}
+
+/* ---- the machine */
+
+static void machine_ports(unsigned at) {
+    static const uint16_t ports[] = {0x04, 0x05, 0x08, 0x0A, 0x0B, 0x0C, 0x81, 0x3F2, 0x3F4, 0x3F5, 0x3F5, 0x3F5, 0x3F7};
+    uint16_t port = (uint16_t)(below(10) ? ports[below(sizeof ports / sizeof *ports)] : below(65536));
+    uint8_t value = 0xEE;
+    if (below(2)) {
+        CALL(telwyddus_machine_inb(&machines[at], port, &value));
+        if (!wanted(missing(machine_is[at].is))) so(value == 0xEE, "the value is left");
+    } else {
+        CALL(telwyddus_machine_outb(&machines[at], port, port == 0x3F2 ? 0x1C : byte()));
+        wanted(missing(machine_is[at].is));
+    }
+}
+
+static void machine_time(unsigned at) {
+    uint32_t most = below(10) ? below(100) : below(4000), steps = 0xEEEEEEEE;
+    uint8_t is = 0xEE;
+    switch (below(3)) {
+    case 0: CALL(telwyddus_machine_wait(&machines[at], most)); wanted(missing(machine_is[at].is)); return;
+    case 1:
+        CALL(telwyddus_machine_wait_irq(&machines[at], most, &steps, &is));
+        so(wanted(missing(machine_is[at].is)) ? steps <= most && (is == 1 || (is == 0 && steps == most)) : steps == 0xEEEEEEEE && is == 0xEE, "it ends where the latch is set");
+        return;
+    default:
+        CALL(telwyddus_machine_take_irq(&machines[at], &is));
+        so(wanted(missing(machine_is[at].is)) ? is < 2 : is == 0xEE, "0 or 1");
+    }
+}
+
+/* Bytes go in and come out again; or their range isn't within memory. */
+static void machine_memory(unsigned at) {
+    const size_t memory = 1 << 20;
+    size_t length = below(600), address = below(4) ? below(1 << 20) : memory - length + below(3) - 1;
+    uint32_t want = !machine_is[at].is ? TELWYDDUS_EMPTY : address <= memory && length <= memory - address ? TELWYDDUS_DONE : TELWYDDUS_OUT_OF_RANGE;
+    for (size_t i = 0; i < length; i++) given[i] = byte();
+    CALL(telwyddus_machine_memory_set(&machines[at], address, length == 0 ? NULL : given, length));
+    wanted(want);
+    fill(length);
+    CALL(telwyddus_machine_memory_get(&machines[at], address, buffer(length), length));
+    if (wanted(want)) so(memcmp(pool, given, length) == 0, "memory has what was set");
+    kept(length, the_code == TELWYDDUS_DONE ? length : 0);
+}
+
+static void drive_machine(void) {
+    unsigned at = below(2);
+    for (unsigned i = below(20); i > 0; i--) {
+        switch (below(4)) {
+        case 0: machine_time(at); break;
+        case 1: machine_memory(at); break;
+        default: machine_ports(at);
+        }
+    }
+}
+
+/* ---- shelves */
+
+static const char *const names[] = {"a.img", "b.img", "note", "\xFF"};
+
+static void put_file(unsigned at, unsigned name) {
+    size_t length = name == 0 ? sizeof sample : below(300);
+    if (name == 0) memcpy(given, sample, length);
+    CALL(telwyddus_shelf_put(&shelves[at], (const uint8_t *)names[name], strlen(names[name]), length == 0 ? NULL : given, length));
+    if (!wanted(!shelf_is[at].is ? TELWYDDUS_EMPTY : name == 3 ? TELWYDDUS_NOT_TEXT : TELWYDDUS_DONE) || name != 2) return;
+    shelf_is[at].knows = true;
+    shelf_is[at].length = length;
+    shelf_is[at].first = given[0];
+}
+
+static void get_file(unsigned at, unsigned name) {
+    bool is = shelf_is[at].is, knows = is && name == 2 && shelf_is[at].knows;
+    size_t room = knows ? draw_room(shelf_is[at].length) : below(2) ? POOL : below(400), told = (size_t)-1;
+    fill(room);
+    CALL(telwyddus_shelf_get(&shelves[at], (const uint8_t *)names[name], strlen(names[name]), buffer(room), room, &told));
+    if (!is || name == 3) wanted(is ? TELWYDDUS_NOT_TEXT : TELWYDDUS_EMPTY);
+    else if (knows) wanted(room < shelf_is[at].length ? TELWYDDUS_TOO_SHORT : TELWYDDUS_DONE);
+    else AMONG(TELWYDDUS_DONE, TELWYDDUS_TOO_SHORT, TELWYDDUS_NO_FILE);
+    if (the_code == TELWYDDUS_DONE && knows) so(told == shelf_is[at].length && (told == 0 || pool[0] == shelf_is[at].first), "the file is the one that was put");
+    kept(room, the_code == TELWYDDUS_DONE ? told : 0);
+}
+
+static void run_program(unsigned at) {
+    static const char *const words[] = {"survey\na.img", "format\nb.img\n1", "verify\nb.img", "copy\na.img\nb.img", "nonsense", "", "\xC3"};
+    unsigned which = below(sizeof words / sizeof *words);
+    uint32_t status = 99;
+    CALL(telwyddus_shelf_run(&shelves[at], which == 5 ? NULL : (const uint8_t *)words[which], strlen(words[which]), &status));
+    bool is_run = wanted(!shelf_is[at].is ? TELWYDDUS_EMPTY : which == 6 ? TELWYDDUS_NOT_TEXT : TELWYDDUS_DONE);
+    so(is_run ? status <= 5 || (status == 7 && was_short) : status == 99, "a status that there is");
+}
+
+static void report(unsigned at) {
+    size_t room = below(2) ? POOL : below(60), told = (size_t)-1;
+    fill(room);
+    CALL(telwyddus_shelf_report(&shelves[at], buffer(room), room, &told));
+    if (!shelf_is[at].is) wanted(TELWYDDUS_EMPTY);
+    else AMONG(TELWYDDUS_DONE, TELWYDDUS_TOO_SHORT);
+    if (the_code == TELWYDDUS_TOO_SHORT) so(told > room, "the report has no room");
+    kept(room, the_code == TELWYDDUS_DONE ? told : 0);
+}
+
+static void use_shelf(void) {
+    unsigned at = below(2), name = below(4);
+    switch (below(16)) {
+    case 0: run_program(at); break;
+    case 1: case 2: report(at); break;
+    case 3: case 4: case 5: case 6: get_file(at, name); break;
+    default: put_file(at, name);
+    }
+}
+
+/* ---- single sectors */
+
+/* What any call of a desk on a bay answers, before it looks at the track. True where it does look. */
+static bool reaches(unsigned at, uint32_t bay) {
+    if (disk_is[at].is && is_bay(bay)) return true;
+    wanted(disk_is[at].is ? TELWYDDUS_OUT_OF_RANGE : TELWYDDUS_EMPTY);
+    return false;
+}
+
+static void read_sector(unsigned at, uint32_t bay, uint8_t c, uint8_t h, uint8_t r, uint8_t n) {
+    size_t size = n < 7 ? (size_t)128 << n : 0, room = below(5) ? size : draw_room(size);
+    uint8_t deleted = 0xEE;
+    fill(room);
+    CALL(telwyddus_disk_read(&disks[at], bay, c, h, r, n, buffer(room), room, &deleted));
+    if (reaches(at, bay))
+        AMONG(TELWYDDUS_DONE, TELWYDDUS_OUT_OF_RANGE, TELWYDDUS_TOO_SHORT, TELWYDDUS_CHANGED, TELWYDDUS_NO_MARK, TELWYDDUS_NOT_FOUND, TELWYDDUS_BAD_CRC, TELWYDDUS_OVERRUN, TELWYDDUS_SEEK);
+    so(the_code == TELWYDDUS_DONE ? deleted < 2 : deleted == 0xEE, "0 or 1");
+    kept(room, the_code == TELWYDDUS_DONE ? size : 0);
+}
+
+static void use_disk(void) {
+    unsigned at = below(2);
+    uint32_t bay = below(30) ? below(2) : 2 + below(300);
+    uint8_t c = (uint8_t)(below(30) ? below(2) : below(256)), h = (uint8_t)(below(30) ? below(2) : below(256)), r = (uint8_t)(below(30) ? 1 + below(9) : below(256)), n = (uint8_t)(below(10) ? 2 : below(9));
+    size_t length = below(20) ? (size_t)128 << (n & 7) : below(1000);
+    switch (below(8)) {
+    case 0: CALL(telwyddus_disk_acknowledge(&disks[at], bay)); if (reaches(at, bay)) AMONG(TELWYDDUS_DONE, TELWYDDUS_NOT_READY); return;
+    case 1:
+        CALL(telwyddus_disk_set_rate(&disks[at], bay, (const uint16_t[]){250, 500, 250, 300}[below(4)]));
+        if (reaches(at, bay)) AMONG(TELWYDDUS_DONE, TELWYDDUS_OUT_OF_RANGE, TELWYDDUS_CHANGED);
+        return;
+    case 2:
+        CALL(telwyddus_disk_format(&disks[at], bay, c, h));
+        if (reaches(at, bay)) AMONG(TELWYDDUS_DONE, TELWYDDUS_OUT_OF_RANGE, TELWYDDUS_CHANGED, TELWYDDUS_PROTECTED, TELWYDDUS_NO_MARK, TELWYDDUS_NOT_FOUND, TELWYDDUS_BAD_CRC, TELWYDDUS_OVERRUN, TELWYDDUS_SEEK);
+        return;
+    case 3:
+        CALL(telwyddus_disk_write(&disks[at], bay, c, h, r, n, given, length, (uint8_t)below(3)));
+        if (reaches(at, bay)) AMONG(TELWYDDUS_DONE, TELWYDDUS_OUT_OF_RANGE, TELWYDDUS_CHANGED, TELWYDDUS_PROTECTED, TELWYDDUS_NO_MARK, TELWYDDUS_NOT_FOUND, TELWYDDUS_BAD_CRC, TELWYDDUS_OVERRUN, TELWYDDUS_SEEK);
+        return;
+    default: read_sector(at, bay, c, h, r, n);
+    }
+}
+
+/* ---- all of it */
+
+typedef struct { void (*make)(void); unsigned weight; } Part;
+static const Part parts[] = {{drive, 250}, {drive_machine, 150}, {look, 600}, {move_medium, 300}, {make, 200}, {end, 40}, {tray_blank, 60}, {tray_read, 60}, {tray_free, 60},
+    {tray_write, 60}, {tray_read_imd, 4}, {tray_read_flat, 1}, {image, 20}, {move_state, 12}, {use_shelf, 40}, {use_disk, 12}};
+
+static void make_part(void) {
+    unsigned total = 0, at = 0;
+    for (size_t i = 0; i < sizeof parts / sizeof *parts; i++) total += parts[i].weight;
+    for (unsigned drawn = below(total); drawn >= parts[at].weight; at++) drawn -= parts[at].weight;
+    parts[at].make();
+}
+
+/* The files of a small medium, formatted. */
+static void begin(void) {
+    telwyddus_disk disk = {0};
+    telwyddus_tray tray = {0};
+    size_t length;
+    uint8_t cylinder, head;
+    MUST(telwyddus_disk_new(&disk));
+    MUST(telwyddus_tray_blank(&tray, 1, 250));
+    MUST(telwyddus_disk_insert(&disk, 0, &tray));
+    MUST(telwyddus_tray_free(&tray));
+    MUST(telwyddus_disk_acknowledge(&disk, 0));
+    MUST(telwyddus_disk_set_rate(&disk, 0, 250));
+    for (uint8_t h = 0; h < 2; h++) MUST(telwyddus_disk_format(&disk, 0, 0, h));
+    MUST(telwyddus_disk_eject(&disk, 0, &tray));
+    MUST(telwyddus_tray_write(&tray, sample, sizeof sample, &length));
+    if (length != sizeof sample) check(0, "the image of a small medium is so long");
+    MUST(telwyddus_tray_write_imd(&tray, archive, sizeof archive, &archive_length, &cylinder, &head));
+    MUST(telwyddus_tray_free(&tray));
+    MUST(telwyddus_disk_free(&disk));
+}
+
+static void finish(void) {
+    for (unsigned at = 0; at < 4; at++) telwyddus_tray_free(&trays[at]);
+    for (unsigned at = 0; at < 2; at++) {
+        telwyddus_controller_free(&controllers[at]);
+        telwyddus_machine_free(&machines[at]);
+        telwyddus_disk_free(&disks[at]);
+        telwyddus_shelf_free(&shelves[at]);
+    }
+}
+
+int main(int count, char **words) {
+    if (count != 3) return 2;
+    whole = strtoul(words[1], NULL, 10);
+    seed = strtoull(words[2], NULL, 10);
+    check(telwyddus_version() == TELWYDDUS_VERSION_NUMBER, "the library is of the header's version");
+    begin();
+    while (calls < whole) make_part();
+    finish();
+    check(blocks == 0, "no block is out");
+    printf("%lu calls, of which %lu answered another code than DONE\n", calls, refused);
+    return 0;
+}
