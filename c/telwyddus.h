@@ -5,7 +5,7 @@
  * drivers; trays, in which media lie outside drives; shelves, on which the program runs; and disks, single sectors read and
  * written. The code behind them is proved: docs/C.md says what of, and how to build. For C and for C++.
  *
- * A whole device of an emulator over the first face is demo/c/device.c, 150 lines; docs/C.md goes through it.
+ * A whole device of an emulator over the first face is demo/c/device.c, some 170 lines; docs/C.md goes through it.
  *
  * SLOTS. A slot holds one object or none. It is yours: on your stack, in your device's state. Begin it all 0 ("= {0}"). Don't
  * write its fields, and don't copy or move it while it holds something: a copy that is freed besides frees twice. A call on a
@@ -147,6 +147,28 @@ TELWYDDUS_NEWS uint32_t telwyddus_tray_write_imd(telwyddus_tray *tray, uint8_t *
  * *length is told as by write. DONE, EMPTY, NO_MEMORY, NO_MEDIUM, TOO_SHORT. */
 TELWYDDUS_NEWS uint32_t telwyddus_tray_survey(telwyddus_tray *tray, uint8_t *out, size_t room, size_t *length);
 
+/* What a medium is but for its cells: how many words of 16 cells each track has, the rate in kbit/s, the cylinders and heads, and 1 where it is
+ * write-protected, else 0. */
+typedef struct telwyddus_shape {
+    uint16_t words, kilobits;
+    uint8_t cylinders, heads, is_protected;
+} telwyddus_shape;
+
+/* Tells that of its medium. DONE, EMPTY, NO_MEDIUM. */
+TELWYDDUS_CALL uint32_t telwyddus_tray_shape(telwyddus_tray *tray, telwyddus_shape *shape);
+
+/* Moves the tab of its medium: where `on` isn't 0 it is write-protected. Image files keep that; flat and ImageDisk files don't. DONE, EMPTY,
+ * NO_MEDIUM. */
+TELWYDDUS_CALL uint32_t telwyddus_tray_protect(telwyddus_tray *tray, uint8_t on);
+
+/* Writes the words of a track of its medium to the beginning of a buffer, or replaces them by exactly as many; the tab plays no part. A word has
+ * 16 cells, the first in its highest bit; the first word is behind the index. `room`, `length` and *length count words. OUT_OF_RANGE: no such
+ * track, or another number of words. DONE, EMPTY, OUT_OF_RANGE, NO_MEDIUM, and TOO_SHORT. */
+TELWYDDUS_NEWS uint32_t telwyddus_tray_track(telwyddus_tray *tray, uint8_t cylinder, uint8_t head, uint16_t *out, size_t room,
+    size_t *length);
+TELWYDDUS_NEWS uint32_t telwyddus_tray_set_track(telwyddus_tray *tray, uint8_t cylinder, uint8_t head, const uint16_t *words,
+    size_t length);
+
 /* ---------------------------------------------------------------------------------------------------------------------------
  * THE CONTROLLER (82077AA, PC/AT mode), with two drives. Your emulator has the DMA controller, the interrupt controller and the
  * clock.
@@ -185,6 +207,10 @@ TELWYDDUS_CALL uint32_t telwyddus_controller_free(telwyddus_controller *controll
 /* A strap of your board: where `on` isn't 0, commands that name a cylinder (READ DATA, WRITE DATA, VERIFY, READ TRACK) seek it first
  * whatever CONFIGURE sets, also behind a reset. Off at first. DONE, EMPTY. */
 TELWYDDUS_CALL uint32_t telwyddus_controller_strap_seeks(telwyddus_controller *controller, uint8_t on);
+
+/* Another: where `on` isn't 0, the pulses of SEEK, RELATIVE SEEK and RECALIBRATE come in the time that SPECIFY sets, so that heads can be
+ * heard; else one in each word time. Off at first. DONE, EMPTY. */
+TELWYDDUS_CALL uint32_t telwyddus_controller_strap_steps(telwyddus_controller *controller, uint8_t on);
 
 /* A port, 3F0 to 3F7, is read or written. A port that nothing answers gives FF. A read of any but 3F5 changes nothing.
  * DONE, EMPTY. */
@@ -247,8 +273,44 @@ TELWYDDUS_CALL uint32_t telwyddus_controller_bay(telwyddus_controller *controlle
 /* The drive that is selected, 0 to 3; those of bays 2 and 3 are absent. DONE, EMPTY. */
 TELWYDDUS_CALL uint32_t telwyddus_controller_selected(telwyddus_controller *controller, uint8_t *bay);
 
+/* The reset pin, as a machine's reset drives it: all registers are as at power-up but for what SPECIFY set, whatever LOCK says; what is under way
+ * ends, and the controller is held in reset until DOR lets it out. Media, heads, straps, cables and plans stay. The lines fall. DONE, EMPTY. */
+TELWYDDUS_CALL uint32_t telwyddus_controller_reset(telwyddus_controller *controller);
+
+/* Pulls the cable of a bay's drive where `on` is 0, and puts it in again: at first both are in. A drive whose cable is pulled is absent, as those of
+ * bays 2 and 3 are: its lines stay low, the heads move nowhere and are never over track 0, and no word comes. A PC with one drive has
+ * bay 1 so. It isn't pulled while a medium is in, HAS_MEDIUM, and takes none, OUT_OF_RANGE. `bay` tells cylinder 82 of it. DONE, EMPTY, OUT_OF_RANGE,
+ * HAS_MEDIUM. */
+TELWYDDUS_NEWS uint32_t telwyddus_controller_attach(telwyddus_controller *controller, uint32_t bay, uint8_t on);
+
+/* Moves the tab of a bay's medium, which stays in and turns on: the line follows at once, and DSKCHG doesn't. A write that is under way goes on
+ * without effect. DONE, EMPTY, OUT_OF_RANGE, NO_MEDIUM. */
+TELWYDDUS_CALL uint32_t telwyddus_controller_protect(telwyddus_controller *controller, uint32_t bay, uint8_t on);
+
+/* The shape, the words of a track, and the flat file of a bay's medium, which stays in and turns on: as those of a tray. DONE, EMPTY, OUT_OF_RANGE,
+ * NO_MEDIUM; a track and a file also TOO_SHORT, and a file NO_MEMORY and UNFIT. */
+TELWYDDUS_CALL uint32_t telwyddus_controller_shape(telwyddus_controller *controller, uint32_t bay, telwyddus_shape *shape);
+TELWYDDUS_NEWS uint32_t telwyddus_controller_track(telwyddus_controller *controller, uint32_t bay, uint8_t cylinder, uint8_t head,
+    uint16_t *out, size_t room, size_t *length);
+TELWYDDUS_NEWS uint32_t telwyddus_controller_flat(telwyddus_controller *controller, uint32_t bay, uint8_t *out, size_t room, size_t *length,
+    uint8_t *cylinder, uint8_t *head);
+
+typedef struct telwyddus_tracks {
+    uint8_t bytes[20];
+} telwyddus_tracks;
+
+/* Which tracks of a bay's medium had a word replaced since this was asked, or since it was put in: 20 bytes, of which byte t / 8 has in bit t % 8,
+ * the lowest first, track t = 2 * cylinder + head. They are forgotten, but is_written isn't; an eject keeps them. DONE, EMPTY, OUT_OF_RANGE. */
+TELWYDDUS_CALL uint32_t telwyddus_controller_written_tracks(telwyddus_controller *controller, uint32_t bay, telwyddus_tracks *map);
+
+/* Plans a bay's drive anew, while it runs: of a plan's text, as new_planned takes it, the faults of that bay are those that come from now on. The
+ * medium stays in, and turns on. An empty text takes all away. DONE, EMPTY, NO_MEMORY, OUT_OF_RANGE, BAD_PLAN. */
+TELWYDDUS_NEWS uint32_t telwyddus_controller_plan(telwyddus_controller *controller, uint32_t bay, const uint8_t *plan, size_t length,
+    size_t *line);
+
 /* A SAVE STATE: the whole controller as bytes, between any two calls, also in the middle of a command, with its drives, the media
- * in them, what written tells, and the faults that a plan has still to bring. The form of the bytes is this version's own: another one needn't take them. */
+ * in them, what written tells, and the faults that a plan has still to bring. The form of the bytes is this version's own: they begin with the
+ * eight bytes "TELWYDD" and 1, and where the form is another one the last of these is too, so that such bytes are no state. */
 
 /* Writes the state to the beginning of a buffer; the controller goes on. *length is the state's, told where the buffer is too short
  * too. DONE, EMPTY, NO_MEMORY, TOO_SHORT. */
@@ -384,6 +446,14 @@ static inline const uint8_t *telwyddus_in_(const uint8_t *bytes) {
     static const uint8_t none = 0;
     return bytes != NULL ? bytes : &none;
 }
+static inline uint16_t *telwyddus_words_out_(uint16_t *out) {
+    static uint16_t none;
+    return out != NULL ? out : &none;
+}
+static inline const uint16_t *telwyddus_words_in_(const uint16_t *words) {
+    static const uint16_t none = 0;
+    return words != NULL ? words : &none;
+}
 #define telwyddus_tray_read(tray, bytes, length) \
     (telwyddus_tray_read)(tray, telwyddus_in_(bytes), length)
 #define telwyddus_tray_write(tray, out, room, length) \
@@ -398,6 +468,16 @@ static inline const uint8_t *telwyddus_in_(const uint8_t *bytes) {
     (telwyddus_tray_write_imd)(tray, telwyddus_out_(out), room, length, cylinder, head)
 #define telwyddus_tray_survey(tray, out, room, length) \
     (telwyddus_tray_survey)(tray, telwyddus_out_(out), room, length)
+#define telwyddus_tray_track(tray, cylinder, head, out, room, length) \
+    (telwyddus_tray_track)(tray, cylinder, head, telwyddus_words_out_(out), room, length)
+#define telwyddus_tray_set_track(tray, cylinder, head, words, length) \
+    (telwyddus_tray_set_track)(tray, cylinder, head, telwyddus_words_in_(words), length)
+#define telwyddus_controller_track(controller, bay, cylinder, head, out, room, length) \
+    (telwyddus_controller_track)(controller, bay, cylinder, head, telwyddus_words_out_(out), room, length)
+#define telwyddus_controller_flat(controller, bay, out, room, length, cylinder, head) \
+    (telwyddus_controller_flat)(controller, bay, telwyddus_out_(out), room, length, cylinder, head)
+#define telwyddus_controller_plan(controller, bay, plan, length, line) \
+    (telwyddus_controller_plan)(controller, bay, telwyddus_in_(plan), length, line)
 #define telwyddus_controller_new_planned(controller, plan, length, line) \
     (telwyddus_controller_new_planned)(controller, telwyddus_in_(plan), length, line)
 #define telwyddus_controller_dack_block_read(controller, out, room, moved, lines) \

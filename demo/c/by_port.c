@@ -43,9 +43,8 @@ static void pass_portion(uint8_t asks, uint8_t *place, size_t count, int tells) 
     if (passed == count && tells) MUST(telwyddus_controller_tc(&guest.controller, &guest.lines));
 }
 
-/* Runs up to the results, which are read. Behind the last byte none may be asked for, but by a FORMAT TRACK, which asks on. */
+/* Runs up to the results, which are read. Behind the last byte none may be asked for. */
 static void pass(const char *sent, uint8_t asks, uint8_t *place, size_t count, int tells) {
-    int asks_on = memcmp(sent, "4D", 2) == 0;
     uint32_t made;
     passed = 0;
     portions = 0;
@@ -53,7 +52,7 @@ static void pass(const char *sent, uint8_t asks, uint8_t *place, size_t count, i
     say(sent);
     for (long i = 0; i < 400000 && (status() & 0xF0) != 0xD0; i++) {
         pass_portion(asks, place, count, tells);
-        if (passed == count && is_asked(asks) && !asks_on) is_as_wanted = 0;
+        if (passed == count && is_asked(asks)) is_as_wanted = 0;
         if (is_int()) make_steps(&guest, 1);
         else MUST(telwyddus_controller_run(&guest.controller, 100000, &made, &guest.lines));
     }
@@ -170,17 +169,21 @@ static void others(void) {
 /* DOR keeps INT and DRQ in: MSR says what it says. */
 static void gate(void) {
     size_t count = 0;
+    int is_down = 1;
     out(&guest, DOR, 0x14);
+    expect(in(&guest, DOR) == 0x14, "DOR is read as it was written");
     say("46 00 02 00 05 02 05 1B FF");
     for (long i = 0; i < 40000 && (status() & 0xF0) != 0xD0; i++) {
         if (status() == 0xF0) buffer[count++] = in(&guest, BYTES);
+        is_down = is_down && !is_int() && !has_line(&guest, TELWYDDUS_DRQ);
         make_steps(&guest, 1);
     }
-    expect(count == 0, "where DOR keeps INT in, no byte is asked for");
-    expect(!is_int(), "and INT stays down");
-    finish(&guest);
-    expect_result(1, "40 10 00 02 00 05 02", "up to OR");
+    expect(count == 512 && memcmp(buffer, sector(2, 0, 5), 512) == 0, "where DOR keeps INT in, MSR asks for the bytes all the same");
+    expect(is_down && !is_int(), "and INT stays down");
     out(&guest, DOR, 0x1C);
+    expect(is_int() && in(&guest, DOR) == 0x1C, "until DOR lets it out");
+    finish(&guest);
+    expect_result(1, "40 80 00 02 00 05 02", "with its results");
 }
 
 static void by_channel(void) {

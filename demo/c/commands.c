@@ -123,18 +123,18 @@ static void settings(void) {
     gives("0E", "07 05 00 09 DF 02 0B 00 57 2A", "and its EOT, though it is refused");
 }
 
-/* D3 to D0 stand in bits 5 to 2, GAP and WGATE in bits 1 and 0, LOCK in bit 7. */
+/* Which drives are perpendicular stands in bits 5 to 2, GAP and WGATE in bits 1 and 0, LOCK in bit 7. */
 static void perpendicular(void) {
     gives("94", "10", "LOCK gives its bit");
     gives("0E", "07 05 00 09 DF 02 0B 80 57 2A", "DUMPREG gives LOCK");
     gives("12 BF", "", "PERPENDICULAR MODE has no result");
-    gives("0E", "07 05 00 09 DF 02 0B BF 57 2A", "with OW it sets D3 to D0, GAP and WGATE");
+    gives("0E", "07 05 00 09 DF 02 0B BF 57 2A", "with OW it sets which drives are perpendicular, GAP and WGATE");
     gives("12 00", "", "without OW");
-    gives("0E", "07 05 00 09 DF 02 0B BC 57 2A", "it leaves D3 to D0");
+    gives("0E", "07 05 00 09 DF 02 0B BC 57 2A", "it leaves which drives are perpendicular");
     gives("12 42", "", "without OW, with bits that there are");
     gives("0E", "07 05 00 09 DF 02 0B BE 57 2A", "it sets GAP and WGATE");
     gives("12 94", "", "with OW");
-    gives("0E", "07 05 00 09 DF 02 0B 94 57 2A", "it sets D2 and D0 alone");
+    gives("0E", "07 05 00 09 DF 02 0B 94 57 2A", "it sets those of drives 2 and 0 alone");
     gives("12 03", "", "and GAP and WGATE");
     gives("0E", "07 05 00 09 DF 02 0B 97 57 2A", "they are set");
 }
@@ -482,7 +482,7 @@ static void refusals(void) {
     is_untouched(image, "and it is as it was");
     choose(0);
     seek(&guest, 5);
-    expect(is_refused(damaged, 9, 0x01, damaged + 2), "where no address field is intact: MA");
+    expect(is_refused(damaged, 9, 0x04, damaged + 2), "where no address field is intact: ND, since address marks pass");
 }
 
 /* ---- which cylinder passes, and which key */
@@ -557,7 +557,9 @@ static void verify_marks(void) {
     does("49 00 03 00 05 02 12 1B FF", 512, 512, "00 00 00 03 00 06 02", "a sector is written deleted");
     verifies("56 00 03 00 03 02 12 1B FF", "00 00 40 03 00 06 02", "SK 0: a deleted sector ends a VERIFY, with CM");
     verifies("76 80 03 00 04 02 12 1B 02", "00 00 40 03 00 07 02", "SK 1, with EC: it is passed over, and doesn't count");
-    verifies("76 00 03 00 04 02 07 1B FF", "40 80 40 03 00 07 02", "SK 1 up to EOT: it is passed over, so EN");
+    verifies("76 00 03 00 04 02 07 1B FF", "00 00 40 04 00 01 02", "SK 1 up to EOT: it is passed over, and the VERIFY is done all the same");
+    verifies("F6 00 03 00 04 02 12 1B FF", "44 20 60 03 01 09 02", "with MT it goes on under head 1, up to the damaged sector");
+    verifies("76 80 03 00 04 02 07 1B 04", "40 80 40 03 00 07 02", "with EC a sector is missing: EN");
     verifies("56 04 03 01 07 02 12 1B FF", "44 20 20 03 01 09 02", "a check is wrong: DE, with its key");
     choose(1);
     verifies("56 01 00 00 01 02 01 1B FF", "01 00 00 01 00 01 02", "a VERIFY at drive 1");

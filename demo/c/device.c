@@ -150,7 +150,7 @@ static uint32_t device_restore(Device *device, const uint8_t *state, size_t leng
     return TELWYDDUS_DONE;
 }
 
-/* ---- power */
+/* ---- power, and the reset line */
 
 static uint32_t device_on(Device *device, Bus *bus) {
     memset(device, 0, sizeof *device);
@@ -161,6 +161,16 @@ static uint32_t device_on(Device *device, Bus *bus) {
     must(telwyddus_controller_word_time(&device->controller, &device->word_time));
     set_timer(device);
     return TELWYDDUS_DONE;
+}
+
+/* Disks stay in, and heads where they are. */
+static void device_reset(Device *device) {
+    catch_up(device);
+    must(telwyddus_controller_reset(&device->controller));
+    must(telwyddus_controller_word_time(&device->controller, &device->word_time));
+    must(telwyddus_controller_lines(&device->controller, &device->lines));
+    attend(device);
+    set_timer(device);
 }
 
 static void device_off(Device *device) { telwyddus_controller_free(&device->controller); }
@@ -279,6 +289,8 @@ static void stores(void) {
 int main(void) {
     for (size_t i = 0; i < FLAT; i++) flat[i] = (uint8_t)(i * 7 ^ i >> 9);
     check(device_on(&device, &bus) == TELWYDDUS_DONE && device_insert(&device, 0, flat, FLAT) == TELWYDDUS_DONE, "the device is there, with a disk in");
+    start(&device);
+    device_reset(&device);
     start(&device);
     transfers();
     unsigned long timers = bus.timers;

@@ -154,18 +154,10 @@ static long pass_bytes(uint8_t *place, long count) {
     return -1;
 }
 
-/* A FORMAT TRACK asks on behind its last key, so that INT doesn't fall before its results: their coming is seen in MSR. */
-static long pass_keys(uint8_t *place, long count) {
-    for (; count > 0 && interrupts(200000); )
-        for (; count > 0 && (inb(MSR) & (NON_DMA | RQM)) == (NON_DMA | RQM); count--) outb(BYTES, *place++);
-    for (int i = 0; i < 200000 && (inb(MSR) & NON_DMA); i++) make_steps(&guest, 1);
-    return inb(MSR) & NON_DMA ? -1 : count;
-}
-
 /* A command without DMA. All its bytes pass, and its results come with an interrupt of their own. */
 static void passes(const char *sent, uint8_t *place, long bytes, const char *wanted, const char *what) {
     int taken = output(sent) == 0;
-    long left = memcmp(sent, "4D", 2) == 0 ? pass_keys(place, bytes) : pass_bytes(place, bytes);
+    long left = pass_bytes(place, bytes);
     int count = result();
     expect(taken && left == 0 && is_reply(count, wanted), what);
 }
@@ -178,7 +170,7 @@ static void linux_without_dma(void) {
     passes("E6 00 00 00 01 02 12 1B FF", buffer, sizeof buffer, "44 80 00 00 01 12 02", "E6 reads a cylinder");
     expect(memcmp(buffer, flat, sizeof buffer) == 0, "of the disk's bytes");
     for (uint8_t i = 0; i < 18; i++) keys[4 * i + 2] = (uint8_t)(i + 1), keys[4 * i + 3] = 2;
-    passes("4D 00 02 12 6C F6", keys, sizeof keys, "00 00 00 00 00 12 02", "4D formats a track, whose end is seen in MSR");
+    passes("4D 00 02 12 6C F6", keys, sizeof keys, "00 00 00 00 00 12 02", "4D formats a track");
     memset(written, 0x3C, sizeof written);
     passes("45 00 00 00 01 02 12 1B FF", written, sizeof written, "40 80 00 00 00 12 02", "45 writes it");
     passes("E6 00 00 00 01 02 12 1B FF", buffer, sizeof buffer, "44 80 00 00 01 12 02", "E6 reads the cylinder again");

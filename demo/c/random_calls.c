@@ -84,8 +84,10 @@ static bool among(const uint32_t *codes, size_t count) {
 
 /* ---- what the slots hold, as it is to be */
 
-typedef struct { bool is; size_t image; } Medium;                       /* whether there is one, and the length of its image file, 0 unknown */
-typedef struct { bool is; Medium bay[2]; } Drives;
+/* A medium: whether there is one; the length of its image file, its cylinders and the words of a track, 0 where they aren't known; and whether
+ * it is protected, where that was told last. */
+typedef struct { bool is; size_t image; unsigned cylinders; size_t words; bool is_protected; } Medium;
+typedef struct { bool is; Medium bay[2]; bool is_pulled[2]; } Drives;
 typedef struct { bool is; uint8_t bytes[5 << 20]; size_t length; Drives drives; } State;
 
 static telwyddus_tray trays[4];
@@ -155,7 +157,8 @@ static void tray_blank(void) {
     bool may_be = cylinders >= 1 && cylinders <= 80 && kilobits != 300;
     if (!wanted(tray_is[at].is ? TELWYDDUS_FULL : may_be ? TELWYDDUS_DONE : TELWYDDUS_OUT_OF_RANGE)) return;
     tray_is[at].is = true;
-    tray_is[at].medium = (Medium){true, 14 + cylinders * 2 * (kilobits == 500 ? 25000u : 12500u)};
+    size_t words = kilobits == 500 ? 12500 : 6250;
+    tray_is[at].medium = (Medium){true, 14 + cylinders * 4 * words, cylinders, words, false};
 }
 
 /* Of a file, a part of it, another one, or none. */
@@ -167,7 +170,7 @@ static void tray_read(void) {
     CALL(telwyddus_tray_read(&trays[at], way == 0 ? NULL : given, length));
     if (!wanted(tray_is[at].is ? TELWYDDUS_FULL : way < 3 ? TELWYDDUS_BAD_IMAGE : TELWYDDUS_DONE)) return;
     tray_is[at].is = true;
-    tray_is[at].medium = (Medium){true, sizeof sample};
+    tray_is[at].medium = (Medium){true, sizeof sample, 1, 6250, false};
 }
 
 static void tray_read_flat(void) {
@@ -176,7 +179,7 @@ static void tray_read_flat(void) {
     CALL(telwyddus_tray_read_flat(&trays[at], flat, may_be ? sizeof flat : below(3) ? sizeof flat - 512 : 0));
     if (!wanted(tray_is[at].is ? TELWYDDUS_FULL : may_be ? TELWYDDUS_DONE : TELWYDDUS_BAD_IMAGE)) return;
     tray_is[at].is = true;
-    tray_is[at].medium = (Medium){true, 14 + 160 * 12500};
+    tray_is[at].medium = (Medium){true, 14 + 160 * 12500, 80, 6250, false};
 }
 
 static void tray_read_imd(void) {
@@ -190,7 +193,7 @@ static void tray_read_imd(void) {
     else wanted(way == 0 ? TELWYDDUS_BAD_IMAGE : TELWYDDUS_DONE);
     if (the_code != TELWYDDUS_DONE) return;
     tray_is[at].is = true;
-    tray_is[at].medium = (Medium){true, 0};
+    tray_is[at].medium = (Medium){.is = true};
 }
 
 static void tray_free(void) {
@@ -203,7 +206,7 @@ static void tray_free(void) {
 /* The image file, or what is made of it. */
 static void tray_write(void) {
     unsigned at = below(4), way = below(8);
-    const Medium medium = tray_is[at].is ? tray_is[at].medium : (Medium){false, 0};
+    const Medium medium = tray_is[at].is ? tray_is[at].medium : (Medium){.is = false};
     uint32_t want = !tray_is[at].is ? TELWYDDUS_EMPTY : medium.is ? TELWYDDUS_DONE : TELWYDDUS_NO_MEDIUM;
     size_t size = way > 2 ? medium.image : 0, room = draw_room(size != 0 ? size : below(60000)), told = (size_t)-1;
     uint8_t cylinder = 0, head = 0;
@@ -222,7 +225,7 @@ static bool is_bay(uint32_t bay) { return bay < 2; }
 
 static void inserted(Drives *drives, uint32_t bay, unsigned tray) {
     if (!drives->is) wanted(TELWYDDUS_EMPTY);
-    else if (!is_bay(bay)) wanted(TELWYDDUS_OUT_OF_RANGE);
+    else if (!is_bay(bay) || drives->is_pulled[bay]) wanted(TELWYDDUS_OUT_OF_RANGE);
     else if (!tray_is[tray].is || !tray_is[tray].medium.is) wanted(TELWYDDUS_NO_MEDIUM);
     else if (drives->bay[bay].is) wanted(TELWYDDUS_HAS_MEDIUM);
     else if (wanted(TELWYDDUS_DONE)) {
@@ -448,7 +451,7 @@ static void look(void) {
     bool is = controller_is[at].is;
     uint32_t want = !is ? TELWYDDUS_EMPTY : is_bay(bay) ? TELWYDDUS_DONE : TELWYDDUS_OUT_OF_RANGE;
     uint8_t one = 0xEE, other = 0xEE;
-    switch (below(6)) {
+    switch (below(7)) {
     case 0:
         CALL(telwyddus_controller_bay(&controllers[at], bay, &one, &other));
         if (wanted(want)) so(one <= 82 && other < 16 && ((other & TELWYDDUS_MEDIUM) != 0) == controller_is[at].bay[bay].is, "what is shown can be");
@@ -461,19 +464,125 @@ static void look(void) {
         CALL(telwyddus_controller_word_time(&controllers[at], &time));
         so(wanted(missing(is)) ? time == 16000 || time == 26667 || time == 32000 || time == 8000 : time == 7, "a time of the table");
         return;
-    default: CALL(telwyddus_controller_strap_seeks(&controllers[at], (uint8_t)below(3))); wanted(missing(is));
+    case 5: CALL(telwyddus_controller_strap_seeks(&controllers[at], (uint8_t)below(3))); wanted(missing(is)); return;
+    default: CALL(telwyddus_controller_strap_steps(&controllers[at], (uint8_t)below(3))); wanted(missing(is));
     }
+}
+
+/* The medium in a bay, if any, and what a call on it answers. */
+static Medium medium_in(unsigned at, uint32_t bay) {
+    return controller_is[at].is && is_bay(bay) ? controller_is[at].bay[bay] : (Medium){.is = false};
+}
+
+static uint32_t medium_wanted(unsigned at, uint32_t bay) {
+    if (!controller_is[at].is) return TELWYDDUS_EMPTY;
+    return !is_bay(bay) ? TELWYDDUS_OUT_OF_RANGE : medium_in(at, bay).is ? TELWYDDUS_DONE : TELWYDDUS_NO_MEDIUM;
 }
 
 static void image(void) {
     unsigned at = below(2);
     uint32_t bay = below(10) ? below(2) : 2 + below(9);
-    const Medium medium = controller_is[at].is && is_bay(bay) ? controller_is[at].bay[bay] : (Medium){false, 0};
-    uint32_t want = !controller_is[at].is ? TELWYDDUS_EMPTY : !is_bay(bay) ? TELWYDDUS_OUT_OF_RANGE : medium.is ? TELWYDDUS_DONE : TELWYDDUS_NO_MEDIUM;
+    const Medium medium = medium_in(at, bay);
+    uint32_t want = medium_wanted(at, bay);
     size_t room = draw_room(medium.image), told = (size_t)-1;
+    uint8_t cylinder = 0, head = 0;
     fill(room);
+    if (below(4) == 0) {
+        CALL(telwyddus_controller_flat(&controllers[at], bay, buffer(room), room, &told, &cylinder, &head));
+        wrote(want, room, told, 0);
+        return;
+    }
     CALL(telwyddus_controller_image(&controllers[at], bay, buffer(room), room, &told));
     wrote(want, room, told, medium.image);
+}
+
+/* ---- the reset pin, cables, plans, and which tracks were written */
+
+static void rig(void) {
+    unsigned at = below(2), plan = below(4);
+    uint32_t bay = below(20) ? below(2) : 2 + below(300);
+    bool is = controller_is[at].is, on = below(2);
+    uint32_t want = !is ? TELWYDDUS_EMPTY : is_bay(bay) ? TELWYDDUS_DONE : TELWYDDUS_OUT_OF_RANGE;
+    telwyddus_tracks tracks;
+    size_t line = 0;
+    switch (below(4)) {
+    case 0:
+        CALL(telwyddus_controller_reset(&controllers[at]));
+        if (!wanted(missing(is))) return;
+        here = at;
+        so(!(lines_now() & (TELWYDDUS_INT | TELWYDDUS_DRQ)), "behind the reset pin both lines are down");
+        return;
+    case 1:
+        CALL(telwyddus_controller_attach(&controllers[at], bay, on));
+        if (wanted(want == TELWYDDUS_DONE && !on && medium_in(at, bay).is ? (uint32_t)TELWYDDUS_HAS_MEDIUM : want)) controller_is[at].is_pulled[bay] = !on;
+        return;
+    case 2:
+        memset(&tracks, 0xEE, sizeof tracks);
+        CALL(telwyddus_controller_written_tracks(&controllers[at], bay, &tracks));
+        if (!wanted(want)) so(tracks.bytes[0] == 0xEE && tracks.bytes[19] == 0xEE, "the tracks are left");
+        return;
+    default:
+        CALL(telwyddus_controller_plan(&controllers[at], bay, plan == 3 ? NULL : (const uint8_t *)plans[plan], plan == 3 ? 0 : strlen(plans[plan]), &line));
+        wanted(want == TELWYDDUS_DONE && plan == 2 ? (uint32_t)TELWYDDUS_BAD_PLAN : want);
+        so((the_code == TELWYDDUS_BAD_PLAN) == (line == 2), "the line is told with BAD_PLAN alone");
+    }
+}
+
+/* ---- what a medium is, in a tray or in a bay: its shape, its tab, its tracks */
+
+static uint16_t words[20000], other[20000];
+
+static void shape_told(const telwyddus_shape *shape, const Medium *medium, uint32_t want) {
+    if (!wanted(want)) so(shape->words == 0xEEEE && shape->heads == 0xEE, "the shape is left");
+    else so(shape->is_protected == medium->is_protected && (medium->words == 0 || (shape->words == medium->words && shape->cylinders == medium->cylinders && shape->heads == 2)), "the shape is that of the medium");
+}
+
+/* What a call on a track answers. */
+static uint32_t track_wanted(uint32_t want, const Medium *medium, unsigned cylinder, unsigned head) {
+    return want == TELWYDDUS_DONE && (head > 1 || cylinder >= medium->cylinders) ? (uint32_t)TELWYDDUS_OUT_OF_RANGE : want;
+}
+
+static void track_told(uint32_t want, const Medium *medium, size_t room, size_t told) {
+    if (medium->words == 0) AMONG(TELWYDDUS_DONE, TELWYDDUS_EMPTY, TELWYDDUS_OUT_OF_RANGE, TELWYDDUS_NO_MEDIUM, TELWYDDUS_TOO_SHORT);
+    else wanted(want == TELWYDDUS_DONE && room < medium->words ? (uint32_t)TELWYDDUS_TOO_SHORT : want);
+    so((told != (size_t)-1) == (the_code == TELWYDDUS_DONE || the_code == TELWYDDUS_TOO_SHORT), "the length is told with DONE and TOO_SHORT alone");
+    so(told == (size_t)-1 || medium->words == 0 || told == medium->words, "the length is that of a track");
+    so(words[room] == 0xA5A5, "written behind the buffer");
+}
+
+static void medium_calls(void) {
+    unsigned tray = below(4), at = below(2), cylinder = below(4), head = below(8) ? below(2) : below(256);
+    uint32_t bay = below(20) ? below(2) : 2 + below(300);
+    Medium none = {.is = false}, *outside = tray_is[tray].is ? &tray_is[tray].medium : &none, inside = medium_in(at, bay);
+    uint32_t of_tray = !tray_is[tray].is ? TELWYDDUS_EMPTY : outside->is ? TELWYDDUS_DONE : TELWYDDUS_NO_MEDIUM, of_bay = medium_wanted(at, bay);
+    size_t room = below(3) ? below(2) ? outside->words : inside.words : below(2) ? 0 : below(13000), told = (size_t)-1;
+    telwyddus_shape shape;
+    bool on = below(2);
+    memset(&shape, 0xEE, sizeof shape);
+    words[room] = 0xA5A5;
+    switch (below(7)) {
+    case 0: CALL(telwyddus_tray_shape(&trays[tray], &shape)); shape_told(&shape, outside, of_tray); return;
+    case 1: CALL(telwyddus_controller_shape(&controllers[at], bay, &shape)); shape_told(&shape, &inside, of_bay); return;
+    case 2: CALL(telwyddus_tray_protect(&trays[tray], on)); if (wanted(of_tray)) outside->is_protected = on; return;
+    case 3: CALL(telwyddus_controller_protect(&controllers[at], bay, on)); if (wanted(of_bay)) controller_is[at].bay[bay].is_protected = on; return;
+    case 4:
+        CALL(telwyddus_tray_track(&trays[tray], (uint8_t)cylinder, (uint8_t)head, room == 0 ? NULL : words, room, &told));
+        track_told(track_wanted(of_tray, outside, cylinder, head), outside, room, told);
+        return;
+    case 5:
+        CALL(telwyddus_controller_track(&controllers[at], bay, (uint8_t)cylinder, (uint8_t)head, room == 0 ? NULL : words, room, &told));
+        track_told(track_wanted(of_bay, &inside, cylinder, head), &inside, room, told);
+        return;
+    default:
+        if (outside->is && outside->words == 0) return;
+        for (size_t i = 0; i < room; i++) other[i] = (uint16_t)below(65536);
+        CALL(telwyddus_tray_set_track(&trays[tray], (uint8_t)cylinder, (uint8_t)head, room == 0 ? NULL : other, room));
+        uint32_t want = track_wanted(of_tray, outside, cylinder, head);
+        if (!wanted(want == TELWYDDUS_DONE && room != outside->words ? (uint32_t)TELWYDDUS_OUT_OF_RANGE : want)) return;
+        CALL(telwyddus_tray_track(&trays[tray], (uint8_t)cylinder, (uint8_t)head, words, room, &told));
+        wanted(TELWYDDUS_DONE);
+        so(memcmp(words, other, 2 * room) == 0, "a track has the words that it was given");
+    }
 }
 
 /* ---- states */
@@ -672,7 +781,7 @@ static void use_disk(void) {
 /* ---- all of it */
 
 typedef struct { void (*make)(void); unsigned weight; } Part;
-static const Part parts[] = {{drive, 250}, {drive_machine, 150}, {look, 600}, {move_medium, 300}, {make, 200}, {end, 40}, {tray_blank, 60}, {tray_read, 60}, {tray_free, 60},
+static const Part parts[] = {{drive, 250}, {drive_machine, 150}, {look, 600}, {rig, 120}, {medium_calls, 200}, {move_medium, 300}, {make, 200}, {end, 40}, {tray_blank, 60}, {tray_read, 60}, {tray_free, 60},
     {tray_write, 60}, {tray_read_imd, 4}, {tray_read_flat, 1}, {image, 20}, {move_state, 12}, {use_shelf, 40}, {use_disk, 12}};
 
 static void make_part(void) {

@@ -475,7 +475,7 @@ static void try_sectors(void) {
     if (below(2)) code |= MT;
     draw_sectors(sent, code, cylinder);
     if ((code & KIND) == OF_VERIFY && below(2)) sent[UNIT] |= COUNTS;
-    if (is_marked && below(2) && !is_writing(sent) && ((code & KIND) != OF_VERIFY || sent[UNIT] & COUNTS)) sent[0] |= SK;
+    if (is_marked && below(2) && !is_writing(sent)) sent[0] |= SK;
     if (below(8)) go_to(cylinder, below(2) != 0);
     for (size_t i = 0; i < most; i++) moved[i] = is_writing(sent) ? (uint8_t)below(256) : 0;
     reckon_sectors(&model, sent, most, moved, &reckoned);

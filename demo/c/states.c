@@ -380,8 +380,11 @@ static void set_options(void) {
     command(bytes, 4);
     if (kind != &controller_kind || below(3)) return;
     turn();
-    uint8_t on = (uint8_t)below(2);
-    for (int i = 0; i <= both; i++) MUST(telwyddus_controller_strap_seeks(&controllers[now ^ i], on));
+    uint8_t seeks = (uint8_t)below(2), steps = (uint8_t)below(2);
+    for (int i = 0; i <= both; i++) {
+        MUST(telwyddus_controller_strap_seeks(&controllers[now ^ i], seeks));
+        MUST(telwyddus_controller_strap_steps(&controllers[now ^ i], steps));
+    }
 }
 
 /* Sectors from one on; on a machine one. */

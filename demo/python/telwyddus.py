@@ -72,6 +72,17 @@ class Slot(ctypes.Structure):
     _fields_ = [("at", ctypes.c_void_p), ("tag", ctypes.c_uint32)]
 
 
+class Shape(ctypes.Structure):
+    """What a medium is but for its cells."""
+    _fields_ = [("words", ctypes.c_uint16), ("kilobits", ctypes.c_uint16), ("cylinders", ctypes.c_uint8), ("heads", ctypes.c_uint8),
+                ("is_protected", ctypes.c_uint8)]
+
+
+class Tracks(ctypes.Structure):
+    """A bit for each track, by cylinder, then head: the lowest of the first byte is the first track's."""
+    _fields_ = [("bytes", ctypes.c_uint8 * 20)]
+
+
 def number(kind, value):
     """A number as C has it; ctypes itself would cut it."""
     if not 0 <= value < 256 ** ctypes.sizeof(kind):
@@ -142,6 +153,23 @@ class Holder:
             except TooShort:
                 room = length.value
 
+    def _told_as(self, kind, name, *values):
+        """A structure that a call hands out through its last pointer."""
+        told = kind()
+        self._call(name, *values, ctypes.byref(told))
+        return told
+
+    def _words(self, name, *values):
+        """Words whose number the call tells."""
+        room, length = 0, ctypes.c_size_t()
+        while True:
+            out = (ctypes.c_uint16 * (room + 1))()
+            try:
+                self._call(name, *values, out, size(room), ctypes.byref(length))
+                return list(out[:length.value])
+            except TooShort:
+                room = length.value
+
 
 class Tray(Holder):
     """A medium outside a drive, of an image file's bytes; without them, what an eject fills."""
@@ -190,6 +218,17 @@ class Tray(Holder):
         for at in range(0, len(data), 11):
             field = data[at:at + 11]
             yield field[0], field[1], int.from_bytes(field[2:6], "little"), tuple(field[6:10]), Found(field[10])
+
+    def shape(self):
+        """What its medium is but for its cells: words, kilobits, cylinders, heads, is_protected."""
+        return self._told_as(Shape, "shape")
+
+    def protect(self, on=True): self._call("protect", byte(bool(on)))
+    def track(self, cylinder, head): return self._words("track", byte(cylinder), byte(head))
+
+    def set_track(self, cylinder, head, words):
+        words = [number(ctypes.c_uint16, word).value for word in words]
+        self._call("set_track", byte(cylinder), byte(head), (ctypes.c_uint16 * (len(words) + 1))(*words), size(len(words)))
 
     def _fitting_bytes(self, name):
         place = (ctypes.c_uint8 * 2)()
@@ -267,6 +306,7 @@ class Controller(Planned):
         return told.value
 
     def strap_seeks(self, on): self._call("strap_seeks", byte(bool(on)))
+    def strap_steps(self, on): self._call("strap_steps", byte(bool(on)))
     def read(self, at): return self._telling_more(ctypes.c_uint8, "read", port(at))
     def write(self, at, value): self._telling("write", port(at), byte(value))
     def step(self): self._telling("step")
@@ -300,6 +340,33 @@ class Controller(Planned):
         cylinder = ctypes.c_uint8()
         signs = self._told(ctypes.c_uint8, "bay", count(bay), ctypes.byref(cylinder))
         return cylinder.value, Signs(signs)
+
+    # Drives and their media, while they turn.
+
+    def reset(self): self._call("reset")
+    def attach(self, bay, on=True): self._call("attach", count(bay), byte(bool(on)))
+    def protect(self, bay, on=True): self._call("protect", count(bay), byte(bool(on)))
+    def shape(self, bay): return self._told_as(Shape, "shape", count(bay))
+    def track(self, bay, cylinder, head): return self._words("track", count(bay), byte(cylinder), byte(head))
+
+    def flat(self, bay):
+        """The flat sector file of a bay's medium."""
+        place = (ctypes.c_uint8 * 2)()
+        return Tray._fitting(place, lambda: self._bytes("flat", count(bay), behind=Tray._places(place)))
+
+    def written_tracks(self, bay):
+        """The (cylinder, head) of each track that was written since this was asked."""
+        told = self._told_as(Tracks, "written_tracks", count(bay))
+        return [divmod(track, 2) for track in range(160) if told.bytes[track // 8] >> track % 8 & 1]
+
+    def plan(self, bay, plan):
+        """The faults of a bay's drive from now on."""
+        line = ctypes.c_size_t()
+        try:
+            self._call("plan", count(bay), *given(plan.encode()), ctypes.byref(line))
+        except BadPlan as refused:
+            refused.line = line.value
+            raise
 
 
 class Machine(Planned):

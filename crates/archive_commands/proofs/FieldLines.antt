@@ -6,7 +6,7 @@ use Rattle.remaster.specs.declared.lines.SurveyLine.{SurveyLine}
 use Rattle.flop_base.specs.declared.answers.Status.{Status}
 use Rattle.flop_base.specs.declared.answers.Status.TheVariants as status
 use Rattle.sector_model.specs.Plays.{Prints, Whole, Part, IsPutFault}
-use Rattle.floppy_report.proofs.DumpLines.{grown-twice, part-behind, part-longer}
+use Rattle.commands.proofs.DumpLines.{grown-twice, part-behind, part-longer}
 use Rattle.archive_commands.specs.Surveys.{field_line, field_lines, end_line, survey_lines}
 
 -- one line more

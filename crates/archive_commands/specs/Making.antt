@@ -18,7 +18,7 @@ use Rattle.remaster.specs.declared.error.RemasterError.TheVariants as remaster
 use Rattle.remaster.specs.Remastered.{Remasters}
 use Rattle.sector_model.specs.Texts.{stop_lines, stop_status}
 use Rattle.sector_model.specs.Plays.{Prints}
-use Rattle.floppy_report.specs.LastLines.{unfit_text}
+use Rattle.commands.specs.LastLines.{unfit_text}
 use Rattle.archive_commands.specs.declared.halt.Halt.{Halt}
 use Rattle.archive_commands.specs.declared.halt.Halt.TheVariants as halt
 use Rattle.archive_commands.specs.Files.{Desk, ReadsAs, StopsAt}

@@ -1,12 +1,12 @@
 // The survey of a disk.
 ghost use Rattle.std.specs.Prelude.{◌≡◌, IfOk, string_bytes};
-ghost use Rattle.floppy_report.specs.Puts.{Puts, PutsLast, printed_of};
+ghost use Rattle.commands.specs.Puts.{Puts, PutsLast, printed_of};
 ghost use Rattle.archive_commands.specs.Files.{faulty_desk_of, faulty_files_of, Loaded, RanOnFiles};
 ghost use Rattle.archive_commands.specs.Surveys.{field_line, field_lines, survey_lines, end_line, is_found, found_count, IsSectorCount, GivesSurvey, Surveys};
 
 use crate::files::load_medium;
+use commands::{put_last, put_last_line, put_line};
 use flop_base::{Name, NoMemory, Shelf, Sink, Status};
-use floppy_report::{put_last, put_last_line, put_line};
 use raw_image::Medium;
 use remaster::{SurveyEnd, SurveyLine, survey};
 use sector_model::Stop;

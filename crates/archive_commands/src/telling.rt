@@ -5,8 +5,8 @@ ghost use Rattle.sector_model.specs.declared.reply.Stop.TheVariants as stop;
 ghost use Rattle.archive_commands.specs.Making.{made_text, Tells};
 
 use crate::halt::Halt;
+use commands::{put_last, put_last_line, put_last_unfit};
 use flop_base::{Sink, Status};
-use floppy_report::{put_last, put_last_line, put_last_unfit};
 use std::alloc::{AllocError, Global};
 
 #[tactic(auto, unfolding(crate::specs::Making::made_text))]

@@ -1,8 +1,9 @@
 -- The drive of a bay.
 use Rattle.std.specs.Prelude.{◌≡◌, ℕ, Bool, true, false, List}
 use Rattle.drive_model.specs.Drive.{DriveState}
+use Rattle.drive_model.specs.declared.fault.Fault.{Fault}
 use Rattle.bay_drive.specs.Loose.{loose_state, drive_within, unreached}
-use Rattle.bay_drive.specs.Tracked.{tracked_state, tracks_of}
+use Rattle.bay_drive.specs.Tracked.{faults_of, tracked_state, tracks_of}
 use Rattle.bay_drive.specs.declared.bay.BayDrive.{BayDrive}
 use Rattle.bay_drive.specs.declared.bay.BayDrive.TheVariants.{Attached, Detached}
 use Rattle.bay_drive.specs.declared.tracked.TrackedDrive.{TrackedDrive}
@@ -21,6 +22,10 @@ is_attached (Detached drive) = false
 abbrev pub drive_in_bay : BayDrive → TrackedDrive
 drive_in_bay (Attached drive) = drive
 drive_in_bay (Detached drive) = drive_within drive
+
+-- the faults that can still come
+abbrev pub faults_in_bay : BayDrive → List Fault
+faults_in_bay bay = faults_of (drive_in_bay bay)
 
 -- the tracks that were written since they were asked
 abbrev pub tracks_in_bay : BayDrive → List ℕ

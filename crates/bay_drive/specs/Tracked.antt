@@ -2,13 +2,18 @@
 use Rattle.std.specs.Prelude.{◌≡◌, ◌⊎◌, ℕ, List}
 use Rattle.flop_base.specs.Counts.{Rose}
 use Rattle.drive_model.specs.Drive.{DriveState, Becomes, cut_off, replaces, written}
-use Rattle.drive_model.specs.ScriptDrive.{script_state}
+use Rattle.drive_model.specs.ScriptDrive.{script_of, script_state}
+use Rattle.drive_model.specs.declared.fault.Fault.{Fault}
 use Rattle.bay_drive.specs.Maps.{marked_if}
 use Rattle.bay_drive.specs.declared.tracked.TrackedDrive.{TrackedDrive}
 
 -- its state: that of the drive within, and its own word on whether a word of the medium was replaced
 abbrev pub tracked_state : TrackedDrive → DriveState
 tracked_state drive = record (script_state drive.inside) { replaced = drive.replaced }
+
+-- the faults that can still come
+abbrev pub faults_of : TrackedDrive → List Fault
+faults_of drive = script_of drive.inside
 
 -- the tracks that were written since they were asked
 abbrev pub tracks_of : TrackedDrive → List ℕ

@@ -22,7 +22,7 @@ impl BayDrive {
     ghost use Rattle.drive_model.specs.Fault.{total_left};
     ghost use Rattle.drive_model.specs.Mechanics.{at_rest};
     ghost use Rattle.drive_model.specs.ScriptDrive.{told};
-    ghost use Rattle.bay_drive.specs.Bays.{bay_state, is_attached, drive_in_bay, tracks_in_bay, state_with_cable};
+    ghost use Rattle.bay_drive.specs.Bays.{bay_state, is_attached, drive_in_bay, faults_in_bay, tracks_in_bay, state_with_cable};
     ghost use Rattle.bay_drive.specs.Tracked.{tracked_state};
 
     /// A drive with these faults, attached, with no medium, at cylinder 0, its motor off, its change line set.
@@ -66,6 +66,7 @@ impl BayDrive {
 
     /// Plans these faults in place of those that can still come. All else stays, the count of faults too.
     pub fn replan(&mut self, faults: Vec<Fault>)
+        ensures faults { faults_in_bay self.new ≡ faults.items }
         ensures plans { tracked_state (drive_in_bay self.new) ≡ record (tracked_state (drive_in_bay self.old)) {
           left = told (tracked_state (drive_in_bay self.old)).faults (total_left faults.items);
         } }

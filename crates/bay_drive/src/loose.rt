@@ -26,7 +26,7 @@ impl LooseDrive {
     ghost use Rattle.drive_model.specs.ScriptDrive.{told};
     ghost use Rattle.bay_drive.specs.Loose.{loose_state, drive_within, unreached};
     ghost use Rattle.bay_drive.specs.Maps.{no_tracks};
-    ghost use Rattle.bay_drive.specs.Tracked.{tracked_state, tracks_of, SameTracks};
+    ghost use Rattle.bay_drive.specs.Tracked.{faults_of, tracked_state, tracks_of, SameTracks};
 
     /// The drive, whose cable is pulled now.
     pub fn of(drive: TrackedDrive) -> LooseDrive
@@ -49,6 +49,7 @@ impl LooseDrive {
 
     /// Plans these faults of the drive in place of those that can still come.
     pub fn replan(&mut self, faults: Vec<Fault>)
+        ensures faults { faults_of (drive_within self.new) ≡ faults.items }
         ensures state { loose_state self.new ≡ loose_state self.old }
         ensures plans { tracked_state (drive_within self.new) ≡ record (tracked_state (drive_within self.old)) {
           left = told (tracked_state (drive_within self.old)).faults (total_left faults.items);

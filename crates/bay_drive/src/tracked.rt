@@ -30,7 +30,7 @@ impl TrackedDrive {
     ghost use Rattle.drive_model.specs.Fault.{total_left};
     ghost use Rattle.drive_model.specs.Mechanics.{at_rest};
     ghost use Rattle.drive_model.specs.ScriptDrive.{told};
-    ghost use Rattle.bay_drive.specs.Tracked.{tracked_state, tracks_of, SameTracks};
+    ghost use Rattle.bay_drive.specs.Tracked.{faults_of, tracked_state, tracks_of, SameTracks};
 
     /// A drive with these faults, with no medium, at cylinder 0, its motor off, its change line set, of which no track was written.
     pub fn new(faults: Vec<Fault>) -> TrackedDrive
@@ -46,6 +46,7 @@ impl TrackedDrive {
 
     /// Plans these faults in place of those that can still come. All else stays, the count of faults too.
     pub fn replan(&mut self, faults: Vec<Fault>)
+        ensures faults { faults_of self.new ≡ faults.items }
         ensures state { tracked_state self.new ≡ record (tracked_state self.old) {
           left = told (tracked_state self.old).faults (total_left faults.items);
         } }

@@ -1,5 +1,5 @@
 -- A sound chip through device steps.
-use Rattle.std.proofs.Common.{◌≡◌, ◌⊎◌, inl, inr, ℕ, zero, suc, nat_lt, Bool, true, false, not, ◌&&◌, ◌==◌, if◌then◌else◌, Option, Some, None, [], bit_and, refl, sym, ◌∙◌, ap, subst}
+use Rattle.std.proofs.Common.{◌≡◌, ◌⊎◌, inl, inr, ℕ, zero, suc, nat_le, Bool, true, false, not, ◌&&◌, ◌==◌, if◌then◌else◌, Option, Some, None, [], bit_and, refl, sym, ◌∙◌, ap, subst}
 use Rattle.std.proofs.lemmas.Bool.{and_parts, not-true}
 use Rattle.flop_base.specs.declared.key.Chrn.{Chrn}
 use Rattle.fdc_registers.specs.St1.{missing_mark}
@@ -271,7 +271,7 @@ pulses_rest false pace old new stands pulses =
 goes_rests : (b : Bool) (pace : Pace) (old new : ChipState) → old.front.board.controller.non_dma ≡ false → old.front.board.controller.command ≡ [] → RestsBehind old.front → is_due pace old ≡ b
     → GoesOnIf b pace old new → IsResting old new
 goes_rests true pace old new by_dma none rests due pulses =
-    let waited = not (nat_lt 1 pace.wait) in
+    let waited = nat_le pace.wait 1 in
     let (timed, still) = and_parts (waited && is_ready_behind old.front) (not (moves_heads old.front)) due in
     let free = ready_free old.front (and_parts waited (is_ready_behind old.front) timed).1 in
     pulses_rest (pace.cylinder == target_of pace) pace old new (record {
@@ -301,7 +301,7 @@ paces_rest (Some pace) old new by_dma none rests goes =
       order = on.order;
     }
 
-stepped_rests : (old : ChipState) (between : Front) (new : ChipState) → IsSound old → is_busy old.stage ≡ false → StepsFront old.front between → Paces old.pace (with_front between old) new → IsResting old new
+pub stepped_rests : (old : ChipState) (between : Front) (new : ChipState) → IsSound old → is_busy old.stage ≡ false → StepsFront old.front between → Paces old.pace (with_front between old) new → IsResting old new
 stepped_rests old between new sound idle step paces =
     let (rests, base) = front_rests old.front between step sound.whole (at_rest old.stage old.front idle sound.now) in
     let on = paces_rest old.pace (with_front between old) new (base.non_dma ∙ sound.by_dma) base.command rests paces in

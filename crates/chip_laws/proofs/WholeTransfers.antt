@@ -1,30 +1,32 @@
 -- The last byte of a command: what stands behind is free for it, and it begins; or it is held until heads stand.
-use Rattle.std.proofs.Common.{◌≡◌, ℕ, zero, suc, ◌+◌, ◌%◌, ◌<◌, nat_le, Bool, true, false, not, ◌||◌, ◌==◌, Option, Some, None, refl, sym, ◌∙◌, ap, subst}
-use Rattle.std.proofs.lemmas.Bool.{and_from, and_right, eqb-true, false≢true}
+use Rattle.std.proofs.Common.{◌≡◌, ℕ, zero, suc, ◌+◌, ◌%◌, ◌<◌, nat_le, Bool, true, false, not, ◌||◌, ◌==◌, Option, Some, None, is_some, refl, sym, ◌∙◌, ap, subst}
+use Rattle.std.proofs.lemmas.Bool.{and_from, and_right, eqb-true, false≢true, or_parts}
 use Rattle.fdc_sequencer.specs.Fronts.{Front}
 use Rattle.fdc_sequencer.specs.Opcodes.{opcode_of}
 use Rattle.fdc_sequencer.specs.Senses.{is_ready, is_ready_at, pending_outside, sensed_outside}
 use Rattle.fdc_sequencer.specs.declared.opcode.Opcode.{Opcode}
 use Rattle.fdc_chip.specs.Chips.{ChipState, passes_by_channel, passes_by_port, with_front}
 use Rattle.fdc_chip.specs.Codes.{code_of, parameters}
-use Rattle.fdc_chip.specs.Doing.{Attends, AttendsIf, AttendsTo, drained, drained_by, is_size, kept, moves_heads, needs_heads}
-use Rattle.fdc_chip.specs.Ports.{CollectsIf, ComesIf, GivesChipIf, GivesIf, ReadsAt, ReadsIf, TakesByte, TakesIf, WritesChip, count_told, is_whole, may_come, reset_if, with_next}
+use Rattle.fdc_chip.specs.Doing.{Attends, AttendsIf, AttendsTo, drained, drained_by, is_moving, is_size, kept, moves_heads, needs_heads}
+use Rattle.fdc_chip.specs.Paces.{Paces}
+use Rattle.fdc_chip.specs.Ports.{CollectsIf, ComesIf, GivesChipIf, GivesIf, ReadsAt, ReadsIf, TakesByte, TakesIf, WritesChip, count_told, gated_by, given_one, is_whole, may_come, reset_if, with_next}
 use Rattle.fdc_chip.specs.Steps.{Follows, StepsChip}
 use Rattle.fdc_chip.specs.declared.code.Code.{Code}
 use Rattle.fdc_chip.specs.declared.code.Code.TheVariants.{ReadTrack, Specify, SenseDrive, Transfer, Recalibrate, SenseInterrupt, ReadId, FormatTrack, DumpRegisters, Seek, RelativeSeek, Version, Perpendicular, Configure, Lock, Verify}
 use Rattle.fdc_chip.specs.declared.order.Order.{Order}
 use Rattle.fdc_chip.specs.declared.stage.Stage.TheVariants.{Ready, Held}
-use Rattle.chip_laws.specs.Beginning.{BeginsUnless, Completes, CompletesTransfer, IsBegun, IsDoneFree, IsFreeBehind, IsHeldFor, IsTransferOf, completed, moves_behind, transfer_sent}
+use Rattle.chip_laws.specs.Beginning.{BeginsUnless, Completes, CompletesTransfer, IsBegun, IsDoneFree, IsFreeBehind, IsHeldFor, IsTransferOf, completed, still_moves, transfer_sent}
 use Rattle.chip_laws.specs.Calls as made
 use Rattle.chip_laws.specs.Calls.{Call, Does, is_reset, is_step}
 use Rattle.chip_laws.specs.Sound.{IsSound, RestsBehind}
 use Rattle.chip_laws.proofs.Attended.{free_stands}
 use Rattle.chip_laws.proofs.CommandsBegun.{transfer_begun}
 use Rattle.chip_laws.proofs.PassedOn.{other_read}
-use Rattle.chip_laws.proofs.Rests.{IsResting, drained_rests, front_rests}
+use Rattle.chip_laws.proofs.Rests.{IsResting, drained_rests}
 use Rattle.chip_laws.proofs.SoundCalls.{code_few, comes_free}
 use Rattle.chip_laws.proofs.SoundParts as parts
-use Rattle.chip_laws.proofs.SoundParts.{IsBasis, at_rest, basis_front, basis_same, is_busy, sound_basis}
+use Rattle.chip_laws.proofs.SoundParts.{IsBasis, at_rest, basis_same, is_busy, sound_basis}
+use Rattle.chip_laws.proofs.SoundSteps.{stepped_rests}
 use Rattle.chip_laws.proofs.Standing.{Stands, stands_idle}
 use Rattle.chip_laws.proofs.UnderWay.{either_way}
 
@@ -44,8 +46,21 @@ drained_front (suc n) one other same =
     ∙ (ap sensed_outside (drained_front n one other same)
     ∙ sym (kept_front (pending_outside second.front) (with_front (sensed_outside second.front) second)))
 
-same_moves : (one other : ChipState) → one.front ≡ other.front → moves_behind one ≡ moves_behind other
-same_moves one other same = ap moves_heads (drained_front 4 one other same)
+kept_pace : (result : Option (ℕ × ℕ)) (old : ChipState) → (kept result old).pace ≡ old.pace
+kept_pace None old = refl
+kept_pace (Some (status, cylinder)) old = refl
+
+drained_pace : (n : ℕ) (chip : ChipState) → (drained_by n chip).pace ≡ chip.pace
+unfolding drained_by
+drained_pace zero chip = refl
+drained_pace (suc n) chip =
+    let before = drained_by n chip in
+    kept_pace (pending_outside before.front) (with_front (sensed_outside before.front) before) ∙ drained_pace n chip
+
+same_moves : (one other : ChipState) → one.front ≡ other.front → one.pace ≡ other.pace → still_moves one ≡ still_moves other
+same_moves one other same paced =
+    ap (λ b. b || moves_heads (drained one).front) (ap is_some (drained_pace 4 one ∙ (paced ∙ sym (drained_pace 4 other))))
+    ∙ ap (λ (front : Front). is_some (drained other).pace || moves_heads front) (drained_front 4 one other same)
 
 -- ---- a whole command
 
@@ -63,7 +78,7 @@ free_of front stands rests still = record {
   by_dma = stands.by_dma;
 }
 
-attended_free : (code : Code) (old new : ChipState) → IsAttended code old new → moves_behind old ≡ false → IsDoneFree code old.order new
+attended_free : (code : Code) (old new : ChipState) → IsAttended code old new → still_moves old ≡ false → IsDoneFree code old.order new
 attended_free code old new attended still =
     let set = drained old in
     let resting : IsResting old set = drained_rests 4 old attended.basis.whole attended.rests in
@@ -71,18 +86,18 @@ attended_free code old new attended still =
     record {
       set = set;
       order_is = resting.order;
-      free = free_of set.front stands resting.rests still;
-      obeys = subst (λ b. AttendsIf b code set new) (and_right (needs_heads code) (moves_heads set.front) still) attended.attends;
+      free = free_of set.front stands resting.rests (or_parts (is_some set.pace) (moves_heads set.front) still).1;
+      obeys = subst (λ b. AttendsIf b code set new) (and_right (needs_heads code) (is_moving set) still) attended.attends;
     }
 
-attended_held : (code : Code) (old new : ChipState) → IsAttended code old new → needs_heads code ≡ true → moves_behind old ≡ true → IsHeldFor old.order new
+attended_held : (code : Code) (old new : ChipState) → IsAttended code old new → needs_heads code ≡ true → still_moves old ≡ true → IsHeldFor old.order new
 attended_held code old new attended heads moves =
     let set = drained old in
     let resting : IsResting old set = drained_rests 4 old attended.basis.whole attended.rests in
-    let is : new ≡ record set { stage = Held } = subst (λ b. AttendsIf b code set new) (and_from (needs_heads code) (moves_heads set.front) heads moves) attended.attends in
+    let is : new ≡ record set { stage = Held } = subst (λ b. AttendsIf b code set new) (and_from (needs_heads code) (is_moving set) heads moves) attended.attends in
     record { held = ap (λ (chip : ChipState). chip.stage) is; order_is = ap (λ (chip : ChipState). chip.order) is ∙ resting.order }
 
-attended_begins : (b : Bool) (opcode : Opcode) (old new : ChipState) → moves_behind old ≡ b → IsTransferOf opcode old.order → IsAttended (Transfer true) old new → BeginsUnless b opcode old.order new
+attended_begins : (b : Bool) (opcode : Opcode) (old new : ChipState) → still_moves old ≡ b → IsTransferOf opcode old.order → IsAttended (Transfer true) old new → BeginsUnless b opcode old.order new
 attended_begins true opcode old new moves whole attended = attended_held (Transfer true) old new attended refl moves
 attended_begins false opcode old new still whole attended =
     let done = attended_free (Transfer true) old new attended still in
@@ -139,41 +154,54 @@ byte_attends code byte old new sound few heads completes writes =
       attends = subst (λ b. CollectsIf b (Some code) (with_next byte old) new) whole named;
     }
 
-pub byte_free : (code : Code) (byte : ℕ) (old new : ChipState) → IsSound old → byte < 256 → needs_heads code ≡ true → Completes code byte old → WritesChip 0x3F5 byte old new → moves_behind old ≡ false
+pub byte_free : (code : Code) (byte : ℕ) (old new : ChipState) → IsSound old → byte < 256 → needs_heads code ≡ true → Completes code byte old → WritesChip 0x3F5 byte old new → still_moves old ≡ false
     → IsDoneFree code (completed byte old) new
 byte_free code byte old new sound few heads completes writes still =
-    attended_free code (attending byte old) new (byte_attends code byte old new sound few heads completes writes) (same_moves (attending byte old) old refl ∙ still)
+    attended_free code (attending byte old) new (byte_attends code byte old new sound few heads completes writes) (same_moves (attending byte old) old refl refl ∙ still)
 
 pub byte_begins : (opcode : Opcode) (byte : ℕ) (old new : ChipState) → IsSound old → byte < 256 → CompletesTransfer opcode byte old → WritesChip 0x3F5 byte old new
-    → BeginsUnless (moves_behind old) opcode (completed byte old) new
+    → BeginsUnless (still_moves old) opcode (completed byte old) new
 byte_begins opcode byte old new sound few completes writes =
     let last : Completes (Transfer true) byte old = record { others = completes.eight; whole = completes.whole.code } in
-    attended_begins (moves_behind old) opcode (attending byte old) new (same_moves (attending byte old) old refl) completes.whole (byte_attends (Transfer true) byte old new sound few refl last writes)
+    attended_begins (still_moves old) opcode (attending byte old) new (same_moves (attending byte old) old refl refl) completes.whole (byte_attends (Transfer true) byte old new sound few refl last writes)
 
 -- ---- a device step of one that is held
 
-step_attends : (code : Code) (old new : ChipState) (step : StepsChip old new) → IsSound old → old.stage ≡ Held → code_of old.order.code ≡ Some code → IsAttended code (with_front step.between old) new
-step_attends code old new step sound at is =
-    let basis = sound_basis old (ap parts.is_ready at) sound in
-    let (rests, base) = front_rests old.front step.between step.steps basis.whole (at_rest old.stage old.front (ap is_busy at) sound.now) in
-    let follows : AttendsTo (code_of old.order.code) (with_front step.between old) new = subst (λ stage. Follows stage (with_front step.between old) new) at step.follows in
-    record {
-      basis = basis_front step.between old basis base;
-      rests = rests;
-      attends = subst (λ (found : Option Code). AttendsTo found (with_front step.between old) new) is follows;
-    }
+step_attends : (code : Code) (old paced new : ChipState) → IsSound old → old.stage ≡ Held → code_of old.order.code ≡ Some code → IsResting old paced → AttendsTo (code_of paced.order.code) paced new → IsAttended code paced new
+step_attends code old paced new sound at is was attends = record {
+  basis = basis_same old paced (sound_basis old (ap parts.is_ready at) sound) was.base was.count was.order;
+  rests = was.rests;
+  attends = subst (λ (found : Option Code). AttendsTo found paced new) (ap (λ (order : Order). code_of order.code) was.order ∙ is) attends;
+}
 
-pub step_free : (code : Code) (old new : ChipState) (step : StepsChip old new) → IsSound old → old.stage ≡ Held → code_of old.order.code ≡ Some code → moves_behind (with_front step.between old) ≡ false
-    → IsDoneFree code old.order new
-step_free code old new step sound at is still = attended_free code (with_front step.between old) new (step_attends code old new step sound at is) still
+-- what follows it
+follows_held : (old new : ChipState) (step : StepsChip old new) → old.stage ≡ Held → Follows Held (with_front step.between old) new
+follows_held old new step at = subst (λ stage. Follows stage (with_front step.between old) new) at step.follows
+
+step_rests : (old paced new : ChipState) (step : StepsChip old new) → IsSound old → old.stage ≡ Held → Paces old.pace (with_front step.between old) paced → IsResting old paced
+step_rests old paced new step sound at paces = stepped_rests old step.between paced sound (ap is_busy at) step.steps paces
+
+of_order : (code : Code) (one other : Order) (new : ChipState) → one ≡ other → IsDoneFree code one new → IsDoneFree code other new
+of_order code one other new is done = record { set = done.set; order_is = done.order_is ∙ is; free = done.free; obeys = done.obeys }
+
+pub step_free : (code : Code) (old new : ChipState) (step : StepsChip old new) → IsSound old → old.stage ≡ Held → code_of old.order.code ≡ Some code
+    → (paced : ChipState) × Paces old.pace (with_front step.between old) paced × (still_moves paced ≡ false → IsDoneFree code old.order new)
+step_free code old new step sound at is =
+    let (paced, paces, attends) = follows_held old new step at in
+    let was = step_rests old paced new step sound at paces in
+    let attended = step_attends code old paced new sound at is was attends in
+    (paced, paces, λ still. of_order code paced.order old.order new was.order (attended_free code paced new attended still))
 
 pub step_begins : (opcode : Opcode) (order : Order) (old new : ChipState) (step : StepsChip old new) → IsSound old → IsHeldFor order old → IsTransferOf opcode order
-    → BeginsUnless (moves_behind (with_front step.between old)) opcode order new
-step_begins opcode order old new step sound was whole =
-    let moves = moves_behind (with_front step.between old) in
-    let here : IsTransferOf opcode old.order = subst (IsTransferOf opcode) (sym was.order_is) whole in
-    subst (λ o. BeginsUnless moves opcode o new) was.order_is
-    (attended_begins moves opcode (with_front step.between old) new refl here (step_attends (Transfer true) old new step sound was.held here.code))
+    → (paced : ChipState) × Paces old.pace (with_front step.between old) paced × BeginsUnless (still_moves paced) opcode order new
+step_begins opcode order old new step sound held whole =
+    let (paced, paces, attends) = follows_held old new step held.held in
+    let was = step_rests old paced new step sound held.held paces in
+    let same : paced.order ≡ order = was.order ∙ held.order_is in
+    let is : code_of old.order.code ≡ Some (Transfer true) = ap (λ (o : Order). code_of o.code) held.order_is ∙ whole.code in
+    let attended = step_attends (Transfer true) old paced new sound held.held is was attends in
+    (paced, paces, subst (λ o. BeginsUnless (still_moves paced) opcode o new) same
+    (attended_begins (still_moves paced) opcode paced new refl (subst (IsTransferOf opcode) (sym same) whole) attended))
 
 -- ---- it is held through each other call
 
@@ -189,7 +217,7 @@ takes_held true order byte old new was (takes, rest) = front_held order old new 
 takes_held false order byte old new was (none, is) = same_held order old new is was
 
 gives_held : (b : Bool) (order : Order) (byte : ℕ) (given : Bool) (old new : ChipState) → IsHeldFor order old → GivesChipIf b byte old given new → IsHeldFor order new
-gives_held true order byte given old new was (gives, rest) = front_held order old new rest was
+gives_held true order byte given old new was (gives, rest) = front_held order (given_one given old) new rest (record { held = was.held; order_is = was.order_is })
 gives_held false order byte given old new was (none, is) = same_held order old new is was
 
 read_held : (b : Bool) (order : Order) (value : ℕ) (old new : ChipState) → IsHeldFor order old → ReadsIf b old value new → IsHeldFor order new
@@ -197,7 +225,7 @@ read_held true order value old new was reads = front_held order old new reads.re
 read_held false order value old new was (none, is) = same_held order old new is was
 
 write_held : (b : Bool) (order : Order) (value : ℕ) (old new : ChipState) → IsHeldFor order old → GivesIf b value old new → IsHeldFor order new
-write_held true order value old new was gives = front_held order old new gives.rest was
+write_held true order value old new was gives = front_held order (given_one gives.was old) new gives.rest (record { held = was.held; order_is = was.order_is })
 write_held false order value old new was is = same_held order old new is was
 
 pub call_held : (order : Order) (call : Call) (old new : ChipState) → IsHeldFor order old → Does call old new → is_step call ≡ false → is_reset call ≡ false → IsHeldFor order new
@@ -210,7 +238,10 @@ call_held order (made.Reads port value) old new was does no_step no_reset = eith
     (λ no_data. same_held order old new (other_read port value old new no_data does) was)
 call_held order (made.Writes port value) old new was does no_step no_reset = either_way (port == 0x3F5)
     (λ here. write_held (passes_by_port old) order value old new was (subst (λ stage. TakesByte stage value old new) was.held (does.bytes (eqb-true port 0x3F5 here))))
-    (λ no_data. front_held order old new (subst (λ b. new ≡ with_front new.front (reset_if b old)) no_reset (does.others no_data).1) was)
+    (λ no_data. front_held order (gated_by port value old) new (subst (λ b. new ≡ with_front new.front (reset_if b (gated_by port value old))) no_reset (does.others no_data).1)
+    (record { held = was.held; order_is = was.order_is }))
 call_held order made.Changes old new was does no_step no_reset = front_held order old new does.rest was
 call_held order (made.Straps on) old new was does no_step no_reset =
+    record { held = ap (λ (chip : ChipState). chip.stage) does ∙ was.held; order_is = ap (λ (chip : ChipState). chip.order) does ∙ was.order_is }
+call_held order (made.StrapsSteps on) old new was does no_step no_reset =
     record { held = ap (λ (chip : ChipState). chip.stage) does ∙ was.held; order_is = ap (λ (chip : ChipState). chip.order) does ∙ was.order_is }

@@ -14,7 +14,7 @@ use Rattle.sequencer_laws.specs.Calls.{IsLastByte, Served}
 use Rattle.sequencer_laws.specs.Serving.{Serves, nothing_moved}
 use Rattle.fdc_chip.specs.Chips.{ChipState}
 use Rattle.fdc_chip.specs.Codes.{code_of, parameters}
-use Rattle.fdc_chip.specs.Doing.{Obeys, drained, is_size, moves_heads}
+use Rattle.fdc_chip.specs.Doing.{Obeys, drained, is_moving, is_size, moves_heads}
 use Rattle.fdc_chip.specs.Orders.{with_byte}
 use Rattle.fdc_chip.specs.Steps.{StepsChip}
 use Rattle.fdc_chip.specs.declared.code.Code.{Code}
@@ -82,9 +82,9 @@ pub record CompletesTransfer (opcode : Opcode) (byte : ℕ) (old : ChipState) : 
   pub eight : old.count ≡ 8
   pub whole : IsTransferOf opcode (completed byte old)
 
--- heads move behind, once results of seeks were taken over
-abbrev pub moves_behind : ChipState → Bool
-moves_behind chip = moves_heads (drained chip).front
+-- heads move, once results of seeks were taken over
+abbrev pub still_moves : ChipState → Bool
+still_moves chip = is_moving (drained chip)
 
 -- a whole command is held while they do
 pub record IsHeldFor (order : Order) (chip : ChipState) : Type 0 where

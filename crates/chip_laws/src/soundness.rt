@@ -5,13 +5,14 @@ ghost use Rattle.fdc_sequencer.specs.declared.opcode.Opcode.{Opcode};
 ghost use Rattle.fdc_chip.specs.Chips.{ChipState, IsNewChip, with_front};
 ghost use Rattle.fdc_chip.specs.Codes.{code_of};
 ghost use Rattle.fdc_chip.specs.Doing.{needs_heads};
+ghost use Rattle.fdc_chip.specs.Paces.{Paces};
 ghost use Rattle.fdc_chip.specs.Ports.{WritesChip};
 ghost use Rattle.fdc_chip.specs.Steps.{RunsChip, StepsChip};
 ghost use Rattle.fdc_chip.specs.declared.code.Code.{Code};
 ghost use Rattle.fdc_chip.specs.declared.order.Order.{Order};
 ghost use Rattle.fdc_chip.specs.declared.stage.Stage.TheVariants.{Busy, Held};
 ghost use Rattle.fdc_chip.specs.declared.stage.Task.{Task};
-ghost use Rattle.chip_laws.specs.Beginning.{BeginsUnless, Completes, CompletesTransfer, IsDoneFree, IsHeldFor, IsTransferOf, completed, moves_behind};
+ghost use Rattle.chip_laws.specs.Beginning.{BeginsUnless, Completes, CompletesTransfer, IsDoneFree, IsHeldFor, IsTransferOf, completed, still_moves};
 ghost use Rattle.chip_laws.specs.Calls.{AreMade, Call, Does, WritesByte, is_reset, is_step};
 ghost use Rattle.chip_laws.specs.Sound.{IsSound};
 ghost use Rattle.chip_laws.specs.Told.{IsBusyOrTells};
@@ -26,23 +27,23 @@ pub fn a_chip_stays_sound()
 {}
 
 /// With the last byte of a command that needs what stands behind, or in the device step in which heads stand for one that was held,
-/// what stands behind is free, and the command is done.
+/// what stands behind is free, and the command is done. What a step does to pulses that come in time comes first.
 pub fn what_stands_behind_is_free()
     ensures comes { (code : Code) (byte : ℕ) (old new : ChipState) → IsSound old → byte < 256 → needs_heads code ≡ true → Completes code byte old
-        → WritesChip 0x3F5 byte old new → moves_behind old ≡ false → IsDoneFree code (completed byte old) new }
+        → WritesChip 0x3F5 byte old new → still_moves old ≡ false → IsDoneFree code (completed byte old) new }
     ensures released { (code : Code) (old new : ChipState) (step : StepsChip old new) → IsSound old → old.stage ≡ Held → code_of old.order.code ≡ Some code
-        → moves_behind (with_front step.between old) ≡ false → IsDoneFree code old.order new }
+        → (paced : ChipState) × Paces old.pace (with_front step.between old) paced × (still_moves paced ≡ false → IsDoneFree code old.order new) }
 {}
 
 /// A command of sectors that this medium can have begins with its ninth byte; where heads move then it is held, through all calls but a
 /// reset, up to the device step in which they stand, and begins in that.
 pub fn a_whole_transfer_begins()
     ensures comes { (opcode : Opcode) (byte : ℕ) (old new : ChipState) → IsSound old → byte < 256 → CompletesTransfer opcode byte old
-        → WritesChip 0x3F5 byte old new → BeginsUnless (moves_behind old) opcode (completed byte old) new }
+        → WritesChip 0x3F5 byte old new → BeginsUnless (still_moves old) opcode (completed byte old) new }
     ensures held { (order : Order) (made : Call) (old new : ChipState) → IsHeldFor order old → Does made old new → is_step made ≡ false → is_reset made ≡ false
         → IsHeldFor order new }
     ensures released { (opcode : Opcode) (order : Order) (old new : ChipState) (step : StepsChip old new) → IsSound old → IsHeldFor order old → IsTransferOf opcode order
-        → BeginsUnless (moves_behind (with_front step.between old)) opcode order new }
+        → (paced : ChipState) × Paces old.pace (with_front step.between old) paced × BeginsUnless (still_moves paced) opcode order new }
 {}
 
 /// A chip that is busy is so until it tells results, and INT with them; or until it is reset.

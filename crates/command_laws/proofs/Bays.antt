@@ -28,8 +28,8 @@ use Rattle.sector_model.specs.Runs.{IsEndStop}
 use Rattle.floppy_session.specs.Blanks.{blank_request}
 use Rattle.floppy_session.specs.declared.shape.Shape.{Shape}
 use Rattle.floppy_session.specs.Shapes.{shape_of}
-use Rattle.scripts.specs.Scripts.{Script}
-use Rattle.scripts.specs.Parts.{carries, no_tracks, shape_at, opens, sets_rate, acknowledges}
+use Rattle.commands.specs.Scripts.{Script}
+use Rattle.commands.specs.Parts.{carries, no_tracks, shape_at, opens, sets_rate, acknowledges}
 use Rattle.command_laws.proofs.Prepared.{IsBlank, IsAcked, blanks, acks, in_with}
 use Rattle.command_laws.proofs.Reading.{reaches}
 use Rattle.command_laws.proofs.Steps.{keeps_drives}

@@ -15,9 +15,9 @@ use Rattle.sector_model.specs.Stations.{StationState, Bay, IsFresh, bay_of}
 use Rattle.sector_model.specs.Steps.{IsImageOf, blank_of}
 use Rattle.sector_model.specs.Runs.{Taken}
 use Rattle.sector_model.specs.Plays.{World, whole_status}
-use Rattle.scripts.specs.Scripts.{Script, RunsScript}
-use Rattle.scripts.specs.Leading.{Runs}
-use Rattle.scripts.proofs.Running.{script_ties}
+use Rattle.commands.specs.Scripts.{Script, RunsScript}
+use Rattle.commands.specs.Leading.{Runs}
+use Rattle.commands.proofs.Running.{script_ties}
 use Rattle.disk_commands.specs.Format.{format_script, formats_disk}
 use Rattle.disk_commands.specs.Verify.{verify_script, no_reads, one_more, tells_failure, verifies_record, verifies_track, reads_disk}
 use Rattle.disk_commands.specs.Copy.{copy_script, write_request, no_marks, reads_record, writes_record, copies_track, makes_copy, copies_disk}
@@ -32,9 +32,9 @@ use Rattle.command_laws.proofs.SectorRequests.{readable_unmistaken, none_failing
 use Rattle.flop_base.specs.Standard.{sectors_at}
 use Rattle.floppy_requests.specs.declared.request.Request.TheVariants as request
 use Rattle.floppy_session.specs.Blanks.{blank_request}
-use Rattle.scripts.specs.Parts.{formats}
+use Rattle.commands.specs.Parts.{formats}
 use Rattle.command_laws.proofs.Prepared.{IsBlank}
-use Rattle.scripts.specs.Records.{record_address, track_address}
+use Rattle.commands.specs.Records.{record_address, track_address}
 use Rattle.command_laws.proofs.Reading.{key_is}
 use Rattle.command_laws.proofs.Sectors.{few_sectors}
 use Rattle.command_laws.proofs.Verified.{image_ranges}

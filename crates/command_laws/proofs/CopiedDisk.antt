@@ -18,7 +18,7 @@ use Rattle.sector_model.specs.States.{State}
 use Rattle.sector_model.specs.Steps.{IsImageOf, blank_of}
 use Rattle.sector_model.specs.Runs.{Taken}
 use Rattle.floppy_session.specs.Blanks.{blank_request}
-use Rattle.scripts.specs.Parts.{rate_requests}
+use Rattle.commands.specs.Parts.{rate_requests}
 use Rattle.command_laws.specs.Done.{DoesAll}
 use Rattle.command_laws.specs.Requests.{copy_opening, tracks_of, copy_each, marks_read}
 use Rattle.command_laws.proofs.Marks.{is_no_read, marks-append, no_marks, some_first, some_second}

@@ -19,10 +19,10 @@ use Rattle.sector_model.specs.Runs.{Taken}
 use Rattle.sector_model.specs.Plays.{World}
 use Rattle.floppy_session.specs.Blanks.{blank_request}
 use Rattle.floppy_session.specs.declared.shape.Shape.{Shape}
-use Rattle.scripts.specs.Scripts.{RunsScript}
-use Rattle.scripts.specs.Parts.{Part, through, by_track, rate_requests}
-use Rattle.scripts.proofs.Reading.{last_run}
-use Rattle.scripts.proofs.Passed.{Known, Passes, Did, joined, joined_did, did_both, did_nothing, same_part, through_passes, carries_passes, acknowledges_passes, opens_passes}
+use Rattle.commands.specs.Scripts.{RunsScript}
+use Rattle.commands.specs.Parts.{Part, through, by_track, rate_requests}
+use Rattle.commands.proofs.Reading.{last_run}
+use Rattle.commands.proofs.Passed.{Known, Passes, Did, joined, joined_did, did_both, did_nothing, same_part, through_passes, carries_passes, acknowledges_passes, opens_passes}
 use Rattle.disk_commands.specs.Copy.{reads_record, writes_record, copies_track, copy_text, makes_copy, copies_disk as copies_shape, copy_script}
 use Rattle.disk_commands.specs.Copy as copy
 use Rattle.command_laws.specs.Requests.{Track, tracks_of, read_records, write_records, copy_track, copy_each, copy_opening, copy_requests, marks_read}

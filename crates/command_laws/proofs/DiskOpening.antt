@@ -20,10 +20,10 @@ use Rattle.sector_model.specs.Runs.{Taken}
 use Rattle.sector_model.specs.Plays.{World}
 use Rattle.floppy_session.specs.declared.shape.Shape.{Shape}
 use Rattle.floppy_session.specs.Shapes.{shape_of}
-use Rattle.scripts.specs.Scripts.{Script, RunsScript}
-use Rattle.scripts.specs.Parts.{opens, sets_rate, acknowledges, rate_requests}
-use Rattle.scripts.proofs.Reading.{IsWhole, IsRefused}
-use Rattle.scripts.proofs.Passed.{Passed, Does, Did, joined, joined_did, did_both, carries_passed, sets_rate_passed, opens_passed}
+use Rattle.commands.specs.Scripts.{Script, RunsScript}
+use Rattle.commands.specs.Parts.{opens, sets_rate, acknowledges, rate_requests}
+use Rattle.commands.proofs.Reading.{IsWhole, IsRefused}
+use Rattle.commands.proofs.Passed.{Passed, Does, Did, joined, joined_did, did_both, carries_passed, sets_rate_passed, opens_passed}
 use Rattle.command_laws.specs.Requests.{verify_opening}
 use Rattle.command_laws.proofs.Prepared.{acks}
 use Rattle.command_laws.proofs.PutIn.{opened_shape}

@@ -26,7 +26,7 @@ use Rattle.sector_model.specs.Steps.{Step, Does, read_reply}
 use Rattle.sector_model.specs.Texts.{is_refusal}
 use Rattle.sector_model.specs.Runs.{Taken, requests_of, has_refusal}
 use Rattle.command_laws.specs.Done.{DoesAll}
-use Rattle.scripts.specs.Records.{record_address}
+use Rattle.commands.specs.Records.{record_address}
 use Rattle.command_laws.specs.Requests.{read_records, mark_of, marks_read}
 use Rattle.command_laws.specs.Copied.{SomeStep, Gave, IsFieldOf, IsSure}
 use Rattle.command_laws.proofs.Steps.{NeverFell, step_never_fell, never_fell, keeps_drives, reached, or_false, done_does}

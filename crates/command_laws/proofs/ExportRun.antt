@@ -13,7 +13,7 @@ use Rattle.flop_base.specs.Counters.{Counters}
 use Rattle.flop_base.specs.Memory.{user_bytes, bytes_from}
 use Rattle.floppy_requests.specs.declared.request.Request.{Request}
 use Rattle.floppy_requests.specs.declared.request.Request.TheVariants as request
-use Rattle.flat_image.specs.Flat.{IsSector, sector_place}
+use Rattle.flat_files.specs.Flat.{IsSector, sector_place}
 use Rattle.sector_map.specs.Standard.{key_of}
 use Rattle.sector_model.specs.declared.reply.Reply.{Reply}
 use Rattle.sector_model.specs.Stations.{Bay, bay_of, StationState}
@@ -21,10 +21,10 @@ use Rattle.sector_model.specs.States.{State}
 use Rattle.sector_model.specs.Steps.{Step, IsImageOf}
 use Rattle.sector_model.specs.Runs.{Taken}
 use Rattle.sector_model.specs.Plays.{World}
-use Rattle.scripts.specs.Parts.{may_starve, by_track, rate_requests}
-use Rattle.scripts.specs.Records.{record_address}
-use Rattle.scripts.proofs.Passed.{Passes, IsTaken, known, needs_passes, Did, Opened, opens_passes, acknowledges_passes}
-use Rattle.flat_commands.specs.Export.{reads_record, reads_track, export_text, export_script}
+use Rattle.commands.specs.Parts.{may_starve, by_track, rate_requests}
+use Rattle.commands.specs.Records.{record_address}
+use Rattle.commands.proofs.Passed.{Passes, IsTaken, known, needs_passes, Did, Opened, opens_passes, acknowledges_passes}
+use Rattle.disk_commands.specs.Export.{reads_record, reads_track, export_text, export_script}
 use Rattle.command_laws.specs.Requests.{mark_of}
 use Rattle.command_laws.specs.Copied.{SomeStep, Gave, IsFieldOf, IsSure}
 use Rattle.command_laws.proofs.CopiedTrack.{both_fell}
@@ -37,9 +37,9 @@ use Rattle.std.specs.Option.{option_map}
 use Rattle.flop_base.specs.declared.answers.Rate.{Rate}
 use Rattle.floppy_session.specs.declared.shape.Shape.{Shape}
 use Rattle.floppy_session.specs.Shapes.{shape_of}
-use Rattle.scripts.specs.Scripts.{Stores, RunsScript, StoresLast, IsStored, NotStored}
-use Rattle.scripts.proofs.Reading.{last_stored}
-use Rattle.flat_commands.specs.Import.{sectors_of}
+use Rattle.commands.specs.Scripts.{Stores, RunsScript, StoresLast, IsStored, NotStored}
+use Rattle.commands.proofs.Reading.{last_stored}
+use Rattle.disk_commands.specs.Import.{sectors_of}
 use Rattle.command_laws.specs.Imported.{sector_bytes}
 use Rattle.command_laws.specs.Exported.{IsAsRead, StoresExported}
 use Rattle.command_laws.proofs.Taking.{some_sectors, one_track, next_track, place_is, Takes, each_takes, fed, counts, readied, did_fell, one_done, tracks_take}

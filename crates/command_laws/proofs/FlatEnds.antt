@@ -8,7 +8,7 @@ use Rattle.flop_base.specs.declared.answers.Rate.TheVariants.{R500, R250}
 use Rattle.flop_base.specs.declared.answers.Status.{Status}
 use Rattle.raw_image.specs.declared.error.ImageError.{ImageError}
 use Rattle.flop_base.specs.Memory.{user_bytes, bytes_from}
-use Rattle.flat_image.specs.Flat.{sector_place, sectors_told}
+use Rattle.flat_files.specs.Flat.{sector_place, sectors_told}
 use Rattle.floppy_requests.specs.declared.request.Request.TheVariants as request
 use Rattle.sector_map.specs.Standard.{key_of}
 use Rattle.sector_model.specs.declared.reply.Stop.{Stop}
@@ -20,13 +20,13 @@ use Rattle.sector_model.specs.Runs.{Taken, IsEndStop}
 use Rattle.sector_model.specs.Plays.{World}
 use Rattle.sector_model.specs.Ties.{AreUndisturbed}
 use Rattle.floppy_session.specs.Blanks.{blank_request}
-use Rattle.scripts.specs.Scripts.{RunsScript}
-use Rattle.scripts.specs.Leading.{Runs}
-use Rattle.scripts.specs.Records.{record_address}
-use Rattle.scripts.proofs.Reading.{last_run}
-use Rattle.scripts.proofs.Running.{script_ties}
-use Rattle.flat_commands.specs.FlatFiles.{IsFlatFile, IsFlatFound, IsNotTaken}
-use Rattle.flat_commands.specs.Import.{Imports, fills_byte, fills_record, fills_track, writes_record, writes_track, imports_track, import_script}
+use Rattle.commands.specs.Scripts.{RunsScript}
+use Rattle.commands.specs.Leading.{Runs}
+use Rattle.commands.specs.Records.{record_address}
+use Rattle.commands.proofs.Reading.{last_run}
+use Rattle.commands.proofs.Running.{script_ties}
+use Rattle.disk_commands.specs.FlatFiles.{IsFlatFile, IsFlatFound, IsNotTaken}
+use Rattle.disk_commands.specs.Import.{Imports, fills_byte, fills_record, fills_track, writes_record, writes_track, imports_track, import_script}
 use Rattle.command_laws.proofs.Prepared.{IsBlank}
 use Rattle.command_laws.proofs.Reading.{reaches}
 use Rattle.command_laws.specs.EndsComplete.{BeginsSound, EndsWellOrOutside}
@@ -36,8 +36,8 @@ use Rattle.command_laws.proofs.Going.{Stage, at, IsDone, GoesWell, PartGoes, goe
 use Rattle.command_laws.proofs.SectorRequests.{IsMaking, AnyDisk, HasRecords, MakesAlone, any_made, blank_made, made_still, format_done, write_done, ReadsAlone, read_done}
 use Rattle.raw_image.specs.Disk.{Disk, HasTrack}
 use Rattle.flop_base.specs.Counters.{Counters, IsFaultless}
-use Rattle.scripts.specs.Parts.{may_starve}
-use Rattle.flat_commands.specs.Export.{reads_record, reads_track, export_script}
+use Rattle.commands.specs.Parts.{may_starve}
+use Rattle.disk_commands.specs.Export.{reads_record, reads_track, export_script}
 use Rattle.command_laws.proofs.Verified.{one_image}
 use Rattle.command_laws.specs.Imported.{StoresDisk, StoresImported}
 use Rattle.command_laws.proofs.ImportRun.{import_stores}

@@ -8,9 +8,9 @@ use Rattle.floppy_requests.specs.declared.request.Request.TheVariants as request
 use Rattle.sector_model.specs.Runs.{Taken}
 use Rattle.sector_model.specs.Plays.{World}
 use Rattle.floppy_session.specs.Blanks.{blank_request}
-use Rattle.scripts.specs.Scripts.{RunsScript}
-use Rattle.scripts.specs.Parts.{carries, acknowledges, by_track, formats, rate_requests}
-use Rattle.scripts.proofs.Passed.{Passes, Does, does_both, carries_passes, acknowledges_passes, over}
+use Rattle.commands.specs.Scripts.{RunsScript}
+use Rattle.commands.specs.Parts.{carries, acknowledges, by_track, formats, rate_requests}
+use Rattle.commands.proofs.Passed.{Passes, Does, does_both, carries_passes, acknowledges_passes, over}
 use Rattle.disk_commands.specs.Format.{formats_disk, format_script, format_text}
 use Rattle.command_laws.specs.Requests.{tracks_of, format_each, format_requests}
 use Rattle.command_laws.specs.Done.{DoesAll}

@@ -16,7 +16,7 @@ use Rattle.sector_model.specs.Runs.{Taken}
 use Rattle.command_laws.specs.Done.{DoesAll}
 use Rattle.command_laws.specs.Formatted.{IsFormattedDisk, LeavesFormatted, StoresFormatted}
 use Rattle.floppy_session.specs.Blanks.{blank_request}
-use Rattle.scripts.specs.Parts.{rate_requests}
+use Rattle.commands.specs.Parts.{rate_requests}
 use Rattle.command_laws.specs.Requests.{tracks_of, format_each, formatting, format_requests}
 use Rattle.command_laws.proofs.Tracks.{among_all}
 use Rattle.command_laws.proofs.Steps.{begins, ends_there, splits, never_fell, step_never_fell, keeps_drives}

@@ -18,9 +18,9 @@ use Rattle.sector_model.specs.Runs.{Taken, IsEndStop, has_refusal}
 use Rattle.sector_model.specs.Plays.{World, Prints, IsPutFault}
 use Rattle.sector_model.specs.Plays as plays
 use Rattle.sector_model.specs.Ties.{entered_by, AreUndisturbed}
-use Rattle.scripts.specs.Scripts.{Script, Ends, Says, Asks, Stores, MayStarve, Fails, RunsScript, IsStored, NotStored, StoresLast, unless_refused, IsStoreFault}
-use Rattle.scripts.specs.Parts.{Part, asks, needs, carries, through, each, by_track}
-use Rattle.scripts.specs.Leading.{with_report}
+use Rattle.commands.specs.Scripts.{Script, Ends, Says, Asks, Stores, MayStarve, Fails, RunsScript, IsStored, NotStored, StoresLast, unless_refused, IsStoreFault}
+use Rattle.commands.specs.Parts.{Part, asks, needs, carries, through, each, by_track}
+use Rattle.commands.specs.Leading.{with_report}
 use Rattle.command_laws.proofs.Steps.{keeps_drives, step_never_fell}
 use Rattle.command_laws.specs.EndsComplete.{BeginsSound, EndsWellOrOutside}
 use Rattle.sector_model.specs.declared.reply.Stop.TheVariants as stop

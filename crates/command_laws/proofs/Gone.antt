@@ -24,11 +24,11 @@ use Rattle.sector_model.specs.Plays.{World}
 use Rattle.sector_model.specs.declared.reply.Reply.TheVariants as reply
 use Rattle.sector_model.specs.Orders.{read_refusal, IsDeviceRefusal}
 use Rattle.sector_model.specs.Stations.{StationState}
-use Rattle.scripts.specs.Scripts.{Script, RunsScript}
-use Rattle.scripts.specs.Parts.{carries, may_starve, through}
-use Rattle.scripts.specs.Leading.{with_report}
-use Rattle.scripts.proofs.Reading.{IsRefused, IsAnswered, last_run, ask_answered, need_taken, ask_run, carry_run}
-use Rattle.scripts.proofs.Passed.{Known, Passed, at_once, Does, did_nothing, carries_passed, joined_did}
+use Rattle.commands.specs.Scripts.{Script, RunsScript}
+use Rattle.commands.specs.Parts.{carries, may_starve, through}
+use Rattle.commands.specs.Leading.{with_report}
+use Rattle.commands.proofs.Reading.{IsRefused, IsAnswered, last_run, ask_answered, need_taken, ask_run, carry_run}
+use Rattle.commands.proofs.Passed.{Known, Passed, at_once, Does, did_nothing, carries_passed, joined_did}
 use Rattle.command_laws.specs.VerifyRuns.{IsEndStatus}
 use Rattle.command_laws.proofs.CopiedTrack.{both_fell}
 use Rattle.command_laws.proofs.Steps.{NeverFell, step_never_fell, either, keeps_drives}
@@ -38,7 +38,7 @@ use Rattle.command_laws.specs.Requests.{mark_of}
 use Rattle.command_laws.proofs.DiskRecords.{length-bytes_at}
 use Rattle.rescue.specs.Course.{read_of, write_of}
 use Rattle.rescue.specs.declared.line.LogLine.{LogLine}
-use Rattle.rescue_commands.specs.Rescue.{gives_up, does_next, follows, rescues}
+use Rattle.disk_commands.specs.Rescue.{gives_up, does_next, follows, rescues}
 use Rattle.command_laws.specs.Rescued.{IsNotStopped, WasRefused, is_write, line_at, log_of}
 
 -- ---- what a read leaves

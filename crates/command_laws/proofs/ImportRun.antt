@@ -9,14 +9,14 @@ use Rattle.flop_base.specs.declared.answers.Status.TheVariants as status
 use Rattle.flop_base.specs.Bays.{Two, in_bay}
 use Rattle.flop_base.specs.Memory.{user_bytes, bytes_from}
 use Rattle.floppy_requests.specs.declared.request.Request.TheVariants as request
-use Rattle.flat_image.specs.Flat.{sector_place, IsSector, flat_length, sectors_told}
+use Rattle.flat_files.specs.Flat.{sector_place, IsSector, flat_length, sectors_told}
 use Rattle.sector_model.specs.Stations.{StationState, Bay, bay_of}
 use Rattle.sector_model.specs.Runs.{Taken}
 use Rattle.sector_model.specs.Plays.{World}
-use Rattle.scripts.specs.Parts.{carries, rate_requests}
-use Rattle.scripts.specs.Records.{record_address}
-use Rattle.scripts.proofs.Passed.{Passes, Does, Did, known, carries_passes, each_does, acknowledges_passes}
-use Rattle.flat_commands.specs.Import.{fills_byte, fills_record, fills_track, writes_record, writes_track, imports_track, Imports, sectors_of, import_text, import_script}
+use Rattle.commands.specs.Parts.{carries, rate_requests}
+use Rattle.commands.specs.Records.{record_address}
+use Rattle.commands.proofs.Passed.{Passes, Does, Did, known, carries_passes, each_does, acknowledges_passes}
+use Rattle.disk_commands.specs.Import.{fills_byte, fills_record, fills_track, writes_record, writes_track, imports_track, Imports, sectors_of, import_text, import_script}
 use Rattle.command_laws.proofs.CopiedTrack.{both_fell}
 use Rattle.command_laws.proofs.Steps.{NeverFell, step_never_fell}
 use Rattle.command_laws.proofs.UserMemory.{byte_from, with_at, length-bytes_from}
@@ -53,9 +53,9 @@ use Rattle.sector_model.specs.declared.reply.Stop.{Stop}
 use Rattle.sector_model.specs.States.{State}
 use Rattle.sector_model.specs.Texts.{stop_lines, stop_status}
 use Rattle.floppy_session.specs.Blanks.{blank_request}
-use Rattle.scripts.specs.Scripts.{RunsScript}
-use Rattle.scripts.proofs.Reading.{last_run, prints_status, no_stop_is_ok}
-use Rattle.flat_commands.specs.FlatFiles.{IsFlatFound}
+use Rattle.commands.specs.Scripts.{RunsScript}
+use Rattle.commands.proofs.Reading.{last_run, prints_status, no_stop_is_ok}
+use Rattle.disk_commands.specs.FlatFiles.{IsFlatFound}
 use Rattle.command_laws.proofs.BlankDisk.{blank_regular, blank_fields}
 use Rattle.command_laws.proofs.Prepared.{blanks}
 use Rattle.command_laws.proofs.Formatted.{blank_keeps}

@@ -16,9 +16,9 @@ use Rattle.sector_model.specs.States.{State}
 use Rattle.sector_model.specs.Steps.{Step, read_reply}
 use Rattle.sector_model.specs.Texts.{is_refusal}
 use Rattle.sector_model.specs.Plays.{World}
-use Rattle.scripts.specs.Parts.{each}
-use Rattle.scripts.specs.Records.{record_address}
-use Rattle.scripts.proofs.Passed.{Passes, Does, Did, IsTaken, did_nothing, did_both, taken_did, needs_passes, carries_passes, numbers_pass, each_does}
+use Rattle.commands.specs.Parts.{each}
+use Rattle.commands.specs.Records.{record_address}
+use Rattle.commands.proofs.Passed.{Passes, Does, Did, IsTaken, did_nothing, did_both, taken_did, needs_passes, carries_passes, numbers_pass, each_does}
 use Rattle.disk_commands.specs.Copy.{tells_deleted, write_request, reads_record, writes_record}
 use Rattle.command_laws.specs.Requests.{mark_of, marks_read, write_record, write_records, read_records}
 use Rattle.command_laws.specs.Copied.{SomeStep}

@@ -22,16 +22,16 @@ use Rattle.sector_model.specs.Runs.{Taken}
 use Rattle.sector_model.specs.Plays.{World}
 use Rattle.floppy_session.specs.Blanks.{blank_request}
 use Rattle.floppy_session.specs.declared.shape.Shape.{Shape}
-use Rattle.scripts.specs.Scripts.{Script, Ends, Fails, RunsScript, StoresLast, IsStored, NotStored}
-use Rattle.scripts.specs.Parts.{needs, carries, may_starve, shape_at, opens, through}
-use Rattle.scripts.proofs.Reading.{IsAnswered, AskRun, Answered, Stopped, NeedRun, Done, Refused, Halted, ask_run, need_run, carry_run, last_run, last_failed, last_stored}
+use Rattle.commands.specs.Scripts.{Script, Ends, Fails, RunsScript, StoresLast, IsStored, NotStored}
+use Rattle.commands.specs.Parts.{needs, carries, may_starve, shape_at, opens, through}
+use Rattle.commands.proofs.Reading.{IsAnswered, AskRun, Answered, Stopped, NeedRun, Done, Refused, Halted, ask_run, need_run, carry_run, last_run, last_failed, last_stored}
 use Rattle.command_laws.specs.Requests.{Track, format_each, tracks_of}
 use Rattle.command_laws.proofs.Steps.{either, done_does}
 use Rattle.rescue.specs.Course.{read_of, write_of, outcome_status}
 use Rattle.rescue.specs.Log.{log_text}
 use Rattle.rescue.specs.declared.line.LogLine.{LogLine}
-use Rattle.rescue_commands.specs.Rescue.{follows, rescues, prepares, asked_keys, outcome_of, last_text, rescues_all, stores_log, rescue_found, rescue_rest, Rescues}
-use Rattle.rescue_commands.proofs.Rests.{by_rest}
+use Rattle.disk_commands.specs.Rescue.{follows, rescues, prepares, asked_keys, outcome_of, last_text, rescues_all, stores_log, rescue_found, rescue_rest, Rescues}
+use Rattle.disk_commands.proofs.RescueRests.{by_rest}
 use Rattle.command_laws.specs.Rescued.{StoresInOrder, Nothing, DiskAlone, DiskThenLog, line_at, log_of}
 use Rattle.command_laws.proofs.Gone.{behind_step, line_of_refused, line_of_done, read_done, carries_all, FollowRun, Writes, Logs, GivesUp, Starves, follow_run}
 use Rattle.command_laws.proofs.RescueOpening.{ready_requests, formats_for, second_request, prepares_carried, second_put}

@@ -25,7 +25,7 @@ use Rattle.sector_model.specs.Texts.{is_refusal}
 use Rattle.sector_model.specs.Runs.{Taken}
 use Rattle.command_laws.specs.Done.{DoesAll}
 use Rattle.floppy_session.specs.Blanks.{blank_request}
-use Rattle.scripts.specs.Parts.{rate_requests}
+use Rattle.commands.specs.Parts.{rate_requests}
 use Rattle.command_laws.proofs.Steps.{begins, NeverFell, step_never_fell, done_does, ok_called, reached, and_both}
 
 -- ---- blank media

@@ -13,7 +13,7 @@ use Rattle.sector_model.specs.Runs.{Taken}
 use Rattle.sector_model.specs.Plays.{World}
 use Rattle.floppy_session.specs.declared.shape.Shape.{Shape}
 use Rattle.floppy_session.specs.Shapes.{shape_of, shape_in}
-use Rattle.scripts.proofs.Passed.{Opened}
+use Rattle.commands.proofs.Passed.{Opened}
 use Rattle.command_laws.proofs.Steps.{done_does}
 use Rattle.command_laws.proofs.TrackParts.{did_step}
 use Rattle.command_laws.proofs.Verified.{one_image}

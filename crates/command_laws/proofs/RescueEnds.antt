@@ -20,15 +20,15 @@ use Rattle.sector_model.specs.Plays.{World}
 use Rattle.floppy_session.specs.Blanks.{blank_request}
 use Rattle.floppy_session.specs.Shapes.{shape_of}
 use Rattle.floppy_session.specs.declared.shape.Shape.{Shape}
-use Rattle.scripts.specs.Scripts.{Script}
-use Rattle.scripts.specs.Leading.{Runs}
-use Rattle.scripts.specs.Parts.{carries, may_starve, through, formats}
-use Rattle.scripts.proofs.Running.{script_ties}
+use Rattle.commands.specs.Scripts.{Script}
+use Rattle.commands.specs.Leading.{Runs}
+use Rattle.commands.specs.Parts.{carries, may_starve, through, formats}
+use Rattle.commands.proofs.Running.{script_ties}
 use Rattle.rescue.specs.Course.{standard_keys}
 use Rattle.rescue.specs.declared.line.LogLine.{LogLine}
-use Rattle.rescue_commands.specs.Logs.{IsLogFound, IsFound}
-use Rattle.rescue_commands.specs.Rescue.{rescues, acknowledges_both, prepares_new, prepares, asked_keys, rescues_all, stores_log, rescue_found, rescue_rest, rescue_script, Rescues}
-use Rattle.rescue_commands.proofs.Rests.{by_absent}
+use Rattle.disk_commands.specs.Logs.{IsLogFound, IsFound}
+use Rattle.disk_commands.specs.Rescue.{rescues, acknowledges_both, prepares_new, prepares, asked_keys, rescues_all, stores_log, rescue_found, rescue_rest, rescue_script, Rescues}
+use Rattle.disk_commands.proofs.RescueRests.{by_absent}
 use Rattle.command_laws.specs.Requests.{tracks_of}
 use Rattle.command_laws.specs.Verified.{IsStandardKey}
 use Rattle.command_laws.specs.EndsComplete.{BeginsSound, EndsWellOrOutside, IsReadable, HaveSameSector, StoresSameAndLog}

@@ -19,17 +19,17 @@ use Rattle.sector_model.specs.Runs.{Taken, has_refusal}
 use Rattle.sector_model.specs.Plays.{World}
 use Rattle.floppy_session.specs.Shapes.{shape_of}
 use Rattle.floppy_session.specs.declared.shape.Shape.{Shape}
-use Rattle.scripts.specs.Scripts.{Script, Ends}
-use Rattle.scripts.specs.Leading.{Runs}
-use Rattle.scripts.specs.Parts.{carries, may_starve, through, acknowledges}
-use Rattle.scripts.proofs.Running.{script_ties}
+use Rattle.commands.specs.Scripts.{Script, Ends}
+use Rattle.commands.specs.Leading.{Runs}
+use Rattle.commands.specs.Parts.{carries, may_starve, through, acknowledges}
+use Rattle.commands.proofs.Running.{script_ties}
 use Rattle.rescue.specs.Course.{logged_keys}
 use Rattle.rescue.specs.Log.{IsLog, log_text}
 use Rattle.rescue.proofs.LawLemmas.{one_spelling}
 use Rattle.rescue.specs.declared.line.LogLine.{LogLine}
-use Rattle.rescue_commands.specs.Logs.{IsLogFound, IsFound, most_log_bytes}
-use Rattle.rescue_commands.specs.Rescue.{rescues, acknowledges_both, prepares_old, prepares, asked_keys, rescues_all, stores_log, rescue_found, rescue_rest, rescue_script, Rescues}
-use Rattle.rescue_commands.proofs.Rests.{by_rest, by_log}
+use Rattle.disk_commands.specs.Logs.{IsLogFound, IsFound, most_log_bytes}
+use Rattle.disk_commands.specs.Rescue.{rescues, acknowledges_both, prepares_old, prepares, asked_keys, rescues_all, stores_log, rescue_found, rescue_rest, rescue_script, Rescues}
+use Rattle.disk_commands.proofs.RescueRests.{by_rest, by_log}
 use Rattle.command_laws.specs.Rescued.{entry_at}
 use Rattle.command_laws.specs.EndsComplete.{BeginsSound, EndsWellOrOutside, HasKey, TakesKeys, StoresRestAndLog}
 use Rattle.command_laws.proofs.Sectors.{few_sectors}

@@ -13,7 +13,7 @@ use Rattle.sector_model.specs.Stations.{StationState, Bay, bay_of}
 use Rattle.sector_model.specs.Orders.{read_refusal, write_refusal}
 use Rattle.sector_model.specs.Runs.{Taken}
 use Rattle.sector_model.specs.Plays.{World}
-use Rattle.scripts.specs.Leading.{with_report}
+use Rattle.commands.specs.Leading.{with_report}
 use Rattle.command_laws.specs.Copied.{SomeStep, Gave, IsFieldOf, IsSure}
 use Rattle.command_laws.proofs.DiskRecords.{length-bytes_at, read_sector, sure_parts}
 use Rattle.command_laws.proofs.Steps.{ok_called, reached}

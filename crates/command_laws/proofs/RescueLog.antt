@@ -18,12 +18,12 @@ use Rattle.sector_model.specs.Texts.{is_refusal}
 use Rattle.sector_model.specs.Runs.{Taken}
 use Rattle.sector_model.specs.Plays.{World}
 use Rattle.floppy_session.specs.Shapes.{shape_of}
-use Rattle.scripts.specs.Leading.{with_report}
+use Rattle.commands.specs.Leading.{with_report}
 use Rattle.rescue.specs.Course.{standard_keys, logged_keys}
 use Rattle.rescue.specs.Log.{IsBefore, IsLogLine, IsLog, code_text, line_text, log_text}
 use Rattle.rescue.specs.declared.line.LogLine.{LogLine}
-use Rattle.rescue_commands.specs.Logs.{IsLogFound, most_log_bytes}
-use Rattle.rescue_commands.specs.Rescue.{asked_keys}
+use Rattle.disk_commands.specs.Logs.{IsLogFound, most_log_bytes}
+use Rattle.disk_commands.specs.Rescue.{asked_keys}
 use Rattle.command_laws.specs.Rescued.{line_at, log_of}
 use Rattle.command_laws.proofs.Sectors.{few_sectors}
 use Rattle.command_laws.proofs.VerifyRun.{standard_count}

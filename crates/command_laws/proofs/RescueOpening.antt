@@ -26,8 +26,8 @@ use Rattle.sector_model.specs.Texts.{is_refusal}
 use Rattle.floppy_session.specs.Blanks.{blank_request}
 use Rattle.floppy_session.specs.declared.shape.Shape.{Shape}
 use Rattle.floppy_session.specs.Shapes.{shape_of}
-use Rattle.scripts.specs.Parts.{rate_requests, carries, sets_rate, acknowledges, through, by_track, formats}
-use Rattle.scripts.specs.Scripts.{Script}
+use Rattle.commands.specs.Parts.{rate_requests, carries, sets_rate, acknowledges, through, by_track, formats}
+use Rattle.commands.specs.Scripts.{Script}
 use Rattle.command_laws.specs.Done.{DoesAll}
 use Rattle.command_laws.proofs.CopiedTrack.{IsReady, formats_it, small}
 use Rattle.command_laws.proofs.Prepared.{acks, blanks, readies}
@@ -40,7 +40,7 @@ use Rattle.command_laws.proofs.TrackParts.{tracks_part}
 use Rattle.command_laws.proofs.Tracks.{Among, among_only}
 use Rattle.command_laws.proofs.BlankDisk.{blank_regular, blank_fields}
 use Rattle.command_laws.proofs.Reading.{Holds}
-use Rattle.rescue_commands.specs.Rescue.{acknowledges_both, prepares_old, prepares_new, prepares}
+use Rattle.disk_commands.specs.Rescue.{acknowledges_both, prepares_old, prepares_new, prepares}
 use Rattle.command_laws.specs.LaidFields.{HasLaidFields}
 use Rattle.command_laws.specs.Rescued.{is_write, HasShapeOf}
 use Rattle.command_laws.proofs.Gone.{carries_all}

@@ -33,7 +33,7 @@ use Rattle.sector_model.specs.Writes.{ChangesDisk, WritesTo, WritesDrive, writte
 use Rattle.sector_model.specs.Runs.{Taken}
 use Rattle.sector_model.specs.Plays.{World}
 use Rattle.floppy_session.specs.Shapes.{shape_of}
-use Rattle.scripts.specs.Leading.{with_report}
+use Rattle.commands.specs.Leading.{with_report}
 use Rattle.command_laws.specs.Verified.{IsStandardKey}
 use Rattle.command_laws.proofs.Verified.{standard_all}
 use Rattle.command_laws.proofs.Steps.{ok_called, reached}
@@ -45,8 +45,8 @@ use Rattle.rescue.specs.Course.{standard_keys, logged_keys, write_of, read_of}
 use Rattle.rescue.specs.Log.{IsBefore, IsLogLine, IsLog, log_text}
 use Rattle.rescue.specs.declared.line.LogLine.{LogLine}
 use Rattle.rescue.proofs.OrderLemmas.{standard_rises, logged_rises}
-use Rattle.rescue_commands.specs.Logs.{IsLogFound, most_log_bytes}
-use Rattle.rescue_commands.specs.Rescue.{asked_keys}
+use Rattle.disk_commands.specs.Logs.{IsLogFound, most_log_bytes}
+use Rattle.disk_commands.specs.Rescue.{asked_keys}
 use Rattle.command_laws.specs.Rescued.{IsLogged, IsSaved, WasNotRead, entry_at, is_write, count_writes, line_at, log_of, IsTidyWrite, IsTidyFor, AreTidy, BringsUpNoMark, HasShapeOf}
 use Rattle.command_laws.specs.LaidFields.{HasLaidFields}
 use Rattle.command_laws.proofs.LaidDisks.{still_laid}

@@ -23,12 +23,12 @@ use Rattle.sector_model.specs.declared.reply.Reply.TheVariants as reply
 use Rattle.sector_model.specs.Stations.{Bay}
 use Rattle.sector_model.specs.Texts.{is_refusal}
 use Rattle.sector_model.specs.Runs.{Taken, has_refusal}
-use Rattle.scripts.specs.Scripts.{Script}
-use Rattle.scripts.specs.Parts.{carries, may_starve, through}
+use Rattle.commands.specs.Scripts.{Script}
+use Rattle.commands.specs.Parts.{carries, may_starve, through}
 use Rattle.rescue.specs.Course.{read_of, write_of, outcome_status}
 use Rattle.rescue.specs.declared.line.LogLine.{LogLine}
-use Rattle.rescue_commands.specs.Logs.{IsLogFound}
-use Rattle.rescue_commands.specs.Rescue.{follows, does_next, rescues, outcome_of, stores_log}
+use Rattle.disk_commands.specs.Logs.{IsLogFound}
+use Rattle.disk_commands.specs.Rescue.{follows, does_next, rescues, outcome_of, stores_log}
 use Rattle.command_laws.specs.Requests.{Track, format_each}
 use Rattle.command_laws.specs.Rescued.{IsNotStopped}
 use Rattle.command_laws.proofs.Tracks.{Among}

@@ -21,10 +21,10 @@ use Rattle.sector_model.specs.Runs.{Taken}
 use Rattle.sector_model.specs.Plays.{World}
 use Rattle.floppy_session.specs.Blanks.{blank_request}
 use Rattle.floppy_session.specs.declared.shape.Shape.{Shape}
-use Rattle.scripts.specs.Scripts.{Script, Ends, Says, Asks, Stores, MayStarve, Fails, RunsScript, StoresLast, IsStored, NotStored, unless_refused}
-use Rattle.scripts.specs.Parts.{Part, asks, says, needs, carries, shape_at, opens, sets_rate, acknowledges, through, each, by_track, formats}
-use Rattle.scripts.specs.Leading.{with_report}
-use Rattle.scripts.specs.Records.{record_address}
+use Rattle.commands.specs.Scripts.{Script, Ends, Says, Asks, Stores, MayStarve, Fails, RunsScript, StoresLast, IsStored, NotStored, unless_refused}
+use Rattle.commands.specs.Parts.{Part, asks, says, needs, carries, shape_at, opens, sets_rate, acknowledges, through, each, by_track, formats}
+use Rattle.commands.specs.Leading.{with_report}
+use Rattle.commands.specs.Records.{record_address}
 use Rattle.disk_commands.specs.Format.{formats_disk, format_script}
 use Rattle.disk_commands.specs.Verify.{one_more, tells_failure, verifies_record, verifies_track, verify_script, reads_disk}
 use Rattle.disk_commands.specs.Copy.{write_request, reads_record, writes_record, copies_track, copy_script, makes_copy, copies_disk}

@@ -23,7 +23,7 @@ use Rattle.sector_model.specs.Orders.{is_sector_request, crosses_page, is_acknow
 use Rattle.sector_model.specs.Reads.{ReadsDrive, IsReadCause, spoilable}
 use Rattle.sector_model.specs.Steps.{read_reply, Step, IsDriverCall, reply_of, blank_of}
 use Rattle.sector_model.specs.Texts.{is_refusal}
-use Rattle.scripts.specs.Records.{record_address}
+use Rattle.commands.specs.Records.{record_address}
 use Rattle.command_laws.proofs.Reading.{key_is, reaches}
 use Rattle.flop_base.specs.declared.answers.Rate.{Rate}
 use Rattle.track_model.specs.declared.Look.TheVariants.{Found}

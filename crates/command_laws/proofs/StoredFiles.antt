@@ -17,7 +17,7 @@ use Rattle.raw_image.proofs.Images.{image_again}
 use Rattle.sector_model.specs.Steps.{IsImageOf, most_image_bytes}
 use Rattle.rescue.specs.Log.{IsLog, log_text}
 use Rattle.rescue.specs.declared.line.LogLine.{LogLine}
-use Rattle.rescue_commands.specs.Logs.{IsLogFound, most_log_bytes}
+use Rattle.disk_commands.specs.Logs.{IsLogFound, most_log_bytes}
 
 -- ---- names
 

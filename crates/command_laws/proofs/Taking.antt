@@ -3,7 +3,7 @@ use Rattle.std.proofs.Common.{arith, ◌≡◌, ◌+◌, ◌-◌, ◌*◌, ◌<�
 use Rattle.flop_base.specs.Standard.{sectors_at}
 use Rattle.flop_base.specs.declared.answers.Rate.{Rate}
 use Rattle.flop_base.specs.declared.answers.Rate.TheVariants.{R500, R250}
-use Rattle.flat_image.specs.Flat.{IsSector, sector_place, flat_length}
+use Rattle.flat_files.specs.Flat.{IsSector, sector_place, flat_length}
 use Rattle.std.specs.List.{list_all}
 use Rattle.flop_base.specs.Shelf.{Files}
 use Rattle.flop_base.specs.declared.answers.Status.TheVariants as status
@@ -15,9 +15,9 @@ use Rattle.sector_model.specs.Steps.{Step, Does}
 use Rattle.sector_model.specs.Texts.{is_refusal}
 use Rattle.sector_model.specs.Runs.{Taken}
 use Rattle.sector_model.specs.Plays.{World}
-use Rattle.scripts.specs.Scripts.{Script, RunsScript}
-use Rattle.scripts.specs.Parts.{Part, may_starve, through, each, by_track, rate_requests}
-use Rattle.scripts.proofs.Passed.{Known, Passes, Did}
+use Rattle.commands.specs.Scripts.{Script, RunsScript}
+use Rattle.commands.specs.Parts.{Part, may_starve, through, each, by_track, rate_requests}
+use Rattle.commands.proofs.Passed.{Known, Passes, Did}
 use Rattle.command_laws.proofs.CopiedTrack.{both_fell}
 use Rattle.command_laws.proofs.Steps.{NeverFell, begins, ends_there, done_does, never_fell, keeps_drives}
 use Rattle.command_laws.proofs.TrackParts.{did_all}

@@ -25,7 +25,7 @@ use Rattle.sector_model.specs.Steps.{read_reply}
 use Rattle.sector_model.specs.Runs.{Taken}
 use Rattle.sector_model.specs.Texts.{is_refusal}
 use Rattle.sector_model.specs.Plays.{World}
-use Rattle.scripts.specs.Leading.{with_report}
+use Rattle.commands.specs.Leading.{with_report}
 use Rattle.command_laws.specs.Verified.{IsStandardKey, IsUnmistaken, told_of, refused_read, all_told_of}
 use Rattle.command_laws.proofs.Looks.{rose_by}
 use Rattle.command_laws.proofs.Reading.{Holds, not_refused, reaches, bays_stay, holds_on, key_is, one_read, quiet_parts, told_more}

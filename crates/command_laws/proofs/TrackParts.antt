@@ -12,9 +12,9 @@ use Rattle.sector_model.specs.Steps.{Step}
 use Rattle.sector_model.specs.Texts.{is_refusal}
 use Rattle.sector_model.specs.Runs.{Taken}
 use Rattle.sector_model.specs.Plays.{World}
-use Rattle.scripts.specs.Scripts.{Script}
-use Rattle.scripts.specs.Parts.{Part, through, each, by_track, formats}
-use Rattle.scripts.proofs.Passed.{Passes, Does, Did, same_part, carries_passes, through_does, each_named, each_nested}
+use Rattle.commands.specs.Scripts.{Script}
+use Rattle.commands.specs.Parts.{Part, through, each, by_track, formats}
+use Rattle.commands.proofs.Passed.{Passes, Does, Did, same_part, carries_passes, through_does, each_named, each_nested}
 use Rattle.command_laws.specs.Requests.{Track, heads_of, tracks_of, format_each}
 use Rattle.command_laws.specs.Done.{DoesAll}
 use Rattle.command_laws.proofs.Steps.{begins, ends_there}

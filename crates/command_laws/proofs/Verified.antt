@@ -26,7 +26,7 @@ use Rattle.sector_model.specs.States.{State}
 use Rattle.sector_model.specs.Steps.{IsImageOf, most_image_bytes}
 use Rattle.sector_model.specs.Runs.{Taken, requests_of, has_refusal}
 use Rattle.command_laws.specs.Done.{DoesAll}
-use Rattle.scripts.specs.Parts.{rate_requests}
+use Rattle.commands.specs.Parts.{rate_requests}
 use Rattle.command_laws.specs.Requests.{verify_opening, read_each}
 use Rattle.command_laws.specs.Verified.{IsStandardKey, IsUnmistaken, all_told_of, refused_read, refused_reads, ReadsDisk}
 use Rattle.command_laws.proofs.Steps.{begins, ends_there, splits_run, NeverFell, step_never_fell, run_never_fell, keeps_drives}

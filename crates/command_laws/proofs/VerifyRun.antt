@@ -32,11 +32,11 @@ use Rattle.sector_model.specs.Stations.{bay_of}
 use Rattle.sector_model.specs.States.{State}
 use Rattle.sector_model.specs.declared.reply.Reason.TheVariants as reason
 use Rattle.floppy_session.specs.Shapes.{shape_of}
-use Rattle.scripts.specs.Scripts.{Script, RunsScript}
-use Rattle.scripts.specs.Parts.{Part, asks, through, each, by_track}
-use Rattle.scripts.specs.Leading.{with_report}
-use Rattle.scripts.proofs.Reading.{IsWhole, ask_run, ask_answered, prints_status}
-use Rattle.scripts.proofs.Passed.{Passes, Passed, says_passes, at_once, run_both, each_nested, Did, over}
+use Rattle.commands.specs.Scripts.{Script, RunsScript}
+use Rattle.commands.specs.Parts.{Part, asks, through, each, by_track}
+use Rattle.commands.specs.Leading.{with_report}
+use Rattle.commands.proofs.Reading.{IsWhole, ask_run, ask_answered, prints_status}
+use Rattle.commands.proofs.Passed.{Passes, Passed, says_passes, at_once, run_both, each_nested, Did, over}
 use Rattle.disk_commands.specs.Verify.{failure_line, tells_failure, no_reads, one_more, verifies_record, verifies_track, verify_text, verify_script, reads_disk}
 use Rattle.disk_commands.specs.Disks.{sectors_of}
 use Rattle.command_laws.specs.Requests.{read_each, verify_opening}

@@ -25,10 +25,10 @@ use Rattle.sector_model.specs.Texts.{is_refusal}
 use Rattle.sector_model.specs.States.{State}
 use Rattle.floppy_session.specs.declared.shape.Shape.{Shape}
 use Rattle.floppy_session.specs.Shapes.{shape_of}
-use Rattle.scripts.specs.Scripts.{Script, Ends, Fails, RunsScript, StoresLast, IsStored, NotStored, IsStoreFault}
-use Rattle.scripts.specs.Parts.{carries, may_starve, through}
-use Rattle.scripts.proofs.Reading.{last_run, last_failed, last_stored, prints_status}
-use Rattle.scripts.proofs.Passed.{Passed, Does, Opened, joined, did_both, opens_passed}
+use Rattle.commands.specs.Scripts.{Script, Ends, Fails, RunsScript, StoresLast, IsStored, NotStored, IsStoreFault}
+use Rattle.commands.specs.Parts.{carries, may_starve, through}
+use Rattle.commands.proofs.Reading.{last_run, last_failed, last_stored, prints_status}
+use Rattle.commands.proofs.Passed.{Passed, Does, Opened, joined, did_both, opens_passed}
 use Rattle.command_laws.specs.Done.{DoesAll}
 use Rattle.command_laws.specs.VerifyRuns.{IsEndStatus}
 use Rattle.command_laws.proofs.VerifyRun.{not_put, end_is_whole}
@@ -45,9 +45,9 @@ use Rattle.rescue.specs.Course.{logged_keys, outcome_status}
 use Rattle.rescue.specs.Log.{IsLog, log_text}
 use Rattle.rescue.specs.declared.line.LogLine.{LogLine}
 use Rattle.rescue.specs.declared.outcome.Outcome.{Outcome}
-use Rattle.rescue_commands.specs.Logs.{IsLogFound, IsFound, most_log_bytes}
-use Rattle.rescue_commands.specs.Rescue.{rescues, asked_keys, outcome_of, last_text, rescues_all, stores_log, rescue_found, rescue_rest, Rescues}
-use Rattle.rescue_commands.proofs.Rests.{by_rest}
+use Rattle.disk_commands.specs.Logs.{IsLogFound, IsFound, most_log_bytes}
+use Rattle.disk_commands.specs.Rescue.{rescues, asked_keys, outcome_of, last_text, rescues_all, stores_log, rescue_found, rescue_rest, Rescues}
+use Rattle.disk_commands.proofs.RescueRests.{by_rest}
 use Rattle.command_laws.specs.LaidFields.{HasLaidFields}
 use Rattle.command_laws.specs.Rescued.{IsNotStopped, count_writes, IsLogged, IsSaved, IsSettled, WasNotRead, BringsUpNoMark, HasTarget, diskette_for, HasShapeOf, StillHolds, KeepsEntries, outcome_in, IsRescue, IsNotFound, LogsNotFound, WasRefused, log_of, line_at, AreTidy}
 use Rattle.command_laws.proofs.Gone.{later_fine, not_refused, carried, GoesKeys, keys_gone, AreRefusals, Fell, fell_both, keys_fell, line_of_done, gave_reads, never_both}

@@ -26,7 +26,7 @@ use Rattle.sector_model.specs.Texts.{is_refusal}
 use Rattle.sector_model.specs.Writes.{WritesDrive, WritesTo, written_from}
 use Rattle.sector_model.specs.Runs.{Taken}
 use Rattle.command_laws.specs.Done.{DoesAll}
-use Rattle.scripts.specs.Records.{record_address}
+use Rattle.commands.specs.Records.{record_address}
 use Rattle.command_laws.specs.Requests.{write_record, write_records}
 use Rattle.command_laws.specs.Copied.{copied_entry}
 use Rattle.command_laws.proofs.Prepared.{in_with}

@@ -12,8 +12,8 @@ use Rattle.sector_model.specs.declared.reply.Reply.{Reply}
 use Rattle.sector_model.specs.declared.reply.Reply.TheVariants as reply
 use Rattle.sector_model.specs.Runs.{Taken}
 use Rattle.floppy_session.specs.Blanks.{blank_request}
-use Rattle.scripts.specs.Parts.{rate_requests}
-use Rattle.scripts.specs.Records.{record_address}
+use Rattle.commands.specs.Parts.{rate_requests}
+use Rattle.commands.specs.Records.{record_address}
 
 -- a track: its cylinder, and its head
 abbrev pub Track : Type 0

@@ -34,8 +34,8 @@ use Rattle.rescue.specs.Course.{read_of, logged_keys, outcome_status}
 use Rattle.rescue.specs.Log.{log_text}
 use Rattle.rescue.specs.declared.line.LogLine.{LogLine}
 use Rattle.rescue.specs.declared.outcome.Outcome.{Outcome}
-use Rattle.rescue_commands.specs.Logs.{IsLogFound}
-use Rattle.rescue_commands.specs.Rescue.{asked_keys, last_text}
+use Rattle.disk_commands.specs.Logs.{IsLogFound}
+use Rattle.disk_commands.specs.Rescue.{asked_keys, last_text}
 
 -- ---- The lines of a new log, by the course of a rescue.
 

@@ -3,7 +3,7 @@ ghost use Rattle.std.specs.Prelude.{List};
 ghost use Rattle.flop_base.specs.declared.answers.Status.{Status};
 ghost use Rattle.sector_model.specs.Runs.{Taken};
 ghost use Rattle.sector_model.specs.Plays.{World};
-ghost use Rattle.scripts.specs.Scripts.{RunsScript};
+ghost use Rattle.commands.specs.Scripts.{RunsScript};
 ghost use Rattle.disk_commands.specs.Format.{format_script};
 ghost use Rattle.disk_commands.specs.Verify.{verify_script};
 ghost use Rattle.disk_commands.specs.Copy.{copy_script};

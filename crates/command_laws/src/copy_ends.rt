@@ -5,8 +5,8 @@ ghost use Rattle.flop_base.specs.declared.answers.Status.{Status};
 ghost use Rattle.raw_image.specs.Disk.{Disk};
 ghost use Rattle.sector_model.specs.Steps.{IsImageOf};
 ghost use Rattle.sector_model.specs.Plays.{World};
-ghost use Rattle.scripts.specs.Scripts.{RunsScript};
-ghost use Rattle.scripts.specs.Leading.{Runs};
+ghost use Rattle.commands.specs.Scripts.{RunsScript};
+ghost use Rattle.commands.specs.Leading.{Runs};
 ghost use Rattle.disk_commands.specs.Copy.{copy_script};
 ghost use Rattle.command_laws.specs.EndsComplete.{BeginsSound, EndsWellOrOutside, IsReadable, StoresSameSectors};
 

@@ -7,7 +7,7 @@ ghost use Rattle.flop_base.specs.Memory.{user_bytes};
 ghost use Rattle.sector_model.specs.Steps.{IsImageOf};
 ghost use Rattle.sector_model.specs.Runs.{Taken};
 ghost use Rattle.sector_model.specs.Plays.{World};
-ghost use Rattle.scripts.specs.Scripts.{RunsScript};
+ghost use Rattle.commands.specs.Scripts.{RunsScript};
 ghost use Rattle.disk_commands.specs.Copy.{copy_script};
 ghost use Rattle.command_laws.specs.Copied.{StoresCopy};
 

@@ -3,8 +3,8 @@ ghost use Rattle.std.specs.Prelude.{◌≡◌, List, length};
 ghost use Rattle.flop_base.specs.Memory.{user_bytes};
 ghost use Rattle.sector_model.specs.Runs.{Taken};
 ghost use Rattle.sector_model.specs.Plays.{World};
-ghost use Rattle.scripts.specs.Scripts.{RunsScript};
-ghost use Rattle.flat_commands.specs.Export.{export_script};
+ghost use Rattle.commands.specs.Scripts.{RunsScript};
+ghost use Rattle.disk_commands.specs.Export.{export_script};
 ghost use Rattle.command_laws.specs.Exported.{StoresExported};
 
 use flop_base::Status;

@@ -4,7 +4,7 @@ ghost use Rattle.flop_base.specs.Counters.{IsFaultless};
 ghost use Rattle.flop_base.specs.Memory.{user_bytes};
 ghost use Rattle.sector_model.specs.Runs.{Taken};
 ghost use Rattle.sector_model.specs.Plays.{World};
-ghost use Rattle.flat_commands.specs.Import.{Imports};
+ghost use Rattle.disk_commands.specs.Import.{Imports};
 ghost use Rattle.command_laws.specs.Imported.{StoresImported};
 
 use flop_base::Status;

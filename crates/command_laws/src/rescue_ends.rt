@@ -7,11 +7,11 @@ ghost use Rattle.raw_image.specs.Disk.{Disk};
 ghost use Rattle.sector_map.specs.Disks.{IsRegularDisk};
 ghost use Rattle.sector_model.specs.Steps.{IsImageOf};
 ghost use Rattle.sector_model.specs.Plays.{World};
-ghost use Rattle.scripts.specs.Leading.{Runs};
+ghost use Rattle.commands.specs.Leading.{Runs};
 ghost use Rattle.rescue.specs.Course.{logged_keys};
 ghost use Rattle.rescue.specs.declared.line.LogLine.{LogLine};
-ghost use Rattle.rescue_commands.specs.Logs.{IsLogFound};
-ghost use Rattle.rescue_commands.specs.Rescue.{Rescues};
+ghost use Rattle.disk_commands.specs.Logs.{IsLogFound};
+ghost use Rattle.disk_commands.specs.Rescue.{Rescues};
 ghost use Rattle.command_laws.specs.EndsComplete.{BeginsSound, EndsWellOrOutside, HasKey, IsReadable, StoresSameAndLog, StoresRestAndLog, TakesKeys};
 
 /// A law: where no drive of a fresh station can have a fault any more and no DMA request can wait too long, a rescue with no log yet

@@ -9,7 +9,7 @@ ghost use Rattle.sector_model.specs.Runs.{Taken};
 ghost use Rattle.sector_model.specs.Plays.{World};
 ghost use Rattle.command_laws.specs.Verified.{IsUnmistaken};
 ghost use Rattle.command_laws.specs.VerifyRuns.{IsEndStatus};
-ghost use Rattle.rescue_commands.specs.Rescue.{Rescues};
+ghost use Rattle.disk_commands.specs.Rescue.{Rescues};
 ghost use Rattle.command_laws.specs.Rescued.{IsNotStopped, LogsNotFound};
 
 /// A law: where a rescue ends with status 0 or 1, no refusal stopped it, and neither a fault of bay 0's drive nor a stall disturbed

@@ -3,7 +3,7 @@ ghost use Rattle.std.specs.Prelude.{List};
 ghost use Rattle.flop_base.specs.declared.answers.Status.{Status};
 ghost use Rattle.sector_model.specs.Runs.{Taken};
 ghost use Rattle.sector_model.specs.Plays.{World};
-ghost use Rattle.rescue_commands.specs.Rescue.{Rescues};
+ghost use Rattle.disk_commands.specs.Rescue.{Rescues};
 ghost use Rattle.command_laws.specs.Rescued.{log_of, StoresInOrder};
 
 /// A law: however a rescue ends, it has stored nothing, or the other diskette alone, or that and then the new log. So where the

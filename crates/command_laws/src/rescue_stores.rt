@@ -11,8 +11,8 @@ ghost use Rattle.sector_model.specs.Runs.{Taken};
 ghost use Rattle.sector_model.specs.Plays.{World};
 ghost use Rattle.command_laws.specs.VerifyRuns.{IsEndStatus};
 ghost use Rattle.rescue.specs.declared.line.LogLine.{LogLine};
-ghost use Rattle.rescue_commands.specs.Rescue.{Rescues};
-ghost use Rattle.rescue_commands.specs.Logs.{IsLogFound};
+ghost use Rattle.disk_commands.specs.Rescue.{Rescues};
+ghost use Rattle.disk_commands.specs.Logs.{IsLogFound};
 ghost use Rattle.command_laws.specs.Rescued.{IsNotStopped, HasTarget, IsRescue};
 
 /// A law: where a rescue ends with status 0 or 1, no refusal stopped it, and the drive of bay 1 had no fault meanwhile, each

@@ -12,7 +12,7 @@ ghost use Rattle.sector_model.specs.Stations.{bay_of};
 ghost use Rattle.sector_model.specs.Steps.{IsImageOf};
 ghost use Rattle.sector_model.specs.Runs.{Taken};
 ghost use Rattle.sector_model.specs.Plays.{World};
-ghost use Rattle.scripts.specs.Scripts.{RunsScript};
+ghost use Rattle.commands.specs.Scripts.{RunsScript};
 ghost use Rattle.disk_commands.specs.Verify.{verify_script};
 ghost use Rattle.command_laws.specs.Verified.{IsUnmistaken, all_told_of};
 ghost use Rattle.command_laws.specs.VerifyRuns.{TellsFailing, IsEndStatus};

@@ -11,9 +11,9 @@ use Rattle.sector_model.specs.declared.reply.Reply.{Reply}
 use Rattle.sector_model.specs.declared.reply.Reply.TheVariants as reply
 use Rattle.floppy_session.specs.Blanks.{blank_request}
 use Rattle.floppy_session.specs.declared.shape.Shape.{Shape}
-use Rattle.scripts.specs.Scripts.{Script, Ends}
-use Rattle.scripts.specs.Parts.{Part, carries, needs, opens, acknowledges, each, by_track}
-use Rattle.scripts.specs.Records.{record_address}
+use Rattle.commands.specs.Scripts.{Script, Ends}
+use Rattle.commands.specs.Parts.{Part, carries, needs, opens, acknowledges, each, by_track}
+use Rattle.commands.specs.Records.{record_address}
 use Rattle.disk_commands.specs.Disks.{sectors_of}
 
 -- the answer tells that the field is marked deleted

@@ -5,8 +5,8 @@ use Rattle.flop_base.specs.declared.answers.Rate.{Rate}
 use Rattle.flop_base.specs.declared.answers.Status.TheVariants as status
 use Rattle.floppy_requests.specs.declared.request.Request.TheVariants as request
 use Rattle.floppy_session.specs.Blanks.{blank_request}
-use Rattle.scripts.specs.Scripts.{Script, Ends}
-use Rattle.scripts.specs.Parts.{Part, carries, acknowledges, by_track, formats}
+use Rattle.commands.specs.Scripts.{Script, Ends}
+use Rattle.commands.specs.Parts.{Part, carries, acknowledges, by_track, formats}
 
 -- the last line tells the tracks
 unfoldable pub format_text : ℕ → List ℕ

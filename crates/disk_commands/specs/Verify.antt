@@ -11,10 +11,10 @@ use Rattle.sector_model.specs.declared.reply.Reason.{Reason}
 use Rattle.sector_model.specs.Texts.{is_refusal, reason_text, line_end}
 use Rattle.sector_model.specs.Plays.{whole_status}
 use Rattle.floppy_session.specs.declared.shape.Shape.{Shape}
-use Rattle.scripts.specs.Scripts.{Script, Ends}
-use Rattle.scripts.specs.Parts.{Part, asks, says, opens, acknowledges, each, by_track}
-use Rattle.scripts.specs.Records.{track_address}
-use Rattle.disk_commands.specs.declared.tally.Tally.{Tally}
+use Rattle.commands.specs.Scripts.{Script, Ends}
+use Rattle.commands.specs.Parts.{Part, asks, says, opens, acknowledges, each, by_track}
+use Rattle.commands.specs.Records.{track_address}
+use Rattle.disk_commands.specs.declared.read_tally.Tally.{Tally}
 use Rattle.disk_commands.specs.Disks.{sectors_of}
 
 -- the line of a record that couldn't be read: its cylinder, head and record, and why

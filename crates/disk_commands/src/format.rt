@@ -1,13 +1,13 @@
 // The format of a whole disk.
 ghost use Rattle.std.specs.Prelude.{◌≡◌, ◌*◌, IfOk, string_bytes};
-ghost use Rattle.scripts.specs.Scripts.{RunsScript};
-ghost use Rattle.scripts.specs.Leading.{Goes, Runs, Ran, RanPart, faulty_of};
+ghost use Rattle.commands.specs.Scripts.{RunsScript};
+ghost use Rattle.commands.specs.Leading.{Goes, Runs, Ran, RanPart, faulty_of};
 ghost use Rattle.disk_commands.specs.Format.{format_text, formats_disk, format_script};
 
+use commands::{acknowledge, blank_request, carry, finish, format_tracks};
 use flop_base::{Name, Rate, Shelf, Sink, Status};
 use floppy_requests::Request;
 use floppy_session::Session;
-use scripts::{acknowledge, blank_request, carry, finish, format_tracks};
 use sector_model::Station;
 use std::alloc::{AllocError, Global};
 
@@ -48,7 +48,7 @@ fn run_format<S: Shelf, K: Sink, D: Station>(
 
 /// Makes a disk of so many cylinders with two heads, formats it at this rate, and stores it under the name. It prints how many tracks
 /// were formatted, or what stopped it.
-#[tactic(auto, using(scripts::proofs::Running::finished), unfolding(crate::specs::Format::format_script))]
+#[tactic(auto, using(commands::proofs::Running::finished), unfolding(crate::specs::Format::format_script))]
 pub fn format_disk<S: Shelf, K: Sink, D: Station>(
     alloc: Global,
     session: &mut Session<D>,

@@ -1,11 +1,28 @@
+//! The commands on whole disks over a session: format, copy and verify; between a disk and a flat file; a generated workload; and the
+//! rescue of a failing disk, whose log keeps what wasn't read. Each is a script: what it asks, prints and stores, part by part.
 #![tactic(auto)]
 
 mod copy;
+mod draws;
+mod exercise;
+mod export;
+mod flat_file;
 mod format;
+mod import;
+mod logs;
+mod prepare;
+mod read_tally;
+mod records;
+mod rescuing;
 mod shape;
-mod tally;
 mod verify;
+mod work;
+mod work_tally;
 
 pub use copy::copy_disk;
+pub use exercise::exercise_disk;
+pub use export::export_disk;
 pub use format::format_disk;
+pub use import::import_disk;
+pub use rescuing::rescue_disk;
 pub use verify::verify_disk;

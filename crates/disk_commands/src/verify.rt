@@ -4,20 +4,21 @@ ghost use Rattle.flop_base.specs.Shelf.{Files};
 ghost use Rattle.sector_model.specs.States.{State};
 ghost use Rattle.sector_model.specs.Faults.{Blames};
 ghost use Rattle.flop_base.specs.Standard.{sectors_at};
-ghost use Rattle.scripts.specs.Scripts.{RunsScript};
-ghost use Rattle.scripts.specs.Parts.{each, by_track};
-ghost use Rattle.scripts.specs.Leading.{Goes, Finishes, Runs, Ran, RanPart, faulty_of, with_report};
+ghost use Rattle.commands.specs.Scripts.{RunsScript};
+ghost use Rattle.commands.specs.Parts.{each, by_track};
+ghost use Rattle.commands.specs.Leading.{Goes, Finishes, Runs, Ran, RanPart, faulty_of, with_report};
 ghost use Rattle.disk_commands.specs.Disks.{sectors_of};
 ghost use Rattle.disk_commands.specs.Verify.{failure_line, tells_failure, no_reads, verifies_record, verifies_track, verify_text, reads_disk, verify_script};
 
+use crate::read_tally::Tally;
 use crate::shape::sector_count;
-use crate::tally::Tally;
+use commands::{
+    TRACK_ADDRESS, acknowledge, ask, finish, is_refusal, open_disk, reason_word, say, whole_status,
+};
 use flop_base::standard::SIZE_CODE;
 use flop_base::{Chrn, Name, Shelf, Sink, Status};
-use floppy_report::reason_word;
 use floppy_requests::Request;
 use floppy_session::{Session, Shape};
-use scripts::{TRACK_ADDRESS, acknowledge, ask, finish, is_refusal, open_disk, say, whole_status};
 use sector_model::{Reason, Reply, Station};
 use std::alloc::{AllocError, Global};
 
@@ -197,7 +198,7 @@ fn read_disk<S: Shelf, K: Sink, D: Station>(
 
 /// Reads every sector of the disk of this name. It prints a line for each that can't be read, with its cylinder, head and record and
 /// why, and at last how many were read.
-#[tactic(auto, using(scripts::proofs::Running::finished), unfolding(crate::specs::Verify::verify_script))]
+#[tactic(auto, using(commands::proofs::Running::finished), unfolding(crate::specs::Verify::verify_script))]
 pub fn verify_disk<S: Shelf, K: Sink, D: Station>(
     alloc: Global,
     session: &mut Session<D>,

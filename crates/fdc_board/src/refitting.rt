@@ -1,4 +1,4 @@
-// What is done to a drive by hand: to the notch of its medium, to the medium itself, and to the whole drive.
+// What is done to a drive by hand: to the tab of its medium, to the medium itself, and to the whole drive.
 ghost use Rattle.std.specs.Prelude.{◌≡◌, ◌≤◌, ◌-◌, ◌↔◌, Some, IsErr, OnOk, IfOk, IfErr, false};
 ghost use Rattle.drive_model.specs.Drive.{with_protection, same_length, exchanged};
 
@@ -10,7 +10,7 @@ use std::mem;
 impl<D: Inspect> FdcBoard<D> {
     ghost use Rattle.fdc_board.specs.Boards.{board_state, controller_of, drive_at, drive_held};
 
-    /// Covers the write-protect notch of the medium in a bay, or opens it. Where none is in, nothing changes.
+    /// Moves the tab of the medium in a bay, so that it is write-protected, or not. Where none is in, nothing changes.
     pub fn set_protected(&mut self, bay: u8, on: bool)
         requires { bay ≤ 1 }
         ensures controller { controller_of self.new ≡ controller_of self.old }
@@ -55,5 +55,13 @@ impl<D: Inspect> FdcBoard<D> {
         } else {
             mem::swap(&mut self.second, drive);
         }
+    }
+
+    /// The drive in a bay.
+    pub fn drive(&self, bay: u8) -> &D
+        requires { bay ≤ 1 }
+        ensures { result.now ≡ drive_held self.now bay }
+    {
+        if bay == 0 { &self.first } else { &self.second }
     }
 }

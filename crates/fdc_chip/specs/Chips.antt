@@ -75,6 +75,7 @@ pub record IsNewChip (bay0 bay1 : DriveState) (new : ChipState) : Type 0 where
   pub interrupts : new.interrupts ≡ at_rest
   pub settings : new.settings ≡ at_power_up
   pub strapped : new.strapped ≡ false
+  pub keys : new.keys ≡ 0
   pub gated : new.gated ≡ false
   pub pace : new.pace ≡ None
   pub paced : new.paced ≡ false
@@ -144,7 +145,7 @@ indexes drive = is_among (index_words (rate_of drive.medium)) (place_under drive
 -- INDEX of the drive that DOR selects; an absent drive's is low
 abbrev pub indexes_chip : ChipState → Bool
 indexes_chip chip = let bay = selected_at chip.front.board in
-    if nat_le bay 1 then indexes (drive_at chip.front.board bay) else false
+    nat_le bay 1 && indexes (drive_at chip.front.board bay)
 
 -- ---- MSR
 

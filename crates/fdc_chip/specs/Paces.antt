@@ -1,5 +1,5 @@
 -- Seeks whose pulses come in the time that SPECIFY sets.
-use Rattle.std.specs.Prelude.{◌≡◌, ℕ, ◌+◌, ◌-◌, ◌%◌, Bool, true, false, not, ◌==◌, ◌&&◌, List, [], ◌∷◌, Option, Some, None, if◌then◌else◌, nat_lt, unwrap_or}
+use Rattle.std.specs.Prelude.{◌≡◌, ℕ, ◌+◌, ◌-◌, ◌%◌, Bool, true, false, not, ◌==◌, ◌&&◌, List, [], ◌∷◌, Option, Some, None, if◌then◌else◌, nat_le, nat_lt, unwrap_or}
 use Rattle.fdc_sequencer.specs.Senses.{is_ready, sensed_outside}
 use Rattle.fdc_chip.specs.Chips.{ChipState, with_front}
 use Rattle.fdc_chip.specs.Doing.{SendsOn, moving, moves_heads}
@@ -19,7 +19,7 @@ stepped words pace = record pace {
 
 -- the time is over, and what stands behind takes the next command
 abbrev pub is_due : Pace → ChipState → Bool
-is_due pace chip = (not (nat_lt 1 pace.wait) && is_ready chip.front) && not (moves_heads chip.front)
+is_due pace chip = (nat_le pace.wait 1 && is_ready chip.front) && not (moves_heads chip.front)
 
 -- it is there by the number: the command is given behind, which ends it; else a SEEK by one cylinder is
 abbrev pub PulsesIf : Bool → Pace → ChipState → ChipState → Type 0

@@ -1,4 +1,4 @@
-// What is done to a drive by hand: to the notch of its medium, to the medium itself, and to the whole drive.
+// What is done to a drive by hand: to the tab of its medium, to the medium itself, and to the whole drive.
 ghost use Rattle.std.specs.Prelude.{◌≡◌, ◌≤◌, ◌-◌, ◌↔◌, Some, IsErr, OnOk, IfOk, IfErr, false};
 ghost use Rattle.drive_model.specs.Drive.{with_protection, same_length, exchanged};
 ghost use Rattle.fdc_board.specs.Boards.{drive_at, drive_held};
@@ -9,7 +9,7 @@ use drive_model::Inspect;
 use raw_image::Medium;
 
 impl<D: Inspect> Sequencer<D> {
-    /// Covers the write-protect notch of the medium in a bay, or opens it. Where none is in, nothing changes.
+    /// Moves the tab of the medium in a bay, so that it is write-protected, or not. Where none is in, nothing changes.
     pub fn set_protected(&mut self, bay: u8, on: bool)
         requires { bay ≤ 1 }
         ensures keeps { KeepsFront (front_state D.state self.old) (front_state D.state self.new) }
@@ -42,5 +42,13 @@ impl<D: Inspect> Sequencer<D> {
         ensures put { drive_held (board_of self.new) bay ≡ drive.old }
     {
         self.board.swap_drive(bay, drive);
+    }
+
+    /// The drive in a bay.
+    pub fn drive(&self, bay: u8) -> &D
+        requires { bay ≤ 1 }
+        ensures { result.now ≡ drive_held (board_of self.now) bay }
+    {
+        self.board.drive(bay)
     }
 }

@@ -1,7 +1,7 @@
 // What the outside says: the words of the command line, and the variable that names a plan.
 use flop_base::Status;
 use flop_outside::{FileShelf, StreamSink};
-use floppy_runs::{PLAN_VARIABLE, run_program};
+use floppy_tools::{PLAN_VARIABLE, run_program};
 use std::env;
 use std::io::ErrorKind;
 use std::rt::{Env, Files};

@@ -1,8 +1,8 @@
 -- What the attempts of a call have in common.
 use Rattle.std.proofs.Common.{◌≡◌, ◌↔◌, ℕ, ◌+◌, ◌≤◌, IsTrue, Bool, true, List, Some, IsSome, refl, sym, ap, ◌∙◌, subst, arith, inl, inr}
 use Rattle.std.proofs.lemmas.Bool.{cases_lt}
-use Rattle.retry_plan.specs.declared.Prepare.{Prepare}
-use Rattle.retry_plan.specs.declared.Prepare.TheVariants as prepare
+use Rattle.floppy_driver.specs.declared.retry_plan.Prepare.{Prepare}
+use Rattle.floppy_driver.specs.declared.retry_plan.Prepare.TheVariants as prepare
 use Rattle.flop_base.specs.Bays.{Two, in_bay}
 use Rattle.flop_base.specs.Counters.{DriveCounts, Counters, faults_of, DisturbedLess, IsUndisturbed, GoesOn}
 use Rattle.flop_base.proofs.Counted.{faults_go_on}

@@ -6,7 +6,7 @@ use Rattle.flop_base.specs.Standard.{sectors_at}
 use Rattle.flop_base.specs.declared.answers.Code.{Code}
 use Rattle.flop_base.specs.declared.answers.Code.TheVariants.{BadRequest, NoMark, Protected, NotFound, NotReady, Changed, Overrun, Page, BadCrc, Seek}
 use Rattle.raw_image.specs.Disk.{Disk, IsDisk, HasTrack}
-use Rattle.retry_plan.specs.declared.Prepare.TheVariants as prepare
+use Rattle.floppy_driver.specs.declared.retry_plan.Prepare.TheVariants as prepare
 use Rattle.flop_base.specs.Bays.{Two, in_bay}
 use Rattle.flop_base.specs.Counters.{Counters, GoesOn, IsUndisturbed, IsFaultless}
 use Rattle.flop_base.proofs.Counted.{goes_on_after, goes_on_itself, faults_go_on}

@@ -5,8 +5,8 @@ use Rattle.flop_base.specs.declared.key.Chrn.{Chrn}
 use Rattle.flop_base.specs.declared.answers.Rate.{Rate}
 use Rattle.flop_base.specs.declared.answers.Code.{Code}
 use Rattle.flop_base.specs.declared.answers.Code.TheVariants.{BadRequest, NoMark, Protected, NotFound, Changed, Overrun, Page, BadCrc, Seek, NotReady}
-use Rattle.retry_plan.specs.declared.Prepare.{Prepare}
-use Rattle.retry_plan.specs.declared.Prepare.TheVariants as prepare
+use Rattle.floppy_driver.specs.declared.retry_plan.Prepare.{Prepare}
+use Rattle.floppy_driver.specs.declared.retry_plan.Prepare.TheVariants as prepare
 use Rattle.track_model.specs.Fields.{content_size}
 use Rattle.flop_base.specs.Bays.{Two, in_bay}
 use Rattle.flop_base.specs.Counters.{DriveCounts, IsFaultless, GoesOn}

@@ -10,8 +10,8 @@ use Rattle.flop_base.specs.Memory.{bytes_from}
 use Rattle.track_model.specs.Fields.{content_size}
 use Rattle.flop_base.specs.Counters.{DriveCounts, Counters, GoesOn}
 use Rattle.flop_base.proofs.Counted.{goes_on_after, faults_go_on}
-use Rattle.retry_plan.specs.declared.Prepare.{Prepare}
-use Rattle.retry_plan.specs.declared.Prepare.TheVariants as prepare
+use Rattle.floppy_driver.specs.declared.retry_plan.Prepare.{Prepare}
+use Rattle.floppy_driver.specs.declared.retry_plan.Prepare.TheVariants as prepare
 use Rattle.sector_map.specs.Met.{met_in}
 use Rattle.sector_map.specs.Changes.{Change, Written}
 use Rattle.sector_map.proofs.Changed.{change_keeps_tracks}

@@ -2,8 +2,8 @@
 use Rattle.std.specs.Prelude.{◌≡◌, ℕ, Bool, true, false, Some, None}
 use Rattle.flop_base.specs.Bays.{in_bay}
 use Rattle.flop_base.specs.Counters.{FaultsRoseBy, FaultsRoseLess}
-use Rattle.retry_plan.specs.declared.Prepare.{Prepare}
-use Rattle.retry_plan.specs.declared.Prepare.TheVariants as prepare
+use Rattle.floppy_driver.specs.declared.retry_plan.Prepare.{Prepare}
+use Rattle.floppy_driver.specs.declared.retry_plan.Prepare.TheVariants as prepare
 use Rattle.single_commands.specs.Rigs.{Rig}
 use Rattle.single_commands.specs.Heads.{MovesHeads}
 use Rattle.floppy_driver.specs.declared.driver.Notes.{Notes}

@@ -5,9 +5,9 @@ ghost use Rattle.flop_base.specs.Counters.{DriveCounts, GoesOn};
 ghost use Rattle.single_commands.specs.Rigs.{IsSound};
 ghost use Rattle.floppy_driver.specs.Acknowledged.{ClearsChange, FindsRate};
 
+use crate::change_line::Gate;
 use crate::driver::{Driver, Notes};
 use crate::preparing::go_to_track_0;
-use change_line::Gate;
 use flop_base::{Code, Rate};
 use single_commands::Commands;
 

@@ -4,9 +4,9 @@ ghost use Rattle.flop_base.specs.declared.answers.Rate.TheVariants.{R500};
 ghost use Rattle.flop_base.specs.Bays.{in_bay};
 ghost use Rattle.flop_base.specs.Counters.{DriveCounts, GoesOn};
 
-use change_line::Gate;
+use crate::change_line::Gate;
+use crate::retry_plan::START_TRIES;
 use flop_base::{Code, Rate};
-use retry_plan::START_TRIES;
 use single_commands::Commands;
 
 /// What a driver notes of a bay.

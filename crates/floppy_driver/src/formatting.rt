@@ -12,9 +12,9 @@ ghost use Rattle.floppy_driver.specs.Formattings.{format_of, IsValidFormat, Form
 ghost use Rattle.floppy_driver.specs.Formattings.{IsFilled, IsBlankUnder, HoldsRecord, HoldsRecords, ReadsRecords};
 
 use crate::driver::Driver;
+use crate::retry_plan::Prepare;
 use flop_base::standard::SIZE_CODE;
 use flop_base::{Chrn, Code, Rate, sector_size};
-use retry_plan::Prepare;
 use sector_model::{is_place, most_format_gap};
 use single_commands::Commands;
 

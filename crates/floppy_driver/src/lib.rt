@@ -2,14 +2,19 @@
 //! that runs one command at a time.
 //!
 //! Each call is a step of the sector model, whatever faults the drives have and however long requests wait. No call takes
-//! memory, and the machine's user memory changes through its commands alone.
+//! memory, and the machine's user memory changes through its commands alone. How often it tries and how it prepares an attempt, and
+//! what it keeps of the change line, are parts that stand alone.
 #![tactic(auto)]
 
 mod acknowledging;
+mod change_line;
 mod driver;
 mod formatting;
 mod preparing;
 mod reading;
+mod retry_plan;
 mod writing;
 
+pub use change_line::Gate;
 pub use driver::Driver;
+pub use retry_plan::{Prepare, START_TRIES, preparation};

@@ -5,7 +5,7 @@ ghost use Rattle.single_commands.specs.Rigs.{IsSound};
 ghost use Rattle.floppy_driver.specs.Prepared.{GoesToTrack0};
 
 use crate::driver::{Driver, Notes};
-use retry_plan::Prepare;
+use crate::retry_plan::Prepare;
 use single_commands::Commands;
 
 /// Steps outward to track 0, once more where the first time doesn't reach it; false where neither does.

@@ -4,8 +4,8 @@ ghost use Rattle.track_model.specs.Fields.{content_size};
 ghost use Rattle.flop_base.specs.Counters.{DriveCounts, GoesOn};
 
 use crate::driver::Driver;
+use crate::retry_plan::preparation;
 use flop_base::{Chrn, Code, sector_size};
-use retry_plan::preparation;
 use sector_model::{crosses_page, is_sector_request};
 use single_commands::Commands;
 

@@ -10,8 +10,8 @@ ghost use Rattle.sector_model.specs.Asked.{IsAsked};
 ghost use Rattle.floppy_driver.specs.Writings.{AreBytesAlike, WritesChecked};
 
 use crate::driver::Driver;
+use crate::retry_plan::preparation;
 use flop_base::{Chrn, Code, Rate, sector_size};
-use retry_plan::preparation;
 use sector_model::{crosses_page, is_sector_request};
 use single_commands::Commands;
 

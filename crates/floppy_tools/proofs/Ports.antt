@@ -4,7 +4,7 @@ use Rattle.std.specs.Prelude.{IsSome}
 use Rattle.drive_model.specs.Drive.{DriveState, Becomes, with_motor}
 use Rattle.pc_bus.specs.Boards.{Board, IsEmpty}
 use Rattle.machine_station.specs.Started.{IsFreshBoard}
-use Rattle.port_commands.specs.Benches.{IsBare}
+use Rattle.text_commands.specs.Benches.{IsBare}
 
 -- a drive that was put into a new machine empty is empty
 made : (bay drive : DriveState) → IsEmpty bay → Becomes (with_motor false bay) bay drive → drive.medium ≡ None

@@ -1,2 +1,9 @@
+pub mod Programs
 pub mod Machines
 pub mod Performed
+pub mod Drives
+pub mod Plans
+pub mod PlanVariable
+pub mod Runs
+pub mod Shelves
+pub mod Words

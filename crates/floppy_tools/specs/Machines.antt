@@ -9,10 +9,10 @@ use Rattle.sector_model.specs.States.{State}
 use Rattle.machine_station.specs.Shown.{ShowsStation}
 use Rattle.machine_station.specs.Started.{Starts}
 use Rattle.floppy_words.specs.declared.form.Form.{Form}
-use Rattle.scripts.specs.Leading.{Runs}
+use Rattle.commands.specs.Leading.{Runs}
 use Rattle.archive_commands.specs.Files.{Desk}
-use Rattle.floppy_forms.specs.Rounds.{world}
-use Rattle.floppy_forms.specs.Programs.{Does}
+use Rattle.text_commands.specs.JobRounds.{world}
+use Rattle.floppy_tools.specs.Programs.{Does}
 
 -- a session before its first request, whose driver was set up on this board, with spare drives of these counts
 pub record IsSetUp (board : Board) (spares : List DriveCounts) (state : State) : Type 0 where

@@ -11,9 +11,9 @@ use Rattle.sector_model.specs.Faults.{Blames}
 use Rattle.floppy_words.specs.declared.form.Form.{Form}
 use Rattle.floppy_words.specs.Forms.{form_of, ports_file_of}
 use Rattle.archive_commands.specs.Files.{Desk, FaultyDesk, faulty_desk_of}
-use Rattle.port_commands.specs.Benches.{Names, no_names}
-use Rattle.port_commands.specs.Guards.{RunsPorts}
-use Rattle.port_commands.specs.Plays.{World}
+use Rattle.text_commands.specs.Benches.{Names, no_names}
+use Rattle.text_commands.specs.PortGuards.{RunsPorts}
+use Rattle.text_commands.specs.PortPlays.{World}
 use Rattle.floppy_tools.specs.Machines.{RunsOver}
 
 -- port accesses run on a board, over the files and the report of a desk

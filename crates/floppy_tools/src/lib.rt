@@ -1,10 +1,25 @@
-//! The program over a machine: the driver is set up on it, a session runs the requests of a form through them, and a report
-//! tells the answers. A text of port accesses runs on the machine itself, with no driver.
+//! The program: its forms over any station, over a machine on which a driver is set up, on a new machine of two drives with two spare
+//! ones, with the faults of a plan or without, and on files in memory. A report tells the answers. A text of port accesses runs on the
+//! machine itself, with no driver.
 #![tactic(auto)]
 
+mod drives;
+mod forms;
+mod laws;
+mod plan;
+mod plan_variable;
 mod program;
+mod run;
 mod session;
+mod shelf;
+mod words;
 
+pub use forms::{run_asked, run_words};
+pub use laws::{accesses_of_a_job, counts_of_a_run};
+pub use plan_variable::{PLAN_VARIABLE, ProgramEnded, run_program};
 pub use program::floppy;
+pub use run::{Ended, run_plain, run_planned};
 pub use sector_model::{Reason, Reply, Stop};
 pub use session::Session;
+pub use shelf::RunShelf;
+pub use words::{WordsError, split_words};

@@ -4,19 +4,19 @@ ghost use Rattle.pc_bus.specs.Boards.{board, IsEmpty};
 ghost use Rattle.floppy_words.specs.Forms.{form_of};
 ghost use Rattle.machine_station.specs.Shown.{all_counts};
 ghost use Rattle.machine_station.specs.Started.{IsFreshBoard};
-ghost use Rattle.port_commands.specs.Benches.{no_names};
-ghost use Rattle.port_commands.specs.Faults.{Ran, faulty_of};
-ghost use Rattle.port_commands.specs.Guards.{RunsBare};
+ghost use Rattle.text_commands.specs.Benches.{no_names};
+ghost use Rattle.text_commands.specs.PortFaults.{Ran, faulty_of};
+ghost use Rattle.text_commands.specs.PortGuards.{RunsBare};
 ghost use Rattle.floppy_tools.specs.Performed.{Performed, RanOver, stand_of};
 
+use crate::forms::run_asked;
 use crate::session::Session;
 use drive_model::Drive;
 use flop_base::{NoMemory, Shelf, Sink, Status};
-use floppy_forms::run_asked;
 use floppy_words::{form_named, ports_file};
 use pc_bus::MachineOf;
-use port_commands::run_ports;
 use std::alloc::Global;
+use text_commands::run_ports;
 
 /// Does what the words after the program's name say, on a machine that is as it was made: `play JOB` runs a job, `format NAME
 /// CYLS` and `formatdd NAME CYLS` store a formatted disk, `copy FROM TO` copies one, `verify NAME` reads all of one; `import FLAT

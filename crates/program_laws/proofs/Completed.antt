@@ -9,7 +9,7 @@ use Rattle.flop_base.specs.declared.answers.Rate.TheVariants.{R250, R500}
 use Rattle.flop_base.specs.declared.answers.Status.{Status}
 use Rattle.flop_base.specs.declared.key.Chrn.{Chrn}
 use Rattle.raw_image.specs.Disk.{Disk}
-use Rattle.flat_image.specs.Flat.{sector_place}
+use Rattle.flat_files.specs.Flat.{sector_place}
 use Rattle.sector_map.specs.Standard.{key_of}
 use Rattle.floppy_requests.specs.declared.request.Request.TheVariants as request
 use Rattle.sector_model.specs.declared.reply.Reply.{Reply}
@@ -22,21 +22,21 @@ use Rattle.sector_model.specs.Texts.{is_refusal, stop_status}
 use Rattle.sector_model.specs.Runs.{Taken, has_refusal}
 use Rattle.sector_model.specs.Plays.{World}
 use Rattle.floppy_session.specs.Blanks.{blank_request}
-use Rattle.scripts.specs.Scripts.{Asks, RunsScript}
-use Rattle.scripts.specs.Parts.{Part, asks, says, may_starve, formats}
-use Rattle.scripts.specs.Records.{record_address}
-use Rattle.scripts.proofs.Reading.{last_run}
+use Rattle.commands.specs.Scripts.{Asks, RunsScript}
+use Rattle.commands.specs.Parts.{Part, asks, says, may_starve, formats}
+use Rattle.commands.specs.Records.{record_address}
+use Rattle.commands.proofs.Reading.{last_run}
 use Rattle.disk_commands.specs.Format.{format_script, formats_disk}
 use Rattle.disk_commands.specs.Verify.{no_reads, one_more, tells_failure, verifies_record, verifies_track, verify_script, reads_disk}
 use Rattle.disk_commands.specs.Copy.{write_request, no_marks, reads_record, writes_record, copies_track, copy_script, makes_copy, copies_disk}
-use Rattle.flat_commands.specs.FlatFiles.{IsFlatFile, IsFlatFound, IsNotTaken}
-use Rattle.flat_commands.specs.Import.{Imports, import_script, fills_byte, fills_record, fills_track, writes_track, imports_track}
-use Rattle.flat_commands.specs.Import as import
-use Rattle.flat_commands.specs.Export.{export_script, reads_track}
-use Rattle.flat_commands.specs.Export as export
-use Rattle.flat_commands.specs.Exercise.{exercise_script, no_work, counted, reads_work, writes_work, works_drawn, works_behind, works}
-use Rattle.flat_commands.specs.Exercise as exercise
-use Rattle.flat_commands.specs.Workload.{number_after}
+use Rattle.disk_commands.specs.FlatFiles.{IsFlatFile, IsFlatFound, IsNotTaken}
+use Rattle.disk_commands.specs.Import.{Imports, import_script, fills_byte, fills_record, fills_track, writes_track, imports_track}
+use Rattle.disk_commands.specs.Import as import
+use Rattle.disk_commands.specs.Export.{export_script, reads_track}
+use Rattle.disk_commands.specs.Export as export
+use Rattle.disk_commands.specs.Exercise.{exercise_script, no_work, counted, reads_work, writes_work, works_drawn, works_behind, works}
+use Rattle.disk_commands.specs.Exercise as exercise
+use Rattle.disk_commands.specs.Workload.{number_after}
 use Rattle.command_laws.proofs.VerifyRun.{Tally}
 use Rattle.command_laws.proofs.FlatEnds.{taken_flat}
 use Rattle.program_laws.proofs.Telling.{EndsBy, Came, NeverInserts, end_by, IsFaithful, prints_by, script_tells, opens_tells, needs_tells, PartTells, PartEnds, carries_tells, acknowledges_tells, each_tells, tracks_tell}

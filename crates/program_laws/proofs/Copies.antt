@@ -14,7 +14,7 @@ use Rattle.machine_station.specs.Shown.{ShowsStation}
 use Rattle.machine_station.specs.Started.{Starts}
 use Rattle.archive_commands.specs.Files.{Desk}
 use Rattle.floppy_words.specs.declared.form.Form.TheVariants as form
-use Rattle.floppy_forms.specs.Rounds.{world}
+use Rattle.text_commands.specs.JobRounds.{world}
 use Rattle.floppy_tools.specs.Machines.{RunsOver}
 use Rattle.command_laws.specs.Copied.{IsSure, StoresCopy}
 use Rattle.command_laws.specs.EndsComplete.{HaveSameSector}

@@ -9,19 +9,19 @@ use Rattle.floppy_jobs.specs.declared.calls.CallLine.{CallLine}
 use Rattle.sector_model.specs.States.{State}
 use Rattle.sector_model.specs.Runs.{Taken, Run}
 use Rattle.sector_model.specs.Plays.{World, Plays, There, Missing, TooLong, Faulty, Starved, PlaysParsed, PlaysRequests, Played, Stopped, BrokenOff, EndStopped}
-use Rattle.scripts.specs.Scripts.{Script, RunsScript}
-use Rattle.scripts.proofs.Running.{HasRun, script_ran}
-use Rattle.scripts.proofs.Running as has
-use Rattle.scripts.proofs.Passed.{run_both}
-use Rattle.bios_commands.specs.Rounds.{Breaks, AtStop, AtPut, course_of}
-use Rattle.bios_commands.specs.Courses.{ServesCalls, ServesParsed, ServesLines}
-use Rattle.bios_commands.specs.Courses as calls
-use Rattle.bios_commands.proofs.Ran.{line_run, rounds_run}
+use Rattle.commands.specs.Scripts.{Script, RunsScript}
+use Rattle.commands.proofs.Running.{HasRun, script_ran}
+use Rattle.commands.proofs.Running as has
+use Rattle.commands.proofs.Passed.{run_both}
+use Rattle.text_commands.specs.CallRounds.{Breaks, AtStop, AtPut, course_of}
+use Rattle.text_commands.specs.CallCourses.{ServesCalls, ServesParsed, ServesLines}
+use Rattle.text_commands.specs.CallCourses as calls
+use Rattle.text_commands.proofs.RanCalls.{line_run, rounds_run}
 use Rattle.archive_commands.specs.Files.{Desk}
 use Rattle.floppy_words.specs.declared.form.Form.{Form}
 use Rattle.floppy_words.specs.declared.form.Form.TheVariants as form
-use Rattle.floppy_forms.specs.Rounds.{world}
-use Rattle.floppy_forms.specs.Programs.{DoesForm, DoesOrStarves, AsAsked, StarvesWords}
+use Rattle.text_commands.specs.JobRounds.{world}
+use Rattle.floppy_tools.specs.Programs.{DoesForm, DoesOrStarves, AsAsked, StarvesWords}
 use Rattle.floppy_tools.specs.Machines.{RunsOver}
 
 -- the steps of a course were taken one after the other

@@ -13,14 +13,14 @@ use Rattle.sector_map.specs.Disks.{IsRegularDisk}
 use Rattle.sector_model.specs.Steps.{IsImageOf}
 use Rattle.rescue.specs.Course.{logged_keys}
 use Rattle.rescue.specs.declared.line.LogLine.{LogLine}
-use Rattle.rescue_commands.specs.Logs.{IsLogFound}
+use Rattle.disk_commands.specs.Logs.{IsLogFound}
 use Rattle.sector_model.specs.Plays.{World}
-use Rattle.flat_commands.specs.FlatFiles.{IsFlatFile}
-use Rattle.scripts.specs.Leading.{Runs}
+use Rattle.disk_commands.specs.FlatFiles.{IsFlatFile}
+use Rattle.commands.specs.Leading.{Runs}
 use Rattle.floppy_words.specs.declared.form.Form.{Form}
 use Rattle.floppy_words.specs.declared.form.Form.TheVariants as form
-use Rattle.floppy_forms.specs.Rounds.{world}
-use Rattle.floppy_forms.specs.Programs.{DoesForm}
+use Rattle.text_commands.specs.JobRounds.{world}
+use Rattle.floppy_tools.specs.Programs.{DoesForm}
 use Rattle.floppy_tools.specs.Machines.{RunsOver}
 use Rattle.floppy_tools.specs.Performed.{Stand, RanOver}
 use Rattle.command_laws.specs.Formatted.{StoresFormatted}

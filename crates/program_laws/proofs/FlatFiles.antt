@@ -9,7 +9,7 @@ use Rattle.sector_model.specs.Steps.{IsImageOf}
 use Rattle.pc_bus.specs.Boards.{Board}
 use Rattle.archive_commands.specs.Files.{Desk}
 use Rattle.floppy_words.specs.declared.form.Form.TheVariants as form
-use Rattle.floppy_forms.specs.Rounds.{world}
+use Rattle.text_commands.specs.JobRounds.{world}
 use Rattle.floppy_tools.specs.Machines.{RunsOver}
 use Rattle.command_laws.specs.Copied.{IsSure}
 use Rattle.command_laws.specs.Imported.{StoresImported}

@@ -9,11 +9,11 @@ use Rattle.sector_model.specs.Faults.{Blames}
 use Rattle.sector_model.specs.States.{State}
 use Rattle.sector_model.specs.Runs.{Taken}
 use Rattle.sector_model.specs.Plays.{World}
-use Rattle.job_completeness.specs.Determined.{AreBytes, BeginAlike, AreRegularBefore, AnswersAgree, IsFreeEnd, EndAlike, EndAlikeUnlessFree}
-use Rattle.job_completeness.proofs.PlaysAgree.{answers_determined}
+use Rattle.program_laws.specs.Determined.{AreBytes, BeginAlike, AreRegularBefore, AnswersAgree, IsFreeEnd, EndAlike, EndAlikeUnlessFree}
+use Rattle.program_laws.proofs.PlaysAgree.{answers_determined}
 use Rattle.floppy_words.specs.declared.form.Form.TheVariants as form
-use Rattle.floppy_forms.specs.Rounds.{world}
-use Rattle.floppy_forms.specs.Programs.{DoesOrStarves, AsAsked, StarvesWords}
+use Rattle.text_commands.specs.JobRounds.{world}
+use Rattle.floppy_tools.specs.Programs.{DoesOrStarves, AsAsked, StarvesWords}
 use Rattle.floppy_tools.specs.Performed.{Stand, RanOver}
 use Rattle.program_laws.specs.Disturbed.{IsSound}
 use Rattle.program_laws.specs.Ends.{EndsOutside}

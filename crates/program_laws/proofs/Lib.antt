@@ -33,3 +33,18 @@ mod Verifies
 mod FormWords
 mod SeekOrData
 mod UsedMachines
+pub mod AcksAgree
+pub mod AfterDisks
+pub mod AlikeDisks
+pub mod AlikeFiles
+pub mod CallsAgree
+pub mod Calm
+pub mod CutTracks
+pub mod FormatsAgree
+pub mod PlaysAgree
+pub mod RunsAgree
+pub mod Sees
+pub mod Shown
+pub mod StepsAgree
+pub mod Takes
+pub mod WritesAgree

@@ -6,11 +6,11 @@ use Rattle.flop_base.specs.Counters.{DriveCounts}
 use Rattle.pc_bus.specs.Boards.{Board}
 use Rattle.sector_model.specs.Runs.{Taken}
 use Rattle.sector_model.specs.Plays.{World}
-use Rattle.scripts.specs.Leading.{Runs}
+use Rattle.commands.specs.Leading.{Runs}
 use Rattle.archive_commands.specs.Files.{Desk}
 use Rattle.floppy_words.specs.declared.form.Form.{Form}
-use Rattle.floppy_forms.specs.Rounds.{world}
-use Rattle.floppy_forms.specs.Programs.{DoesForm, DoesOrStarves, AsAsked, StarvesWords}
+use Rattle.text_commands.specs.JobRounds.{world}
+use Rattle.floppy_tools.specs.Programs.{DoesForm, DoesOrStarves, AsAsked, StarvesWords}
 use Rattle.floppy_tools.specs.Machines.{RunsOver}
 
 asked_or_starved : (asked : Form) (old new : World) (course : List Taken) (ended : Status)

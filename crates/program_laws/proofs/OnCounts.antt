@@ -8,8 +8,8 @@ use Rattle.sector_model.specs.Ties.{TiesCounts, IsJob, accesses_of_job}
 use Rattle.archive_commands.specs.Files.{Desk}
 use Rattle.floppy_words.specs.declared.form.Form.{Form}
 use Rattle.floppy_words.specs.declared.form.Form.TheVariants as form
-use Rattle.floppy_forms.specs.Rounds.{world}
-use Rattle.floppy_forms.proofs.Tied.{does_ties, job_accesses}
+use Rattle.text_commands.specs.JobRounds.{world}
+use Rattle.floppy_tools.proofs.Tied.{does_ties, job_accesses}
 use Rattle.floppy_tools.specs.Machines.{RunsOver}
 
 pub over_ties : (asked : Option Form) (spares : List DriveCounts) (old new : Board) (before after : Desk) (ended : Status)

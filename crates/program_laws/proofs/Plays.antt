@@ -17,8 +17,8 @@ use Rattle.sector_model.specs.Runs.{Taken, requests_of, course_lines, has_refusa
 use Rattle.sector_model.specs.Plays.{World, Plays, There, Missing, TooLong, Faulty, Starved, PlaysParsed, PlaysRequests, Played, Stopped, BrokenOff, EndStopped, Prints, Whole, Part, IsText, most_job_bytes, whole_status}
 use Rattle.archive_commands.specs.Files.{Desk}
 use Rattle.floppy_words.specs.declared.form.Form.TheVariants as form
-use Rattle.floppy_forms.specs.Programs.{DoesOrStarves, AsAsked, StarvesWords}
-use Rattle.floppy_forms.specs.Rounds.{world}
+use Rattle.floppy_tools.specs.Programs.{DoesOrStarves, AsAsked, StarvesWords}
+use Rattle.text_commands.specs.JobRounds.{world}
 use Rattle.floppy_tools.specs.Machines.{RunsOver}
 use Rattle.command_laws.specs.VerifyRuns.{IsEndStatus}
 use Rattle.command_laws.proofs.VerifyRun.{not_put, not_stop}

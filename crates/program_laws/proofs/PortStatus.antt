@@ -21,12 +21,12 @@ use Rattle.sector_model.specs.Runs.{IsEndStop}
 use Rattle.sector_model.specs.Plays.{IsText, most_job_bytes}
 use Rattle.floppy_words.specs.Forms.{ports_file_of}
 use Rattle.floppy_tools.specs.Performed.{Stand, Performed, ports_world}
-use Rattle.port_commands.specs.declared.answer.Answer.{Answer}
-use Rattle.port_commands.specs.declared.answer.Answer.TheVariants as answer
-use Rattle.port_commands.specs.Benches.{Bench, no_names}
-use Rattle.port_commands.specs.Courses.{Taken, PortRun, lines_of, has_refusal}
-use Rattle.port_commands.specs.Lines.{DoesLine, StopsAt, KeepsMedia, LoadsMedium, StoresMedium, IsRefused, insert_refusal, eject_refusal}
-use Rattle.port_commands.specs.Plays.{World, PlaysLines, Played, Stopped, BrokenOff, EndStopped, PlaysParsed, Plays, There, Missing, TooLong, Faulty, Starved}
+use Rattle.text_commands.specs.declared.ports.answer.Answer.{Answer}
+use Rattle.text_commands.specs.declared.ports.answer.Answer.TheVariants as answer
+use Rattle.text_commands.specs.Benches.{Bench, no_names}
+use Rattle.text_commands.specs.PortCourses.{Taken, PortRun, lines_of, has_refusal}
+use Rattle.text_commands.specs.PortLines.{DoesLine, StopsAt, KeepsMedia, LoadsMedium, StoresMedium, IsRefused, insert_refusal, eject_refusal}
+use Rattle.text_commands.specs.PortPlays.{World, PlaysLines, Played, Stopped, BrokenOff, EndStopped, PlaysParsed, Plays, There, Missing, TooLong, Faulty, Starved}
 use Rattle.program_laws.specs.Ends.{EndsByReplies}
 use Rattle.program_laws.specs.Inserted.{IsDiskFile, Names, named_by, is_free, IsStoredBy, HoldsBy, InsertsDisks, media_among}
 use Rattle.program_laws.proofs.Telling.{EndsBy, whole_by, put_by, prints_by, end_by}

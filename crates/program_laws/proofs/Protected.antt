@@ -23,11 +23,11 @@ use Rattle.sector_model.specs.Orders.{is_bay}
 use Rattle.sector_model.specs.Steps.{Step, StoresMedium, IsImageOf, refusal_of, spare_refusal, is_loaded, most_image_bytes}
 use Rattle.sector_model.specs.Runs.{Taken, Run, requests_of, Ends, EndsBay, Stored, Left, EndStopsAt, AtFirst, AtSecond}
 use Rattle.sector_model.specs.Plays.{World, Plays, There, Missing, TooLong, Faulty, Starved, PlaysParsed, PlaysRequests, Played, Stopped, BrokenOff, EndStopped}
-use Rattle.scripts.proofs.Passed.{run_both}
+use Rattle.commands.proofs.Passed.{run_both}
 use Rattle.archive_commands.specs.Files.{Desk}
 use Rattle.floppy_words.specs.declared.form.Form.TheVariants as form
-use Rattle.floppy_forms.specs.Rounds.{world}
-use Rattle.floppy_forms.specs.Programs.{DoesOrStarves, AsAsked, StarvesWords}
+use Rattle.text_commands.specs.JobRounds.{world}
+use Rattle.floppy_tools.specs.Programs.{DoesOrStarves, AsAsked, StarvesWords}
 use Rattle.floppy_tools.specs.Machines.{RunsOver}
 use Rattle.command_laws.proofs.Verified.{one_image}
 use Rattle.program_laws.specs.Inserted.{Names}

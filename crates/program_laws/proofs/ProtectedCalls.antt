@@ -10,15 +10,15 @@ use Rattle.sector_model.specs.States.{State}
 use Rattle.sector_model.specs.Steps.{IsImageOf}
 use Rattle.sector_model.specs.Runs.{Taken, Run, requests_of}
 use Rattle.sector_model.specs.Plays.{World}
-use Rattle.scripts.proofs.Passed.{run_both}
-use Rattle.bios_commands.specs.Rounds.{Breaks, AtStop, AtPut, course_of}
-use Rattle.bios_commands.specs.Courses.{ServesCalls, ServesParsed, ServesLines}
-use Rattle.bios_commands.specs.Courses as calls
-use Rattle.bios_commands.proofs.Ran.{line_run, rounds_run}
+use Rattle.commands.proofs.Passed.{run_both}
+use Rattle.text_commands.specs.CallRounds.{Breaks, AtStop, AtPut, course_of}
+use Rattle.text_commands.specs.CallCourses.{ServesCalls, ServesParsed, ServesLines}
+use Rattle.text_commands.specs.CallCourses as calls
+use Rattle.text_commands.proofs.RanCalls.{line_run, rounds_run}
 use Rattle.archive_commands.specs.Files.{Desk}
 use Rattle.floppy_words.specs.declared.form.Form.TheVariants as form
-use Rattle.floppy_forms.specs.Rounds.{world}
-use Rattle.floppy_forms.specs.Programs.{DoesOrStarves, AsAsked, StarvesWords}
+use Rattle.text_commands.specs.JobRounds.{world}
+use Rattle.floppy_tools.specs.Programs.{DoesOrStarves, AsAsked, StarvesWords}
 use Rattle.floppy_tools.specs.Machines.{RunsOver}
 use Rattle.program_laws.specs.Guarded.{BlanksNone}
 use Rattle.program_laws.proofs.Protected.{IsStored, HasImage, image_in, still, course_kept, ends_kept, end_stopped, begun}

@@ -11,11 +11,11 @@ use Rattle.sector_model.specs.Faults.{Blames}
 use Rattle.sector_model.specs.Runs.{Taken, has_refusal}
 use Rattle.sector_model.specs.Steps.{IsImageOf}
 use Rattle.sector_model.specs.Plays.{World}
-use Rattle.flat_commands.specs.FlatFiles.{IsFlatFile}
+use Rattle.disk_commands.specs.FlatFiles.{IsFlatFile}
 use Rattle.floppy_words.specs.declared.form.Form.{Form}
 use Rattle.floppy_words.specs.declared.form.Form.TheVariants as form
-use Rattle.floppy_forms.specs.Rounds.{world}
-use Rattle.floppy_forms.specs.Programs.{DoesForm, DoesOrStarves, AsAsked, StarvesWords}
+use Rattle.text_commands.specs.JobRounds.{world}
+use Rattle.floppy_tools.specs.Programs.{DoesForm, DoesOrStarves, AsAsked, StarvesWords}
 use Rattle.floppy_tools.specs.Performed.{Stand, RanOver}
 use Rattle.program_laws.specs.Ends.{EndsByReplies}
 use Rattle.program_laws.proofs.Telling.{EndsBy}
@@ -24,7 +24,7 @@ use Rattle.program_laws.proofs.RescueStatus.{rescue_by}
 use Rattle.program_laws.proofs.RescueAgain.{rescue_again_by}
 use Rattle.flop_base.specs.Standard.{sectors_at}
 use Rattle.rescue.specs.declared.line.LogLine.{LogLine}
-use Rattle.rescue_commands.specs.Logs.{IsLogFound}
+use Rattle.disk_commands.specs.Logs.{IsLogFound}
 use Rattle.program_laws.proofs.PlayStatus.{play_by, begins_kept}
 use Rattle.program_laws.specs.Inserted.{IsDiskFile, InsertsDisks}
 use Rattle.flop_base.specs.Bays.{both}

@@ -18,14 +18,14 @@ use Rattle.sector_model.specs.Runs.{Taken, has_refusal, IsEndStop}
 use Rattle.sector_model.specs.Plays.{World}
 use Rattle.floppy_session.specs.declared.shape.Shape.{Shape}
 use Rattle.floppy_session.specs.Shapes.{shape_of}
-use Rattle.scripts.specs.Scripts.{Script, Fails, RunsScript, unless_refused}
-use Rattle.scripts.specs.Parts.{needs, carries, may_starve, no_tracks, shape_at, opens, through}
-use Rattle.scripts.specs.Leading.{with_report}
+use Rattle.commands.specs.Scripts.{Script, Fails, RunsScript, unless_refused}
+use Rattle.commands.specs.Parts.{needs, carries, may_starve, no_tracks, shape_at, opens, through}
+use Rattle.commands.specs.Leading.{with_report}
 use Rattle.rescue.specs.Course.{logged_keys}
 use Rattle.rescue.specs.declared.line.LogLine.{LogLine}
-use Rattle.rescue_commands.specs.Logs.{IsLogFound, IsFound}
-use Rattle.rescue_commands.proofs.Rests.{by_log}
-use Rattle.rescue_commands.specs.Rescue.{rescues, acknowledges_both, prepares_old, prepares, rescues_all, rescue_found, rescue_rest, Rescues}
+use Rattle.disk_commands.specs.Logs.{IsLogFound, IsFound}
+use Rattle.disk_commands.proofs.RescueRests.{by_log}
+use Rattle.disk_commands.specs.Rescue.{rescues, acknowledges_both, prepares_old, prepares, rescues_all, rescue_found, rescue_rest, Rescues}
 use Rattle.command_laws.proofs.PutIn.{put_shape}
 use Rattle.command_laws.proofs.Steps.{done_does}
 use Rattle.program_laws.proofs.Telling.{EndsBy, IsFaithful, acknowledges_tells, prints_by, end_by, script_tells, unrefused}

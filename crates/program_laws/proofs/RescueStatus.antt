@@ -21,14 +21,14 @@ use Rattle.sector_model.specs.Runs.{Taken, has_refusal}
 use Rattle.sector_model.specs.Plays.{World, whole_status}
 use Rattle.floppy_session.specs.Blanks.{blank_request}
 use Rattle.floppy_session.specs.declared.shape.Shape.{Shape}
-use Rattle.scripts.specs.Scripts.{Script}
-use Rattle.scripts.specs.Parts.{asks, carries, may_starve, through, formats}
+use Rattle.commands.specs.Scripts.{Script}
+use Rattle.commands.specs.Parts.{asks, carries, may_starve, through, formats}
 use Rattle.rescue.specs.Course.{write_of}
 use Rattle.rescue.specs.declared.line.LogLine.{LogLine}
-use Rattle.rescue_commands.specs.Logs.{IsFound}
-use Rattle.rescue_commands.specs.Rescue.{does_next, follows, rescues, acknowledges_both, prepares_new, prepares, asked_keys, outcome_of, rescues_all, stores_log, rescue_found, rescue_rest, Rescues}
+use Rattle.disk_commands.specs.Logs.{IsFound}
+use Rattle.disk_commands.specs.Rescue.{does_next, follows, rescues, acknowledges_both, prepares_new, prepares, asked_keys, outcome_of, rescues_all, stores_log, rescue_found, rescue_rest, Rescues}
 use Rattle.rescue.specs.Course.{outcome_status}
-use Rattle.rescue_commands.proofs.Rests.{by_absent}
+use Rattle.disk_commands.proofs.RescueRests.{by_absent}
 use Rattle.program_laws.proofs.Telling.{EndsBy, NeverInserts, IsFaithful, PartTells, opens_tells, carries_tells, carries_tells_at, acknowledges_tells, tracks_tell, or_none, some_whole}
 use Rattle.program_laws.proofs.Completed.{blank_never, format_never}
 

@@ -7,8 +7,8 @@ use Rattle.sector_model.specs.Runs.{Taken}
 use Rattle.sector_model.specs.Plays.{World}
 use Rattle.archive_commands.specs.Files.{Desk}
 use Rattle.floppy_words.specs.declared.form.Form.TheVariants as form
-use Rattle.floppy_forms.specs.Rounds.{world}
-use Rattle.floppy_forms.specs.Programs.{DoesOrStarves, AsAsked, StarvesWords}
+use Rattle.text_commands.specs.JobRounds.{world}
+use Rattle.floppy_tools.specs.Programs.{DoesOrStarves, AsAsked, StarvesWords}
 use Rattle.floppy_tools.specs.Machines.{RunsOver}
 use Rattle.rescue.specs.declared.line.LogLine.{LogLine}
 use Rattle.command_laws.specs.Rescued.{log_of, StoresInOrder, Nothing}
@@ -21,7 +21,7 @@ use Rattle.flop_base.specs.Standard.{sectors_at}
 use Rattle.flop_base.specs.Memory.{user_bytes}
 use Rattle.flop_base.specs.Counters.{IsFaultless, IsUndisturbed}
 use Rattle.sector_model.specs.States.{State}
-use Rattle.rescue_commands.specs.Logs.{IsLogFound}
+use Rattle.disk_commands.specs.Logs.{IsLogFound}
 use Rattle.command_laws.specs.Rescued.{BringsUpNoMark, HasTarget, IsTarget, IsRescue}
 use Rattle.std.proofs.Common.{◌≡◌, Option, subst}
 use Rattle.std.specs.Prelude.{IfSome}

@@ -20,9 +20,9 @@ use Rattle.rescue.specs.Course.{logged_keys, outcome_status}
 use Rattle.rescue.specs.Log.{IsLogLine, IsLog, log_text}
 use Rattle.rescue.specs.declared.line.LogLine.{LogLine}
 use Rattle.rescue.proofs.LawLemmas.{one_spelling}
-use Rattle.rescue_commands.specs.Logs.{IsLogFound, most_log_bytes}
-use Rattle.rescue_commands.specs.Rescue.{asked_keys}
-use Rattle.floppy_forms.specs.Rounds.{world}
+use Rattle.disk_commands.specs.Logs.{IsLogFound, most_log_bytes}
+use Rattle.disk_commands.specs.Rescue.{asked_keys}
+use Rattle.text_commands.specs.JobRounds.{world}
 use Rattle.command_laws.specs.Copied.{IsFieldOf}
 use Rattle.command_laws.specs.LaidFields.{HasLaidFields}
 use Rattle.command_laws.specs.Rescued.{IsSettled, GivesFields, StoresRescue, TellsRescue, IsNotFound, count_writes, outcome_in, log_of, entry_at}

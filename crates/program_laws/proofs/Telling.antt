@@ -20,9 +20,9 @@ use Rattle.sector_model.specs.Texts.{stop_status, is_refusal}
 use Rattle.sector_model.specs.Runs.{Taken, has_refusal, IsEndStop}
 use Rattle.sector_model.specs.Plays.{World, Prints, Whole, Part as InPart, IsPutFault, whole_status}
 use Rattle.floppy_session.specs.declared.shape.Shape.{Shape}
-use Rattle.scripts.specs.Scripts.{Script, Ends, Says, Asks, Stores, MayStarve, Fails, RunsScript, StoresLast, IsStored, NotStored, IsStoreFault, unless_refused}
-use Rattle.scripts.specs.Parts.{Part, needs, carries, shape_at, opens, sets_rate, acknowledges, through, each, by_track}
-use Rattle.scripts.specs.Leading.{with_report}
+use Rattle.commands.specs.Scripts.{Script, Ends, Says, Asks, Stores, MayStarve, Fails, RunsScript, StoresLast, IsStored, NotStored, IsStoreFault, unless_refused}
+use Rattle.commands.specs.Parts.{Part, needs, carries, shape_at, opens, sets_rate, acknowledges, through, each, by_track}
+use Rattle.commands.specs.Leading.{with_report}
 use Rattle.command_laws.proofs.Bays.{insert_stops}
 
 -- a status by whether some reply was a refusal, or one that the outside gives

@@ -18,18 +18,18 @@ use Rattle.sector_model.specs.States.{State}
 use Rattle.sector_model.specs.Texts.{is_refusal, stop_status}
 use Rattle.sector_model.specs.Runs.{Taken}
 use Rattle.sector_model.specs.Plays.{World, Prints, Whole, Part as InPart}
-use Rattle.floppy_report.specs.LastLines.{stopped_text}
+use Rattle.commands.specs.LastLines.{stopped_text}
 use Rattle.floppy_session.specs.Blanks.{blank_request}
 use Rattle.floppy_session.specs.declared.shape.Shape.{Shape}
-use Rattle.scripts.specs.Scripts.{Script, Ends, Asks, Stores, MayStarve, Fails, RunsScript, unless_refused}
-use Rattle.scripts.specs.Parts.{Part, asks, needs, carries, may_starve, shape_at, opens, sets_rate, acknowledges, through, each, by_track, formats}
-use Rattle.scripts.specs.Leading.{with_report}
-use Rattle.scripts.proofs.Reading.{last_run, last_stored, last_failed}
+use Rattle.commands.specs.Scripts.{Script, Ends, Asks, Stores, MayStarve, Fails, RunsScript, unless_refused}
+use Rattle.commands.specs.Parts.{Part, asks, needs, carries, may_starve, shape_at, opens, sets_rate, acknowledges, through, each, by_track, formats}
+use Rattle.commands.specs.Leading.{with_report}
+use Rattle.commands.proofs.Reading.{last_run, last_stored, last_failed}
 use Rattle.rescue.specs.Log.{log_text}
 use Rattle.rescue.specs.Course.{read_of, write_of, outcome_status}
 use Rattle.rescue.specs.declared.line.LogLine.{LogLine}
-use Rattle.rescue_commands.specs.Rescue.{does_next, follows, rescues, acknowledges_both, prepares_new, prepares_old, prepares, asked_keys, outcome_of, last_text, rescues_all, stores_log, rescue_found, rescue_rest, Rescues}
-use Rattle.rescue_commands.proofs.Rests.{by_rest}
+use Rattle.disk_commands.specs.Rescue.{does_next, follows, rescues, acknowledges_both, prepares_new, prepares_old, prepares, asked_keys, outcome_of, last_text, rescues_all, stores_log, rescue_found, rescue_rest, Rescues}
+use Rattle.disk_commands.proofs.RescueRests.{by_rest}
 use Rattle.command_laws.specs.VerifyRuns.{IsEndStatus}
 use Rattle.command_laws.specs.Rescued.{IsNotStopped}
 use Rattle.command_laws.proofs.VerifyRun.{not_put, not_stop}

@@ -26,13 +26,13 @@ use Rattle.machine_station.specs.Started.{IsFreshBoard}
 use Rattle.sector_model.specs.declared.reply.Reason.{Reason}
 use Rattle.floppy_words.specs.Forms.{ports_file_of}
 use Rattle.floppy_tools.specs.Performed.{Stand, Performed, ports_world}
-use Rattle.port_commands.specs.declared.answer.Answer.{Answer}
-use Rattle.port_commands.specs.declared.answer.Answer.TheVariants as answer
-use Rattle.port_commands.specs.Benches.{Bench, no_names}
-use Rattle.port_commands.specs.Courses.{Taken, PortRun}
-use Rattle.port_commands.specs.Finishes.{EndInTime}
-use Rattle.port_commands.specs.Lines.{DoesLine, LoadsMedium, StoresMedium, IsRefused, insert_refusal, eject_refusal}
-use Rattle.port_commands.specs.Plays.{World, PlaysLines, Played, Stopped, BrokenOff, EndStopped, PlaysParsed, Plays, There, Missing, TooLong, Faulty, Starved}
+use Rattle.text_commands.specs.declared.ports.answer.Answer.{Answer}
+use Rattle.text_commands.specs.declared.ports.answer.Answer.TheVariants as answer
+use Rattle.text_commands.specs.Benches.{Bench, no_names}
+use Rattle.text_commands.specs.PortCourses.{Taken, PortRun}
+use Rattle.text_commands.specs.PortFinishes.{EndInTime}
+use Rattle.text_commands.specs.PortLines.{DoesLine, LoadsMedium, StoresMedium, IsRefused, insert_refusal, eject_refusal}
+use Rattle.text_commands.specs.PortPlays.{World, PlaysLines, Played, Stopped, BrokenOff, EndStopped, PlaysParsed, Plays, There, Missing, TooLong, Faulty, Starved}
 use Rattle.program_laws.specs.Seeks.{IsUsed, NotBoth, SeeksEnd}
 use Rattle.program_laws.proofs.SeekOrData.{goes_apart}
 

@@ -22,7 +22,7 @@ use Rattle.sector_model.specs.Plays.{whole_status}
 use Rattle.pc_bus.specs.Boards.{Board}
 use Rattle.archive_commands.specs.Files.{Desk}
 use Rattle.floppy_words.specs.declared.form.Form.TheVariants as form
-use Rattle.floppy_forms.specs.Rounds.{world}
+use Rattle.text_commands.specs.JobRounds.{world}
 use Rattle.floppy_tools.specs.Machines.{RunsOver}
 use Rattle.command_laws.specs.Verified.{IsUnmistaken, told_of, all_told_of}
 use Rattle.command_laws.specs.VerifyRuns.{IsEndStatus}

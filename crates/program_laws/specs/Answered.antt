@@ -13,7 +13,7 @@ use Rattle.sector_model.specs.Plays.{World, IsText, whole_status}
 use Rattle.sector_model.specs.Ties.{IsJob}
 use Rattle.floppy_jobs.specs.Texts.{calls_of}
 use Rattle.floppy_jobs.specs.declared.calls.CallLine.{CallLine}
-use Rattle.bios_commands.specs.Rounds.{Round, AreRounds, lines_of, course_of, rounds_lines, has_refused}
+use Rattle.text_commands.specs.CallRounds.{Round, AreRounds, lines_of, course_of, rounds_lines, has_refused}
 
 -- the lines of the replies to requests, one after the other
 abbrev pub replies_lines : List Request → List Reply → List (List ℕ)

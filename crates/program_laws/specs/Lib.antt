@@ -9,3 +9,4 @@ pub mod Inserted
 pub mod InTurn
 pub mod Guarded
 pub mod Seeks
+pub mod Determined

@@ -7,8 +7,8 @@ use Rattle.machine_laws.specs.OnSteps.Ends.{HasNoSeek, seeks}
 use Rattle.machine_station.specs.Started.{IsFreshBoard}
 use Rattle.pc_bus.specs.Boards.{Board}
 use Rattle.pc_bus.specs.Calls.{AreCalled}
-use Rattle.port_commands.specs.Courses.{Taken, waits_of}
-use Rattle.port_commands.specs.Finishes.{Comes}
+use Rattle.text_commands.specs.PortCourses.{Taken, waits_of}
+use Rattle.text_commands.specs.PortFinishes.{Comes}
 
 -- a machine was made, and then used by whatever calls
 pub record IsUsed (board : Board) : Type 0 where

@@ -9,15 +9,15 @@ use Rattle.track_model.specs.Laid.{IsLaid}
 use Rattle.track_model.specs.Sectors.{IsSector as IsSectorOf}
 use Rattle.sector_map.specs.Disks.{IsRegularDisk}
 use Rattle.sector_map.specs.Standard.{key_of}
-use Rattle.flat_image.specs.Flat.{IsSector, flat_length}
+use Rattle.flat_files.specs.Flat.{IsSector, flat_length}
 use Rattle.pc_bus.specs.Boards.{Board}
 use Rattle.track_model.specs.declared.Look.{Look}
 use Rattle.sector_map.specs.Failing.{AreFailing}
 use Rattle.floppy_session.specs.Shapes.{shape_of}
 use Rattle.rescue.specs.Log.{log_text}
 use Rattle.rescue.specs.declared.line.LogLine.{LogLine}
-use Rattle.rescue_commands.specs.Logs.{IsLogFound}
-use Rattle.rescue_commands.specs.Rescue.{asked_keys}
+use Rattle.disk_commands.specs.Logs.{IsLogFound}
+use Rattle.disk_commands.specs.Rescue.{asked_keys}
 use Rattle.command_laws.specs.LaidFields.{HasLaidFields}
 use Rattle.command_laws.specs.Rescued.{failing_lines}
 use Rattle.command_laws.specs.Verified.{IsStandardKey}

@@ -8,7 +8,7 @@ use Rattle.raw_image.specs.Disk.{Disk}
 use Rattle.floppy_requests.specs.declared.request.Request.{Request}
 use Rattle.sector_model.specs.declared.reply.Reason.{Reason}
 use Rattle.sector_model.specs.Plays.{whole_status}
-use Rattle.floppy_report.specs.LastLines.{stopped_text}
+use Rattle.commands.specs.LastLines.{stopped_text}
 use Rattle.floppy_session.specs.Shapes.{shape_of}
 use Rattle.disk_commands.specs.Disks.{sectors_of}
 use Rattle.archive_commands.specs.Files.{Desk}

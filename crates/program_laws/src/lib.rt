@@ -1,9 +1,12 @@
 //! Laws over the program on a machine: what each form stores and tells, by the files, the report and the boards before and after it.
+//! And one over plays of a job where nothing is left to go wrong: what they answer is settled by the job, the files and the number of
+//! spare drives alone.
 #![tactic(auto)]
 
 mod archive;
 mod copy;
 mod counts;
+mod determined;
 mod ends;
 mod fitting;
 mod flat;
@@ -23,6 +26,7 @@ mod words;
 pub use archive::{disk_laid_anew, disk_of_an_imd, imd_of_a_disk, survey_of_a_disk};
 pub use copy::{copied_disk_is_a_target, copy_of_a_disk};
 pub use counts::{counts_are_tied, job_accesses};
+pub use determined::job_answers_are_determined;
 pub use ends::{
     copy_ends_well, export_ends_well, format_ends_well, formatdd_ends_well,
     further_rescue_ends_well, import_ends_well, new_rescue_ends_well, verify_ends_well,

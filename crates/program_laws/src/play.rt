@@ -6,7 +6,7 @@ ghost use Rattle.flop_base.specs.Counters.{DriveCounts};
 ghost use Rattle.pc_bus.specs.Boards.{Board};
 ghost use Rattle.archive_commands.specs.Files.{Desk};
 ghost use Rattle.floppy_words.specs.declared.form.Form.TheVariants as form;
-ghost use Rattle.floppy_forms.specs.Rounds.{world};
+ghost use Rattle.text_commands.specs.JobRounds.{world};
 ghost use Rattle.floppy_tools.specs.Machines.{RunsOver};
 ghost use Rattle.command_laws.specs.VerifyRuns.{IsEndStatus};
 ghost use Rattle.program_laws.specs.Answered.{AnswersCalls, AnswersJob};

@@ -9,7 +9,7 @@ ghost use Rattle.floppy_jobs.specs.declared.ports.PortLine.{PortLine};
 ghost use Rattle.sector_model.specs.Plays.{IsText};
 ghost use Rattle.floppy_words.specs.Forms.{ports_file_of};
 ghost use Rattle.floppy_tools.specs.Performed.{Stand, Performed};
-ghost use Rattle.port_commands.specs.Courses.{has_refusal};
+ghost use Rattle.text_commands.specs.PortCourses.{has_refusal};
 ghost use Rattle.program_laws.specs.Ends.{EndsByReplies};
 ghost use Rattle.program_laws.specs.Inserted.{IsDiskFile, InsertsDisks, media_among};
 

@@ -1,7 +1,7 @@
 // Runs of the program over a shelf and a sink in memory.
 use drive_model::Drive;
 use flop_base::{MemShelf, MemSink};
-use floppy_runs::{Ended, ProgramEnded, run_program};
+use floppy_tools::{Ended, ProgramEnded, run_program};
 use pc_bus::MachineOf;
 use scene_files::Wrong;
 use std::alloc::Global;

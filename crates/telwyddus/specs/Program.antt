@@ -4,6 +4,6 @@ pub use Rattle.flop_base.specs.Sink
 pub use Rattle.floppy_requests.specs.Requests
 pub use Rattle.sector_model.specs.Steps
 pub use Rattle.sector_model.specs.Plays
-pub use Rattle.floppy_runs.specs.Plans
-pub use Rattle.floppy_runs.specs.Runs
-pub use Rattle.run_shelf.specs.Shelves
+pub use Rattle.floppy_tools.specs.Plans
+pub use Rattle.floppy_tools.specs.Runs
+pub use Rattle.floppy_tools.specs.Shelves

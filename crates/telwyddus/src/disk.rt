@@ -1,6 +1,5 @@
 // Media, their files, and the sectors of their tracks.
-pub use flat_image::{blank_flat, check, place};
-pub use flat_media::{FlatFault, flat_file, flat_medium};
+pub use flat_files::{FlatFault, blank_flat, check, flat_file, flat_medium, place};
 pub use imagedisk::{ImdError, ImdImage, from_medium, read_imd, to_medium, write_imd};
 pub use raw_image::{ImageError, ImageReader, Medium, read_image, write_image};
 pub use sector_map::{failing, is_regular_disk, keys_of_track, look, place_window};

@@ -56,6 +56,11 @@ pub record StrapsSeeks (on : Bool) (old new : ControllerValue) : Type 0 where
   pub strapped : state_of new ≡ record (state_of old) { strapped = on }
   pub drives : KeepsDrives old new
 
+-- pulses come in the time that SPECIFY sets, or one in each word time: all else stays
+pub record StrapsSteps (on : Bool) (old new : ControllerValue) : Type 0 where
+  pub strapped : state_of new ≡ record (state_of old) { paced = on }
+  pub drives : KeepsDrives old new
+
 -- the controller and the drive of the other bay stay
 pub record KeepsBeside (bay : ℕ) (old new : ChipState) : Type 0 where
   pub chip : KeepsChip old new

@@ -2,11 +2,11 @@
 use Rattle.std.specs.Prelude.{◌≡◌, ◌==◌, ℕ, List, length, Option, None, Some, Result, Ok, Err, MatchBool, MatchOption, ⊤}
 use Rattle.std.specs.Global.{Vec}
 use Rattle.c_slots.specs.Trays.{TrayValue}
-use Rattle.flat_image.specs.Flat.{sectors_told}
-use Rattle.flat_media.specs.Files.{GivesFlat}
-use Rattle.flat_media.specs.Flats.{HasFlat}
-use Rattle.flat_media.specs.declared.fault.FlatFault.{FlatFault}
-use Rattle.flat_media.specs.declared.fault.FlatFault.TheVariants.{Shape, Unfit, More, Lacks, NoMemory}
+use Rattle.flat_files.specs.Flat.{sectors_told}
+use Rattle.flat_files.specs.Files.{GivesFlat}
+use Rattle.flat_files.specs.Flats.{HasFlat}
+use Rattle.flat_files.specs.declared.fault.FlatFault.{FlatFault}
+use Rattle.flat_files.specs.declared.fault.FlatFault.TheVariants.{Shape, Unfit, More, Lacks, NoMemory}
 use Rattle.raw_image.specs.Disk.{Disk}
 use Rattle.raw_image.specs.declared.error.ImageError.{ImageError}
 use Rattle.telwyddus_c.specs.Buffers.{WritesBytes}

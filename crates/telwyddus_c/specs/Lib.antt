@@ -3,6 +3,7 @@ pub mod Blocks
 pub mod Buffers
 pub mod Controllers
 pub mod Disks
+pub mod Drives
 pub mod Flats
 pub mod Images
 pub mod Imds

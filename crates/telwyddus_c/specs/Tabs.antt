@@ -3,13 +3,13 @@ use Rattle.std.specs.Prelude.{◌≡◌, ℕ, Bool, Some, is_some, MatchOption, 
 use Rattle.c_slots.specs.Controllers.{ControllerValue}
 use Rattle.c_slots.specs.Trays.{TrayValue}
 use Rattle.drive_model.specs.Drive.{with_protection}
-use Rattle.raw_image.specs.Disk.{covered}
+use Rattle.raw_image.specs.Disk.{tabbed}
 use Rattle.telwyddus_c.specs.Controllers.{drive_of, state_of, KeepsBeside}
 
 -- the tab of the medium in a tray is moved: 0. There is none, 7
 abbrev pub MovesTab : Bool → ℕ → TrayValue → TrayValue → Type 0
 MovesTab on code old new =
-    MatchOption old.medium ((code ≡ 7) × (new ≡ old)) (λ disk. (code ≡ 0) × (new.medium ≡ Some (covered on disk)))
+    MatchOption old.medium ((code ≡ 7) × (new ≡ old)) (λ disk. (code ≡ 0) × (new.medium ≡ Some (tabbed on disk)))
 
 -- that of the medium in a bay: 0. There is none, 7. All else stays
 pub record MovesTabAt (bay : ℕ) (on : Bool) (code : ℕ) (old new : ControllerValue) : Type 0 where

@@ -2,6 +2,7 @@
 mod bays;
 mod blocks;
 mod dack;
+mod drives;
 mod lines;
 mod making;
 mod media;

@@ -8,7 +8,7 @@ use crate::blank::fill;
 use crate::buffer::write_bytes;
 use crate::code::{BAD_IMAGE, EMPTY, FULL, NO_MEDIUM, NO_MEMORY, UNFIT};
 use c_slots::TraySlot;
-use flat_media::{FlatFault, flat_file, flat_medium};
+use flat_files::{FlatFault, flat_file, flat_medium};
 use raw_image::{ImageError, Medium};
 use std::alloc::Global;
 

@@ -4,6 +4,7 @@ ghost use Rattle.telwyddus_c.specs.Controllers.{drive_of, InsertsAt, EjectsAt, S
 ghost use Rattle.telwyddus_c.specs.Images.{WritesImage};
 ghost use Rattle.telwyddus_c.specs.Media.{PutsIn};
 ghost use Rattle.telwyddus_c.specs.Controllers.{state_of, KeepsBeside};
+ghost use Rattle.telwyddus_c.specs.Drives.{OfDrive};
 ghost use Rattle.telwyddus_c.specs.Slots.{Serves, InBay};
 
 use crate::code::{DONE, EMPTY, FULL, HAS_MEDIUM, NO_MEDIUM, NO_MEMORY, OUT_OF_RANGE};
@@ -32,7 +33,8 @@ pub extern "C" fn telwyddus_controller_insert(
     tray: &mut TraySlot,
 ) -> u32
     ensures { Serves (λ code old new. InBay bay code ((new ≡ old) × (tray.new.held.tray ≡ tray.old.held.tray))
-        (InsertsAt bay code tray.old.held.tray tray.new.held.tray old new)) (tray.new.held.tray ≡ tray.old.held.tray)
+        (OfDrive bay code old ((new ≡ old) × (tray.new.held.tray ≡ tray.old.held.tray))
+        (InsertsAt bay code tray.old.held.tray tray.new.held.tray old new))) (tray.new.held.tray ≡ tray.old.held.tray)
         result slot.old.held.controller slot.new.held.controller }
 {
     match slot.take(alloc) {
@@ -53,15 +55,47 @@ fn insert_from(
     tray: &mut TraySlot,
 ) -> u32
     ensures { InBay bay result ((controller.new ≡ controller.old) × (tray.new.held.tray ≡ tray.old.held.tray))
-        (InsertsAt bay result tray.old.held.tray tray.new.held.tray controller.old controller.new) }
+        (OfDrive bay result controller.old ((controller.new ≡ controller.old) × (tray.new.held.tray ≡ tray.old.held.tray))
+        (InsertsAt bay result tray.old.held.tray tray.new.held.tray controller.old controller.new)) }
 {
     if bay > 1 {
         return OUT_OF_RANGE;
     }
+    insert_attached(alloc, controller, bay as u8, tray)
+}
+
+/// The same of a bay that there is. A drive whose cable is pulled takes no medium.
+fn insert_attached(
+    alloc: Global,
+    controller: &mut WholeController,
+    bay: u8,
+    tray: &mut TraySlot,
+) -> u32
+    requires { bay ≤ 1 }
+    ensures { OfDrive bay result controller.old ((controller.new ≡ controller.old) × (tray.new.held.tray ≡ tray.old.held.tray))
+        (InsertsAt bay result tray.old.held.tray tray.new.held.tray controller.old controller.new) }
+{
+    if controller.drive(bay).is_attached() {
+        insert_from_tray(alloc, controller, bay, tray)
+    } else {
+        OUT_OF_RANGE
+    }
+}
+
+/// The same of a bay whose drive is attached.
+fn insert_from_tray(
+    alloc: Global,
+    controller: &mut WholeController,
+    bay: u8,
+    tray: &mut TraySlot,
+) -> u32
+    requires { bay ≤ 1 }
+    ensures { InsertsAt bay result tray.old.held.tray tray.new.held.tray controller.old controller.new }
+{
     match tray.take(alloc) {
         None => NO_MEDIUM,
         Some(mut inside) => {
-            let code = insert(controller, bay as u8, &mut inside);
+            let code = insert(controller, bay, &mut inside);
             tray.put(inside);
             code
         }

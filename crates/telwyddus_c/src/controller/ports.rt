@@ -1,10 +1,10 @@
-// The controller's strap, its ports, and what is looked at beside them.
+// The controller's straps, its ports, and what is looked at beside them.
 ghost use Rattle.std.specs.Prelude.{◌≡◌, ◌==◌, not, ⊤};
 ghost use Rattle.fdc_board.specs.Boards.{selected_at};
 ghost use Rattle.fdc_board.specs.WordTimes.{nanoseconds};
 ghost use Rattle.fdc_chip.specs.Ports.{ReadsChip, WritesChip};
 ghost use Rattle.fdc_core.specs.State.{data_rate};
-ghost use Rattle.telwyddus_c.specs.Controllers.{state_of, KeepsDrives, lines_byte, StrapsSeeks};
+ghost use Rattle.telwyddus_c.specs.Controllers.{state_of, KeepsDrives, lines_byte, StrapsSeeks, StrapsSteps};
 ghost use Rattle.telwyddus_c.specs.Slots.{Serves};
 
 use crate::code::{DONE, EMPTY};
@@ -27,6 +27,27 @@ pub extern "C" fn telwyddus_controller_strap_seeks(
         None => EMPTY,
         Some(mut controller) => {
             controller.strap_seeks(on != 0);
+            slot.put(controller);
+            DONE
+        }
+    }
+}
+
+/// Lets the pulses of SEEK, RELATIVE SEEK and RECALIBRATE come in the time that SPECIFY sets; or, where `on` is 0, one in each word
+/// time.
+#[unsafe(no_mangle)]
+pub extern "C" fn telwyddus_controller_strap_steps(
+    alloc: Global,
+    slot: &mut ControllerSlot,
+    on: u8,
+) -> u32
+    ensures { Serves (λ code old new. (code ≡ 0) × StrapsSteps (not (on == 0)) old new) ⊤
+        result slot.old.held.controller slot.new.held.controller }
+{
+    match slot.take(alloc) {
+        None => EMPTY,
+        Some(mut controller) => {
+            controller.strap_steps(on != 0);
             slot.put(controller);
             DONE
         }

@@ -1,7 +1,7 @@
 // Files of media: images, ImageDisk files and flat files.
 use super::print::put_bytes;
 use super::{Asked, medium_of, texts};
-use flat_image::{blank_flat, check, place};
+use flat_files::{blank_flat, check, place};
 use flop_base::Rate;
 use floppy_jobs::is_verb;
 use imagedisk::read_imd;

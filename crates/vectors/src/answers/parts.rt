@@ -1,7 +1,7 @@
 // Parts of the machine alone, call by call: the FIFO, the interrupt latch and the gate of a changed diskette.
 use super::{Asked, services};
-use change_line::Gate;
 use fdc_fifo::Fifo;
+use floppy_driver::Gate;
 use floppy_jobs::is_verb;
 use irq_events::IrqLatch;
 use scene_files::{Draft, Line, Wrong, words_in};

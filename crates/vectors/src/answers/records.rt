@@ -2,9 +2,10 @@
 use super::print::put_key;
 use super::{Asked, chips, key, rate};
 use flop_base::{Chrn, Code};
+use floppy_driver::{Prepare, preparation};
+use floppy_driver::{Prepare, START_TRIES, preparation};
 use floppy_jobs::is_verb;
 use rescue::{AfterRead, after_read, logged_keys, read_log, read_request, standard_keys};
-use retry_plan::{Prepare, START_TRIES, preparation};
 use scene_files::{Draft, Line, Wrong};
 
 pub(crate) fn answer(

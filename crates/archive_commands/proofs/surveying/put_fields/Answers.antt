@@ -1,5 +1,5 @@
 use Rattle.std.proofs.Common.{rules}
-use Rattle.floppy_report.proofs.DumpLines.{on_err}
+use Rattle.commands.proofs.DumpLines.{on_err}
 use Rattle.archive_commands.proofs.FieldLines.{line_put, line_cut}
 use Rattle.archive_commands.proofs.surveying.put_fields.Goals as goal
 

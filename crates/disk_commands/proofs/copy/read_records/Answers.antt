@@ -1,6 +1,6 @@
 use Rattle.std.proofs.Common.{rules, arith}
 use Rattle.std.proofs.lemmas.Result.{err_from_is_err_and}
-use Rattle.scripts.proofs.Looping.{turn_begins, turn_goes, turn_ends, turns_over}
+use Rattle.commands.proofs.Looping.{turn_begins, turn_goes, turn_ends, turns_over}
 use Rattle.disk_commands.proofs.copy.read_records.Goals as goal
 
 pub loop-r-init : goal.loop-r-init

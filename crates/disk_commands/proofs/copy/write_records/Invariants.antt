@@ -1,5 +1,5 @@
 use Rattle.std.proofs.Common.{◌≡◌}
-use Rattle.scripts.specs.Leading.{world_of, IsAtTurn}
+use Rattle.commands.specs.Leading.{world_of, IsAtTurn}
 use Rattle.disk_commands.specs.Copy.{writes_record}
 use Rattle.disk_commands.proofs.copy.write_records.Given as goal
 

@@ -1,6 +1,6 @@
 use Rattle.std.proofs.Common.{◌≡◌, ◌≤◌, ◌+◌, ◌*◌}
-use Rattle.scripts.specs.Parts.{each}
-use Rattle.scripts.specs.Leading.{world_of, IsAtTurn}
+use Rattle.commands.specs.Parts.{each}
+use Rattle.commands.specs.Leading.{world_of, IsAtTurn}
 use Rattle.disk_commands.specs.Verify.{verifies_track}
 use Rattle.disk_commands.proofs.verify.verify_tracks.Given as goal
 

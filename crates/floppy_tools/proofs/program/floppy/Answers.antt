@@ -1,10 +1,10 @@
 use Rattle.std.proofs.Common.{rules, ◌≡◌, ◌∙◌, List, Option, Some, ℕ, refl, subst, sym}
 use Rattle.std.specs.Prelude.{IsSome, map, string_bytes}
 use Rattle.floppy_words.specs.Forms.{ports_file_of}
-use Rattle.port_commands.specs.Benches.{Names, no_names}
-use Rattle.port_commands.specs.Guards.{RunsPorts}
-use Rattle.port_commands.specs.Plays.{world_of}
-use Rattle.port_commands.proofs.Guarding.{starves}
+use Rattle.text_commands.specs.Benches.{Names, no_names}
+use Rattle.text_commands.specs.PortGuards.{RunsPorts}
+use Rattle.text_commands.specs.PortPlays.{world_of}
+use Rattle.text_commands.proofs.GuardingPorts.{starves}
 use Rattle.floppy_tools.proofs.Ports.{named_file, wants_file}
 use Rattle.floppy_tools.proofs.program.floppy.Goals as goal
 

@@ -1,6 +1,6 @@
 use Rattle.std.proofs.Common.{◌≡◌, ◌∙◌, ℕ, List, map, string_bytes, subst}
-use Rattle.run_shelf.specs.Shelves.{desk_in, RanPlain}
-use Rattle.run_shelf.specs.Words.{words_in}
+use Rattle.floppy_tools.specs.Shelves.{desk_in, RanPlain}
+use Rattle.floppy_tools.specs.Words.{words_in}
 use Rattle.telwyddus_c.proofs.shelf.run.Goals as goal
 
 pub returns : goal.returns

@@ -1,4 +1,0 @@
-mod CallCounting
-pub mod Parsed
-pub mod Ran
-pub mod Served

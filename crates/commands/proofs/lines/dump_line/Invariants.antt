@@ -1,0 +1,9 @@
+use Rattle.std.proofs.Common.{◌≡◌, ◌++◌, take}
+use Rattle.std.specs.List.{flat_map}
+use Rattle.std.specs.Prelude.{string_bytes}
+use Rattle.floppy_requests.specs.Spelling.{hex5}
+use Rattle.sector_model.specs.Texts.{dump_byte}
+use Rattle.commands.proofs.lines.dump_line.Given as goal
+
+abbrev pub invariant-loop-value : goal.invariant-loop-value
+invariant-loop-value l = string_bytes l.line ≡ hex5 l.fn.address ++ flat_map dump_byte (take l.value-index l.row)

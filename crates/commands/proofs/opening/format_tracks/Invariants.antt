@@ -1,0 +1,12 @@
+use Rattle.std.proofs.Common.{◌≡◌}
+use Rattle.commands.specs.Parts.{each, formats}
+use Rattle.commands.specs.Leading.{world_of, IsAtTurn}
+use Rattle.commands.proofs.opening.format_tracks.Given as goal
+
+abbrev pub invariant-loop-c : goal.invariant-loop-c
+invariant-loop-c g l = record {
+  turn : IsAtTurn 0 l.fn.cylinders (λ c1. each 0 l.fn.heads (formats l.fn.bay c1)) tt
+      (world_of g.S.Shelf.told g.K.Sink.told l.fn.session l.fn.shelf l.fn.out) l.c tt (world_of g.S.Shelf.told g.K.Sink.told l.session l.shelf l.out);
+  counted : g.S.Shelf.fault_count l.shelf ≡ g.S.Shelf.fault_count l.fn.shelf;
+  stays : g.K.Sink.fault_count l.out ≡ g.K.Sink.fault_count l.fn.out;
+}

@@ -1,0 +1,52 @@
+-- Whole commands.
+use Rattle.std.proofs.Common.{◌≡◌, ℕ, List, Option, Result, Ok, Err, sym, subst}
+use Rattle.flop_base.specs.Shelf.{Files}
+use Rattle.flop_base.specs.declared.answers.Rate.{Rate}
+use Rattle.flop_base.specs.declared.answers.Status.{Status}
+use Rattle.flop_base.specs.declared.answers.Status.TheVariants as status
+use Rattle.sector_model.specs.declared.reply.Stop.{Stop}
+use Rattle.sector_model.specs.States.{State}
+use Rattle.sector_model.specs.Texts.{stop_lines, stop_status}
+use Rattle.sector_model.specs.Plays.{World, Prints}
+use Rattle.commands.specs.Scripts.{Script, RunsScript}
+use Rattle.commands.specs.Parts.{may_starve}
+use Rattle.commands.specs.Leading.{Finishes, Runs, with_report}
+use Rattle.commands.proofs.Running.{finished, fed, starved, ends_here}
+use Rattle.disk_commands.specs.FlatFiles.{IsFlatFile, IsNotTaken, IsFlatFound}
+use Rattle.disk_commands.specs.Import.{import_script, Imports}
+
+-- a script whose first step takes memory was run, where that was there
+pub fed_first : (rest : Unit {0} → Script) (old new : World) (ended : Status)
+    → Finishes (rest tt) old new ended → Runs (RunsScript (may_starve rest)) old new ended
+fed_first rest old new ended goes =
+    finished (may_starve rest) old new ended (λ whole start leads. goes whole start (fed whole start rest old leads))
+
+-- and where it wasn't
+pub starved_first : (rest : Unit {0} → Script) (old : World) → Runs (RunsScript (may_starve rest)) old old status.NoMemory
+starved_first rest old =
+    finished (may_starve rest) old old status.NoMemory (λ whole start leads. starved whole start rest old leads)
+
+-- a run behind what was found under the name of a flat file
+imported : (flat name : List ℕ) (found : Result (List ℕ × Rate) Stop) (old new : World) (ended : Status)
+    → IsFlatFound old.files flat found → Finishes (import_script found name) old new ended → Runs (Imports flat name) old new ended
+imported flat name found old new ended is goes =
+    let ran = finished (import_script found name) old new ended goes in
+    record { course = ran.course; does = (found, is, ran.does) }
+
+-- an import was run, behind the load of its flat file
+pub imported_flat : (flat name bytes : List ℕ) (rate : Rate) (state : State) (files after : Option Files)
+    (report : Option (List (List ℕ))) (new : World) (ended : Status)
+    → after ≡ files → IsFlatFile files flat bytes rate → Finishes (import_script (Ok (bytes, rate)) name) (with_report state after report) new ended
+    → Runs (Imports flat name) (with_report state files report) new ended
+imported_flat flat name bytes rate state files after report new ended same is goes =
+    imported flat name (Ok (bytes, rate)) (with_report state files report) new ended is
+    (subst (λ (f : Option Files). Finishes (import_script (Ok (bytes, rate)) name) (with_report state f report) new ended) same goes)
+
+-- or it told why that isn't taken
+pub not_taken : (flat name : List ℕ) (cause : Stop) (state : State) (files after : Option Files) (report told : Option (List (List ℕ))) (ended : Status)
+    → after ≡ files → IsNotTaken files flat cause → Prints (stop_lines cause) (stop_status cause) report told ended
+    → Runs (Imports flat name) (with_report state files report) (with_report state after told) ended
+not_taken flat name cause state files after report told ended same is prints =
+    subst (λ (f : Option Files). Runs (Imports flat name) (with_report state files report) (with_report state f told) ended) (sym same)
+    (imported flat name (Err cause) (with_report state files report) (with_report state files told) ended is
+    (λ whole start leads. ends_here whole start (stop_lines cause) (stop_status cause) state files report told ended prints leads))

@@ -1,0 +1,65 @@
+-- How a rescue ends: its new log is stored, or there is no log to go by.
+use Rattle.std.proofs.Common.{◌≡◌, ℕ, List, [], length, refl, ap, sym, subst, append-nil, ◌∙◌, Bool, is_some, Option, Some, None, Vec, Global}
+use Rattle.flop_base.specs.Sink.{grown}
+use Rattle.flop_base.specs.declared.key.Chrn.{Chrn}
+use Rattle.flop_base.specs.declared.answers.Status.{Status}
+use Rattle.flop_base.specs.declared.answers.Status.TheVariants as status
+use Rattle.sector_model.specs.Plays.{World}
+use Rattle.floppy_session.specs.declared.shape.Shape.{Shape}
+use Rattle.commands.specs.Scripts.{Script, Stores}
+use Rattle.commands.specs.Leading.{Leads, Finishes}
+use Rattle.commands.proofs.Running.{fed, starved}
+use Rattle.rescue.specs.Log.{log_text}
+use Rattle.rescue.specs.Course.{outcome_status}
+use Rattle.rescue.specs.declared.line.LogLine.{LogLine}
+use Rattle.rescue.specs.declared.outcome.Outcome.{Outcome}
+use Rattle.disk_commands.specs.Logs.{lines_found}
+use Rattle.disk_commands.specs.Rescue.{stores_log, last_text, outcome_of, asked_keys, rescues_all, rescue_found}
+
+nothing_more : (report : Option (List (List ℕ))) → report ≡ grown report []
+nothing_more None = refl
+nothing_more (Some told) = ap Some (sym (append-nil told))
+
+-- what stores a log that is left
+abbrev stores_last : List ℕ → ℕ → List LogLine → Script
+stores_last log asked lines = Stores log (log_text lines) (last_text (outcome_of asked lines)) (outcome_status (outcome_of asked lines))
+
+store_is : (log name : List ℕ) (asked : ℕ) (lines : List LogLine) (bytes : List ℕ) (outcome : Outcome) (wanted : Status)
+    → name ≡ log → bytes ≡ log_text lines → outcome ≡ outcome_of asked lines → wanted ≡ outcome_status outcome
+    → Stores name bytes (last_text outcome) wanted ≡ stores_last log asked lines
+store_is log name asked lines bytes outcome wanted named text left status = cc
+
+-- the new log is stored
+pub log_stored : (log name : List ℕ) (asked : ℕ) (lines : List LogLine) (bytes : List ℕ) (outcome : Outcome) (wanted : Status)
+    (old new : World) (ended : Status) → name ≡ log → bytes ≡ log_text lines → outcome ≡ outcome_of asked lines → wanted ≡ outcome_status outcome
+    → Finishes (Stores name bytes (last_text outcome) wanted) old new ended → Finishes (stores_log log asked lines) old new ended
+unfolding stores_log
+log_stored log name asked lines bytes outcome wanted old new ended named text left status finishes whole start leads =
+    finishes whole start
+    (subst (λ (s : Script). Leads whole start s old) (sym (store_is log name asked lines bytes outcome wanted named text left status))
+    (fed whole start (λ none. stores_last log asked lines) old leads))
+
+-- ---- What the log that was found asks for.
+
+some_lines : (found : Option (Vec LogLine Global)) → is_some found ≡ is_some (lines_found found)
+some_lines None = refl
+some_lines (Some lines) = refl
+
+-- what is rescued of a log that was found
+abbrev with_keys : List ℕ → List ℕ → Shape → Bool → List Chrn → Script
+with_keys to log shape logged keys = rescues_all to shape logged keys (stores_log log (length keys))
+
+-- the records that are asked for are there, and are rescued
+pub found_begins : (whole : Script) (start : World) (to log : List ℕ) (shape : Shape) (found : Option (Vec LogLine Global)) (logged : Bool)
+    (keys : List Chrn) (now : World) → logged ≡ is_some found → keys ≡ asked_keys shape (lines_found found)
+    → Leads whole start (rescue_found to log shape (lines_found found)) now → Leads whole start (with_keys to log shape logged keys) now
+unfolding rescue_found
+found_begins whole start to log shape found logged keys now is asked leads =
+    subst (λ (b : Bool). Leads whole start (with_keys to log shape b keys) now) (sym (is ∙ some_lines found))
+    (subst (λ (k : List Chrn). Leads whole start (with_keys to log shape (is_some (lines_found found)) k) now) (sym asked) (fed whole start _ now leads))
+
+-- memory for them couldn't be had
+pub keys_starved : (to log : List ℕ) (shape : Shape) (found : Option (List LogLine)) (now : World)
+    → Finishes (rescue_found to log shape found) now now status.NoMemory
+unfolding rescue_found
+keys_starved to log shape found now whole start leads = starved whole start _ now leads

@@ -1,0 +1,6 @@
+use Rattle.std.proofs.Common.{◌≡◌, ◌++◌}
+use Rattle.flop_base.specs.Memory.{bytes_from}
+use Rattle.disk_commands.proofs.export.gather.Given as goal
+
+abbrev pub invariant-loop-i : goal.invariant-loop-i
+invariant-loop-i g l = l.flat.items ≡ l.fn.flat.items ++ bytes_from l.fn.session.station.memory l.fn.address l.i

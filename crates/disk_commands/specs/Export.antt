@@ -1,0 +1,44 @@
+-- What an export asks, stores and prints.
+use Rattle.std.specs.Prelude.{ℕ, List, [], ◌++◌, Result, Ok, Err, codes}
+use Rattle.std.specs.Fmt.{decimal}
+use Rattle.flop_base.specs.Standard.{sectors_at}
+use Rattle.flop_base.specs.declared.answers.Rate.{Rate}
+use Rattle.flop_base.specs.declared.answers.Status.{Status}
+use Rattle.flop_base.specs.declared.answers.Status.TheVariants as status
+use Rattle.flop_base.specs.Memory.{bytes_from}
+use Rattle.sector_map.specs.Standard.{key_of}
+use Rattle.floppy_requests.specs.declared.request.Request.TheVariants as request
+use Rattle.sector_model.specs.Plays.{World}
+use Rattle.commands.specs.Scripts.{Script, Stores}
+use Rattle.commands.specs.Parts.{Part, needs, may_starve, opens, acknowledges, each, by_track}
+use Rattle.commands.specs.Leading.{Goes}
+use Rattle.commands.specs.Records.{record_address}
+use Rattle.disk_commands.specs.Import.{sectors_of}
+
+-- the last line of an export tells its sectors
+unfoldable pub export_text : ℕ → List ℕ
+export_text sectors = codes "export ok " ++ (decimal sectors ++ codes "\n")
+
+-- a record is read to its own address, and its bytes are put behind those before
+unfoldable pub reads_record : ℕ → ℕ → ℕ → List ℕ → Part (List ℕ)
+reads_record c h r bytes rest =
+    needs (request.Read 0 (key_of c h r) (record_address r))
+    (λ answer after. may_starve (λ none. rest (bytes ++ bytes_from after.station.memory (record_address r) 512)))
+
+-- so is each record of a track
+unfoldable pub reads_track : ℕ → ℕ → ℕ → List ℕ → Part (List ℕ)
+reads_track sectors c h bytes = each 1 sectors (reads_record c h) bytes
+
+-- the bay is made ready, and each record of 80 cylinders is read
+abbrev pub reads_disk : Rate → List ℕ → Part (List ℕ)
+reads_disk rate bytes rest = acknowledges 0 rate (λ none. by_track 80 2 (reads_track (sectors_at rate)) bytes rest)
+
+-- the records of the disk under the first name are stored under the second, one behind the other
+abbrev pub export_script : List ℕ → List ℕ → Script
+export_script name flat =
+    opens name (λ shape. reads_disk shape.rate [] (λ bytes. Stores flat bytes (export_text (sectors_of shape.rate)) status.AllOk))
+
+-- a part was gone through and found these bytes, which lie behind an argument, or ended the script
+abbrev pub GoesOn : Part (List ℕ) → List ℕ → World → Result (Unit {0}) Status → World → Type 0
+GoesOn part bytes old (Ok done) new = Goes part old (Ok bytes) new
+GoesOn part bytes old (Err ended) new = Goes part old (Err ended) new

@@ -1,0 +1,85 @@
+// The log's file.
+ghost use Rattle.std.specs.Prelude.{◌≡◌, IfOk, string_bytes};
+ghost use Rattle.commands.specs.Puts.{printed_of};
+ghost use Rattle.disk_commands.specs.Logs.{NotUnderstood, NotLoaded};
+ghost use Rattle.disk_commands.specs.Rescue.{bad_log_text, tells_no_log};
+ghost use Rattle.disk_commands.specs.RescueLeading.{Finds, Tells, shelved_of};
+
+use commands::finish;
+use flop_base::{LoadError, Name, Shelf, Sink, Status};
+use rescue::{LogError, LogLine, read_log};
+use std::alloc::{AllocError, Global};
+
+/// The longest text of a log, in bytes.
+const MOST_LOG_BYTES: usize = 65_536;
+
+/// Why a log wasn't had.
+#[derive(Clone, Copy)]
+pub(crate) enum NoLog {
+    /// This line isn't understood, counted from 1; 0 where the text is too long.
+    BadLine { line: usize },
+    /// The shelf failed.
+    FileFault,
+    /// Memory couldn't be had.
+    NoMemory,
+}
+
+/// The lines of the log under this name, of a diskette with so many sectors on a track; nothing where there is no log.
+pub(crate) fn find_log<S: Shelf>(
+    alloc: Global,
+    name: &Name,
+    sectors: u8,
+    shelf: &mut S,
+) -> Result<Option<Vec<LogLine>>, NoLog>
+    ensures { Finds name.now sectors (shelved_of S.told S.fault_count shelf.old) (shelved_of S.told S.fault_count shelf.new) result }
+{
+    match shelf.load(alloc, name.as_str(), MOST_LOG_BYTES) {
+        Ok(bytes) => match read_log(alloc, &bytes, sectors) {
+            Ok(lines) => Ok(Some(lines)),
+            Err(error) => Err(not_understood(error)),
+        },
+        Err(error) => not_loaded(error),
+    }
+}
+
+/// Why a text isn't a log.
+fn not_understood(error: LogError) -> NoLog
+    ensures { NotUnderstood error result }
+{
+    match error {
+        LogError::BadLine { line } => NoLog::BadLine { line },
+        LogError::NoMemory => NoLog::NoMemory,
+    }
+}
+
+/// No log, where there is no file, or why it wasn't loaded.
+fn not_loaded(error: LoadError) -> Result<Option<Vec<LogLine>>, NoLog>
+    ensures { NotLoaded error result }
+{
+    match error {
+        LoadError::Absent => Ok(None),
+        LoadError::TooLong => Err(NoLog::BadLine { line: 0 }),
+        LoadError::Failed => Err(NoLog::FileFault),
+        LoadError::NoMemory => Err(NoLog::NoMemory),
+    }
+}
+
+#[tactic(auto, unfolding(crate::specs::Rescue::bad_log_text))]
+fn bad_log_line(alloc: Global, line: usize) -> Result<String, AllocError>
+    ensures { IfOk result (λ made. string_bytes made ≡ bad_log_text line) }
+{
+    format!(in alloc; "log line {line} not understood\n")
+}
+
+/// Tells why a log wasn't had.
+#[tactic(auto, using(commands::proofs::Running::fails_here), unfolding(crate::specs::Rescue::tells_no_log))]
+pub(crate) fn tell_no_log<K: Sink>(alloc: Global, cause: NoLog, out: &mut K) -> Status
+    ensures { Tells (tells_no_log cause) (cause ≡ NoLog.FileFault)
+        (printed_of K.told K.fault_count out.old) (printed_of K.told K.fault_count out.new) result }
+{
+    match cause {
+        NoLog::BadLine { line } => finish(out, bad_log_line(alloc, line), Status::BadJob),
+        NoLog::FileFault => Status::FileFault,
+        NoLog::NoMemory => Status::NoMemory,
+    }
+}

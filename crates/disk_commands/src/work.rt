@@ -1,0 +1,171 @@
+// The requests of a workload, which goes on whatever is answered.
+ghost use Rattle.std.specs.Prelude.{◌≡◌, ◌+◌, ◌≤◌, IfOk, sum};
+ghost use Rattle.flop_base.specs.Memory.{user_bytes, bytes_from};
+ghost use Rattle.floppy_session.specs.Tries.{HasTries};
+ghost use Rattle.commands.specs.Leading.{Goes, RanPart, faulty_of};
+ghost use Rattle.disk_commands.specs.Workload.{number_after};
+ghost use Rattle.disk_commands.specs.Exercise.{no_work, reads_work, write_request, writes_work, works_behind, works, HasRoom, IsOneMore};
+
+use crate::draws::Draws;
+use crate::work_tally::Tally;
+use commands::{ask, is_refusal};
+use flop_base::{Chrn, Shelf, Sink, Status};
+use floppy_requests::Request;
+use floppy_session::Session;
+use sector_model::Station;
+use std::alloc::Global;
+
+/// Where a read puts its bytes.
+const READ_ADDRESS: u32 = 0x10000;
+
+/// Where a write takes its bytes.
+const WRITE_ADDRESS: u32 = 0x20000;
+
+/// The sum of the bytes of a record in memory.
+fn sum_read<D: Station>(session: &Session<D>, address: u32) -> u64
+    requires { address + 512 ≤ user_bytes }
+    ensures sum { result ≡ sum (bytes_from session.now.station.memory address 512) }
+    ensures small { result ≤ 130560 }
+{
+    let mut sum = 0;
+    for i in 0..512u32 {
+        sum += session.station().memory(address + i) as u64;
+    }
+    sum
+}
+
+/// Reads the record of a key.
+#[tactic(auto, unfolding(crate::specs::Exercise::reads_work))]
+fn read<S: Shelf, K: Sink, D: Station>(
+    alloc: Global,
+    session: &mut Session<D>,
+    key: Chrn,
+    tally: Tally,
+    shelf: &mut S,
+    out: &mut K,
+) -> Result<Tally, Status>
+    requires room { HasRoom tally }
+    ensures ran { RanPart (Goes (reads_work key tally))
+        (faulty_of S.told S.fault_count K.told K.fault_count session.old shelf.old out.old) result
+        (faulty_of S.told S.fault_count K.told K.fault_count session.new shelf.new out.new) }
+    ensures more { IfOk result (IsOneMore tally) }
+{
+    let read = Request::Read {
+        bay: 0,
+        key,
+        address: READ_ADDRESS,
+    };
+    let reply = ask(alloc, session, &read, shelf, out)?;
+    if is_refusal(&reply) {
+        Ok(tally.and_refused())
+    } else {
+        Ok(tally.and_done(sum_read(session, READ_ADDRESS)))
+    }
+}
+
+/// A write to the record of a key, with its mark.
+fn write_request(deleted: bool, key: Chrn) -> Request
+    ensures value { result ≡ write_request deleted key }
+    ensures tries { HasTries result }
+{
+    let address = WRITE_ADDRESS;
+    if deleted {
+        Request::WriteDeleted {
+            bay: 0,
+            key,
+            address,
+        }
+    } else {
+        Request::Write {
+            bay: 0,
+            key,
+            address,
+        }
+    }
+}
+
+/// Fills memory with a byte and writes it to the record of a key.
+#[tactic(auto, unfolding(crate::specs::Exercise::writes_work))]
+fn write<S: Shelf, K: Sink, D: Station>(
+    alloc: Global,
+    session: &mut Session<D>,
+    deleted: bool,
+    key: Chrn,
+    byte: u8,
+    tally: Tally,
+    shelf: &mut S,
+    out: &mut K,
+) -> Result<Tally, Status>
+    requires room { HasRoom tally }
+    ensures ran { RanPart (Goes (writes_work deleted key byte tally))
+        (faulty_of S.told S.fault_count K.told K.fault_count session.old shelf.old out.old) result
+        (faulty_of S.told S.fault_count K.told K.fault_count session.new shelf.new out.new) }
+    ensures more { IfOk result (IsOneMore tally) }
+{
+    let fill = Request::Fill {
+        address: WRITE_ADDRESS,
+        length: 512,
+        byte,
+    };
+    ask(alloc, session, &fill, shelf, out)?;
+    let reply = ask(alloc, session, &write_request(deleted, key), shelf, out)?;
+    if is_refusal(&reply) {
+        Ok(tally.and_refused())
+    } else {
+        Ok(tally.and_done(0))
+    }
+}
+
+/// Runs what the next five draws ask for.
+#[tactic(auto, unfolding(crate::specs::Exercise::works_behind, crate::specs::Exercise::works_drawn))]
+fn run_next<S: Shelf, K: Sink, D: Station>(
+    alloc: Global,
+    session: &mut Session<D>,
+    draws: &mut Draws,
+    tally: Tally,
+    shelf: &mut S,
+    out: &mut K,
+) -> Result<Tally, Status>
+    requires room { HasRoom tally }
+    ensures ran { RanPart (Goes (works_behind draws.old.number tally))
+        (faulty_of S.told S.fault_count K.told K.fault_count session.old shelf.old out.old) result
+        (faulty_of S.told S.fault_count K.told K.fault_count session.new shelf.new out.new) }
+    ensures more { IfOk result (IsOneMore tally) }
+    ensures number { draws.new.number ≡ number_after 5 draws.old.number }
+{
+    let work = draws.work();
+    if work.kind == 0 {
+        write(
+            alloc, session, false, work.key, work.byte, tally, shelf, out,
+        )
+    } else if work.kind == 3 {
+        write(alloc, session, true, work.key, work.byte, tally, shelf, out)
+    } else {
+        read(alloc, session, work.key, tally, shelf, out)
+    }
+}
+
+/// Runs a workload: so many times what five draws ask for, the first behind the seed.
+pub(crate) fn run_work<S: Shelf, K: Sink, D: Station>(
+    alloc: Global,
+    session: &mut Session<D>,
+    seed: u32,
+    count: u16,
+    shelf: &mut S,
+    out: &mut K,
+) -> Result<Tally, Status>
+    ensures { RanPart (Goes (works seed count no_work))
+        (faulty_of S.told S.fault_count K.told K.fault_count session.old shelf.old out.old) result
+        (faulty_of S.told S.fault_count K.told K.fault_count session.new shelf.new out.new) }
+{
+    let mut draws = Draws { number: seed };
+    let mut tally = Tally {
+        done: 0,
+        refused: 0,
+        sum: 0,
+    };
+    for _i in 0..count {
+        tally = run_next(alloc, session, &mut draws, tally, shelf, out)?;
+    }
+    Ok(tally)
+}

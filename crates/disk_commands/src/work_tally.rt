@@ -1,0 +1,39 @@
+// What the requests of a workload came to.
+ghost use Rattle.std.specs.Prelude.{◌≡◌, ◌≤◌};
+ghost use Rattle.disk_commands.specs.Exercise.{one_done, one_refused, HasRoom, IsOneMore};
+
+/// How many reads and writes were done and how many refused, and the sum of all bytes that were read.
+#[derive(Clone, Copy)]
+pub(crate) struct Tally {
+    pub done: u32,
+    pub refused: u32,
+    pub sum: u64,
+}
+
+impl Tally {
+    /// One more request, which was refused.
+    pub fn and_refused(self) -> Tally
+        requires { HasRoom self }
+        ensures value { result ≡ one_refused self }
+        ensures more { IsOneMore self result }
+    {
+        Tally {
+            refused: self.refused + 1,
+            ..self
+        }
+    }
+
+    /// One more request, which was done, and read bytes of this sum.
+    pub fn and_done(self, sum: u64) -> Tally
+        requires room { HasRoom self }
+        requires sum { sum ≤ 130560 }
+        ensures value { result ≡ one_done sum self }
+        ensures more { IsOneMore self result }
+    {
+        Tally {
+            done: self.done + 1,
+            sum: self.sum + sum,
+            ..self
+        }
+    }
+}

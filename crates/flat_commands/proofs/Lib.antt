@@ -1,4 +1,0 @@
-mod Working
-mod Runs
-mod Turns
-mod Tracks

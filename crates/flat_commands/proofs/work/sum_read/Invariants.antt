@@ -1,9 +1,0 @@
-use Rattle.std.proofs.Common.{◌≤◌, ◌≡◌, ◌*◌, sum}
-use Rattle.flop_base.specs.Memory.{bytes_from}
-use Rattle.flat_commands.proofs.work.sum_read.Given as goal
-
-abbrev pub invariant-loop-i : goal.invariant-loop-i
-invariant-loop-i g l = record {
-  total : l.sum ≡ sum (bytes_from l.fn.session.station.memory l.fn.address l.i);
-  small : l.sum ≤ 255 * l.i;
-}

@@ -1,5 +1,0 @@
-pub mod FlatFiles
-pub mod Import
-pub mod Export
-pub mod Workload
-pub mod Exercise

@@ -1,0 +1,11 @@
+use Rattle.std.proofs.Common.{◌≡◌, All, map}
+use Rattle.std.specs.List.{range_with_len}
+use Rattle.imagedisk.specs.Images.{IsImdTrack}
+use Rattle.flat_files.specs.Flats.{flat_track}
+use Rattle.flat_files.proofs.imaging.flat_image.Given as goal
+
+abbrev pub invariant-loop-track : goal.invariant-loop-track
+invariant-loop-track l = record {
+  tracks : l.tracks ≡ map (flat_track l.bytes l.sectors) (range_with_len 0 l.track);
+  valid : All IsImdTrack l.tracks;
+}

@@ -1,0 +1,51 @@
+// Why a medium has no flat file.
+ghost use Rattle.std.specs.Prelude.{◌≡◌};
+ghost use Rattle.flat_files.specs.declared.fault.FlatFault.TheVariants as cause;
+
+use flop_base::NoMemory;
+use std::alloc::{AllocError, AllocFailed};
+use thiserror::Error;
+
+/// Why a medium has no flat file.
+#[derive(Clone, Copy, Debug, PartialEq, Eq, Error)]
+pub enum FlatFault {
+    /// It hasn't 80 cylinders of two heads.
+    #[error("not 80 cylinders of 2 heads")]
+    Shape,
+    /// The first track with sectors of several sizes, or of a size that none names.
+    #[error("track {c} {h} unfit")]
+    Unfit { c: u8, h: u8 },
+    /// The first track with more sectors than a flat file takes of it, or with one that is marked as deleted.
+    #[error("track {c} {h} has more")]
+    More { c: u8, h: u8 },
+    /// The first sector that isn't there, or whose data is missing or damaged.
+    #[error("sector {c} {h} {r} lacking")]
+    Lacks { c: u8, h: u8, r: u8 },
+    /// Memory couldn't be had. This says nothing of the medium.
+    #[error("no memory")]
+    NoMemory,
+}
+
+impl From<NoMemory> for FlatFault {
+    ghost from_gives = { λ _ e. e ≡ cause.NoMemory };
+
+    fn from(_: NoMemory) -> FlatFault {
+        FlatFault::NoMemory
+    }
+}
+
+impl From<AllocError> for FlatFault {
+    ghost from_gives = { λ _ e. e ≡ cause.NoMemory };
+
+    fn from(_: AllocError) -> FlatFault {
+        FlatFault::NoMemory
+    }
+}
+
+impl<T: Drop> From<AllocFailed<T>> for FlatFault {
+    ghost from_gives = { λ _ e. e ≡ cause.NoMemory };
+
+    fn from(_: AllocFailed<T>) -> FlatFault {
+        FlatFault::NoMemory
+    }
+}

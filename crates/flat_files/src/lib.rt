@@ -1,0 +1,20 @@
+//! Flat files: the sectors of a diskette and nothing else, by cylinder, then head, then record, 512 bytes each. And media of flat
+//! files, without a drive: each sector of the file under its key on a formatted medium, and back.
+//!
+//! A flat file has 80 cylinders of 2 heads. Its tracks have 9 sectors (720 KB) or 18 (1.44 MB).
+#![tactic(auto)]
+
+mod fault;
+mod filing;
+mod finding;
+mod imaging;
+pub mod laws;
+mod making;
+mod sectors;
+mod whole;
+
+pub use fault::FlatFault;
+pub use filing::flat_file;
+pub use making::flat_medium;
+pub use sectors::place;
+pub use whole::{blank_flat, check};

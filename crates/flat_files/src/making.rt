@@ -1,0 +1,44 @@
+// The medium of a flat file.
+ghost use Rattle.flat_files.specs.Flats.{MakesFlat, rate_of as rate_of_density};
+ghost use Rattle.std.specs.Prelude.{◌≡◌, ℕ};
+
+use crate::imaging::flat_image;
+use crate::whole::check;
+use flop_base::Rate;
+use imagedisk::{ImdError, to_medium};
+use raw_image::{ImageError, Medium};
+use std::alloc::Global;
+
+/// The rate at which a diskette has 18 sectors a track, or 9.
+fn rate_of(sectors: u8) -> Rate
+    ensures { result ≡ rate_of_density sectors }
+{
+    if sectors == 18 {
+        Rate::R500
+    } else {
+        Rate::R250
+    }
+}
+
+/// What keeps an image whose tracks have room from being a medium: want of memory.
+fn fault(error: ImdError) -> ImageError
+    requires { (c h : ℕ) → error ≡ ImdError.Unfit c h → ⊥ }
+    ensures { result ≡ ImageError.NoMemory }
+{
+    match error {
+        ImdError::Unfit { .. } => unreachable!(),
+        ImdError::NoMemory => ImageError::NoMemory,
+    }
+}
+
+/// The medium of a flat file of 1,474,560 or 737,280 bytes, not protected, with its sectors and no others.
+pub fn flat_medium(alloc: Global, bytes: &[u8]) -> Result<Medium, ImageError>
+    ensures { MakesFlat bytes.now result }
+{
+    let sectors = check(bytes)?;
+    let image = flat_image(alloc, bytes, sectors, rate_of(sectors))?;
+    match to_medium(alloc, &image) {
+        Ok(medium) => Ok(medium),
+        Err(error) => Err(fault(error)),
+    }
+}

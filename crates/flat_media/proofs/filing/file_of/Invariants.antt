@@ -1,5 +1,0 @@
-use Rattle.flat_media.specs.Files.{AreOfTracks}
-use Rattle.flat_media.proofs.filing.file_of.Given as goal
-
-abbrev pub invariant-loop-track : goal.invariant-loop-track
-invariant-loop-track l = AreOfTracks l.tracks l.sectors l.track l.bytes.items

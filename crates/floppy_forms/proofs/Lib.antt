@@ -1,3 +1,0 @@
-pub mod OnFiles
-pub mod InRounds
-pub mod Tied

@@ -1,5 +1,0 @@
-use Rattle.floppy_forms.proofs.Tied.{job_accesses}
-use Rattle.floppy_forms.proofs.laws.accesses_of_a_job.Goals as goal
-
-pub returns : goal.returns
-returns c = job_accesses c.args._job.now

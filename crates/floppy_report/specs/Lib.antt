@@ -1,2 +1,0 @@
-pub mod LastLines
-pub mod Puts

@@ -1,2 +1,0 @@
-mod New
-mod Unplanned

@@ -1,4 +1,0 @@
-pub mod Drives
-pub mod Plans
-pub mod Programs
-pub mod Runs

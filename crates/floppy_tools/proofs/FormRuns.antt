@@ -1,0 +1,61 @@
+-- Runs of forms, by what was read of the words.
+use Rattle.std.proofs.Common.{◌≡◌, ℕ, false, List, [], refl, ap, ◌∙◌, sym, subst, Option, Some, None}
+use Rattle.std.specs.Prelude.{IsSome}
+use Rattle.flop_base.specs.declared.answers.Status.TheVariants as status
+use Rattle.flop_base.specs.declared.answers.Status.{Status}
+use Rattle.std.specs.Prelude.{Result, Ok, Err}
+use Rattle.sector_model.specs.Runs.{Taken}
+use Rattle.sector_model.specs.Plays.{World, Tells, TellsAlone, Plays}
+use Rattle.commands.specs.LastLines.{bad_words_text}
+use Rattle.flop_base.specs.declared.answers.NoMemory.{NoMemory}
+use Rattle.floppy_words.specs.Forms.{Reads}
+use Rattle.floppy_words.specs.declared.form.Form.{Form}
+use Rattle.floppy_words.specs.declared.form.Form.TheVariants as form
+use Rattle.commands.specs.Leading.{Runs}
+use Rattle.floppy_tools.specs.Programs.{DoesForm, AsAsked, StarvesWords, Does}
+use Rattle.std.proofs.lemmas.Bool.{true≢false}
+
+-- a play is what its form asks for
+pub play_runs : (job : List ℕ) (old new : World) (ended : Status) → ((course : List Taken) × Plays job old course new ended) → Runs (DoesForm (form.Play job)) old new ended
+play_runs job old new ended p = record { course = p.0; does = p.1 }
+
+-- a form, by what it was found to be
+pub form_runs : (asked named : Form) (old new : World) (ended : Status) → asked ≡ named → Runs (DoesForm named) old new ended → Runs (DoesForm asked) old new ended
+form_runs asked named old new ended is runs = subst (λ (f : Form). Runs (DoesForm f) old new ended) (sym is) runs
+
+-- a form that was done
+pub runs_asked : (spelled : Option Form) (asked : Form) (old new : World) (ended : Status) → spelled ≡ Some asked → Runs (DoesForm asked) old new ended → Runs (Does spelled) old new ended
+runs_asked spelled asked old new ended is runs =
+    subst (λ (o : Option Form). Runs (Does o) old new ended) (sym is) (record { course = runs.course; does = AsAsked runs.does })
+
+-- memory for the words of a form couldn't be had
+pub runs_starving : (spelled : Option Form) (old : World) → IsSome spelled → Runs (Does spelled) old old status.NoMemory
+runs_starving None old some = absurd (true≢false (sym some))
+runs_starving (Some asked) old some = record {
+  course = [];
+  does = StarvesWords refl (record { same = refl; status = refl });
+}
+
+-- words that are no form
+pub runs_none : (spelled : Option Form) (old new : World) (ended : Status) → spelled ≡ None → Tells bad_words_text status.BadWords old new ended → Runs (Does spelled) old new ended
+runs_none spelled old new ended none tells =
+    let alone : TellsAlone bad_words_text status.BadWords old [] new ended = record { nothing = refl; tells = tells } in
+    subst (λ (o : Option Form). Runs (Does o) old new ended) (sym none)
+    (record { course = []; does = alone })
+
+-- ---- What was read of the words.
+
+pub asked_runs : (asked : Result (Option Form) NoMemory) (form : Option Form) (old new : World) (ended : Status) → asked ≡ Ok form → Runs (Does form) old new ended → (spelled : Option Form) → Reads asked spelled → Runs (Does spelled) old new ended
+asked_runs asked form old new ended is runs spelled reads =
+    let spells : form ≡ spelled = subst (λ (read : Result (Option Form) NoMemory). Reads read spelled) is reads in
+    subst (λ (o : Option Form). Runs (Does o) old new ended) spells runs
+
+pub starved_runs : (asked : Result (Option Form) NoMemory) (error : NoMemory) (old : World) → asked ≡ Err error → (spelled : Option Form) → Reads asked spelled → Runs (Does spelled) old old status.NoMemory
+starved_runs asked error old is spelled reads =
+    runs_starving spelled old (subst (λ (read : Result (Option Form) NoMemory). Reads read spelled) is reads)
+
+pub read_none : (asked : Result (Option Form) NoMemory) (spelled : Option Form) → asked ≡ Ok None → Reads asked spelled → spelled ≡ None
+read_none asked spelled is reads = sym (subst (λ (read : Result (Option Form) NoMemory). Reads read spelled) is reads)
+
+pub none_asked : (asked : Result (Option Form) NoMemory) (form : Option Form) → asked ≡ Ok form → form ≡ None → asked ≡ Ok None
+none_asked asked form is none = is ∙ ap (λ (o : Option Form). Ok o) none

@@ -1,0 +1,85 @@
+-- What the program does with its words.
+use Rattle.std.specs.Prelude.{◌≡◌, ℕ, List, [], Option, Some, None}
+use Rattle.flop_base.specs.declared.answers.Rate.TheVariants.{R500, R250}
+use Rattle.flop_base.specs.declared.answers.Status.{Status}
+use Rattle.flop_base.specs.declared.answers.Status.TheVariants as status
+use Rattle.flop_base.specs.Bays.{Two}
+use Rattle.sector_model.specs.Faults.{Blames}
+use Rattle.sector_model.specs.Stations.{StationState}
+use Rattle.sector_model.specs.States.{start_of}
+use Rattle.sector_model.specs.Runs.{Taken}
+use Rattle.sector_model.specs.Plays.{World, Plays, TellsAlone, IsIdle}
+use Rattle.commands.specs.LastLines.{bad_words_text}
+use Rattle.floppy_words.specs.declared.form.Form.{Form}
+use Rattle.floppy_words.specs.declared.form.Form.TheVariants as form
+use Rattle.floppy_words.specs.Forms.{form_of}
+use Rattle.commands.specs.Scripts.{RunsScript}
+use Rattle.commands.specs.Leading.{Faulty, Runs}
+use Rattle.disk_commands.specs.Format.{format_script}
+use Rattle.disk_commands.specs.Verify.{verify_script}
+use Rattle.disk_commands.specs.Copy.{copy_script}
+use Rattle.archive_commands.specs.Files.{Desk, FaultyDesk}
+use Rattle.archive_commands.specs.Making.{FromImd, ToImd, Remaster}
+use Rattle.archive_commands.specs.Surveys.{Surveys}
+use Rattle.disk_commands.specs.Import.{Imports}
+use Rattle.disk_commands.specs.Export.{export_script}
+use Rattle.disk_commands.specs.Exercise.{exercise_script}
+use Rattle.text_commands.specs.CallCourses.{ServesCalls}
+use Rattle.disk_commands.specs.Rescue.{Rescues}
+
+-- what a form on files alone leaves as it is: no request is asked, and the session stays as it was
+abbrev pub desk : World → Desk
+desk world = record { files = world.files; report = world.report }
+
+pub record OnFiles (Does : Desk → Desk → Status → Type 0) (old : World) (course : List Taken) (new : World) (ended : Status) : Type 0 where
+  pub nothing : course ≡ []
+  pub state : new.state ≡ old.state
+  pub does : Does (desk old) (desk new) ended
+
+-- what a form asks for
+abbrev pub DoesForm : Form → World → List Taken → World → Status → Type 0
+DoesForm (form.Play job) old course new ended = Plays job old course new ended
+DoesForm (form.Format name cylinders) old course new ended = RunsScript (format_script name cylinders R500) old course new ended
+DoesForm (form.FormatDd name cylinders) old course new ended = RunsScript (format_script name cylinders R250) old course new ended
+DoesForm (form.Copy from to) old course new ended = RunsScript (copy_script from to) old course new ended
+DoesForm (form.Verify name) old course new ended = RunsScript (verify_script name) old course new ended
+DoesForm (form.FromImd imd name) old course new ended = OnFiles (FromImd imd name) old course new ended
+DoesForm (form.ToImd name imd) old course new ended = OnFiles (ToImd name imd) old course new ended
+DoesForm (form.Survey name) old course new ended = OnFiles (Surveys name) old course new ended
+DoesForm (form.Remaster from to) old course new ended = OnFiles (Remaster from to) old course new ended
+DoesForm (form.Import flat name) old course new ended = Imports flat name old course new ended
+DoesForm (form.Export name flat) old course new ended = RunsScript (export_script name flat) old course new ended
+DoesForm (form.Exercise seed count) old course new ended = RunsScript (exercise_script seed count) old course new ended
+DoesForm (form.Int13 calls) old course new ended = ServesCalls calls old course new ended
+DoesForm (form.Rescue from to log) old course new ended = Rescues from to log old course new ended
+
+-- the form is done, or memory for its words couldn't be had
+pub data DoesOrStarves (asked : Form) (old : World) (course : List Taken) (new : World) (ended : Status) : Type 0 where
+  AsAsked : DoesForm asked old course new ended → DoesOrStarves asked old course new ended
+  StarvesWords : course ≡ [] → IsIdle old new status.NoMemory ended → DoesOrStarves asked old course new ended
+
+-- what the program does with the form that its words are, or with words that are none
+abbrev pub Does : Option Form → World → List Taken → World → Status → Type 0
+Does (Some asked) old course new ended = DoesOrStarves asked old course new ended
+Does None old course new ended = TellsAlone bad_words_text status.BadWords old course new ended
+
+-- what words ask for was done, the words are no form where the status says so, and one fault was counted where it tells one, and else none
+pub record Performed (Does : World → World → Status → Type 0) (NoForm : Type 0) (old new : Faulty) (ended : Status) : Type 0 where
+  pub runs : Does old.world new.world ended
+  pub bad_words : ended ≡ status.BadWords → NoForm
+  pub shelf_faults : Blames (ended ≡ status.FileFault) old.shelf_faults new.shelf_faults
+  pub sink_faults : Blames (ended ≡ status.SinkFault) old.sink_faults new.sink_faults
+
+-- a world of a station, under whose media no names are told, and of a desk
+abbrev pub begun_on : StationState → Desk → World
+begun_on station desk = record { state = start_of station; files = desk.files; report = desk.report }
+
+abbrev pub left_on : StationState → Two (Option (List ℕ)) → Desk → World
+left_on station names desk = record { state = record { station = station; names = names }; files = desk.files; report = desk.report }
+
+-- words were done on a station that came fresh, and one fault was counted where the status tells it, and else none
+pub record RanWords (words : List (List ℕ)) (old : StationState) (before : FaultyDesk) (new : StationState) (after : FaultyDesk) (ended : Status) : Type 0 where
+  pub runs : (names : Two (Option (List ℕ))) × Runs (Does (form_of words)) (begun_on old before.desk) (left_on new names after.desk) ended
+  pub bad_words : ended ≡ status.BadWords → form_of words ≡ None
+  pub shelf_faults : Blames (ended ≡ status.FileFault) before.shelf_faults after.shelf_faults
+  pub sink_faults : Blames (ended ≡ status.SinkFault) before.sink_faults after.sink_faults

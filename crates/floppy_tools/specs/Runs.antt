@@ -1,0 +1,94 @@
+-- Runs of the top call on a machine that was made for them.
+use Rattle.std.specs.Prelude.{◌≡◌, ◌⊎◌, ℕ, List, [], ◌∷◌, Option, None, Some, Ok, IfSome, IsSomeAnd}
+use Rattle.flop_base.specs.Shelf.{file_at}
+use Rattle.flop_base.specs.declared.answers.Status.{Status}
+use Rattle.flop_base.specs.declared.answers.Status.TheVariants as status
+use Rattle.drive_model.specs.Drive.{DriveState}
+use Rattle.drive_model.specs.Fault.{total_left}
+use Rattle.drive_model.specs.Mechanics.{at_rest}
+use Rattle.drive_model.specs.ScriptDrive.{script_state, told}
+use Rattle.drive_model.specs.declared.fault.Fault.{Fault}
+use Rattle.drive_model.specs.declared.script.ScriptDrive.{ScriptDrive}
+use Rattle.fault_plan.specs.Plan.{Plan, plan_spelled}
+use Rattle.irq_events.specs.declared.pace.Pace.{Pace}
+use Rattle.pc_bus.specs.Boards.{Board, board, IsNew}
+use Rattle.pc_bus.specs.declared.machine.MachineOf.{MachineOf}
+use Rattle.machine_station.specs.Shown.{all_counts}
+use Rattle.sector_model.specs.Faults.{Blames}
+use Rattle.archive_commands.specs.Files.{Desk, FaultyDesk}
+use Rattle.floppy_tools.specs.Performed.{DoesWords}
+use Rattle.floppy_tools.specs.Plans.{EndsWithoutPlan, Silent}
+
+-- what a machine is made of: the drives of its bays, the spare ones and its pace
+pub record Parts : Type 0 where
+  pub bay0 : DriveState
+  pub bay1 : DriveState
+  pub spares : List DriveState
+  pub gaps : List ℕ
+  pub holds : List ℕ
+  pub strays : List ℕ
+
+-- a drive as it comes, for which these faults are planned
+abbrev pub planned_drive : List Fault → DriveState
+planned_drive faults = at_rest (told 0 (total_left faults))
+
+-- what a plan asks for
+abbrev pub parts_of : Plan → Parts
+parts_of plan = record {
+  bay0 = planned_drive plan.bay0;
+  bay1 = planned_drive plan.bay1;
+  spares = planned_drive plan.spare0 ∷ planned_drive plan.spare1 ∷ [];
+  gaps = plan.gaps;
+  holds = plan.holds;
+  strays = plan.strays;
+}
+
+-- drives without faults, which nothing delays
+abbrev pub plain_parts : Parts
+plain_parts = record {
+  bay0 = at_rest (Some 0);
+  bay1 = at_rest (Some 0);
+  spares = at_rest (Some 0) ∷ at_rest (Some 0) ∷ [];
+  gaps = [];
+  holds = [];
+  strays = [];
+}
+
+-- a new machine of these parts
+pub record IsMadeOf (parts : Parts) (new : Board) : Type 0 where
+  pub pace : Pace
+  pub gaps : pace.gaps.items ≡ parts.gaps
+  pub holds : pace.holds.items ≡ parts.holds
+  pub strays : pace.strays.items ≡ parts.strays
+  pub made : IsNew pace parts.bay0 parts.bay1 new
+
+-- the program ran on a new machine of these parts: what the words say ran over it, with a driver or at its ports, up to the
+-- machine that comes back
+pub record RunsNew {D : Type 0} (state : D → DriveState) (parts : Parts) (words : List (List ℕ)) (before : Desk) (left : MachineOf D) (after : Desk) (ended : Status) : Type 0 where
+  pub new : Board
+  pub made : IsMadeOf parts new
+  pub does : DoesWords words new (all_counts (λ drive. drive) parts.spares) before (board state left) after ended
+
+-- the same on what the plan of this name asks for
+pub record RunsPlanned (name : List ℕ) (words : List (List ℕ)) (before : Desk) (left : MachineOf ScriptDrive) (after : Desk) (ended : Status) : Type 0 where
+  pub plan : Plan
+  pub spelled : IfSome before.files (λ files. IsSomeAnd (file_at files name) (λ text. plan_spelled text ≡ Ok plan))
+  pub runs : RunsNew script_state (parts_of plan) words before left after ended
+
+-- how a run ended that needs a machine: what it did where one was made, how it ended without one, which changed no file; and one
+-- fault was counted where the status tells it, and else none
+pub record EndsRun {Machine : Type 0} (Does : Desk → Machine → Desk → Status → Type 0) (Without : Desk → Option (List (List ℕ)) → Status → Type 0) (old new : FaultyDesk) (machine : Option Machine) (ended : Status) : Type 0 where
+  pub runs : IfSome machine (λ left. Does old.desk left new.desk ended)
+  pub no_machine : machine ≡ None → Without old.desk new.desk.report ended
+  pub untouched : machine ≡ None → new.desk.files ≡ old.desk.files
+  pub shelf_faults : Blames (ended ≡ status.FileFault) old.shelf_faults new.shelf_faults
+  pub sink_faults : Blames (ended ≡ status.SinkFault) old.sink_faults new.sink_faults
+
+-- memory for a machine couldn't be had
+abbrev pub Starves : Desk → Option (List (List ℕ)) → Status → Type 0
+Starves before report ended = Silent status.NoMemory before.report report ended
+
+-- or for the one that a plan asks for, or the plan of this name couldn't be
+abbrev pub LacksPlan : List ℕ → Desk → Option (List (List ℕ)) → Status → Type 0
+LacksPlan plan before report ended =
+    EndsWithoutPlan before.files plan before.report report ended ⊎ Silent status.NoMemory before.report report ended

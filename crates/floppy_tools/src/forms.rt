@@ -1,0 +1,145 @@
+// The words of the program, done over a session.
+ghost use Rattle.std.specs.Prelude.{◌≡◌, Option, None, Ok, map, string_bytes};
+ghost use Rattle.sector_model.specs.Faults.{Blames};
+ghost use Rattle.sector_model.specs.Stations.{IsFresh};
+ghost use Rattle.floppy_words.specs.declared.form.Form.{Form};
+ghost use Rattle.floppy_words.specs.Forms.{form_of, Reads};
+ghost use Rattle.commands.specs.Leading.{Runs};
+ghost use Rattle.commands.specs.Leading.{world_of, faulty_of, Ran};
+ghost use Rattle.archive_commands.specs.Files.{faulty_desk_of};
+ghost use Rattle.floppy_tools.specs.Programs.{Does, DoesForm, Performed, RanWords};
+
+use archive_commands::{from_imd, remaster_disk, survey_disk, to_imd};
+use commands::put_last_bad_words;
+use disk_commands::{
+    copy_disk, exercise_disk, export_disk, format_disk, import_disk, rescue_disk, verify_disk,
+};
+use flop_base::{NoMemory, Rate, Shelf, Sink, Status};
+use floppy_session::Session;
+use floppy_words::{Form, form_named};
+use sector_model::Station;
+use std::alloc::Global;
+use text_commands::{play, serve_calls};
+
+/// Does what the words after the program's name say, on a station that is as it comes. `floppy` says what each form does. `ports
+/// FILE` is none of these forms, since a station has no ports. It prints a report to the sink, and the status says how it ended.
+/// The station comes back in every case.
+pub fn run_words<S: Shelf, K: Sink, D: Station>(
+    alloc: Global,
+    words: &[String],
+    shelf: &mut S,
+    out: &mut K,
+    station: D,
+) -> (Status, D)
+    requires fresh { IsFresh (D.shown station) }
+    requires ready { D.is_ready station }
+    // The headline: what is printed and stored is a run of the sector model.
+    ensures ran { RanWords (map string_bytes words.now)
+        (D.shown station) (faulty_desk_of S.told S.fault_count K.told K.fault_count shelf.old out.old)
+        (D.shown result.1) (faulty_desk_of S.told S.fault_count K.told K.fault_count shelf.new out.new) result.0 }
+    ensures ready { D.is_ready result.1 }
+{
+    let mut session = Session::new(alloc, station);
+    let status = perform(alloc, &mut session, words, shelf, out);
+    (status, session.into_station())
+}
+
+/// Does what the words say.
+fn perform<S: Shelf, K: Sink, D: Station>(
+    alloc: Global,
+    session: &mut Session<D>,
+    words: &[String],
+    shelf: &mut S,
+    out: &mut K,
+) -> Status
+    ensures { Performed (Runs (Does (form_of (map string_bytes words.now))))
+        (form_of (map string_bytes words.now) ≡ None)
+        (faulty_of S.told S.fault_count K.told K.fault_count session.old shelf.old out.old)
+        (faulty_of S.told S.fault_count K.told K.fault_count session.new shelf.new out.new) result }
+{
+    run_asked(alloc, session, form_named(alloc, words), shelf, out)
+}
+
+/// Does what was read of the words: what a form asks for, or nothing where they are none, or where memory for them couldn't be had.
+pub fn run_asked<S: Shelf, K: Sink, D: Station>(
+    alloc: Global,
+    session: &mut Session<D>,
+    asked: Result<Option<Form>, NoMemory>,
+    shelf: &mut S,
+    out: &mut K,
+) -> Status
+    ensures runs { (spelled : Option Form) → Reads asked spelled → Runs (Does spelled)
+        (world_of S.told K.told session.old shelf.old out.old) (world_of S.told K.told session.new shelf.new out.new) result }
+    ensures bad_words { result ≡ Status.BadWords → asked ≡ Ok None }
+    ensures shelf_faults { Blames (result ≡ Status.FileFault) (S.fault_count shelf.old) (S.fault_count shelf.new) }
+    ensures sink_faults { Blames (result ≡ Status.SinkFault) (K.fault_count out.old) (K.fault_count out.new) }
+{
+    match asked {
+        Ok(form) => perform_any(alloc, session, form, shelf, out),
+        Err(NoMemory) => Status::NoMemory,
+    }
+}
+
+/// Does what a form asks for, if the words are one.
+fn perform_any<S: Shelf, K: Sink, D: Station>(
+    alloc: Global,
+    session: &mut Session<D>,
+    form: Option<Form>,
+    shelf: &mut S,
+    out: &mut K,
+) -> Status
+    ensures { Performed (Runs (Does form)) (form ≡ None)
+        (faulty_of S.told S.fault_count K.told K.fault_count session.old shelf.old out.old)
+        (faulty_of S.told S.fault_count K.told K.fault_count session.new shelf.new out.new) result }
+{
+    match form {
+        Some(form) => perform_form(alloc, session, form, shelf, out),
+        None => put_last_bad_words(out),
+    }
+}
+
+/// Does what a form asks for.
+fn perform_form<S: Shelf, K: Sink, D: Station>(
+    alloc: Global,
+    session: &mut Session<D>,
+    form: Form,
+    shelf: &mut S,
+    out: &mut K,
+) -> Status
+    ensures { Ran (Runs (DoesForm form))
+        (faulty_of S.told S.fault_count K.told K.fault_count session.old shelf.old out.old)
+        (faulty_of S.told S.fault_count K.told K.fault_count session.new shelf.new out.new) result }
+{
+    match form {
+        Form::Play { job } => play(alloc, session, job.as_str(), shelf, out),
+        Form::Format { name, cylinders } => format_disk(
+            alloc,
+            session,
+            name,
+            cylinders.count(),
+            Rate::R500,
+            shelf,
+            out,
+        ),
+        Form::FormatDd { name, cylinders } => format_disk(
+            alloc,
+            session,
+            name,
+            cylinders.count(),
+            Rate::R250,
+            shelf,
+            out,
+        ),
+        Form::Copy { from, to } => copy_disk(alloc, session, from, to, shelf, out),
+        Form::Verify { name } => verify_disk(alloc, session, name, shelf, out),
+        Form::FromImd { imd, name } => from_imd(alloc, imd, name, shelf, out),
+        Form::ToImd { name, imd } => to_imd(alloc, name, imd, shelf, out),
+        Form::Survey { name } => survey_disk(alloc, name, shelf, out),
+        Form::Remaster { from, to } => remaster_disk(alloc, from, to, shelf, out),
+        Form::Import { flat, name } => import_disk(alloc, session, flat, name, shelf, out),
+        Form::Export { name, flat } => export_disk(alloc, session, name, flat, shelf, out),
+        Form::Exercise { seed, count } => exercise_disk(alloc, session, seed, count, shelf, out),
+        Form::Int13 { calls } => serve_calls(alloc, session, calls, shelf, out),
+        Form::Rescue { from, to, log } => { rescue_disk(alloc, session, from, to, log, shelf, out) }
+    }
+}

@@ -1,5 +1,0 @@
-mod InRounds
-mod Named
-mod Finishing
-pub mod Guarding
-mod Exchanged

@@ -1,4 +1,0 @@
-mod Turns
-mod Endings
-mod Opening
-pub mod Rests

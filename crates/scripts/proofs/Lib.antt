@@ -1,5 +1,0 @@
-pub mod Running
-pub mod Looping
-pub mod Reading
-pub mod Passed
-mod Opened

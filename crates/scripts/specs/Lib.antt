@@ -1,5 +1,0 @@
-pub mod Scripts
-pub mod Parts
-pub mod Leading
-pub mod Records
-pub mod Texts

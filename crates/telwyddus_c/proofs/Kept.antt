@@ -1,0 +1,16 @@
+-- What stays over two changes of a bay.
+use Rattle.std.proofs.Common.{◌≡◌, ap, ◌∙◌}
+use Rattle.fdc_chip.specs.Chips.{ChipState, KeepsChip, with_front}
+use Rattle.fdc_sequencer.specs.Fronts.{KeepsFront}
+
+pub keeps_twice : (a b c : ChipState) → KeepsChip a b → KeepsChip b c → KeepsChip a c
+keeps_twice a b c first second = record {
+  front = record {
+    controller = second.front.controller ∙ first.front.controller;
+    stage = second.front.stage ∙ first.front.stage;
+    bytes = second.front.bytes ∙ first.front.bytes;
+    strapped = second.front.strapped ∙ first.front.strapped;
+    configured = second.front.configured ∙ first.front.configured;
+  };
+  rest = second.rest ∙ ap (with_front c.front) first.rest;
+}

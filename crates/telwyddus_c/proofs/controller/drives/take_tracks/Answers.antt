@@ -1,0 +1,16 @@
+use Rattle.std.proofs.Common.{◌∙◌, ap}
+use Rattle.bay_drive.specs.Bays.{bay_state, is_attached, tracks_in_bay}
+use Rattle.telwyddus_c.proofs.Kept.{keeps_twice}
+use Rattle.telwyddus_c.proofs.controller.drives.take_tracks.Goals as goal
+
+pub returns : goal.returns
+returns c = record {
+  told = c.copy_from_slice.ensures.after ∙ c.bytes.ensures.value ∙ c.take_tracks-tracks.ensures.taken ∙ ap tracks_in_bay c.swap_drive.ensures.taken;
+  forgets = ap tracks_in_bay c.swap_drive-2.ensures.put ∙ c.take_tracks-tracks.ensures.left;
+  state = ap bay_state c.swap_drive-2.ensures.put ∙ c.take_tracks-tracks.ensures.state ∙ ap bay_state c.swap_drive.ensures.taken;
+  cable = ap is_attached c.swap_drive-2.ensures.put ∙ c.take_tracks-tracks.ensures.cable ∙ ap is_attached c.swap_drive.ensures.taken;
+  beside = record {
+    chip = keeps_twice _ _ _ c.swap_drive.ensures.keeps c.swap_drive-2.ensures.keeps;
+    other = c.swap_drive-2.ensures.other ∙ c.swap_drive.ensures.other;
+  };
+}

@@ -1,0 +1,66 @@
+-- The drives of bays: their cables, their plans, and the tracks that were written.
+use Rattle.std.specs.Prelude.{◌≡◌, ◌-◌, ◌==◌, ◌&&◌, ℕ, Bool, not, List, is_some, Ok, Err, MatchBool, if◌then◌else◌}
+use Rattle.bay_drive.specs.Bays.{bay_state, drive_in_bay, faults_in_bay, is_attached, state_with_cable, tracks_in_bay}
+use Rattle.bay_drive.specs.Maps.{no_tracks}
+use Rattle.bay_drive.specs.declared.bay.BayDrive.{BayDrive}
+use Rattle.c_slots.specs.Controllers.{ControllerValue}
+use Rattle.drive_model.specs.declared.fault.Fault.{Fault}
+use Rattle.fault_plan.specs.Plan.{Plan, plan_spelled}
+use Rattle.fdc_board.specs.Boards.{drive_held}
+use Rattle.fdc_chip.specs.Chips.{behind_of, KeepsChip}
+use Rattle.fdc_sequencer.specs.Fronts.{board_of}
+use Rattle.telwyddus_c.specs.Controllers.{drive_of, state_of}
+
+-- the drive of a bay
+abbrev pub held : ControllerValue → ℕ → BayDrive
+held controller bay = drive_held (board_of (behind_of controller)) bay
+
+-- the controller and the drive of the other bay stay
+pub record KeepsOther (bay : ℕ) (old new : ControllerValue) : Type 0 where
+  pub chip : KeepsChip (state_of old) (state_of new)
+  pub other : held new (1 - bay) ≡ held old (1 - bay)
+
+-- the cable of a drive is put in, or pulled: what the drive is stays, and what is heard of it then is so
+pub record Attaches (bay : ℕ) (on : Bool) (old new : ControllerValue) : Type 0 where
+  pub is : is_attached (held new bay) ≡ on
+  pub drive : drive_in_bay (held new bay) ≡ drive_in_bay (held old bay)
+  pub state : bay_state (held new bay) ≡ state_with_cable on (held old bay)
+  pub beside : KeepsOther bay old new
+
+-- it isn't pulled where a medium is in
+abbrev pub keeps_cable : (bay : ℕ) → Bool → ControllerValue → Bool
+keeps_cable bay on old = not on && is_some (drive_of old bay).medium
+
+-- so it is done: 0. A medium is in, 6: all stays
+abbrev pub AttachesAt : (bay : ℕ) → Bool → (code : ℕ) → ControllerValue → ControllerValue → Type 0
+AttachesAt bay on code old new = MatchBool (keeps_cable bay on old) ((code ≡ 6) × (new ≡ old)) ((code ≡ 0) × Attaches bay on old new)
+
+-- a bay has a drive, whose cable is in; else the code is 4, and all stays
+abbrev pub OfDrive : (bay code : ℕ) → ControllerValue → (stays served : Type 0) → Type 0
+OfDrive bay code old stays served = MatchBool (is_attached (held old bay)) served ((code ≡ 4) × stays)
+
+-- the faults that a plan has for a bay
+abbrev pub faults_for : ℕ → Plan → List Fault
+faults_for bay plan = if bay == 0 then plan.bay0 else plan.bay1
+
+-- a drive has these faults to come, in place of those that it had; what it is besides stays
+pub record Replans (bay : ℕ) (faults : List Fault) (old new : ControllerValue) : Type 0 where
+  pub faults_are : faults_in_bay (held new bay) ≡ faults
+  pub cable : is_attached (held new bay) ≡ is_attached (held old bay)
+  pub tracks : tracks_in_bay (held new bay) ≡ tracks_in_bay (held old bay)
+  pub beside : KeepsOther bay old new
+
+-- a drive is planned anew by a text: 0. It is no plan, 9: its first bad line is told. Memory is out, 3. All stays then
+abbrev pub PlansAt : (bay : ℕ) → List ℕ → (code was line : ℕ) → ControllerValue → ControllerValue → Type 0
+PlansAt bay text code was line old new =
+    MatchBool (code == 0) ((plan : Plan) × (plan_spelled text ≡ Ok plan) × (line ≡ was) × Replans bay (faults_for bay plan) old new)
+    (MatchBool (code == 9) ((plan_spelled text ≡ Err line) × (new ≡ old))
+    (MatchBool (code == 3) ((line ≡ was) × (new ≡ old)) ⊥))
+
+-- the tracks of a bay's medium that were written are told in a map, and forgotten
+pub record TellsTracks (bay : ℕ) (old : ControllerValue) (map : List ℕ) (new : ControllerValue) : Type 0 where
+  pub told : map ≡ tracks_in_bay (held old bay)
+  pub forgets : tracks_in_bay (held new bay) ≡ no_tracks
+  pub state : bay_state (held new bay) ≡ bay_state (held old bay)
+  pub cable : is_attached (held new bay) ≡ is_attached (held old bay)
+  pub beside : KeepsOther bay old new

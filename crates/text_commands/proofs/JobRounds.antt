@@ -1,0 +1,188 @@
+-- Requests that were run and told, one after the other.
+use Rattle.std.proofs.Common.{◌≡◌, ℕ, ◌+◌, ◌<◌, ◌≤◌, suc, Bool, false, List, [], ◌∷◌, ◌++◌, length, take, drop, get_or, refl, ap, ◌∙◌, sym, subst, drop-cons, Option, Some, None}
+use Rattle.std.specs.Prelude.{◌||◌}
+use Rattle.std.proofs.lemmas.List.{take-append-drop, take_more}
+use Rattle.flop_base.specs.declared.answers.Status.TheVariants as status
+use Rattle.flop_base.specs.Shelf.{Files}
+use Rattle.flop_base.specs.Sink.{grown, GrowsByPart}
+use Rattle.flop_base.specs.declared.answers.Status.{Status}
+use Rattle.std.specs.Prelude.{Vec, IfSome, IsSomeAnd, Result, Ok, Err}
+use Rattle.std.specs.declared.alloc.Global.{Global}
+use Rattle.flop_base.specs.Shelf.{Loads}
+use Rattle.flop_base.specs.declared.answers.LoadError.{LoadError}
+use Rattle.flop_base.specs.declared.answers.LoadError.TheVariants as load
+use Rattle.floppy_jobs.specs.Lines.{ReadsText}
+use Rattle.floppy_requests.specs.Texts.{job_of as parsed_of}
+use Rattle.floppy_jobs.specs.declared.lines.JobError.{JobError}
+use Rattle.floppy_jobs.specs.declared.lines.JobError.TheVariants as lines
+use Rattle.floppy_requests.specs.declared.request.Request.{Request}
+use Rattle.floppy_requests.specs.declared.request.Request.TheVariants as request
+use Rattle.floppy_requests.specs.Valid.{IsRequest}
+use Rattle.floppy_session.specs.Tries.{HasTries}
+use Rattle.sector_model.specs.States.{State}
+use Rattle.sector_model.specs.Texts.{reply_lines, stop_lines, stop_status, bad_line_text}
+use Rattle.sector_model.specs.Runs.{Taken, course_lines, has_refusal}
+use Rattle.sector_model.specs.Plays.{World, PlaysRequests, PlaysParsed, Played, Stopped, BrokenOff, EndStopped, Prints, Tells, IsText, Plays, There, Missing, TooLong, Faulty, Starved, whole_status}
+use Rattle.text_commands.specs.JobRounds.{world, IsRound, HasRun, HasPlayed, Breaks, AtStop, AtPut, PlaysOrStarves, AsParsed, Starving}
+use Rattle.text_commands.specs.Ending.{EndsAs, InWhole, AtStore}
+use Rattle.sector_model.proofs.Runs.{run_more, requests_more, text_more, refusal_more}
+use Rattle.flop_base.specs.declared.answers.NoMemory.{NoMemory}
+use Rattle.commands.specs.Texts.{MissesText}
+use Rattle.commands.proofs.DumpLines.{grown-twice, grown-nothing}
+
+-- no request was run
+pub has-run-none : (old : World) → HasRun [] old false old
+has-run-none old = record { course = []; run = (refl, refl); all = refl; report = sym (grown-nothing old.report); is_refused = refl }
+
+-- one request more was run
+pub has-run-more : (old mid new : World) (requests : List Request) (asked : Request) (refused refusal : Bool) → HasRun requests old refused mid → IsRound asked mid refusal new → HasRun (requests ++ asked ∷ []) old (refused || refusal) new
+has-run-more old mid new requests asked refused refusal so_far round =
+    let taken : Taken = record { asked = asked; answer = round.answer; after = new.state } in
+    record {
+      course = so_far.course ++ taken ∷ [];
+      run = run_more old.state mid.state old.files mid.files new.files so_far.course taken so_far.run round.step;
+      all = ap (λ (before : List Request). before ++ asked ∷ []) so_far.all ∙ sym (requests_more so_far.course taken);
+      report = round.report ∙ ap (λ (r : Option (List (List ℕ))). grown r (reply_lines asked round.answer)) so_far.report ∙ grown-twice old.report (course_lines so_far.course) (reply_lines asked round.answer) ∙ ap (grown old.report) (sym (text_more so_far.course taken));
+      is_refused = ap (λ (b : Bool). b || refusal) so_far.is_refused ∙ ap (λ (b : Bool). has_refusal so_far.course || b) round.is_refused ∙ sym (refusal_more so_far.course taken);
+    }
+
+-- the requests up to one more were run
+pub has-run-next : (old mid new : World) (requests : List Request) (i : ℕ) (asked : Request) (refused refusal now : Bool) → HasRun (take i requests) old refused mid → IsRound asked mid refusal new → i < length requests → asked ≡ get_or requests i asked → now ≡ (refused || refusal) → HasRun (take (i + 1) requests) old now new
+has-run-next old mid new requests i asked refused refusal now so_far round within item either =
+    let one : take (i + 1) requests ≡ take i requests ++ asked ∷ [] = take_more requests i asked within ∙ ap (λ (r : Request). take i requests ++ r ∷ []) (sym item) in
+    subst (λ (b : Bool). HasRun (take (i + 1) requests) old b new) (sym either) (subst (λ (rs : List Request). HasRun rs old (refused || refusal) new) (sym one) (has-run-more old mid new (take i requests) asked refused refusal so_far round))
+
+-- a request, those before it and those after it are all
+pub parted : (requests : List Request) (i : ℕ) (asked : Request) → i < length requests → asked ≡ get_or requests i asked → requests ≡ take i requests ++ asked ∷ drop (suc i) requests
+parted requests i asked within item =
+    sym (take-append-drop i requests) ∙ ap (λ (rest : List Request). take i requests ++ rest) (drop-cons requests i asked within ∙ ap (λ (r : Request). r ∷ drop (suc i) requests) (sym item))
+
+-- a play that a request broke off
+pub broken : (old mid new : World) (requests : List Request) (i : ℕ) (asked : Request) (refused : Bool) (ended : Status) → HasRun (take i requests) old refused mid → i < length requests → asked ≡ get_or requests i asked → Breaks asked mid new ended → HasPlayed requests old new ended
+broken old mid new requests i asked refused ended so_far within item (AtStop cause stops prints) = (
+  so_far.course,
+  Stopped (record {
+    asked = asked;
+    later = drop (suc i) requests;
+    mid = mid.state;
+    files = mid.files;
+    cause = cause;
+    run = so_far.run;
+    all = parted requests i asked within item ∙ ap (λ (before : List Request). before ++ asked ∷ drop (suc i) requests) so_far.all;
+    stops = stops;
+    prints = subst (λ (r : Option (List (List ℕ))). Prints (stop_lines cause) (stop_status cause) r new.report ended) so_far.report prints;
+  }),
+)
+broken old mid new requests i asked refused ended so_far within item (AtPut answer step part fault) =
+    let last : Taken = record { asked = asked; answer = answer; after = new.state } in (
+      so_far.course ++ last ∷ [],
+      BrokenOff (record {
+        before = so_far.course;
+        last = last;
+        later = drop (suc i) requests;
+        mid = mid.state;
+        files = mid.files;
+        run = so_far.run;
+        step = step;
+        after = refl;
+        course_is = refl;
+        all = parted requests i asked within item ∙ ap (λ (before : List Request). before ++ asked ∷ drop (suc i) requests) so_far.all;
+        part = subst (λ (r : Option (List (List ℕ))). GrowsByPart r (reply_lines asked answer) new.report) so_far.report part;
+        fault = fault;
+      }),
+    )
+
+-- all requests were run, and then the end came
+pub run-ends : (old mid new : World) (requests : List Request) (refused : Bool) (ended : Status) → HasRun requests old refused mid → new.report ≡ mid.report → EndsAs refused mid.state mid.files new.state new.files ended → HasPlayed requests old new ended
+run-ends old mid new requests refused ended so_far report (InWhole ends whole) = (
+  so_far.course,
+  Played (record {
+    mid = mid.state;
+    files = mid.files;
+    run = so_far.run;
+    all = so_far.all;
+    stored = ends;
+    report = report ∙ so_far.report;
+    status = whole ∙ ap whole_status so_far.is_refused;
+  }),
+)
+run-ends old mid new requests refused ended so_far report (AtStore cause only stops at) = (
+  so_far.course,
+  EndStopped (record {
+    mid = mid.state;
+    files = mid.files;
+    cause = cause;
+    run = so_far.run;
+    all = so_far.all;
+    only = only;
+    stops = stops;
+    report = report ∙ so_far.report;
+    status = at;
+  }),
+)
+
+-- a parser gives a number of attempts from 1 to 10
+has_tries : (asked : Request) → IsRequest asked → HasTries asked
+has_tries (request.Tries tries) valid = valid
+has_tries (request.Insert bay name) valid = tt
+has_tries (request.Blank bay name cylinders) valid = tt
+has_tries (request.BlankDd bay name cylinders) valid = tt
+has_tries (request.Eject bay) valid = tt
+has_tries (request.Ack bay) valid = tt
+has_tries (request.Read bay key address) valid = tt
+has_tries (request.Write bay key address) valid = tt
+has_tries (request.WriteDeleted bay key address) valid = tt
+has_tries (request.Format bay c h) valid = tt
+has_tries (request.Fill address length byte) valid = tt
+has_tries (request.Dump address length) valid = tt
+has_tries (request.Unit bay) valid = tt
+has_tries (request.SetRate bay rate) valid = tt
+
+-- a text that spells requests
+pub parsed_plays : (old new : World) (text : List ℕ) (given requests : List Request) (ended : Status) → parsed_of text ≡ Ok requests → given ≡ requests → HasPlayed given old new ended → PlaysOrStarves text old new ended
+parsed_plays old new text given requests ended spelled same played =
+    AsParsed played.0
+    (subst (λ (parsed : Result (List Request) ℕ). PlaysParsed parsed old played.0 new ended) (sym spelled)
+    (subst (λ (rs : List Request). PlaysRequests rs old played.0 new ended) same played.1))
+
+-- what a reading answered that found a bad line
+pub read_bad : {A : Type 0} (items : A → List Request) (error : JobError) (said : Result (List Request) ℕ) (line : ℕ) → ReadsText items (Err error) said → error ≡ lines.BadLine line → said ≡ Err line
+read_bad items error said line reads is = subst (λ (e : JobError). ReadsText items (Err e) said) is reads
+
+-- a text with a bad line
+pub unparsed_tells : (old new : World) (text : List ℕ) (line : ℕ) (ended : Status) → parsed_of text ≡ Err line → Tells (bad_line_text line) status.BadJob old new ended → PlaysOrStarves text old new ended
+unparsed_tells old new text line ended spelled tells =
+    AsParsed []
+    (subst (λ (parsed : Result (List Request) ℕ). PlaysParsed parsed old [] new ended) (sym spelled) (record { nothing = refl; tells = tells }))
+
+-- a play whose text was read
+pub as_text : (old new : World) (job text : List ℕ) (ended : Status) → IsText old.files job text → PlaysOrStarves text old new ended → (course : List Taken) × Plays job old course new ended
+as_text old new job text ended told (AsParsed course plays) = (course, There (record { text = text; told = told; plays = plays }))
+as_text old new job text ended told (Starving idle) = ([], Starved refl idle)
+
+-- a loaded text is the told file's
+pub loaded_text : (told : Option Files) (job : List ℕ) (bytes : Vec ℕ Global) → IfSome told (λ files. Loads files job 4194304 (Ok bytes)) → IsText told job bytes.items
+loaded_text None job bytes loads = tt
+loaded_text (Some files) job bytes loads = subst (λ (found : Option (List ℕ)). IsSomeAnd found (λ b. (b ≡ bytes.items) × (length b ≤ 4194304))) (sym loads.0) (refl, loads.1)
+
+-- a play whose text wasn't had
+pub as_missed : (told : Option Files) (state : State) (report after : Option (List (List ℕ))) (job : List ℕ) (error : LoadError) (ended : Status) → IfSome told (λ files. Loads files job 4194304 (Err error)) → MissesText error job report after ended → (course : List Taken) × Plays job (world state told report) course (world state told after) ended
+as_missed None state report after job load.Absent ended loads missed = ([], Missing tt (record { nothing = refl; tells = record { state = refl; files = refl; prints = missed } }))
+as_missed (Some files) state report after job load.Absent ended loads missed = ([], Missing loads (record { nothing = refl; tells = record { state = refl; files = refl; prints = missed } }))
+as_missed None state report after job load.TooLong ended loads missed = ([], TooLong tt (record { nothing = refl; tells = record { state = refl; files = refl; prints = missed } }))
+as_missed (Some files) state report after job load.TooLong ended loads missed = ([], TooLong loads (record { nothing = refl; tells = record { state = refl; files = refl; prints = missed } }))
+as_missed told state report after job load.Failed ended loads missed = ([], Faulty refl (record { same = ap (world state told) missed.0; status = missed.1 }))
+as_missed told state report after job load.NoMemory ended loads missed = ([], Starved refl (record { same = ap (world state told) missed.0; status = missed.1 }))
+
+-- a file that was loaded, and a text that was played
+pub text_plays : (state : State) (told loaded : Option Files) (report : Option (List (List ℕ))) (new : World) (job text : List ℕ) (bytes : Vec ℕ Global) (ended : Status) → loaded ≡ told → text ≡ bytes.items → IfSome told (λ files. Loads files job 4194304 (Ok bytes)) → PlaysOrStarves text (world state loaded report) new ended → (course : List Taken) × Plays job (world state told report) course new ended
+text_plays state told loaded report new job text bytes ended stays same loads plays =
+    as_text (world state told report) new job bytes.items ended (loaded_text told job bytes loads)
+    (subst (λ (files : Option Files). PlaysOrStarves bytes.items (world state files report) new ended) stays
+    (subst (λ (read : List ℕ). PlaysOrStarves read (world state loaded report) new ended) same plays))
+
+-- a file that wasn't loaded
+pub missed_plays : (state : State) (told loaded : Option Files) (report after : Option (List (List ℕ))) (job : List ℕ) (error : LoadError) (ended : Status) → loaded ≡ told → IfSome told (λ files. Loads files job 4194304 (Err error)) → MissesText error job report after ended → (course : List Taken) × Plays job (world state told report) course (world state loaded after) ended
+missed_plays state told loaded report after job error ended stays loads missed =
+    subst (λ (files : Option Files). (course : List Taken) × Plays job (world state told report) course (world state files after) ended) (sym stays)
+    (as_missed told state report after job error ended loads missed)

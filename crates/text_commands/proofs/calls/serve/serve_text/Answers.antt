@@ -1,0 +1,32 @@
+use Rattle.std.proofs.Common.{rules, refl, subst, sym, List}
+use Rattle.std.specs.Prelude.{Vec, All}
+use Rattle.std.specs.declared.alloc.Global.{Global}
+use Rattle.floppy_jobs.specs.Texts.{calls_of}
+use Rattle.floppy_jobs.specs.declared.calls.CallLine.{CallLine}
+use Rattle.text_commands.specs.CallLines.{LineHasTries}
+use Rattle.text_commands.proofs.ParsedCalls.{all_tries}
+use Rattle.text_commands.proofs.ServedCalls.{parsed_serves, read_bad, unparsed_tells}
+use Rattle.text_commands.proofs.calls.serve.serve_text.Goals as goal
+
+pub serve_all-requires : goal.serve_all-requires
+serve_all-requires g c =
+    subst (λ (l : List CallLine). All LineHasTries l) (sym c.deref.ensures.value) (all_tries c.args.text.now c.in-Ok.lines.items c.in-Ok.ensures)
+
+pub returns-in-Ok : goal.returns-in-Ok
+returns-in-Ok g c = record {
+  does = parsed_serves _ _ c.args.text.now c.deref.result.now c.in-Ok.lines.items c.serve_all.result c.in-Ok.ensures c.deref.ensures.value
+      c.serve_all.ensures.does;
+  is_form = search rules;
+  shelf_faults = search rules;
+  sink_faults = search rules;
+}
+
+pub returns-in-Err-BadLine : goal.returns-in-Err-BadLine
+returns-in-Err-BadLine g c = record {
+  does = unparsed_tells _ _ c.args.text.now c.in-Err-BadLine.line c.put_last_bad_line.result
+      (read_bad (λ (lines : Vec CallLine Global). lines.items) c.in-Err-BadLine.field-0 (calls_of c.args.text.now) c.in-Err-BadLine.line
+      c.in-Err-BadLine.ensures c.in-Err-BadLine.field-0-is) (record { state = refl; files = refl; prints = c.put_last_bad_line.ensures.prints });
+  is_form = search rules;
+  shelf_faults = search rules;
+  sink_faults = search rules;
+}

@@ -1,0 +1,63 @@
+-- What the calls of a text come to, part by part.
+use Rattle.std.specs.Prelude.{◌≡◌, ℕ, Bool, List, Result, Ok, Err}
+use Rattle.flop_base.specs.declared.answers.Status.{Status}
+use Rattle.flop_base.specs.declared.answers.Status.TheVariants as status
+use Rattle.floppy_jobs.specs.Texts.{calls_of}
+use Rattle.floppy_jobs.specs.declared.calls.CallLine.{CallLine}
+use Rattle.floppy_jobs.specs.declared.calls.CallLine.TheVariants as call
+use Rattle.floppy_requests.specs.declared.request.Request.{Request}
+use Rattle.sector_model.specs.Runs.{Taken}
+use Rattle.sector_model.specs.Plays.{World, IsIdle}
+use Rattle.int13.specs.declared.regs.Regs.{Regs}
+use Rattle.floppy_session.specs.Tries.{HasTries}
+use Rattle.text_commands.specs.CallTexts.{registers}
+use Rattle.text_commands.specs.CallRounds.{Round, AreServed, has_refused, IsRound, Breaks}
+use Rattle.text_commands.specs.CallCourses.{IsBroken, ServesLines, ServesParsed}
+
+-- the number of attempts is from 1 to 10, where a request sets it
+abbrev pub LineHasTries : CallLine → Type 0
+LineHasTries (call.Job asked) = HasTries asked
+LineHasTries (call.Call ax bx cx dx es) = Unit {0}
+
+-- a line is a call with these registers
+abbrev pub IsCallOf : Regs → CallLine → Type 0
+IsCallOf regs (call.Job asked) = ⊥
+IsCallOf regs (call.Call ax bx cx dx es) = regs ≡ registers ax bx cx dx es
+
+-- some lines were served and told whole; `refused` says that one counts as a refusal
+pub record HasServed (lines : List CallLine) (old : World) (refused : Bool) (kept : ℕ) (new : World) : Type 0 where
+  pub rounds : List Round
+  pub served : AreServed lines old rounds new kept
+  pub is_refused : refused ≡ has_refused rounds
+
+-- a line broke off
+abbrev pub HasBroken : List CallLine → World → World → Status → Type 0
+HasBroken lines old new ended = (course : List Taken) × IsBroken lines old course new ended
+
+-- a line was done and told whole, or broke off
+abbrev pub LineGoes : ℕ → ℕ → CallLine → World → Result Bool Status → World → Type 0
+LineGoes kept kept_after line old (Ok refused) new = IsRound kept line old refused new kept_after
+LineGoes kept kept_after line old (Err ended) new = (last : List Taken) × Breaks kept line old last new ended
+
+-- a request as in a job was, whatever status the service keeps
+abbrev pub AskGoes : Request → World → Result Bool Status → World → Type 0
+AskGoes asked old result new = (kept : ℕ) → LineGoes kept kept (call.Job asked) old result new
+
+-- a call with these registers was
+abbrev pub CallGoes : Regs → ℕ → ℕ → World → Result Bool Status → World → Type 0
+CallGoes regs kept kept_after old result new =
+    (line : CallLine) → IsCallOf regs line → LineGoes kept kept_after line old result new
+
+-- some lines were done and told whole, or one broke off
+abbrev pub LinesGo : List CallLine → World → Result Bool Status → World → Type 0
+LinesGo lines old (Ok refused) new = (kept : ℕ) × HasServed lines old refused kept new
+LinesGo lines old (Err ended) new = HasBroken lines old new ended
+
+-- lines are served, by some course
+abbrev pub Serving : List CallLine → World → World → Status → Type 0
+Serving lines old new ended = (course : List Taken) × ServesLines lines old course new ended
+
+-- a text is served as it is parsed, or memory for that couldn't be had
+pub data ServesOrStarves (text : List ℕ) (old new : World) (ended : Status) : Type 0 where
+  AsParsed : (course : List Taken) → ServesParsed (calls_of text) old course new ended → ServesOrStarves text old new ended
+  Starving : IsIdle old new status.NoMemory ended → ServesOrStarves text old new ended

@@ -1,0 +1,15 @@
+-- How a text ends whose lines were all done.
+use Rattle.std.specs.Prelude.{◌≡◌, Bool, Option}
+use Rattle.flop_base.specs.Shelf.{Files}
+use Rattle.flop_base.specs.declared.answers.Status.{Status}
+use Rattle.sector_model.specs.declared.reply.Stop.{Stop}
+use Rattle.sector_model.specs.States.{State}
+use Rattle.sector_model.specs.Texts.{stop_status}
+use Rattle.sector_model.specs.Runs.{Ends, EndStopsAt, IsEndStop}
+use Rattle.sector_model.specs.Plays.{whole_status}
+
+-- the end of a run: what was left in was stored, or a stop came at a store
+pub data EndsAs (refused : Bool) (old : State) (files : Option Files) (new : State) (after : Option Files) (ended : Status) : Type 0 where
+  InWhole : Ends old files new after → ended ≡ whole_status refused → EndsAs refused old files new after ended
+  AtStore : (cause : Stop) → IsEndStop cause → EndStopsAt old files new after → ended ≡ stop_status cause
+      → EndsAs refused old files new after ended

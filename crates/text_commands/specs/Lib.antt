@@ -1,0 +1,15 @@
+pub mod Ending
+pub mod CallCounts
+pub mod CallTexts
+pub mod CallCourses
+pub mod CallLines
+pub mod CallRounds
+pub mod Benches
+pub mod PortLines
+pub mod PortCourses
+pub mod PortPlays
+pub mod PortFaults
+pub mod PortFinishes
+pub mod PortGuards
+pub mod PortTexts
+pub mod JobRounds

@@ -1,0 +1,54 @@
+-- What port accesses can't do, whatever they are: to media, and to the count of device steps.
+use Rattle.std.specs.Prelude.{◌≡◌, ◌≤◌, ℕ, zero, suc, true, List, [], ◌∷◌}
+use Rattle.flop_base.specs.Counts.{RoseBy}
+use Rattle.flop_base.specs.declared.answers.Status.{Status}
+use Rattle.drive_model.specs.Drive.{is_protected}
+use Rattle.pc_bus.specs.Boards.{Board, drive_in}
+use Rattle.machine_laws.specs.OnWrites.Guards.{GuardsMedia}
+use Rattle.text_commands.specs.Benches.{Bench, Names}
+use Rattle.text_commands.specs.PortCourses.{Taken, waits_of}
+use Rattle.text_commands.specs.PortFinishes.{EndInTime}
+use Rattle.text_commands.specs.PortLines.{leaves_bay}
+use Rattle.text_commands.specs.PortPlays.{World, Plays}
+use Rattle.floppy_jobs.specs.declared.ports.PortLine.{PortLine}
+
+-- both media are as they were
+pub record SameMedia (old new : Board) : Type 0 where
+  pub first : new.first.medium ≡ old.first.medium
+  pub second : new.second.medium ≡ old.second.medium
+
+-- in so many device steps each medium changed, in each by one word at most, and not at all while it is protected
+unfoldable pub ChangesWords : ℕ → Board → Board → Type 0
+ChangesWords zero old new = SameMedia old new
+ChangesWords (suc n) old new = (between : Board) × ChangesWords n old between × GuardsMedia between new
+
+-- the medium of a bay, if it is a protected one, is as it was
+abbrev pub GuardsBay : ℕ → Board → Board → Type 0
+GuardsBay bay old new = is_protected (drive_in old bay).medium ≡ true → (drive_in new bay).medium ≡ (drive_in old bay).medium
+
+-- a line leaves the protected media that it doesn't take out
+abbrev pub GuardsLine : PortLine → Bench → Bench → Type 0
+GuardsLine asked old new =
+    (bay : ℕ) → bay ≤ 1 → leaves_bay bay asked ≡ true → GuardsBay bay old.board new.board
+
+-- each line of a course does
+abbrev pub GuardsCourse : Bench → List Taken → Type 0
+GuardsCourse old [] = Unit {0}
+GuardsCourse old (taken ∷ later) = GuardsLine taken.asked old taken.after × GuardsCourse taken.after later
+
+-- how a file of port accesses is run, how many device steps passed at least, that protected media stayed as they were, and that
+-- each command finished in time
+pub record RunsPorts (name : List ℕ) (old new : World) (ended : Status) : Type 0 where
+  pub course : List Taken
+  pub plays : Plays name old course new ended
+  pub steps : RoseBy (waits_of course) old.bench.board.bus.steps new.bench.board.bus.steps
+  pub media : GuardsCourse old.bench course
+  pub ends : EndInTime old.bench course new.bench
+
+-- a world whose media are in under these names
+abbrev pub with_names : Names → World → World
+with_names names world = record world { bench = record world.bench { names = names } }
+
+-- a file of port accesses is run on a machine whose media are in under no names, and those that are then in have some
+abbrev pub RunsBare : List ℕ → World → World → Status → Type 0
+RunsBare name old new ended = (names : Names) × RunsPorts name old (with_names names new) ended

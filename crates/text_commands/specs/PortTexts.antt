@@ -1,0 +1,36 @@
+-- What a line of port accesses prints.
+use Rattle.std.specs.Prelude.{ℕ, ◌/◌, Bool, true, false, List, [], ◌∷◌, ◌++◌, codes, nat_lt, if◌then◌else◌}
+use Rattle.floppy_requests.specs.Spelling.{hex_digit, hex2}
+use Rattle.floppy_jobs.specs.declared.ports.PortLine.{PortLine}
+use Rattle.floppy_jobs.specs.declared.ports.PortLine.TheVariants as line
+use Rattle.sector_model.specs.Texts.{reason_text, line_end}
+use Rattle.text_commands.specs.declared.ports.answer.Answer.{Answer}
+use Rattle.text_commands.specs.declared.ports.answer.Answer.TheVariants as answer
+
+-- a port in three hexadecimal digits, from 1000 on in four
+abbrev pub port_text : ℕ → List ℕ
+port_text port =
+    if nat_lt port 4096 then hex_digit (port / 256) ++ (hex_digit (port / 16) ++ hex_digit port)
+    else hex_digit (port / 4096) ++ (hex_digit (port / 256) ++ (hex_digit (port / 16) ++ hex_digit port))
+
+-- the first word of a line
+abbrev pub verb_text : PortLine → List ℕ
+verb_text (line.In port) = codes "in"
+verb_text (line.Out port value) = codes "out"
+verb_text (line.Wait steps) = codes "wait"
+verb_text line.Irq = codes "irq"
+verb_text (line.Insert bay name) = codes "insert"
+verb_text (line.Eject bay) = codes "eject"
+
+-- whether the latch was set
+abbrev pub latch_text : Bool → List ℕ
+latch_text true = codes "irq 1\n"
+latch_text false = codes "irq 0\n"
+
+-- the line that tells a line's answer, if it has one: a medium that was put in or taken out, or not, as in a job
+unfoldable pub answer_lines : PortLine → Answer → List (List ℕ)
+answer_lines asked answer.Nothing = []
+answer_lines asked (answer.Byte port value) = (codes "in " ++ (port_text port ++ (codes " " ++ (hex2 value ++ line_end)))) ∷ []
+answer_lines asked (answer.Latch set) = latch_text set ∷ []
+answer_lines asked answer.Done = (verb_text asked ++ codes " ok\n") ∷ []
+answer_lines asked (answer.Refused cause) = (verb_text asked ++ (codes " refused " ++ (reason_text cause ++ line_end))) ∷ []

@@ -1,0 +1,12 @@
+//! The commands that go through a text, line by line, and store at the end what is left in the bays: a job and calls of INT 13h, over a
+//! session; and port accesses, on a machine as it stands, with no driver.
+#![tactic(auto)]
+
+mod calls;
+mod ending;
+mod jobs;
+mod ports;
+
+pub use calls::{calls_count, serve_calls};
+pub use jobs::play;
+pub use ports::{Answer, accesses_guard_media, commands_end_in_time, run_ports};

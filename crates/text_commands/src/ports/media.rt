@@ -1,0 +1,151 @@
+// The lines that exchange media, and the end of a run.
+ghost use Rattle.std.specs.Prelude.{◌≡◌, ◌≤◌, false, true};
+ghost use Rattle.floppy_jobs.specs.declared.ports.PortLine.TheVariants as line;
+ghost use Rattle.drive_model.specs.Drive.{Becomes, loaded};
+ghost use Rattle.flop_base.specs.Bays.{with_bay};
+ghost use Rattle.pc_bus.specs.Boards.{board, drive_in};
+ghost use Rattle.pc_bus.specs.Handling.{Touches};
+ghost use Rattle.text_commands.specs.Benches.{AreNamed, is_loaded as is_loaded_in};
+ghost use Rattle.text_commands.specs.PortFaults.{Handled, faulty_bench_of};
+ghost use Rattle.text_commands.specs.PortLines.{LineGoes, StoresOrDrops};
+ghost use Rattle.text_commands.specs.PortCourses.{BayGoes, EndGoes};
+
+use crate::ports::answer::Answer;
+use crate::ports::names::Names;
+use drive_model::Drive;
+use flop_base::{Code, Name, Shelf};
+use floppy_session::{load_medium, store_medium};
+use pc_bus::MachineOf;
+use raw_image::Medium;
+use sector_model::{Reason, Stop};
+use std::alloc::Global;
+
+/// Loads the image of this name and puts its medium in.
+pub(crate) fn insert<S: Shelf, D: Drive>(
+    alloc: Global,
+    machine: &mut MachineOf<D>,
+    names: &mut Names,
+    bay: u8,
+    name: &Name,
+    shelf: &mut S,
+) -> Result<Answer, Stop>
+    requires { AreNamed names.old (board D.state machine.old) }
+    ensures { Handled (LineGoes (line.Insert bay name.now))
+        (faulty_bench_of D.state S.told S.fault_count machine.old names.old shelf.old) result
+        (faulty_bench_of D.state S.told S.fault_count machine.new names.new shelf.new) }
+{
+    if bay > 1 {
+        return Ok(Answer::Refused(Reason::Driver(Code::BadRequest)));
+    }
+    if names.is_loaded(bay) {
+        return Ok(Answer::Refused(Reason::Busy));
+    }
+    let medium = load_medium(alloc, shelf, name)?;
+    let name = Name::copy(alloc, name.as_str())?;
+    put_in(machine, names, bay, name, medium);
+    Ok(Answer::Done)
+}
+
+/// Puts a medium into an empty bay, to be stored under this name.
+fn put_in<D: Drive>(
+    machine: &mut MachineOf<D>,
+    names: &mut Names,
+    bay: u8,
+    name: Name,
+    medium: Medium,
+)
+    requires named { AreNamed names.old (board D.state machine.old) }
+    requires bay { bay ≤ 1 }
+    requires empty { is_loaded_in names.old bay ≡ false }
+    ensures touches { Touches bay (board D.state machine.old) (board D.state machine.new) }
+    ensures drive { Becomes (loaded medium (drive_in (board D.state machine.old) bay))
+        (drive_in (board D.state machine.old) bay) (drive_in (board D.state machine.new) bay) }
+    ensures names { names.new ≡ with_bay names.old bay (Some name) }
+    ensures named { AreNamed names.new (board D.state machine.new) }
+{
+    match machine.insert(bay, medium) {
+        Ok(()) => names.set(bay, name),
+        Err(_) => unreachable!(),
+    }
+}
+
+/// Takes the medium out and stores its image under its name.
+pub(crate) fn eject<S: Shelf, D: Drive>(
+    alloc: Global,
+    machine: &mut MachineOf<D>,
+    names: &mut Names,
+    bay: u8,
+    shelf: &mut S,
+) -> Result<Answer, Stop>
+    requires { AreNamed names.old (board D.state machine.old) }
+    ensures { Handled (LineGoes (line.Eject bay))
+        (faulty_bench_of D.state S.told S.fault_count machine.old names.old shelf.old) result
+        (faulty_bench_of D.state S.told S.fault_count machine.new names.new shelf.new) }
+{
+    if bay > 1 {
+        return Ok(Answer::Refused(Reason::Driver(Code::BadRequest)));
+    }
+    if !names.is_loaded(bay) {
+        return Ok(Answer::Refused(Reason::Empty));
+    }
+    take_out(alloc, machine, names, bay, shelf)?;
+    Ok(Answer::Done)
+}
+
+/// Takes the medium out of a loaded bay and stores its image under its name. After a stop the medium is dropped.
+fn take_out<S: Shelf, D: Drive>(
+    alloc: Global,
+    machine: &mut MachineOf<D>,
+    names: &mut Names,
+    bay: u8,
+    shelf: &mut S,
+) -> Result<(), Stop>
+    requires named { AreNamed names.old (board D.state machine.old) }
+    requires bay { bay ≤ 1 }
+    requires loaded { is_loaded_in names.old bay ≡ true }
+    ensures { Handled (StoresOrDrops bay)
+        (faulty_bench_of D.state S.told S.fault_count machine.old names.old shelf.old) result
+        (faulty_bench_of D.state S.told S.fault_count machine.new names.new shelf.new) }
+{
+    let name = names.take(bay).unwrap();
+    let medium = machine.eject(bay).unwrap();
+    store_medium(alloc, shelf, &name, &medium)?;
+    Ok(())
+}
+
+/// Takes the medium out of a bay, if one is in, and stores its image under its name.
+fn end_bay<S: Shelf, D: Drive>(
+    alloc: Global,
+    machine: &mut MachineOf<D>,
+    names: &mut Names,
+    bay: u8,
+    shelf: &mut S,
+) -> Result<(), Stop>
+    requires named { AreNamed names.old (board D.state machine.old) }
+    requires bay { bay ≤ 1 }
+    ensures { Handled (BayGoes bay)
+        (faulty_bench_of D.state S.told S.fault_count machine.old names.old shelf.old) result
+        (faulty_bench_of D.state S.told S.fault_count machine.new names.new shelf.new) }
+{
+    if names.is_loaded(bay) {
+        take_out(alloc, machine, names, bay, shelf)
+    } else {
+        Ok(())
+    }
+}
+
+/// Stores the media that are left in: bay 0, then bay 1.
+pub(crate) fn end<S: Shelf, D: Drive>(
+    alloc: Global,
+    machine: &mut MachineOf<D>,
+    names: &mut Names,
+    shelf: &mut S,
+) -> Result<(), Stop>
+    requires { AreNamed names.old (board D.state machine.old) }
+    ensures { Handled EndGoes
+        (faulty_bench_of D.state S.told S.fault_count machine.old names.old shelf.old) result
+        (faulty_bench_of D.state S.told S.fault_count machine.new names.new shelf.new) }
+{
+    end_bay(alloc, machine, names, 0, shelf)?;
+    end_bay(alloc, machine, names, 1, shelf)
+}

@@ -1,0 +1,225 @@
+/* drives - what is done to drives and their media while they turn: the tab, the shape, single tracks, flat files, the tracks that were written,
+ * the cable, a plan anew, the reset pin, and the name that a state begins with. It makes its own disk. */
+#include "common.h"
+
+enum { WORDS = 12500, SECTOR = 512, SIDE = 18, FLAT = 1474560 };
+
+static telwyddus_controller controller;
+static uint8_t lines;
+
+/* ---- the controller at its ports */
+
+static void out(uint16_t port, uint8_t value) { MUST(telwyddus_controller_write(&controller, port, value, &lines)); }
+
+static uint8_t in(uint16_t port) {
+    uint8_t value;
+    MUST(telwyddus_controller_read(&controller, port, &value, &lines));
+    return value;
+}
+
+static void run(uint32_t most) {
+    uint32_t made;
+    MUST(telwyddus_controller_run(&controller, most, &made, &lines));
+}
+
+/* A command, with bytes by DMA where there are any, up to its results; how many bytes passed. */
+static size_t command(const uint8_t *bytes, size_t count, uint8_t *data, size_t length, uint8_t results[7]) {
+    size_t moved = 0, wanted;
+    for (size_t i = 0; i < count; i++) out(0x3F5, bytes[i]);
+    for (uint32_t turns = 0; turns < 200000 && !(lines & TELWYDDUS_INT); turns++) {
+        if (!(lines & TELWYDDUS_DRQ)) {
+            run(100000);
+            continue;
+        }
+        if (lines & TELWYDDUS_TO_MEMORY) MUST(telwyddus_controller_dack_read(&controller, &data[moved], &lines));
+        else MUST(telwyddus_controller_dack_write(&controller, data[moved], &lines));
+        wanted = ++moved;
+        if (wanted == length) MUST(telwyddus_controller_tc(&controller, &lines));
+    }
+    check((lines & TELWYDDUS_INT) != 0, "the command ends");
+    for (int i = 0; i < 7; i++) results[i] = in(0x3F5);
+    return moved;
+}
+
+/* Out of reset, bay 0, its motor, 500 kbit/s, and the heads over cylinder 0; ST0 of the RECALIBRATE. */
+static uint8_t begin(void) {
+    out(0x3F2, 0x00);
+    out(0x3F2, 0x1C);
+    out(0x3F7, 0x00);
+    run(100000);
+    for (int i = 0; i < 4; i++) {
+        out(0x3F5, 0x08);
+        in(0x3F5);
+        if (i == 0) in(0x3F5);
+        if (!(in(0x3F4) & 0x10)) break;
+        in(0x3F5);
+    }
+    out(0x3F5, 0x07);
+    out(0x3F5, 0x00);
+    run(1000000);
+    out(0x3F5, 0x08);
+    uint8_t status = in(0x3F5);
+    in(0x3F5);
+    return status;
+}
+
+static const uint8_t READ[9] = {0x46, 0, 0, 0, 1, 2, 18, 0x1B, 0xFF}, WRITE[9] = {0x45, 0, 0, 0, 1, 2, 18, 0x1B, 0xFF};
+
+/* ---- trays */
+
+static uint8_t *flat, *again;
+
+static void shapes(telwyddus_tray *tray) {
+    telwyddus_shape shape;
+    MUST(telwyddus_tray_shape(tray, &shape));
+    check(shape.words == WORDS && shape.kilobits == 500 && shape.cylinders == 80 && shape.heads == 2 && shape.is_protected == 0, "a shape of 1.44 MB");
+    MUST(telwyddus_tray_protect(tray, 7));
+    MUST(telwyddus_tray_shape(tray, &shape));
+    check(shape.is_protected == 1, "its tab is moved");
+    MUST(telwyddus_tray_protect(tray, 0));
+}
+
+static void tracks(telwyddus_tray *tray) {
+    static uint16_t one[WORDS], two[WORDS];
+    size_t length = 0;
+    check(telwyddus_tray_track(tray, 0, 0, NULL, 0, &length) == TELWYDDUS_TOO_SHORT && length == WORDS, "a track's length is told");
+    check(telwyddus_tray_track(tray, 80, 0, one, WORDS, &length) == TELWYDDUS_OUT_OF_RANGE, "no cylinder 80");
+    check(telwyddus_tray_track(tray, 0, 2, one, WORDS, &length) == TELWYDDUS_OUT_OF_RANGE, "no head 2");
+    MUST(telwyddus_tray_track(tray, 3, 1, one, WORDS, &length));
+    MUST(telwyddus_tray_track(tray, 4, 0, two, WORDS, &length));
+    check(memcmp(one, two, sizeof one) != 0, "two tracks");
+    check(telwyddus_tray_set_track(tray, 4, 0, one, WORDS - 1) == TELWYDDUS_OUT_OF_RANGE, "a word too few");
+    MUST(telwyddus_tray_set_track(tray, 4, 0, one, WORDS));
+    uint16_t three[WORDS];
+    MUST(telwyddus_tray_track(tray, 4, 0, three, WORDS, &length));
+    check(memcmp(one, three, sizeof one) == 0, "a track is the other's");
+    MUST(telwyddus_tray_set_track(tray, 4, 0, two, WORDS));
+}
+
+/* ---- a medium in its bay */
+
+static void in_its_bay(void) {
+    static uint16_t words[WORDS];
+    telwyddus_shape shape;
+    uint8_t cylinder, head, results[7], sector[SECTOR];
+    size_t length;
+    MUST(telwyddus_controller_shape(&controller, 0, &shape));
+    check(shape.words == WORDS && shape.is_protected == 0, "the shape in the bay");
+    check(telwyddus_controller_shape(&controller, 1, &shape) == TELWYDDUS_NO_MEDIUM, "none in the other");
+    MUST(telwyddus_controller_track(&controller, 0, 79, 1, words, WORDS, &length));
+    MUST(telwyddus_controller_flat(&controller, 0, again, FLAT, &length, &cylinder, &head));
+    check(length == FLAT && memcmp(flat, again, FLAT) == 0, "the flat file out of the bay");
+
+    telwyddus_tracks map;
+    MUST(telwyddus_controller_written_tracks(&controller, 0, &map));
+    for (int i = 0; i < 20; i++) check(map.bytes[i] == 0, "no track is written yet");
+    memset(sector, 0x5A, SECTOR);
+    check(command(WRITE, 9, sector, SECTOR, results) == SECTOR && (results[0] & 0xC0) == 0, "a sector is written");
+    memcpy(flat, sector, SECTOR);
+    MUST(telwyddus_controller_written_tracks(&controller, 0, &map));
+    check(map.bytes[0] == 1, "track 0 is written");
+    for (int i = 1; i < 20; i++) check(map.bytes[i] == 0, "and no other");
+    MUST(telwyddus_controller_written_tracks(&controller, 0, &map));
+    check(map.bytes[0] == 0, "that is forgotten");
+    MUST(telwyddus_controller_flat(&controller, 0, again, FLAT, &length, &cylinder, &head));
+    check(memcmp(flat, again, FLAT) == 0, "the flat file has it");
+
+    MUST(telwyddus_controller_protect(&controller, 0, 1));
+    check((in(0x3F7) & 0x80) == 0, "the change line stays down");
+    command(WRITE, 9, sector, SECTOR, results);
+    check((results[0] & 0xC0) == 0x40 && results[1] == 0x02, "not writable");
+    MUST(telwyddus_controller_protect(&controller, 0, 0));
+    check(command(WRITE, 9, sector, SECTOR, results) == SECTOR && (results[0] & 0xC0) == 0, "writable again");
+    check(telwyddus_controller_protect(&controller, 1, 1) == TELWYDDUS_NO_MEDIUM, "no tab without a medium");
+}
+
+static void planned_anew(void) {
+    static const char once[] = "drop 0 0 0 300 1\n", often[] = "drop 0 0 0 300 99\ndrop 1 0 0 300 99\n";
+    uint8_t results[7], sector[SECTOR];
+    size_t line = 99;
+    check(telwyddus_controller_plan(&controller, 0, (const uint8_t *)"no plan", 7, &line) == TELWYDDUS_BAD_PLAN && line == 1, "no plan");
+    MUST(telwyddus_controller_plan(&controller, 0, (const uint8_t *)once, sizeof once - 1, &line));
+    command(READ, 9, sector, SECTOR, results);
+    check((results[0] & 0xC0) == 0x40 && results[1] == 0x20 && results[2] == 0x20, "a word is lost");
+    check(command(READ, 9, sector, SECTOR, results) == SECTOR && (results[0] & 0xC0) == 0, "once");
+    MUST(telwyddus_controller_plan(&controller, 1, (const uint8_t *)often, sizeof often - 1, &line));
+    check(command(READ, 9, sector, SECTOR, results) == SECTOR && (results[0] & 0xC0) == 0, "what is planned for bay 1 isn't bay 0's");
+    MUST(telwyddus_controller_plan(&controller, 0, (const uint8_t *)often, sizeof often - 1, &line));
+    command(READ, 9, sector, SECTOR, results);
+    check((results[0] & 0xC0) == 0x40, "a word is lost again");
+    MUST(telwyddus_controller_plan(&controller, 0, NULL, 0, &line));
+    check(command(READ, 9, sector, SECTOR, results) == SECTOR && (results[0] & 0xC0) == 0, "no fault is left");
+}
+
+/* ---- the cable */
+
+static void cables(telwyddus_tray *tray) {
+    check(telwyddus_controller_attach(&controller, 0, 0) == TELWYDDUS_HAS_MEDIUM, "a medium is in");
+    check(telwyddus_controller_attach(&controller, 2, 0) == TELWYDDUS_OUT_OF_RANGE, "no bay 2");
+    MUST(telwyddus_controller_eject(&controller, 0, tray));
+    MUST(telwyddus_controller_attach(&controller, 0, 0));
+    check(telwyddus_controller_insert(&controller, 0, tray) == TELWYDDUS_OUT_OF_RANGE, "it takes no medium");
+    check((in(0x3F7) & 0x80) == 0, "no change line");
+    check((begin() & 0x10) != 0, "no track 0");
+    MUST(telwyddus_controller_attach(&controller, 0, 1));
+    MUST(telwyddus_controller_insert(&controller, 0, tray));
+    check((begin() & 0xF0) == 0x20, "track 0 again");
+}
+
+/* ---- the reset pin, and states */
+
+static void pin(void) {
+    uint32_t nanoseconds;
+    out(0x3F5, 0x94); /* LOCK */
+    in(0x3F5);
+    MUST(telwyddus_controller_reset(&controller));
+    MUST(telwyddus_controller_lines(&controller, &lines));
+    check((lines & (TELWYDDUS_INT | TELWYDDUS_DRQ)) == 0, "the lines are down");
+    MUST(telwyddus_controller_word_time(&controller, &nanoseconds));
+    check(nanoseconds == 32000, "250 kbit/s, as at power-up");
+    check((begin() & 0xF0) == 0x20, "and it works");
+    out(0x3F5, 0x0E); /* DUMPREG */
+    uint8_t dump[10];
+    for (int i = 0; i < 10; i++) dump[i] = in(0x3F5);
+    check((dump[7] & 0x80) == 0, "LOCK is gone");
+}
+
+static void states(void) {
+    static const uint8_t name[8] = {'T', 'E', 'L', 'W', 'Y', 'D', 'D', 1};
+    telwyddus_controller other = {0};
+    size_t length = 0;
+    check(telwyddus_controller_save(&controller, NULL, 0, &length) == TELWYDDUS_TOO_SHORT, "a state's length");
+    uint8_t *bytes = (uint8_t *)malloc(length);
+    MUST(telwyddus_controller_save(&controller, bytes, length, &length));
+    check(memcmp(bytes, name, 8) == 0, "it begins with its name");
+    bytes[7]++;
+    check(telwyddus_controller_restore(&other, bytes, length) == TELWYDDUS_BAD_STATE, "another form is none");
+    bytes[7]--;
+    MUST(telwyddus_controller_restore(&other, bytes, length));
+    MUST(telwyddus_controller_free(&other));
+    free(bytes);
+}
+
+int main(void) {
+    telwyddus_tray tray = {0};
+    flat = (uint8_t *)malloc(FLAT);
+    again = (uint8_t *)malloc(FLAT);
+    for (size_t i = 0; i < FLAT; i++) flat[i] = (uint8_t)(i * 7 + i / SECTOR);
+    MUST(telwyddus_tray_read_flat(&tray, flat, FLAT));
+    shapes(&tray);
+    tracks(&tray);
+    MUST(telwyddus_controller_new(&controller));
+    MUST(telwyddus_controller_insert(&controller, 0, &tray));
+    MUST(telwyddus_tray_free(&tray));
+    check((begin() & 0xF0) == 0x20, "the heads find track 0");
+    in_its_bay();
+    planned_anew();
+    cables(&tray);
+    pin();
+    states();
+    MUST(telwyddus_tray_free(&tray));
+    MUST(telwyddus_controller_free(&controller));
+    free(flat);
+    free(again);
+    return 0;
+}
