@@ -78,13 +78,14 @@ fn puts(rt: &impl Abort, sink: &mut impl Sink, bytes: &[u8], refused: Option<Put
 }
 
 #[test]
-fn a_sink_keeps_bytes_in_order_and_its_numbered_calls_fail(rt: HostRuntime) -> Result<(), Fail> {
+fn a_sink_keeps_lines_in_order_and_its_numbered_calls_fail(rt: HostRuntime) -> Result<(), Fail> {
     let alloc = rt.alloc();
     let mut sink = MemSink::new(alloc, vec![in alloc; 2]?);
     puts(&rt, &mut sink, b"one ", None);
     puts(&rt, &mut sink, b"two ", Some(PutError::Failed));
     puts(&rt, &mut sink, b"three", None);
     assert!(rt; sink.bytes() == b"one three".as_slice());
+    assert!(rt; sink.lengths() == [4usize, 5].as_slice());
     same(&rt, &sink.faults(), &1);
     let copy = Bytes::copy(alloc, sink.bytes())?;
     assert!(rt; copy.as_slice() == b"one three".as_slice());

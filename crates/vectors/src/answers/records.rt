@@ -2,7 +2,6 @@
 use super::print::put_key;
 use super::{Asked, chips, key, rate};
 use flop_base::{Chrn, Code};
-use floppy_driver::{Prepare, preparation};
 use floppy_driver::{Prepare, START_TRIES, preparation};
 use floppy_jobs::is_verb;
 use rescue::{AfterRead, after_read, logged_keys, read_log, read_request, standard_keys};
