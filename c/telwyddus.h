@@ -120,6 +120,12 @@ TELWYDDUS_NEWS uint32_t telwyddus_tray_blank(telwyddus_tray *tray, uint8_t cylin
  * DONE, FULL, NO_MEMORY, BAD_IMAGE for any other length. */
 TELWYDDUS_NEWS uint32_t telwyddus_tray_read_flat(telwyddus_tray *tray, const uint8_t *bytes, size_t length);
 
+/* Makes a tray with the medium of a flat sector file of another geometry: 1 to 80 cylinders, 1 or 2 heads, and on each track the records 1 to
+ * `sectors`, of 128 << n bytes (n 1 to 6), at 500 or 250 kbit/s; 40, 2, 9, 2, 250 is 360 KB, and 80, 2, 21, 2, 500 is 1.68 MB. UNFIT where a track
+ * has no room for so many. DONE, FULL, NO_MEMORY, OUT_OF_RANGE for no such geometry, BAD_IMAGE for another length, UNFIT. */
+TELWYDDUS_NEWS uint32_t telwyddus_tray_read_flat_as(telwyddus_tray *tray, const uint8_t *bytes, size_t length, uint8_t cylinders,
+    uint8_t heads, uint8_t sectors, uint8_t n, uint16_t kilobits);
+
 /* Writes the flat sector file of its medium to the beginning of a buffer: of 80 cylinders and two heads the sectors 1 to 18 at 500 kbit/s,
  * 1 to 9 at 250, each of 512 bytes. *length is the file's, told where the buffer is too short too. The file has each sector of the medium,
  * or there is none: UNFIT where an ImageDisk file can't have a track either; else where a track has more sectors than these, or one that is
@@ -460,6 +466,8 @@ static inline const uint16_t *telwyddus_words_in_(const uint16_t *words) {
     (telwyddus_tray_write)(tray, telwyddus_out_(out), room, length)
 #define telwyddus_tray_read_flat(tray, bytes, length) \
     (telwyddus_tray_read_flat)(tray, telwyddus_in_(bytes), length)
+#define telwyddus_tray_read_flat_as(tray, bytes, length, cylinders, heads, sectors, n, kilobits) \
+    (telwyddus_tray_read_flat_as)(tray, telwyddus_in_(bytes), length, cylinders, heads, sectors, n, kilobits)
 #define telwyddus_tray_write_flat(tray, out, room, length, cylinder, head) \
     (telwyddus_tray_write_flat)(tray, telwyddus_out_(out), room, length, cylinder, head)
 #define telwyddus_tray_read_imd(tray, bytes, length, cylinder, head) \

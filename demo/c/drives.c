@@ -79,6 +79,26 @@ static void shapes(telwyddus_tray *tray) {
     MUST(telwyddus_tray_protect(tray, 0));
 }
 
+/* Flat files of other geometries. */
+static void forms(void) {
+    telwyddus_tray tray = {0};
+    telwyddus_shape shape;
+    MUST(telwyddus_tray_read_flat_as(&tray, flat, 40 * 2 * 9 * SECTOR, 40, 2, 9, 2, 250));
+    MUST(telwyddus_tray_shape(&tray, &shape));
+    check(shape.cylinders == 40 && shape.heads == 2 && shape.kilobits == 250, "360 KB");
+    MUST(telwyddus_tray_free(&tray));
+    MUST(telwyddus_tray_read_flat_as(&tray, flat, 40 * 8 * SECTOR, 40, 1, 8, 2, 250));
+    MUST(telwyddus_tray_shape(&tray, &shape));
+    check(shape.cylinders == 40 && shape.heads == 1, "160 KB");
+    MUST(telwyddus_tray_free(&tray));
+    MUST(telwyddus_tray_read_flat_as(&tray, flat, 2 * 2 * 21 * SECTOR, 2, 2, 21, 2, 500));
+    MUST(telwyddus_tray_free(&tray));
+    check(telwyddus_tray_read_flat_as(&tray, flat, 2 * 2 * 30 * SECTOR, 2, 2, 30, 2, 500) == TELWYDDUS_UNFIT, "no room for 30");
+    check(telwyddus_tray_read_flat_as(&tray, flat, SECTOR, 81, 2, 18, 2, 500) == TELWYDDUS_OUT_OF_RANGE, "no 81 cylinders");
+    check(telwyddus_tray_read_flat_as(&tray, flat, SECTOR, 80, 2, 18, 2, 300) == TELWYDDUS_OUT_OF_RANGE, "no 300 kbit/s");
+    check(telwyddus_tray_read_flat_as(&tray, flat, SECTOR, 80, 2, 18, 2, 500) == TELWYDDUS_BAD_IMAGE, "another length");
+}
+
 static void tracks(telwyddus_tray *tray) {
     static uint16_t one[WORDS], two[WORDS];
     size_t length = 0;
@@ -207,6 +227,7 @@ int main(void) {
     for (size_t i = 0; i < FLAT; i++) flat[i] = (uint8_t)(i * 7 + i / SECTOR);
     MUST(telwyddus_tray_read_flat(&tray, flat, FLAT));
     shapes(&tray);
+    forms();
     tracks(&tray);
     MUST(telwyddus_controller_new(&controller));
     MUST(telwyddus_controller_insert(&controller, 0, &tray));

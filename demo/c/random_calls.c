@@ -182,6 +182,18 @@ static void tray_read_flat(void) {
     tray_is[at].medium = (Medium){true, 14 + 160 * 12500, 80, 6250, false};
 }
 
+/* Of another geometry: a small one, one that there isn't, one with no room on its tracks, and a file of another length. */
+static void tray_read_flat_as(void) {
+    unsigned at = below(4), way = below(5), heads = 1 + below(2), sectors = way == 2 ? 200 : 1 + below(9);
+    uint8_t cylinders = way == 1 ? (uint8_t)(below(2) ? 0 : 81 + below(100)) : 1;
+    size_t length = (size_t)heads * sectors * 512 - (way == 0 ? 512 : 0);
+    CALL(telwyddus_tray_read_flat_as(&trays[at], length == 0 ? NULL : flat, length, cylinders, (uint8_t)heads, (uint8_t)sectors, 2, 250));
+    uint32_t want = way == 0 ? TELWYDDUS_BAD_IMAGE : way == 1 ? TELWYDDUS_OUT_OF_RANGE : way == 2 ? TELWYDDUS_UNFIT : TELWYDDUS_DONE;
+    if (!wanted(tray_is[at].is ? TELWYDDUS_FULL : want)) return;
+    tray_is[at].is = true;
+    tray_is[at].medium = (Medium){.is = true};
+}
+
 static void tray_read_imd(void) {
     unsigned at = below(4), way = below(4);
     uint8_t cylinder, head;
@@ -611,17 +623,22 @@ static void move_state(void) {
     size_t room = below(3) ? POOL : below(2000), told = 0;
     const State *state = below(2) ? &controller_state : &machine_state;
     size_t length = way == 0 ? 0 : way == 1 ? state->length / 2 : state->length;
+    const uint8_t *bytes = state->bytes;
+    if (way == 2 && length > 0) { /* behind another name */
+        memcpy(pool, bytes, length);
+        bytes = pool;
+    }
     fill(room);
     switch (below(4)) {
     case 0: CALL(telwyddus_controller_save(&controllers[at], buffer(room), room, &told)); saved(&controller_state, &controller_is[at], room, told); break;
     case 1: CALL(telwyddus_machine_save(&machines[at], buffer(room), room, &told)); saved(&machine_state, &machine_is[at], room, told); break;
     case 2:
-        CALL(telwyddus_controller_restore(&controllers[at], length == 0 ? NULL : state->bytes, length));
-        restored(state, &controller_is[at], state == &controller_state && way > 1);
+        CALL(telwyddus_controller_restore(&controllers[at], length == 0 ? NULL : bytes, length));
+        restored(state, &controller_is[at], state == &controller_state && way > 2);
         break;
     default:
-        CALL(telwyddus_machine_restore(&machines[at], length == 0 ? NULL : state->bytes, length));
-        restored(state, &machine_is[at], state == &machine_state && way > 1);
+        CALL(telwyddus_machine_restore(&machines[at], length == 0 ? NULL : bytes, length));
+        restored(state, &machine_is[at], state == &machine_state && way > 2);
     }
 }
 
@@ -782,7 +799,7 @@ static void use_disk(void) {
 
 typedef struct { void (*make)(void); unsigned weight; } Part;
 static const Part parts[] = {{drive, 250}, {drive_machine, 150}, {look, 600}, {rig, 120}, {medium_calls, 200}, {move_medium, 300}, {make, 200}, {end, 40}, {tray_blank, 60}, {tray_read, 60}, {tray_free, 60},
-    {tray_write, 60}, {tray_read_imd, 4}, {tray_read_flat, 1}, {image, 20}, {move_state, 12}, {use_shelf, 40}, {use_disk, 12}};
+    {tray_write, 60}, {tray_read_imd, 4}, {tray_read_flat, 1}, {tray_read_flat_as, 4}, {image, 20}, {move_state, 12}, {use_shelf, 40}, {use_disk, 12}};
 
 static void make_part(void) {
     unsigned total = 0, at = 0;

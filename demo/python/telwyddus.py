@@ -196,6 +196,13 @@ class Tray(Holder):
         return tray
 
     @classmethod
+    def of_flat_as(cls, data, cylinders, heads, sectors, n=2, kilobits=500):
+        """The medium of a flat sector file of another geometry."""
+        tray = cls()
+        tray._call("read_flat_as", *given(data), byte(cylinders), byte(heads), byte(sectors), byte(n), port(kilobits))
+        return tray
+
+    @classmethod
     def of_imd(cls, data):
         """The medium of an ImageDisk file."""
         tray, place = cls(), (ctypes.c_uint8 * 2)()

@@ -77,6 +77,13 @@ impl TrackMap {
         }
     }
 
+    /// The bytes as an array.
+    pub fn array(&self) -> [u8; MAP_BYTES]
+        ensures { result ≡ self.now }
+    {
+        self.bits
+    }
+
     /// The bytes.
     pub fn bytes(&self) -> &[u8]
         ensures value { result.now ≡ self.now }

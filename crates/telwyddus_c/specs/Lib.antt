@@ -5,6 +5,7 @@ pub mod Controllers
 pub mod Disks
 pub mod Drives
 pub mod Flats
+pub mod Forms
 pub mod Images
 pub mod Imds
 pub mod Machines

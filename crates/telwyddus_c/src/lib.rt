@@ -9,6 +9,7 @@ mod code;
 mod controller;
 mod disk;
 mod flat;
+mod flat_as;
 mod image;
 mod imd;
 mod machine;

@@ -131,15 +131,15 @@ fn plan_bay(
     ensures { PlansAt bay plan.now result line.old line.new controller.old controller.new }
 {
     match plan_of(alloc, plan) {
-        Err(PlanError::NoMemory) => NO_MEMORY,
-        Err(PlanError::BadLine { line: bad }) => {
-            *line = bad;
-            BAD_PLAN
-        }
         Ok(plan) => {
             let faults = faults_for(bay, plan);
             replan(alloc, controller, bay, faults);
             DONE
+        }
+        Err(PlanError::NoMemory) => NO_MEMORY,
+        Err(PlanError::BadLine { line: bad }) => {
+            *line = bad;
+            BAD_PLAN
         }
     }
 }
@@ -209,5 +209,5 @@ fn take_tracks(alloc: Global, controller: &mut WholeController, bay: u8, map: &m
     controller.swap_drive(bay, &mut drive);
     let tracks = drive.take_tracks();
     controller.swap_drive(bay, &mut drive);
-    map.bytes.copy_from_slice(tracks.bytes());
+    map.bytes = tracks.array();
 }

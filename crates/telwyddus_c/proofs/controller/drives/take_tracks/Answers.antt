@@ -5,7 +5,7 @@ use Rattle.telwyddus_c.proofs.controller.drives.take_tracks.Goals as goal
 
 pub returns : goal.returns
 returns c = record {
-  told = c.copy_from_slice.ensures.after ∙ c.bytes.ensures.value ∙ c.take_tracks-tracks.ensures.taken ∙ ap tracks_in_bay c.swap_drive.ensures.taken;
+  told = c.array.ensures ∙ c.take_tracks-tracks.ensures.taken ∙ ap tracks_in_bay c.swap_drive.ensures.taken;
   forgets = ap tracks_in_bay c.swap_drive-2.ensures.put ∙ c.take_tracks-tracks.ensures.left;
   state = ap bay_state c.swap_drive-2.ensures.put ∙ c.take_tracks-tracks.ensures.state ∙ ap bay_state c.swap_drive.ensures.taken;
   cable = ap is_attached c.swap_drive-2.ensures.put ∙ c.take_tracks-tracks.ensures.cable ∙ ap is_attached c.swap_drive.ensures.taken;

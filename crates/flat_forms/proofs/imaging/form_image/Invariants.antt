@@ -1,0 +1,11 @@
+use Rattle.std.proofs.Common.{◌≡◌, All, map}
+use Rattle.std.specs.List.{range_with_len}
+use Rattle.imagedisk.specs.Images.{IsImdTrack}
+use Rattle.flat_forms.specs.Making.{form_track}
+use Rattle.flat_forms.proofs.imaging.form_image.Given as goal
+
+abbrev pub invariant-loop-track : goal.invariant-loop-track
+invariant-loop-track l = record {
+  tracks : l.tracks ≡ map (form_track l.form l.bytes) (range_with_len 0 l.track);
+  valid : All IsImdTrack l.tracks;
+}

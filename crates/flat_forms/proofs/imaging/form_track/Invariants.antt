@@ -1,0 +1,11 @@
+use Rattle.std.proofs.Common.{◌≡◌, All, map}
+use Rattle.std.specs.List.{range_with_len}
+use Rattle.imagedisk.specs.Images.{IsImdSector}
+use Rattle.flat_forms.specs.Making.{form_sector}
+use Rattle.flat_forms.proofs.imaging.form_track.Given as goal
+
+abbrev pub invariant-loop-i : goal.invariant-loop-i
+invariant-loop-i l = record {
+  kept : l.kept ≡ map (form_sector l.form l.bytes l.track) (range_with_len 0 l.i);
+  valid : All (IsImdSector l.form.n) l.kept;
+}

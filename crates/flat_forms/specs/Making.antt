@@ -1,0 +1,51 @@
+-- The medium of a flat file.
+use Rattle.std.specs.Prelude.{◌≡◌, ◌+◌, ℕ, List, length, map, slice_range, Result, Ok, Err}
+use Rattle.std.specs.List.{range_with_len}
+use Rattle.imagedisk.specs.Found.{HasImage}
+use Rattle.imagedisk.specs.Made.{IsFirstCrowded, IsMediumOf}
+use Rattle.imagedisk.specs.declared.image.ImdImage.{ImdImage}
+use Rattle.imagedisk.specs.declared.sector.ImdKind.TheVariants.{Good}
+use Rattle.imagedisk.specs.declared.sector.ImdSector.{ImdSector}
+use Rattle.imagedisk.specs.declared.track.ImdTrack.{ImdTrack}
+use Rattle.raw_image.specs.Disk.{Disk}
+use Rattle.flat_forms.specs.Forms.{IsForm, cylinder_of, file_length, head_of, sector_bytes, sector_place, tracks_of}
+use Rattle.flat_forms.specs.declared.fault.FormFault.{FormFault}
+use Rattle.flat_forms.specs.declared.fault.FormFault.TheVariants as fault
+use Rattle.flat_forms.specs.declared.form.FlatForm.{FlatForm}
+
+-- a sector of a track, counted from 0: its bytes in the file, under the record behind that
+abbrev pub form_sector : FlatForm → List ℕ → (track i : ℕ) → ImdSector
+form_sector form bytes track i = record {
+  key = record { c = cylinder_of form track; h = head_of form track; r = i + 1; n = form.n };
+  kind = Good;
+  content = slice_range bytes (sector_place form track i) (sector_place form track i + sector_bytes form);
+}
+
+-- a track, counted by cylinder, then head
+abbrev pub form_track : FlatForm → List ℕ → (track : ℕ) → ImdTrack
+form_track form bytes track = record {
+  c = cylinder_of form track;
+  h = head_of form track;
+  n = form.n;
+  sectors = map (form_sector form bytes track) (range_with_len 0 form.sectors);
+}
+
+-- all sectors of a file
+abbrev pub form_image : FlatForm → List ℕ → ImdImage
+form_image form bytes = record { rate = form.rate; tracks = map (form_track form bytes) (range_with_len 0 (tracks_of form)) }
+
+-- a disk has the sectors of a file of this form, and no others
+pub record HasForm (form : FlatForm) (bytes : List ℕ) (disk : Disk) : Type 0 where
+  pub form_is : IsForm form
+  pub whole : length bytes ≡ file_length form
+  pub made : IsMediumOf (form_image form bytes) disk
+  pub found : HasImage disk (form_image form bytes)
+
+-- the medium of a flat file, or why there is none, unless memory ran out: there is no such geometry, the file has another length, or a track
+-- has no room
+abbrev pub MakesForm : FlatForm → List ℕ → Result Disk FormFault → Type 0
+MakesForm form bytes (Ok disk) = HasForm form bytes disk
+MakesForm form bytes (Err fault.NoForm) = IsForm form → ⊥
+MakesForm form bytes (Err fault.Length) = length bytes ≡ file_length form → ⊥
+MakesForm form bytes (Err fault.Crowded) = (c : ℕ) × (h : ℕ) × (i : ℕ) × IsFirstCrowded (form_image form bytes) c h i
+MakesForm form bytes (Err fault.NoMemory) = Unit {0}

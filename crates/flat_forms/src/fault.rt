@@ -1,0 +1,31 @@
+// Why a flat file makes no medium.
+ghost use Rattle.std.specs.Prelude.{◌≡◌};
+ghost use Rattle.flat_forms.specs.declared.fault.FormFault.TheVariants as cause;
+
+use flop_base::NoMemory;
+use thiserror::Error;
+
+/// Why a flat file makes no medium.
+#[derive(Clone, Copy, Debug, PartialEq, Eq, Error)]
+pub enum FormFault {
+    /// There is no such geometry here.
+    #[error("no geometry")]
+    NoForm,
+    /// The file has another length.
+    #[error("another length")]
+    Length,
+    /// A track has no room for so many sectors.
+    #[error("no room on a track")]
+    Crowded,
+    /// Memory couldn't be had. This says nothing of the file.
+    #[error("no memory")]
+    NoMemory,
+}
+
+impl From<NoMemory> for FormFault {
+    ghost from_gives = { λ _ e. e ≡ cause.NoMemory };
+
+    fn from(_: NoMemory) -> FormFault {
+        FormFault::NoMemory
+    }
+}

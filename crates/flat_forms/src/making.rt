@@ -1,0 +1,27 @@
+// The medium of a flat file.
+ghost use Rattle.flat_forms.specs.Making.{MakesForm};
+
+use crate::fault::FormFault;
+use crate::form::FlatForm;
+use crate::imaging::form_image;
+use imagedisk::{ImdError, to_medium};
+use raw_image::Medium;
+use std::alloc::Global;
+
+/// The medium of a flat file of this geometry, not protected, with its sectors and no others.
+pub fn flat_medium_as(alloc: Global, bytes: &[u8], form: FlatForm) -> Result<Medium, FormFault>
+    ensures { MakesForm form bytes.now result }
+{
+    if !form.is_one() {
+        return Err(FormFault::NoForm);
+    }
+    if bytes.len() != form.length() {
+        return Err(FormFault::Length);
+    }
+    let image = form_image(alloc, bytes, form)?;
+    match to_medium(alloc, &image) {
+        Ok(medium) => Ok(medium),
+        Err(ImdError::Unfit { .. }) => Err(FormFault::Crowded),
+        Err(ImdError::NoMemory) => Err(FormFault::NoMemory),
+    }
+}
