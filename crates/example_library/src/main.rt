@@ -10,11 +10,7 @@ mod tools;
 mod trouble;
 
 use files::{flat_bytes, must_give, replace};
-<<<<<<< HEAD
-use guest::{Controller, Reading, dump, end, give_all, read_on, results, send, set_up};
-=======
-use guest::{Controller, dump, end, give_all, read_on, rest, results, send, set_up};
->>>>>>> 76b2425a299f8c00a5ce69d2fea3aa5f1e606060
+use guest::{Controller, Reading, dump, end, give_all, read_on, rest, results, send, set_up};
 use std::alloc::Global;
 use std::io;
 use telwyddus::disk::{Medium, flat_medium};
@@ -141,27 +137,16 @@ struct Told {
     registers: [u8; 10],
 }
 
-<<<<<<< HEAD
 /// All that is done at the controller.
 fn use_controller(
     alloc: Global,
     controller: &mut Controller,
     flat: &[u8],
 ) -> Result<Told, Trouble> {
+    let quiet = rest(controller)?;
     let (read, read_by_twin) = read_four(alloc, controller, flat)?;
     let written = write_two(alloc, controller, flat)?;
     let refused = end(controller, &REFUSED)?;
-=======
-/// All but the shelf. No line is printed while a controller is there.
-fn work(alloc: Global, flat: &[u8]) -> Result<Told, Trouble> {
-    let mut controller = set_up(alloc, medium_of(alloc, flat)?)?;
-    let quiet = rest(&mut controller)?;
-    let (read, read_by_twin) = read_four(alloc, &mut controller, flat)?;
-    let written = write_two(alloc, &mut controller, flat)?;
-    let refused = end(&mut controller, &REFUSED)?;
-    let registers = dump(&mut controller);
-    let deleted = use_desk(alloc, controller.eject(0))?;
->>>>>>> 76b2425a299f8c00a5ce69d2fea3aa5f1e606060
     Ok(Told {
         quiet,
         read,
