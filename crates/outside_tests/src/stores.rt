@@ -1,7 +1,8 @@
 // What a store does to the files of the folder: it writes into none that is there, and a power cut leaves the old file
 // or the new one.
-use crate::calls::{gives, has_faults, takes, takes_none};
+use crate::calls::{gives, takes};
 use crate::outside::remove;
+use flop_base::{Shelf, StoreError};
 use flop_outside::FileShelf;
 use std::alloc::{Allocator, Global};
 use std::cell::Cell;
@@ -225,9 +226,9 @@ fn a_store_that_is_done_outlasts_a_power_cut(rt: HostRuntime) {
         watch: &watch,
     };
     let mut shelf = FileShelf::new(&files);
-    takes(&rt, &mut shelf, "floppy-test-synced", b"old");
+    assert!(rt; shelf.store("floppy-test-synced", b"old").is_ok());
     assert!(rt; watch.is_at(Progress::Lasting));
-    takes(&rt, &mut shelf, "floppy-test-synced", b"new");
+    assert!(rt; shelf.store("floppy-test-synced", b"new").is_ok());
     assert!(rt; watch.is_at(Progress::Lasting));
     remove(&rt, "floppy-test-synced");
 }
@@ -242,8 +243,9 @@ fn a_store_whose_sync_fails_leaves_the_old_file(rt: HostRuntime) {
         watch: &watch,
     };
     let mut shelf = FileShelf::new(&files);
-    takes_none(&rt, &mut shelf, "floppy-test-unsynced", b"new");
-    has_faults(&rt, &shelf, 1);
+    let refused = shelf.store("floppy-test-unsynced", b"new").err();
+    assert!(rt; refused == Some(StoreError::Failed));
+    assert!(rt; shelf.faults() == 1);
     assert!(rt; watch.is_at(Progress::Removed));
     gives(&rt, rt.alloc(), &mut plain, "floppy-test-unsynced", b"old");
     remove(&rt, "floppy-test-unsynced");
