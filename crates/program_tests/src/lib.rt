@@ -1,5 +1,5 @@
-//! Tests of the whole program where only calls can show something: shelves and sinks at its edge, the calls of a session and of a
-//! machine one by one, and drives behind a box, one of the tests' own among them.
+//! Tests of the whole program where only calls can show something: the calls of a session and of a machine one by one, and drives
+//! behind a box, one of the tests' own among them.
 #![tactic(auto)]
 
 #[cfg(test)]
@@ -9,14 +9,8 @@ mod exchange;
 #[cfg(test)]
 mod machines;
 #[cfg(test)]
-mod outside;
-#[cfg(test)]
-mod printed;
-#[cfg(test)]
 mod session;
 #[cfg(test)]
 mod shelves;
-#[cfg(test)]
-mod stores;
 #[cfg(test)]
 mod stuck;
