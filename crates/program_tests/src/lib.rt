@@ -3,8 +3,6 @@
 #![tactic(auto)]
 
 #[cfg(test)]
-mod commands;
-#[cfg(test)]
 mod exchange;
 #[cfg(test)]
 mod machines;
@@ -12,5 +10,7 @@ mod machines;
 mod session;
 #[cfg(test)]
 mod shelves;
+#[cfg(test)]
+mod single;
 #[cfg(test)]
 mod stuck;
