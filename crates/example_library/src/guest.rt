@@ -119,17 +119,25 @@ pub(crate) fn read_on(
         stayed: true,
     };
     for _step in 0..MOST_STEPS {
-        reading.look(controller)?;
-        if controller.int() || reading.bytes.len() >= most {
+        if !reading.goes_on(controller, most)? {
             break;
         }
-        reading.take(controller)?;
         controller.step();
     }
     Ok(reading)
 }
 
 impl Reading {
+    /// Notes what is seen; then the channel takes a byte, unless the read has ended or enough have passed.
+    fn goes_on(&mut self, controller: &mut Controller, most: usize) -> Result<bool, NoMemory> {
+        self.look(controller)?;
+        if controller.int() || self.bytes.len() >= most {
+            return Ok(false);
+        }
+        self.take(controller)?;
+        Ok(true)
+    }
+
     /// The channel takes the byte that is asked for, where one is.
     fn take(&mut self, controller: &mut Controller) -> Result<(), NoMemory> {
         let Some(byte) = controller.dack_read() else {

@@ -10,7 +10,7 @@ mod tools;
 mod trouble;
 
 use files::{flat_bytes, must_give, replace};
-use guest::{Controller, dump, end, give_all, read_on, rest, results, send, set_up};
+use guest::{Controller, Reading, dump, end, give_all, read_on, rest, results, send, set_up};
 use std::alloc::Global;
 use std::io;
 use telwyddus::disk::{Medium, flat_medium};
@@ -42,6 +42,9 @@ fn twin_of(alloc: Global, controller: &Controller) -> Result<Controller, Trouble
     Ok(twin)
 }
 
+/// The results of a read, at the controller that began it and at its twin.
+type TwoResults = ([u8; 7], [u8; 7]);
+
 /// Reads four sectors with one command, which is saved behind 700 bytes and goes on at two controllers; the results of both.
 ///
 /// From the last byte of the command to its results drive 0 is selected and its motor on, at one rate, and the medium is in
@@ -51,39 +54,52 @@ fn read_four(
     alloc: Global,
     controller: &mut Controller,
     flat: &[u8],
-) -> Result<([u8; 7], [u8; 7]), Trouble> {
+) -> Result<TwoResults, Trouble> {
     send(controller, &READ);
     // The next step may change a line.
     must(controller.quiet(1) == 0)?;
     let begun = read_on(alloc, controller, &[], 700)?;
-    must(begun.stayed)?;
-    let mut twin = twin_of(alloc, controller)?;
-    must_go_on_alike(alloc, controller, &mut twin, &begun.bytes, flat)?;
-    Ok((results(controller), results(&mut twin)))
+    if begun.stayed {
+        go_on_twice(alloc, controller, &begun.bytes, flat)
+    } else {
+        Err(Trouble::Differs)
+    }
 }
 
-/// Both go on with the read of which these bytes have passed, and have to end alike, with the file's bytes.
-fn must_go_on_alike(
+/// The read of which these bytes have passed goes on at this controller and at its twin.
+fn go_on_twice(
+    alloc: Global,
+    controller: &mut Controller,
+    passed: &[u8],
+    flat: &[u8],
+) -> Result<TwoResults, Trouble> {
+    let mut twin = twin_of(alloc, controller)?;
+    let gone_on = go_on_alike(alloc, controller, &mut twin, passed, flat);
+    match gone_on {
+        Ok(true) => Ok((results(controller), results(&mut twin))),
+        Ok(false) => Err(Trouble::Differs),
+        Err(trouble) => Err(trouble),
+    }
+}
+
+/// Whether both end the read of which these bytes have passed alike, with the file's bytes.
+fn go_on_alike(
     alloc: Global,
     controller: &mut Controller,
     twin: &mut Controller,
     passed: &[u8],
     flat: &[u8],
-) -> Result<(), Trouble> {
+) -> Result<bool, Trouble> {
     let first = read_on(alloc, controller, passed, usize::MAX)?;
     let second = read_on(alloc, twin, passed, usize::MAX)?;
-    must(first.stayed && second.stayed)?;
-    must(first.bytes == second.bytes && first.lines == second.lines)?;
-    // Records 17 and 18 of head 0, and behind them 1 and 2 of head 1, begin at (17 - 1) * 512.
-    must_be(&first.bytes, flat.get(8_192..10_240))
+    Ok(are_alike(&first, &second, flat))
 }
 
-/// These bytes have to be those.
-fn must_be(bytes: &[u8], wanted: Option<&[u8]>) -> Result<(), Trouble> {
-    match wanted {
-        Some(wanted) => must(bytes == wanted),
-        None => Err(Trouble::Differs),
-    }
+/// Records 17 and 18 of head 0, and behind them 1 and 2 of head 1, begin at (17 - 1) * 512.
+fn are_alike(first: &Reading, second: &Reading, flat: &[u8]) -> bool {
+    let stayed = first.stayed && second.stayed;
+    let alike = first.bytes == second.bytes && first.lines == second.lines;
+    stayed && alike && flat.get(8_192..10_240) == Some(first.bytes.as_slice())
 }
 
 /// Writes two sectors with one command, and gives its results.
@@ -110,8 +126,8 @@ fn must_hold(alloc: Global, controller: &Controller, flat: &[u8]) -> Result<(), 
     }
 }
 
-/// What came of all that is done at the controller, and of the sector at the desk.
-#[derive(Drop)]
+/// What came of all that is done at the controller.
+#[derive(Clone, Copy)]
 struct Told {
     quiet: u32,
     read: [u8; 7],
@@ -119,27 +135,47 @@ struct Told {
     written: [u8; 7],
     refused: [u8; 7],
     registers: [u8; 10],
-    deleted: bool,
 }
 
-/// All but the shelf. No line is printed while a controller is there.
-fn work(alloc: Global, flat: &[u8]) -> Result<Told, Trouble> {
-    let mut controller = set_up(alloc, medium_of(alloc, flat)?)?;
-    let quiet = rest(&mut controller)?;
-    let (read, read_by_twin) = read_four(alloc, &mut controller, flat)?;
-    let written = write_two(alloc, &mut controller, flat)?;
-    let refused = end(&mut controller, &REFUSED)?;
-    let registers = dump(&mut controller);
-    let deleted = use_desk(alloc, controller.eject(0))?;
+/// All that is done at the controller.
+fn use_controller(
+    alloc: Global,
+    controller: &mut Controller,
+    flat: &[u8],
+) -> Result<Told, Trouble> {
+    let quiet = rest(controller)?;
+    let (read, read_by_twin) = read_four(alloc, controller, flat)?;
+    let written = write_two(alloc, controller, flat)?;
+    let refused = end(controller, &REFUSED)?;
     Ok(Told {
         quiet,
         read,
         read_by_twin,
         written,
         refused,
-        registers,
-        deleted,
+        registers: dump(controller),
     })
+}
+
+/// All but the shelf: what came of it at the controller, and whether the sector at the desk is marked deleted. A controller is
+/// large, so that it is there in few functions, in which nothing else can go wrong and no line is printed.
+fn work(alloc: Global, flat: &[u8]) -> Result<(Told, bool), Trouble> {
+    let medium = medium_of(alloc, flat)?;
+    let (told, medium) = at_controller(alloc, medium, flat)?;
+    Ok((told, use_desk(alloc, medium)?))
+}
+
+/// Makes a controller with this medium and uses it; the medium as it is then.
+fn at_controller(
+    alloc: Global,
+    medium: Medium,
+    flat: &[u8],
+) -> Result<(Told, Option<Medium>), Trouble> {
+    let mut controller = set_up(alloc, medium)?;
+    match use_controller(alloc, &mut controller, flat) {
+        Ok(told) => Ok((told, controller.eject(0))),
+        Err(trouble) => Err(trouble),
+    }
 }
 
 fn print_results(rt: &impl Print, told: &[u8]) -> io::Result<()> {
@@ -150,7 +186,7 @@ fn print_results(rt: &impl Print, told: &[u8]) -> io::Result<()> {
     println!(rt; "")
 }
 
-fn print_told(rt: &impl Print, told: &Told) -> io::Result<()> {
+fn print_told(rt: &impl Print, told: &Told, deleted: bool) -> io::Result<()> {
     println!(rt; "a flat file makes a medium, which gives it back")?;
     // Nothing runs, though the motor is on: all that was asked for.
     let quiet = told.quiet;
@@ -170,14 +206,13 @@ fn print_told(rt: &impl Print, told: &Told) -> io::Result<()> {
     // Each drive at cylinder 0, no SPECIFY, EOT 18, no LOCK, the FIFO off, no PRETRK.
     println!(rt; "DUMPREG gives ten bytes")?;
     print_results(rt, &told.registers)?;
-    let deleted = told.deleted;
     println!(rt; "a desk writes a sector and reads it back, deleted {deleted}")
 }
 
 fn main(rt: HostRuntime) -> Result<(), Trouble> {
     let alloc = rt.alloc();
     let flat = flat_bytes(alloc)?;
-    let told = work(alloc, &flat)?;
-    print_told(&rt, &told)?;
+    let (told, deleted) = work(alloc, &flat)?;
+    print_told(&rt, &told, deleted)?;
     use_shelf(&rt, alloc, &flat)
 }

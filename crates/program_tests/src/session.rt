@@ -88,19 +88,52 @@ fn last_and_next(machine: &MachineOf<PlainDrive>) -> (u8, u8) {
     (machine.ram(0x101FF), machine.ram(0x10200))
 }
 
+/// A read is refused until the medium is acknowledged.
+fn acknowledges_and_reads(session: &mut Session<PlainDrive>, shelf: &mut MemShelf) -> bool {
+    let is_refused = read(session, shelf) == Some(Err(Code::Changed));
+    let is_acknowledged = acknowledge(session, shelf);
+    let is_read = read(session, shelf) == Some(Ok(()));
+    is_refused && is_acknowledged && is_read
+}
+
+/// The data commands that the machine of a session began.
+fn data_commands(session: &Session<PlainDrive>) -> u64 {
+    session.machine().data_commands()
+}
+
+/// The machine of a session has the sector in its memory.
+fn has_sector(session: Session<PlainDrive>) -> bool {
+    last_and_next(&session.into_machine()) == (0xF6, 0x00)
+}
+
 #[test]
 fn a_session_runs_requests_and_ends(rt: HostRuntime) -> Result<(), Fail> {
     let alloc = rt.alloc();
     let mut shelf = shelf_with_disk(alloc, "")?;
     let mut session = new_session(alloc)?;
     insert(alloc, &mut session, &mut shelf)?;
-    assert!(rt; read(&mut session, &mut shelf) == Some(Err(Code::Changed)));
-    assert!(rt; acknowledge(&mut session, &mut shelf));
-    assert!(rt; read(&mut session, &mut shelf) == Some(Ok(())));
-    assert_eq!(rt; session.machine().data_commands(), 3);
+    assert!(rt; acknowledges_and_reads(&mut session, &mut shelf));
+    assert!(rt; data_commands(&session) == 3);
     assert!(rt; end(&mut session, &mut shelf));
-    assert_eq!(rt; last_and_next(&session.into_machine()), (0xF6, 0x00));
+    assert!(rt; has_sector(session));
     Ok(())
+}
+
+/// A call that reads the first sector to 10000.
+const READ: Regs = Regs {
+    ax: 0x0201,
+    bx: 0x0000,
+    cx: 0x0001,
+    dx: 0x0000,
+    es: 0x1000,
+    carry: false,
+};
+
+/// Two such calls behind one another.
+fn serve_twice(session: &mut Session<PlainDrive>) -> (Regs, Regs) {
+    let mut front = Int13::new();
+    let first = serve(session, &mut front, READ);
+    (first, serve(session, &mut front, READ))
 }
 
 #[test]
@@ -109,22 +142,10 @@ fn a_session_serves_calls(rt: HostRuntime) -> Result<(), Fail> {
     let mut shelf = shelf_with_disk(alloc, "")?;
     let mut session = new_session(alloc)?;
     insert(alloc, &mut session, &mut shelf)?;
-    let mut front = Int13::new();
-    let read = Regs {
-        ax: 0x0201,
-        bx: 0x0000,
-        cx: 0x0001,
-        dx: 0x0000,
-        es: 0x1000,
-        carry: false,
-    };
+    let (first, second) = serve_twice(&mut session);
     // The bay isn't acknowledged yet, and a call that acknowledges it moves nothing.
-    let first = serve(&mut session, &mut front, read);
-    assert_eq!(rt; (first.ax, first.carry), (0x0600, true));
-    assert_eq!(rt;
-        serve(&mut session, &mut front, read),
-        Regs { ax: 0x0001, ..read }
-    );
-    assert_eq!(rt; last_and_next(&session.into_machine()), (0xF6, 0x00));
+    assert!(rt; first.ax == 0x0600 && first.carry);
+    assert!(rt; second == Regs { ax: 0x0001, ..READ });
+    assert!(rt; has_sector(session));
     Ok(())
 }

@@ -1,10 +1,14 @@
-//! Files of tests that are data: made by recipes, line by line, and told by their length and sum.
+//! Scenes that are data: lines word by word, files made by recipes and told by their length and sum, and what is printed.
 #![tactic(auto)]
 
+mod draft;
+mod line;
 mod recipes;
 mod told;
 mod wrong;
 
-pub use recipes::{byte, count, follow, push_hex};
-pub use told::{put_file, put_line};
+pub use draft::Draft;
+pub use line::{Line, words_in};
+pub use recipes::{follow, hex_bytes};
+pub use told::put_file;
 pub use wrong::Wrong;

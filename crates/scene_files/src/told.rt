@@ -1,30 +1,18 @@
-// Lines that are printed, and what is told of a file.
-use crate::wrong::Wrong;
-use std::alloc::Global;
-
-/// Prints a line of the text.
-pub fn put_line(line: &str, out: &mut Vec<u8>) -> Result<(), Wrong> {
-    out.extend_from_slice(line.as_bytes())?;
-    out.push(b'\n')?;
-    Ok(())
-}
+// What is told of a file.
+use crate::draft::Draft;
 
 /// Prints a file's name with its length and its sum, or that it isn't there.
-pub fn put_file(
-    alloc: Global,
-    name: &str,
-    bytes: Option<&[u8]>,
-    out: &mut Vec<u8>,
-) -> Result<(), Wrong> {
-    let told = match bytes {
+pub fn put_file(out: &mut Draft, name: &str, bytes: Option<&[u8]>) {
+    out.text(name);
+    match bytes {
         Some(bytes) => {
-            let (length, sum) = (bytes.len(), sum_of(bytes));
-            format!(in alloc; "{name} {length} {sum:08X}\n")?
+            out.numbers(&[bytes.len() as u64]);
+            out.text(" ");
+            out.hex_long(sum_of(bytes));
+            out.line("");
         }
-        None => format!(in alloc; "{name} absent\n")?,
-    };
-    out.extend_from_slice(told.as_bytes())?;
-    Ok(())
+        None => out.line(" absent"),
+    }
 }
 
 /// CRC-32 (IEEE 802.3).

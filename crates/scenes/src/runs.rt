@@ -18,6 +18,15 @@ pub(crate) struct Counts {
     pub faults: [u64; 2],
 }
 
+pub(crate) const NO_COUNTS: Counts = Counts {
+    steps: 0,
+    commands: 0,
+    taken: 0,
+    stalls: 0,
+    direct: 0,
+    faults: [0, 0],
+};
+
 /// What is seen behind a run: its status and, where a machine was made, its counts and a part of its memory.
 #[derive(Drop)]
 pub(crate) struct Seen {

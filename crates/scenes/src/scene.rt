@@ -1,10 +1,9 @@
 // Scenes: files, a plan, calls that fail, and runs.
-use crate::runs::{Range, run};
-use crate::shown::put_seen;
+use crate::runs::{NO_COUNTS, Range, run};
+use crate::shown::{number_of, put_seen};
 use flop_base::{MemShelf, MemSink};
 use floppy_jobs::is_verb;
-use floppy_jobs::numbers::address;
-use scene_files::{Wrong, count, follow, put_file, put_line};
+use scene_files::{Draft, Line, Wrong, follow, put_file, words_in};
 use std::alloc::Global;
 use std::env::VarError;
 
@@ -12,7 +11,7 @@ use std::env::VarError;
 #[derive(Drop)]
 struct Kept {
     name: String,
-    bytes: Option<Vec<u8>>,
+    bytes: Option<Draft>,
 }
 
 #[derive(Drop)]
@@ -31,14 +30,15 @@ struct Scene {
 }
 
 /// Plays the scenes of a text. What is printed goes to `out`, also where a line isn't understood.
-pub(crate) fn play(alloc: Global, text: &str, out: &mut Vec<u8>) -> Result<(), Wrong> {
+pub(crate) fn play(alloc: Global, text: &str, out: &mut Draft) -> Result<(), Wrong> {
     let mut scene = Scene::new(alloc);
     let mut number = 0u64;
     for line in text.lines() {
         number = number.saturating_add(1);
         if let Err(wrong) = scene.line(line, out) {
-            let told = format!(in alloc; "scenes: line {number} not understood\n")?;
-            out.extend_from_slice(told.as_bytes())?;
+            out.text("scenes: line ");
+            out.number(number);
+            out.line(" not understood");
             return Err(wrong);
         }
     }
@@ -62,57 +62,59 @@ impl Scene {
         }
     }
 
-    fn line(&mut self, line: &str, out: &mut Vec<u8>) -> Result<(), Wrong> {
-        if !self.is_text {
-            self.words(line, out)
-        } else if line == "." {
-            self.is_text = false;
-            Ok(())
+    fn line(&mut self, line: &str, out: &mut Draft) -> Result<(), Wrong> {
+        if self.is_text {
+            self.text_line(line)
         } else {
-            put_line(line, self.last_made()?)
+            self.words(line, out)?;
+            out.whole()
         }
     }
 
-    fn words(&mut self, line: &str, out: &mut Vec<u8>) -> Result<(), Wrong> {
-        let mut words = Vec::new(self.alloc);
-        for word in line.split_whitespace() {
-            words.push(word)?;
+    /// A line of a file's text, or the one behind it.
+    fn text_line(&mut self, line: &str) -> Result<(), Wrong> {
+        if line == "." {
+            self.is_text = false;
+        } else {
+            self.last_made()?.line(line);
         }
+        Ok(())
+    }
+
+    fn words(&mut self, line: &str, out: &mut Draft) -> Result<(), Wrong> {
+        let words = words_in(self.alloc, line)?;
         match words.as_slice().split_first() {
-            Some((verb, fields)) => self.verb(line, verb, fields, out),
+            Some((verb, fields)) => self.verb(line, verb, Line::of(fields), out),
             None => Ok(()),
         }
     }
 
     /// Does a line that prints.
-    fn verb(
-        &mut self,
-        line: &str,
-        verb: &str,
-        fields: &[&str],
-        out: &mut Vec<u8>,
-    ) -> Result<(), Wrong> {
+    fn verb(&mut self, line: &str, verb: &str, fields: Line, out: &mut Draft) -> Result<(), Wrong> {
         let word = verb.as_bytes();
         if is_verb(word, "scene") {
             *self = Scene::new(self.alloc);
-            put_line(line, out)
+            out.line(line);
+            Ok(())
         } else if is_verb(word, "run") {
-            put_line(line, out)?;
+            out.line(line);
             self.run(fields, out)
         } else if is_verb(word, "sum") {
             self.sum(out)
         } else {
-            self.setting(verb, fields)
+            let mut fields = fields;
+            self.setting(verb, &mut fields)?;
+            fields.end()
         }
     }
 
     /// Does a line that prints nothing.
-    fn setting(&mut self, verb: &str, fields: &[&str]) -> Result<(), Wrong> {
+    fn setting(&mut self, verb: &str, fields: &mut Line) -> Result<(), Wrong> {
         let word = verb.as_bytes();
         if is_verb(word, "file") {
-            self.file(fields, true)
+            self.file(fields.word(), Some(Draft::new(self.alloc)))
         } else if is_verb(word, "watch") {
-            self.file(fields, false)
+            self.file(fields.word(), None)
         } else if is_verb(word, "text") {
             self.is_text = true;
             Ok(())
@@ -122,41 +124,38 @@ impl Scene {
             self.plan = Err(VarError::NotUnicode);
             Ok(())
         } else if is_verb(word, "shelf") {
-            self.shelf_fails.push(call(fields)?)?;
+            self.shelf_fails.push(fields.count() as u64)?;
             Ok(())
         } else if is_verb(word, "sink") {
-            self.sink_fails.push(call(fields)?)?;
+            self.sink_fails.push(fields.count() as u64)?;
             Ok(())
         } else if is_verb(word, "counts") {
             self.count(fields)
         } else if is_verb(word, "ram") {
-            self.range = range(fields)?;
+            self.range = range(fields);
             Ok(())
         } else {
-            let alloc = self.alloc;
-            follow(alloc, self.last_made()?, verb, fields)
+            self.recipe(verb, fields)
         }
     }
 
+    /// A line of a recipe.
+    fn recipe(&mut self, verb: &str, fields: &mut Line) -> Result<(), Wrong> {
+        let words = fields.words();
+        follow(self.last_made()?, verb, Line::of(words))
+    }
+
     /// A name that is watched, with an empty file or with none.
-    fn file(&mut self, fields: &[&str], is_there: bool) -> Result<(), Wrong> {
-        let [name] = fields else {
-            return Err(Wrong::Line);
-        };
-        let bytes = if is_there {
-            Some(Vec::new(self.alloc))
-        } else {
-            None
-        };
-        self.files.retain(|file| file.name.as_str() != *name);
+    fn file(&mut self, name: &str, bytes: Option<Draft>) -> Result<(), Wrong> {
+        self.files.retain(|file| file.name.as_str() != name);
         let name = String::from_str(self.alloc, name)?;
         self.files.push(Kept { name, bytes })?;
         Ok(())
     }
 
     /// `plan NAME`: the later runs have the plan of this name. `plan`: they have none.
-    fn plan(&mut self, fields: &[&str]) -> Result<(), Wrong> {
-        self.plan = match fields {
+    fn plan(&mut self, fields: &mut Line) -> Result<(), Wrong> {
+        self.plan = match fields.words() {
             [] => Err(VarError::NotPresent),
             [name] => Ok(String::from_str(self.alloc, name)?),
             _ => return Err(Wrong::Line),
@@ -165,9 +164,12 @@ impl Scene {
     }
 
     /// `counts NAME..`: the later runs print these counts.
-    fn count(&mut self, fields: &[&str]) -> Result<(), Wrong> {
+    fn count(&mut self, fields: &mut Line) -> Result<(), Wrong> {
         let mut counts = Vec::new(self.alloc);
-        for name in fields {
+        for name in fields.words() {
+            if number_of(NO_COUNTS, name).is_none() {
+                return Err(Wrong::Line);
+            }
             counts.push(String::from_str(self.alloc, name)?)?;
         }
         self.counts = counts;
@@ -184,7 +186,7 @@ impl Scene {
     }
 
     /// The bytes of the last file, as it is made.
-    fn last_made(&mut self) -> Result<&mut Vec<u8>, Wrong> {
+    fn last_made(&mut self) -> Result<&mut Draft, Wrong> {
         match self.files.last_mut() {
             Some(
                 Kept {
@@ -197,18 +199,20 @@ impl Scene {
     }
 
     /// Prints the sum of the last file.
-    fn sum(&self, out: &mut Vec<u8>) -> Result<(), Wrong> {
+    fn sum(&self, out: &mut Draft) -> Result<(), Wrong> {
         match self.files.last() {
-            Some(file) => file.put(self.alloc, out),
-            None => Err(Wrong::Line),
+            Some(file) => file.put(out),
+            None => return Err(Wrong::Line),
         }
+        Ok(())
     }
 
     fn shelf(&self) -> Result<MemShelf, Wrong> {
         let mut shelf = MemShelf::new(self.alloc, self.shelf_fails.to_vec(self.alloc)?);
         for file in &self.files {
             if let Some(bytes) = &file.bytes {
-                shelf.put_file(file.name.as_str(), bytes)?;
+                bytes.whole()?;
+                shelf.put_file(file.name.as_str(), bytes.bytes())?;
             }
         }
         Ok(shelf)
@@ -222,68 +226,64 @@ impl Scene {
         }
     }
 
-    /// Runs the program, and prints its report, what is seen behind it, and each watched file that changed.
-    fn run(&mut self, fields: &[&str], out: &mut Vec<u8>) -> Result<(), Wrong> {
+    /// The words of a run, each of which is watched.
+    fn words_of(&mut self, fields: Line) -> Result<Vec<String>, Wrong> {
+        let mut fields = fields;
         let mut words = Vec::new(self.alloc);
-        for word in fields {
+        for word in fields.words() {
             self.watch(word)?;
             words.push(String::from_str(self.alloc, word)?)?;
         }
+        Ok(words)
+    }
+
+    /// Runs the program, and prints its report, what is seen behind it, and each watched file that changed.
+    fn run(&mut self, fields: Line, out: &mut Draft) -> Result<(), Wrong> {
+        let words = self.words_of(fields)?;
         let mut shelf = self.shelf()?;
         let mut sink = MemSink::new(self.alloc, self.sink_fails.to_vec(self.alloc)?);
         let plan = self.variable()?;
         let seen = run(self.alloc, plan, &words, &mut shelf, &mut sink, self.range)?;
-        out.extend_from_slice(sink.bytes())?;
-        put_seen(self.alloc, &seen, &self.counts, out)?;
+        out.put(sink.bytes());
+        put_seen(&seen, &self.counts, out);
         for file in self.files.iter_mut() {
-            file.renew(self.alloc, &shelf, out)?;
+            file.renew(&shelf, out);
         }
         Ok(())
     }
 }
 
 impl Kept {
-    fn put(&self, alloc: Global, out: &mut Vec<u8>) -> Result<(), Wrong> {
+    fn put(&self, out: &mut Draft) {
         let bytes = match &self.bytes {
-            Some(bytes) => Some(bytes.as_slice()),
+            Some(bytes) => Some(bytes.bytes()),
             None => None,
         };
-        put_file(alloc, self.name.as_str(), bytes, out)
+        put_file(out, self.name.as_str(), bytes);
     }
 
     /// Takes the file as the shelf has it, and prints its sum where it changed.
-    fn renew(&mut self, alloc: Global, shelf: &MemShelf, out: &mut Vec<u8>) -> Result<(), Wrong> {
+    fn renew(&mut self, shelf: &MemShelf, out: &mut Draft) {
         let Some(new) = shelf.file(self.name.as_str()) else {
-            return Ok(());
+            return;
         };
         let same = match &self.bytes {
-            Some(old) => old.as_slice() == new,
+            Some(old) => old.bytes() == new,
             None => false,
         };
-        if same {
-            return Ok(());
+        if !same {
+            let mut bytes = Draft::new(out.alloc());
+            bytes.put(new);
+            self.bytes = Some(bytes);
+            put_file(out, self.name.as_str(), Some(new));
         }
-        self.bytes = Some(new.to_vec(alloc)?);
-        self.put(alloc, out)
-    }
-}
-
-/// The number of a call that fails.
-fn call(fields: &[&str]) -> Result<u64, Wrong> {
-    match fields {
-        [number] => Ok(count(number)? as u64),
-        _ => Err(Wrong::Line),
     }
 }
 
 /// `ram ADDRESS LENGTH`
-fn range(fields: &[&str]) -> Result<Range, Wrong> {
-    let [start, length] = fields else {
-        return Err(Wrong::Line);
-    };
-    let Some(start) = address(start.as_bytes()) else {
-        return Err(Wrong::Line);
-    };
-    let length = length.parse::<u32>().map_err(|_| Wrong::Line)?;
-    Ok(Range { start, length })
+fn range(fields: &mut Line) -> Range {
+    Range {
+        start: fields.hex(1, 5),
+        length: fields.long(),
+    }
 }

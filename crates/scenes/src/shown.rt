@@ -1,49 +1,37 @@
-// What is printed behind a run.
+// What is printed of a run.
 use crate::runs::{Counts, Seen};
 use floppy_jobs::is_verb;
-use scene_files::Wrong;
-use std::alloc::Global;
+use scene_files::Draft;
 
 /// Prints the status of a run, those of its counts that are asked for, and the memory that is looked at.
-pub(crate) fn put_seen(
-    alloc: Global,
-    seen: &Seen,
-    asked: &[String],
-    out: &mut Vec<u8>,
-) -> Result<(), Wrong> {
-    let status = seen.status;
-    let told = format!(in alloc; "status {status}\n")?;
-    out.extend_from_slice(told.as_bytes())?;
+pub(crate) fn put_seen(seen: &Seen, asked: &[String], out: &mut Draft) {
+    out.text("status");
+    out.numbers(&[u64::from(seen.status)]);
+    out.line("");
     if !asked.is_empty()
         && let Some(counts) = seen.counts
     {
-        put_counts(alloc, asked, counts, out)?;
+        put_counts(asked, counts, out);
     }
     if !seen.memory.is_empty() {
-        put_memory(alloc, &seen.memory, out)?;
+        put_memory(&seen.memory, out);
     }
-    Ok(())
 }
 
 /// Prints counts by their names.
-fn put_counts(
-    alloc: Global,
-    asked: &[String],
-    counts: Counts,
-    out: &mut Vec<u8>,
-) -> Result<(), Wrong> {
-    out.extend_from_slice(b"counts")?;
+fn put_counts(asked: &[String], counts: Counts, out: &mut Draft) {
+    out.text("counts");
     for name in asked {
         let name = name.as_str();
-        let number = number_of(counts, name)?;
-        let told = format!(in alloc; " {name} {number}")?;
-        out.extend_from_slice(told.as_bytes())?;
+        out.text(" ");
+        out.text(name);
+        out.numbers(&[number_of(counts, name).unwrap_or(0)]);
     }
-    out.push(b'\n')?;
-    Ok(())
+    out.line("");
 }
 
-fn number_of(counts: Counts, name: &str) -> Result<u64, Wrong> {
+/// The count of this name, if there is one.
+pub(crate) fn number_of(counts: Counts, name: &str) -> Option<u64> {
     let name = name.as_bytes();
     let Counts {
         steps,
@@ -54,46 +42,45 @@ fn number_of(counts: Counts, name: &str) -> Result<u64, Wrong> {
         faults: [first, second],
     } = counts;
     if is_verb(name, "steps") {
-        Ok(steps)
+        Some(steps)
     } else if is_verb(name, "commands") {
-        Ok(commands)
+        Some(commands)
     } else if is_verb(name, "taken") {
-        Ok(taken)
+        Some(taken)
     } else if is_verb(name, "stalls") {
-        Ok(stalls)
+        Some(stalls)
     } else if is_verb(name, "direct") {
-        Ok(direct)
+        Some(direct)
     } else if is_verb(name, "faults0") {
-        Ok(first)
+        Some(first)
     } else if is_verb(name, "faults1") {
-        Ok(second)
+        Some(second)
     } else {
-        Err(Wrong::Line)
+        None
     }
 }
 
 /// Prints bytes of memory, equal ones as one with their number.
-fn put_memory(alloc: Global, memory: &[u8], out: &mut Vec<u8>) -> Result<(), Wrong> {
-    out.extend_from_slice(b"ram")?;
+fn put_memory(memory: &[u8], out: &mut Draft) {
+    out.text("ram");
     let mut last = None;
     let mut times = 0u64;
     for byte in memory {
         if last != Some(*byte) {
-            put_times(alloc, last, times, out)?;
+            put_times(last, times, out);
             last = Some(*byte);
             times = 0;
         }
         times = times.saturating_add(1);
     }
-    put_times(alloc, last, times, out)?;
-    out.push(b'\n')?;
-    Ok(())
+    put_times(last, times, out);
+    out.line("");
 }
 
-fn put_times(alloc: Global, byte: Option<u8>, times: u64, out: &mut Vec<u8>) -> Result<(), Wrong> {
+fn put_times(byte: Option<u8>, times: u64, out: &mut Draft) {
     if let Some(byte) = byte {
-        let told = format!(in alloc; " {times}x{byte:02X}")?;
-        out.extend_from_slice(told.as_bytes())?;
+        out.numbers(&[times]);
+        out.text("x");
+        out.hex_byte(byte);
     }
-    Ok(())
 }

@@ -1,8 +1,10 @@
 // Pure functions on the bytes of the last file: `of VERB ARGUMENT..`.
+mod bench;
 mod cells;
 mod chips;
 mod images;
 mod layouts;
+mod parts;
 mod print;
 mod records;
 mod services;
@@ -10,75 +12,45 @@ mod texts;
 mod tracks;
 mod turns;
 
-use flop_base::Chrn;
+use flop_base::{Chrn, Rate};
+use floppy_jobs::is_verb;
 use raw_image::{ImageError, Medium, read_image};
-use scene_files::{Wrong, byte, count};
+use scene_files::{Draft, Line, Wrong};
 use std::alloc::Global;
 
-/// The bytes of a file, and the words behind a verb.
+/// The bytes of a file.
 #[derive(Clone, Copy)]
 pub(crate) struct Asked<'a> {
     pub alloc: Global,
     pub bytes: &'a [u8],
-    pub arguments: &'a [&'a str],
 }
 
-/// Prints what a function gives for these bytes.
-pub(crate) fn answer(
-    alloc: Global,
-    bytes: &[u8],
-    fields: &[&str],
-    out: &mut Vec<u8>,
-) -> Result<(), Wrong> {
-    let Some((verb, arguments)) = fields.split_first() else {
-        return Err(Wrong::Line);
-    };
-    let verb = verb.as_bytes();
-    let asked = Asked {
-        alloc,
-        bytes,
-        arguments,
-    };
-    let is_known = cells::answer(verb, asked, out)?
-        || tracks::answer(verb, asked, out)?
-        || turns::answer(verb, asked, out)?
-        || layouts::answer(verb, asked, out)?
-        || images::answer(verb, asked, out)?
-        || texts::answer(verb, asked, out)?
-        || records::answer(verb, asked, out)?
-        || chips::answer(verb, asked, out)?
-        || services::answer(verb, asked, out)?;
-    if is_known { Ok(()) } else { Err(Wrong::Line) }
+/// Prints what a function gives for these bytes. Each of the modules passes a verb that it doesn't know on to the next.
+pub(crate) fn answer(asked: Asked, line: &mut Line, out: &mut Draft) -> Result<(), Wrong> {
+    let verb = line.word().as_bytes();
+    cells::answer(verb, asked, line, out)
 }
 
 /// The key that the words `C H R N` are.
-fn key(words: &[&str]) -> Result<Chrn, Wrong> {
-    let [c, h, r, n] = words else {
-        return Err(Wrong::Line);
-    };
-    Ok(Chrn {
-        c: byte(c)?,
-        h: byte(h)?,
-        r: byte(r)?,
-        n: byte(n)?,
-    })
-}
-
-/// The number that one word is.
-fn one(words: &[&str]) -> Result<usize, Wrong> {
-    match words {
-        [word] => count(word),
-        _ => Err(Wrong::Line),
+fn key(line: &mut Line) -> Chrn {
+    Chrn {
+        c: line.byte(),
+        h: line.byte(),
+        r: line.byte(),
+        n: line.byte(),
     }
 }
 
-/// The words of a line.
-fn words_in(alloc: Global, line: &str) -> Result<Vec<&str>, Wrong> {
-    let mut words = Vec::new(alloc);
-    for word in line.split_whitespace() {
-        words.push(word)?;
+/// The data rate of so many kbit/s.
+fn rate(line: &mut Line) -> Rate {
+    let word = line.word().as_bytes();
+    if is_verb(word, "500") {
+        return Rate::R500;
     }
-    Ok(words)
+    if !is_verb(word, "250") {
+        line.refuse();
+    }
+    Rate::R250
 }
 
 /// The words that bytes are, the high byte of each first.

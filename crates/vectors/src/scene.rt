@@ -1,7 +1,7 @@
 // Scenes: a file, and what is asked about it.
-use crate::answers::answer;
+use crate::answers::{Asked, answer};
 use floppy_jobs::is_verb;
-use scene_files::{Wrong, follow, put_file, put_line};
+use scene_files::{Draft, Line, Wrong, follow, put_file, words_in};
 use std::alloc::Global;
 
 /// The file that the last lines made.
@@ -9,20 +9,21 @@ use std::alloc::Global;
 struct Scene {
     alloc: Global,
     name: String,
-    bytes: Vec<u8>,
+    bytes: Draft,
     /// Whether the next lines are the file's text.
     is_text: bool,
 }
 
 /// Plays the scenes of a text. What is printed goes to `out`, also where a line isn't understood.
-pub(crate) fn play(alloc: Global, text: &str, out: &mut Vec<u8>) -> Result<(), Wrong> {
+pub(crate) fn play(alloc: Global, text: &str, out: &mut Draft) -> Result<(), Wrong> {
     let mut scene = Scene::new(alloc, "")?;
     let mut number = 0u64;
     for line in text.lines() {
         number = number.saturating_add(1);
         if let Err(wrong) = scene.line(line, out) {
-            let told = format!(in alloc; "vectors: line {number} not understood\n")?;
-            out.extend_from_slice(told.as_bytes())?;
+            out.text("vectors: line ");
+            out.number(number);
+            out.line(" not understood");
             return Err(wrong);
         }
     }
@@ -31,69 +32,83 @@ pub(crate) fn play(alloc: Global, text: &str, out: &mut Vec<u8>) -> Result<(), W
 
 impl Scene {
     fn new(alloc: Global, name: &str) -> Result<Scene, Wrong> {
-        let name = String::from_str(alloc, name)?;
         Ok(Scene {
             alloc,
-            name,
-            bytes: Vec::new(alloc),
+            name: String::from_str(alloc, name)?,
+            bytes: Draft::new(alloc),
             is_text: false,
         })
     }
 
-    fn line(&mut self, line: &str, out: &mut Vec<u8>) -> Result<(), Wrong> {
-        if !self.is_text {
-            self.words(line, out)
-        } else if line == "." {
-            self.is_text = false;
-            Ok(())
+    fn line(&mut self, line: &str, out: &mut Draft) -> Result<(), Wrong> {
+        if self.is_text {
+            self.text_line(line);
         } else {
-            put_line(line, &mut self.bytes)
+            self.words(line, out)?;
+        }
+        out.whole()
+    }
+
+    /// A line of the file's text, or the one behind it.
+    fn text_line(&mut self, line: &str) {
+        if line == "." {
+            self.is_text = false;
+        } else {
+            self.bytes.line(line);
         }
     }
 
-    fn words(&mut self, line: &str, out: &mut Vec<u8>) -> Result<(), Wrong> {
-        let mut words = Vec::new(self.alloc);
-        for word in line.split_whitespace() {
-            words.push(word)?;
-        }
+    fn words(&mut self, line: &str, out: &mut Draft) -> Result<(), Wrong> {
+        let words = words_in(self.alloc, line)?;
         match words.as_slice().split_first() {
-            Some((verb, fields)) => self.verb(line, verb, fields, out),
+            Some((verb, fields)) => self.verb(line, verb, Line::of(fields), out),
             None => Ok(()),
         }
     }
 
-    fn verb(
-        &mut self,
-        line: &str,
-        verb: &str,
-        fields: &[&str],
-        out: &mut Vec<u8>,
-    ) -> Result<(), Wrong> {
+    fn verb(&mut self, line: &str, verb: &str, fields: Line, out: &mut Draft) -> Result<(), Wrong> {
         let word = verb.as_bytes();
         if is_verb(word, "scene") {
-            *self = Scene::new(self.alloc, "")?;
-            put_line(line, out)
+            out.line(line);
+            self.renew("")
         } else if is_verb(word, "of") {
-            put_line(line, out)?;
-            answer(self.alloc, &self.bytes, fields, out)
+            out.line(line);
+            self.answer(fields, out)
         } else if is_verb(word, "sum") {
-            put_file(self.alloc, self.name.as_str(), Some(&self.bytes), out)
+            put_file(out, self.name.as_str(), Some(self.bytes.bytes()));
+            Ok(())
         } else if is_verb(word, "text") {
             self.is_text = true;
             Ok(())
         } else if is_verb(word, "file") {
             self.file(fields)
         } else {
-            follow(self.alloc, &mut self.bytes, verb, fields)
+            follow(&mut self.bytes, verb, fields)
         }
     }
 
-    /// `file NAME`: an empty file.
-    fn file(&mut self, fields: &[&str]) -> Result<(), Wrong> {
-        let [name] = fields else {
-            return Err(Wrong::Line);
-        };
+    /// An empty file of this name.
+    fn renew(&mut self, name: &str) -> Result<(), Wrong> {
         *self = Scene::new(self.alloc, name)?;
         Ok(())
+    }
+
+    /// `file NAME`: an empty file.
+    fn file(&mut self, fields: Line) -> Result<(), Wrong> {
+        let mut fields = fields;
+        let name = fields.word();
+        fields.end()?;
+        self.renew(name)
+    }
+
+    fn answer(&self, fields: Line, out: &mut Draft) -> Result<(), Wrong> {
+        self.bytes.whole()?;
+        let asked = Asked {
+            alloc: self.alloc,
+            bytes: self.bytes.bytes(),
+        };
+        let mut fields = fields;
+        answer(asked, &mut fields, out)?;
+        fields.end()
     }
 }

@@ -1,77 +1,89 @@
 // Cells and checks of bytes, and the words of fields.
-use super::print::{line, put_bytes, put_words};
-use super::{Asked, key, one, words_of};
+use super::print::{Runs, put_words};
+use super::{Asked, key, tracks, words_of};
 use floppy_jobs::is_verb;
 use mfm_cells::{cells16, decode_word, encode_byte};
-use scene_files::Wrong;
+use scene_files::{Draft, Line, Wrong};
 use track_fields::{address_words, field_crc, field_words};
 
-pub(crate) fn answer(verb: &[u8], asked: Asked, out: &mut Vec<u8>) -> Result<bool, Wrong> {
+pub(crate) fn answer(
+    verb: &[u8],
+    asked: Asked,
+    line: &mut Line,
+    out: &mut Draft,
+) -> Result<(), Wrong> {
     if is_verb(verb, "check") {
-        check(asked, out)?;
+        check(asked, out)
     } else if is_verb(verb, "cells") {
-        cells(asked, out)?;
+        cells(asked, out)
     } else if is_verb(verb, "decoded") {
-        decoded(asked, out)?;
+        decoded(asked, out)
     } else if is_verb(verb, "sixteen") {
-        sixteen(asked, out)?;
+        sixteen(asked, line, out)
     } else if is_verb(verb, "address") {
-        let words = address_words(asked.alloc, key(asked.arguments)?)?;
-        put_words(asked.alloc, out, &words)?;
+        address(asked, line, out)
     } else if is_verb(verb, "field") {
-        field(asked, out)?;
+        field(asked, line, out)
     } else {
-        return Ok(false);
+        tracks::answer(verb, asked, line, out)
     }
-    Ok(true)
 }
 
 /// `check`: the CRC of two bytes or more
-fn check(asked: Asked, out: &mut Vec<u8>) -> Result<(), Wrong> {
+fn check(asked: Asked, out: &mut Draft) -> Result<(), Wrong> {
     if asked.bytes.len() < 2 {
         return Err(Wrong::Line);
     }
-    let check = field_crc(asked.bytes);
-    let told = format!(in asked.alloc; "check {check:04X}")?;
-    line(out, told.as_str())
+    out.text("check ");
+    out.hex_word(field_crc(asked.bytes));
+    out.line("");
+    Ok(())
 }
 
 /// `cells`: the cells of the bytes, behind a bit 0
-fn cells(asked: Asked, out: &mut Vec<u8>) -> Result<(), Wrong> {
+fn cells(asked: Asked, out: &mut Draft) -> Result<(), Wrong> {
     let mut last = false;
-    let mut words = Vec::new(asked.alloc);
+    let mut runs = Runs::of_words();
+    out.text("words");
     for byte in asked.bytes {
-        words.push(encode_byte(last, *byte))?;
+        runs.add(encode_byte(last, *byte), out);
         last = *byte & 1 == 1;
     }
-    put_words(asked.alloc, out, &words)
+    runs.end_line(out);
+    Ok(())
 }
 
 /// `decoded`: the byte of each word
-fn decoded(asked: Asked, out: &mut Vec<u8>) -> Result<(), Wrong> {
-    let mut bytes = Vec::new(asked.alloc);
+fn decoded(asked: Asked, out: &mut Draft) -> Result<(), Wrong> {
+    let mut runs = Runs::of_bytes();
+    out.text("bytes");
     for word in &words_of(asked.alloc, asked.bytes)? {
-        bytes.push(decode_word(*word))?;
+        runs.add(u16::from(decode_word(*word)), out);
     }
-    put_bytes(asked.alloc, out, &bytes)
+    runs.end_line(out);
+    Ok(())
 }
 
 /// `sixteen CELL`: the sixteen cells of the words from one on
-fn sixteen(asked: Asked, out: &mut Vec<u8>) -> Result<(), Wrong> {
-    let cell = one(asked.arguments)?;
+fn sixteen(asked: Asked, line: &mut Line, out: &mut Draft) -> Result<(), Wrong> {
+    let cell = line.count();
     let words = words_of(asked.alloc, asked.bytes)?;
     if words.len() > 16_384 || cell > 262_144 || cell + 16 > 16 * words.len() {
         return Err(Wrong::Line);
     }
-    put_words(asked.alloc, out, &[cells16(&words, cell)])
+    put_words(out, &[cells16(&words, cell)]);
+    Ok(())
+}
+
+/// `address C H R N`: the words of an address field
+fn address(asked: Asked, line: &mut Line, out: &mut Draft) -> Result<(), Wrong> {
+    put_words(out, &address_words(asked.alloc, key(line))?);
+    Ok(())
 }
 
 /// `field data` and `field deleted`: the words that a write of these bytes records
-fn field(asked: Asked, out: &mut Vec<u8>) -> Result<(), Wrong> {
-    let deleted = match asked.arguments {
-        [mark] => is_verb(mark.as_bytes(), "deleted"),
-        _ => return Err(Wrong::Line),
-    };
-    let words = field_words(asked.alloc, deleted, asked.bytes)?;
-    put_words(asked.alloc, out, &words)
+fn field(asked: Asked, line: &mut Line, out: &mut Draft) -> Result<(), Wrong> {
+    let deleted = line.is("deleted");
+    put_words(out, &field_words(asked.alloc, deleted, asked.bytes)?);
+    Ok(())
 }

@@ -1,35 +1,41 @@
 // The bytes of commands, and a DMA channel with a memory of its own.
-use super::print::line;
-use super::{Asked, words_in};
+use super::{Asked, bench};
 use dma_8237::{Dma, MEMORY_SIZE};
 use fdc_commands::{Accepted, CommandBytes};
 use floppy_jobs::is_verb;
-use floppy_jobs::numbers::{address, hex_byte, port};
-use scene_files::Wrong;
-use std::alloc::Global;
+use scene_files::{Draft, Line, Wrong, words_in};
 
-pub(crate) fn answer(verb: &[u8], asked: Asked, out: &mut Vec<u8>) -> Result<bool, Wrong> {
+pub(crate) fn answer(
+    verb: &[u8],
+    asked: Asked,
+    line: &mut Line,
+    out: &mut Draft,
+) -> Result<(), Wrong> {
     if is_verb(verb, "command") {
-        command(asked, out)?;
+        command(asked, out)
     } else if is_verb(verb, "channel") {
-        accesses(asked, out)?;
+        accesses(asked, out)
     } else {
-        return Ok(false);
+        bench::answer(verb, asked, line, out)
     }
-    Ok(true)
 }
 
 /// `command`: what each byte comes to, as they are sent to a controller that waits for a command
-fn command(asked: Asked, out: &mut Vec<u8>) -> Result<(), Wrong> {
+fn command(asked: Asked, out: &mut Draft) -> Result<(), Wrong> {
     let mut command = CommandBytes::new();
     for byte in asked.bytes {
-        match command.accept(*byte) {
-            Accepted::More => line(out, "more")?,
-            Accepted::Invalid => line(out, "invalid")?,
-            Accepted::Ready(command) => {
-                let told = format!(in asked.alloc; "{command:?}")?;
-                line(out, told.as_str())?;
-            }
+        put_accepted(asked, command.accept(*byte), out)?;
+    }
+    Ok(())
+}
+
+fn put_accepted(asked: Asked, accepted: Accepted, out: &mut Draft) -> Result<(), Wrong> {
+    match accepted {
+        Accepted::More => out.line("more"),
+        Accepted::Invalid => out.line("invalid"),
+        Accepted::Ready(command) => {
+            let told = format!(in asked.alloc; "{command:?}")?;
+            out.line(told.as_str());
         }
     }
     Ok(())
@@ -38,134 +44,101 @@ fn command(asked: Asked, out: &mut Vec<u8>) -> Result<(), Wrong> {
 /// A channel and a memory.
 #[derive(Drop)]
 struct Channel {
-    alloc: Global,
     dma: Dma,
     ram: Vec<u8>,
 }
 
 /// `channel`: what the lines of the file do to a channel at power-up, whose memory is 00
-fn accesses(asked: Asked, out: &mut Vec<u8>) -> Result<(), Wrong> {
+fn accesses(asked: Asked, out: &mut Draft) -> Result<(), Wrong> {
     let Ok(text) = std::str::from_utf8(asked.bytes) else {
         return Err(Wrong::Line);
     };
     let mut channel = Channel {
-        alloc: asked.alloc,
         dma: Dma::new(),
         ram: vec![in asked.alloc; 0u8; MEMORY_SIZE]?,
     };
     for access in text.lines() {
-        line(out, access)?;
+        out.line(access);
         let words = words_in(asked.alloc, access)?;
-        match words.as_slice().split_first() {
-            Some((verb, fields)) => channel.access(verb.as_bytes(), fields, out)?,
-            None => return Err(Wrong::Line),
-        }
+        let mut line = Line::of(&words);
+        channel.access(&mut line, out);
+        line.end()?;
     }
     Ok(())
 }
 
 impl Channel {
     /// `out PORT BYTE`, `in PORT`, `poke ADDRESS BYTE`, `peek ADDRESS`, `take BYTE` from the device and `give` to it
-    fn access(&mut self, verb: &[u8], fields: &[&str], out: &mut Vec<u8>) -> Result<(), Wrong> {
+    fn access(&mut self, line: &mut Line, out: &mut Draft) {
+        let verb = line.word().as_bytes();
         if is_verb(verb, "out") {
-            self.port_write(fields)
+            self.dma.port_write(port(line), line.hex_byte());
         } else if is_verb(verb, "in") {
-            self.port_read(fields, out)
+            out.hex_byte(self.dma.port_read(port(line)));
+            out.line("");
         } else if is_verb(verb, "poke") {
-            self.poke(fields)
+            self.poke(line);
         } else if is_verb(verb, "peek") {
-            self.peek(fields, out)
+            self.peek(line, out);
         } else if is_verb(verb, "take") {
-            self.take(fields, out)
+            self.take(line.hex_byte(), out);
         } else if is_verb(verb, "give") {
-            self.give(out)
+            self.give(out);
         } else {
-            Err(Wrong::Line)
+            line.refuse();
         }
     }
 
-    fn port_write(&mut self, fields: &[&str]) -> Result<(), Wrong> {
-        let [number, value] = fields else {
-            return Err(Wrong::Line);
-        };
-        match (port(number.as_bytes()), hex_byte(value.as_bytes())) {
-            (Some(port), Some(value)) => self.dma.port_write(port, value),
-            _ => return Err(Wrong::Line),
-        }
-        Ok(())
-    }
-
-    fn port_read(&mut self, fields: &[&str], out: &mut Vec<u8>) -> Result<(), Wrong> {
-        let [number] = fields else {
-            return Err(Wrong::Line);
-        };
-        let Some(port) = port(number.as_bytes()) else {
-            return Err(Wrong::Line);
-        };
-        let value = self.dma.port_read(port);
-        let told = format!(in self.alloc; "{value:02X}")?;
-        line(out, told.as_str())
-    }
-
-    fn poke(&mut self, fields: &[&str]) -> Result<(), Wrong> {
-        let [place, value] = fields else {
-            return Err(Wrong::Line);
-        };
-        let (Some(place), Some(value)) = (address(place.as_bytes()), hex_byte(value.as_bytes()))
-        else {
-            return Err(Wrong::Line);
-        };
-        match self.ram.as_mut_slice().get_mut(place as usize) {
+    fn poke(&mut self, line: &mut Line) {
+        let (place, value) = (address(line), line.hex_byte());
+        match self.ram.as_mut_slice().get_mut(place) {
             Some(byte) => *byte = value,
-            None => return Err(Wrong::Line),
+            None => line.refuse(),
         }
-        Ok(())
     }
 
-    fn peek(&self, fields: &[&str], out: &mut Vec<u8>) -> Result<(), Wrong> {
-        let [place] = fields else {
-            return Err(Wrong::Line);
-        };
-        let Some(place) = address(place.as_bytes()) else {
-            return Err(Wrong::Line);
-        };
-        match self.ram.as_slice().get(place as usize) {
+    fn peek(&self, line: &mut Line, out: &mut Draft) {
+        match self.ram.as_slice().get(address(line)) {
             Some(value) => {
-                let told = format!(in self.alloc; "{value:02X}")?;
-                line(out, told.as_str())
+                out.hex_byte(*value);
+                out.line("");
             }
-            None => Err(Wrong::Line),
+            None => line.refuse(),
         }
     }
 
     /// Moves a byte of the device to memory, if the channel grants that.
-    fn take(&mut self, fields: &[&str], out: &mut Vec<u8>) -> Result<(), Wrong> {
-        let [value] = fields else {
-            return Err(Wrong::Line);
-        };
-        let Some(value) = hex_byte(value.as_bytes()) else {
-            return Err(Wrong::Line);
-        };
+    fn take(&mut self, value: u8, out: &mut Draft) {
         let ram = self.ram.as_mut_slice();
         if !self.dma.grants() || ram.len() != MEMORY_SIZE {
-            return line(out, "not granted");
-        }
-        if self.dma.move_in(ram, value) {
-            line(out, "last")
+            out.line("not granted");
+        } else if self.dma.move_in(ram, value) {
+            out.line("last");
         } else {
-            line(out, "more")
+            out.line("more");
         }
     }
 
     /// Moves a byte of memory to the device, if the channel grants that.
-    fn give(&mut self, out: &mut Vec<u8>) -> Result<(), Wrong> {
+    fn give(&mut self, out: &mut Draft) {
         let ram = self.ram.as_slice();
         if !self.dma.grants() || ram.len() != MEMORY_SIZE {
-            return line(out, "not granted");
+            out.line("not granted");
+            return;
         }
         let (value, last) = self.dma.move_out(ram);
-        let end = if last { "last" } else { "more" };
-        let told = format!(in self.alloc; "{value:02X} {end}")?;
-        line(out, told.as_str())
+        out.hex_byte(value);
+        out.line(if last { " last" } else { " more" });
     }
+}
+
+/// One to four hexadecimal digits.
+fn port(line: &mut Line) -> u16 {
+    let [_, _, high, low] = line.hex(1, 4).to_be_bytes();
+    u16::from_be_bytes([high, low])
+}
+
+/// One to five hexadecimal digits.
+fn address(line: &mut Line) -> usize {
+    line.hex(1, 5) as usize
 }

@@ -1,73 +1,85 @@
 // Files of media: images, ImageDisk files and flat files.
-use super::print::{line, put_bytes, show};
-use super::{Asked, medium_of, one};
+use super::print::put_bytes;
+use super::{Asked, medium_of, texts};
 use flat_files::{blank_flat, check, place};
 use flop_base::Rate;
 use floppy_jobs::is_verb;
-use floppy_jobs::numbers::register;
 use imagedisk::read_imd;
-use raw_image::{ImageError, ImageReader, read_image, write_image};
-use scene_files::{Wrong, byte};
+use raw_image::{ImageError, ImageReader, Medium, read_image, write_image};
+use scene_files::{Draft, Line, Wrong};
 use std::alloc::Global;
 
-pub(crate) fn answer(verb: &[u8], asked: Asked, out: &mut Vec<u8>) -> Result<bool, Wrong> {
+pub(crate) fn answer(
+    verb: &[u8],
+    asked: Asked,
+    line: &mut Line,
+    out: &mut Draft,
+) -> Result<(), Wrong> {
     if is_verb(verb, "image") {
-        image(asked, out)?;
+        image(asked, out)
     } else if is_verb(verb, "stored") {
-        let medium = medium_of(asked)?;
-        put_bytes(asked.alloc, out, &write_image(asked.alloc, &medium)?)?;
+        stored(asked, out)
     } else if is_verb(verb, "stored-with") {
-        stored_with(asked, out)?;
+        stored_with(asked, line, out)
     } else if is_verb(verb, "prefixes") {
-        prefixes(asked, out)?;
+        prefixes(asked, line, out)
     } else if is_verb(verb, "flat") {
-        flat(asked, out)?;
+        flat(asked, out)
     } else if is_verb(verb, "blank-flat") {
-        blank(asked, out)?;
+        blank(asked, line, out)
     } else if is_verb(verb, "flat-place") {
-        flat_place(asked, out)?;
+        flat_place(line, out)
     } else {
-        return Ok(false);
+        texts::answer(verb, asked, line, out)
     }
-    Ok(true)
 }
 
 /// `image`: what an image says of its medium
-fn image(asked: Asked, out: &mut Vec<u8>) -> Result<(), Wrong> {
-    let medium = match read_image(asked.alloc, asked.bytes) {
-        Ok(medium) => medium,
-        Err(error) => return show(asked.alloc, out, &error),
-    };
-    let notch = if medium.protected() {
-        "protected"
-    } else {
-        "open"
-    };
-    let (cylinders, heads, words) = (medium.cylinders(), medium.heads(), medium.words());
+fn image(asked: Asked, out: &mut Draft) -> Result<(), Wrong> {
+    match read_image(asked.alloc, asked.bytes) {
+        Ok(medium) => put_medium(&medium, out),
+        Err(error) => out.show_line(&error),
+    }
+    Ok(())
+}
+
+fn put_medium(medium: &Medium, out: &mut Draft) {
     let rate = match medium.rate() {
         Rate::R500 => 500,
         Rate::R250 => 250,
     };
-    let told = format!(in asked.alloc; "{notch} {cylinders} {heads} {rate} {words}")?;
-    line(out, told.as_str())
+    out.text(if medium.protected() {
+        "protected"
+    } else {
+        "open"
+    });
+    let (cylinders, heads, words) = (medium.cylinders(), medium.heads(), medium.words());
+    out.numbers(&[
+        u64::from(cylinders),
+        u64::from(heads),
+        rate,
+        u64::from(words),
+    ]);
+    out.line("");
+}
+
+/// `stored`: the file of the medium
+fn stored(asked: Asked, out: &mut Draft) -> Result<(), Wrong> {
+    let medium = medium_of(asked)?;
+    put_bytes(out, &write_image(asked.alloc, &medium)?);
+    Ok(())
 }
 
 /// `stored-with C H PLACE WORD`: the file of the medium with one word changed
-fn stored_with(asked: Asked, out: &mut Vec<u8>) -> Result<(), Wrong> {
-    let [c, h, place, word] = asked.arguments else {
-        return Err(Wrong::Line);
-    };
-    let (c, h) = (byte(c)?, byte(h)?);
-    let place = place.parse::<u16>().map_err(|_| Wrong::Line)?;
-    let Some(word) = register(word.as_bytes()) else {
-        return Err(Wrong::Line);
-    };
+fn stored_with(asked: Asked, line: &mut Line, out: &mut Draft) -> Result<(), Wrong> {
+    let (c, h, place, word) = (line.byte(), line.byte(), line.short(), line.hex_word());
     let mut medium = medium_of(asked)?;
     if c >= medium.cylinders() || h >= medium.heads() || place >= medium.words() {
         return Err(Wrong::Line);
     }
     medium.set_word(c, h, place, word);
-    put_bytes(asked.alloc, out, &write_image(asked.alloc, &medium)?)
+    put_bytes(out, &write_image(asked.alloc, &medium)?);
+    Ok(())
 }
 
 /// What is wrong with a file that is fed to a reader byte by byte.
@@ -79,84 +91,105 @@ fn fed(alloc: Global, bytes: &[u8]) -> Option<ImageError> {
     reader.finish().err()
 }
 
-/// What is wrong with a file, which is read as one of three.
-fn fault(alloc: Global, kind: &[u8], bytes: &[u8]) -> Result<Option<ImageError>, Wrong> {
-    if is_verb(kind, "image") {
-        Ok(read_image(alloc, bytes).err())
-    } else if is_verb(kind, "bytes") {
-        Ok(fed(alloc, bytes))
-    } else if is_verb(kind, "imd") {
-        Ok(read_imd(alloc, bytes).err())
-    } else {
-        Err(Wrong::Line)
+/// How a file is read.
+#[derive(Clone, Copy)]
+enum Kind {
+    Image,
+    /// An image, byte by byte.
+    Bytes,
+    Imd,
+}
+
+fn kind_asked(line: &mut Line) -> Kind {
+    let word = line.word().as_bytes();
+    if is_verb(word, "image") {
+        return Kind::Image;
+    }
+    if is_verb(word, "bytes") {
+        return Kind::Bytes;
+    }
+    if !is_verb(word, "imd") {
+        line.refuse();
+    }
+    Kind::Imd
+}
+
+/// What is wrong with a file.
+fn fault(alloc: Global, kind: Kind, bytes: &[u8]) -> Option<ImageError> {
+    match kind {
+        Kind::Image => read_image(alloc, bytes).err(),
+        Kind::Bytes => fed(alloc, bytes),
+        Kind::Imd => read_imd(alloc, bytes).err(),
+    }
+}
+
+/// The same of the first bytes; 0 stands for their number, where a fault tells it.
+fn fault_of(asked: Asked, kind: Kind, have: usize) -> Option<ImageError> {
+    let prefix = asked.bytes.get(..have).unwrap_or(&[]);
+    match fault(asked.alloc, kind, prefix) {
+        Some(ImageError::TooShort { need, have: told }) => {
+            let have = if told == have { 0 } else { told };
+            Some(ImageError::TooShort { need, have })
+        }
+        other => other,
     }
 }
 
 /// `prefixes image`, `prefixes bytes` (fed one by one) and `prefixes imd`: what is wrong with the first 0, 1 and so on bytes,
 /// once where only the length that is there differs
-fn prefixes(asked: Asked, out: &mut Vec<u8>) -> Result<(), Wrong> {
-    let [kind] = asked.arguments else {
-        return Err(Wrong::Line);
-    };
+fn prefixes(asked: Asked, line: &mut Line, out: &mut Draft) -> Result<(), Wrong> {
+    let kind = kind_asked(line);
     let mut last = Some(ImageError::NoMemory);
     for have in 0..=asked.bytes.len() {
-        let prefix = asked.bytes.get(..have).unwrap_or(&[]);
-        let mut error = fault(asked.alloc, kind.as_bytes(), prefix)?;
-        if let Some(ImageError::TooShort { need, have: told }) = error {
-            if told == have {
-                error = Some(ImageError::TooShort { need, have: 0 });
-            }
-        }
+        let error = fault_of(asked, kind, have);
         if error != last {
-            put_fault(asked.alloc, out, have, error)?;
+            put_fault(out, have, error);
         }
         last = error;
     }
     Ok(())
 }
 
-fn put_fault(
-    alloc: Global,
-    out: &mut Vec<u8>,
-    have: usize,
-    error: Option<ImageError>,
-) -> Result<(), Wrong> {
-    let told = match error {
-        Some(ImageError::TooShort { need, have: 0 }) => format!(in alloc;
-            "from {have} on too short, {need} needed"
-        )?,
-        Some(error) => format!(in alloc; "from {have} on {error}")?,
-        None => format!(in alloc; "from {have} on whole")?,
-    };
-    line(out, told.as_str())
+fn put_fault(out: &mut Draft, have: usize, error: Option<ImageError>) {
+    out.text("from");
+    out.numbers(&[have as u64]);
+    out.text(" on ");
+    match error {
+        Some(ImageError::TooShort { need, have: 0 }) => {
+            out.text("too short,");
+            out.numbers(&[need as u64]);
+            out.line(" needed");
+        }
+        Some(error) => out.show_line(&error),
+        None => out.line("whole"),
+    }
 }
 
 /// `flat`: the sectors on a track of a flat file
-fn flat(asked: Asked, out: &mut Vec<u8>) -> Result<(), Wrong> {
+fn flat(asked: Asked, out: &mut Draft) -> Result<(), Wrong> {
     match check(asked.bytes) {
-        Ok(sectors) => show(asked.alloc, out, &sectors),
-        Err(error) => show(asked.alloc, out, &error),
+        Ok(sectors) => out.show_line(&sectors),
+        Err(error) => out.show_line(&error),
     }
+    Ok(())
 }
 
 /// `blank-flat 9` and `blank-flat 18`: the bytes of an empty flat file
-fn blank(asked: Asked, out: &mut Vec<u8>) -> Result<(), Wrong> {
-    let file = match one(asked.arguments)? {
-        9 => blank_flat(asked.alloc, 9)?,
-        18 => blank_flat(asked.alloc, 18)?,
-        _ => return Err(Wrong::Line),
-    };
-    put_bytes(asked.alloc, out, &file)
+fn blank(asked: Asked, line: &mut Line, out: &mut Draft) -> Result<(), Wrong> {
+    let sectors = line.byte();
+    if sectors != 9 && sectors != 18 {
+        return Err(Wrong::Line);
+    }
+    put_bytes(out, &blank_flat(asked.alloc, sectors)?);
+    Ok(())
 }
 
 /// `flat-place SECTORS C H R`: where a sector of a flat file begins
-fn flat_place(asked: Asked, out: &mut Vec<u8>) -> Result<(), Wrong> {
-    let [sectors, c, h, r] = asked.arguments else {
-        return Err(Wrong::Line);
-    };
-    let (sectors, c, h, r) = (byte(sectors)?, byte(c)?, byte(h)?, byte(r)?);
+fn flat_place(line: &mut Line, out: &mut Draft) -> Result<(), Wrong> {
+    let (sectors, c, h, r) = (line.byte(), line.byte(), line.byte(), line.byte());
     if (sectors != 9 && sectors != 18) || c >= 80 || h >= 2 || r < 1 || r > sectors {
         return Err(Wrong::Line);
     }
-    show(asked.alloc, out, &place(sectors, c, h, r))
+    out.show_line(&place(sectors, c, h, r));
+    Ok(())
 }

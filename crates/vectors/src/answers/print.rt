@@ -1,106 +1,100 @@
-// What is printed: lines, and equal values behind one another as one with their number.
-use scene_files::{Wrong, put_line};
-use std::alloc::Global;
-use std::fmt;
-
-/// Prints a line of text.
-pub(crate) fn line(out: &mut Vec<u8>, told: &str) -> Result<(), Wrong> {
-    put_line(told, out)
-}
-
-/// Prints a line that shows a value.
-pub(crate) fn show<T: fmt::Display>(
-    alloc: Global,
-    out: &mut Vec<u8>,
-    value: &T,
-) -> Result<(), Wrong> {
-    let told = format!(in alloc; "{value}")?;
-    line(out, told.as_str())
-}
-
-/// How many digits a value has.
-#[derive(Clone, Copy)]
-enum Width {
-    Byte,
-    Word,
-}
+// What is printed: equal values behind one another as one with their number, and keys.
+use flop_base::Chrn;
+use scene_files::Draft;
 
 /// Equal values behind one another.
 #[derive(Clone, Copy)]
 pub(crate) struct Runs {
-    alloc: Global,
-    width: Width,
+    /// They have two digits, or four.
+    are_bytes: bool,
     last: Option<u16>,
     times: u64,
 }
 
 impl Runs {
-    pub(crate) fn of_bytes(alloc: Global) -> Runs {
+    pub(crate) fn of_bytes() -> Runs {
         Runs {
-            alloc,
-            width: Width::Byte,
+            are_bytes: true,
             last: None,
             times: 0,
         }
     }
 
-    pub(crate) fn of_words(alloc: Global) -> Runs {
+    pub(crate) fn of_words() -> Runs {
         Runs {
-            width: Width::Word,
-            ..Runs::of_bytes(alloc)
+            are_bytes: false,
+            last: None,
+            times: 0,
         }
     }
 
     /// One more value. Prints those before it, if it differs.
-    pub(crate) fn add(&mut self, value: u16, out: &mut Vec<u8>) -> Result<(), Wrong> {
+    pub(crate) fn add(&mut self, value: u16, out: &mut Draft) {
         if self.last != Some(value) {
-            self.end(out)?;
+            self.end(out);
             self.last = Some(value);
         }
         self.times = self.times.saturating_add(1);
-        Ok(())
     }
 
     /// Prints the values that weren't yet.
-    pub(crate) fn end(&mut self, out: &mut Vec<u8>) -> Result<(), Wrong> {
-        let Some(value) = self.last else {
-            return Ok(());
-        };
-        out.push(b' ')?;
-        if self.times > 1 {
-            let times = self.times;
-            let told = format!(in self.alloc; "{times}x")?;
-            out.extend_from_slice(told.as_bytes())?;
+    pub(crate) fn end(&mut self, out: &mut Draft) {
+        if let Some(value) = self.last {
+            self.put(value, out);
         }
-        let told = match self.width {
-            Width::Byte => format!(in self.alloc; "{value:02X}")?,
-            Width::Word => format!(in self.alloc; "{value:04X}")?,
-        };
-        out.extend_from_slice(told.as_bytes())?;
         self.last = None;
         self.times = 0;
-        Ok(())
+    }
+
+    /// Prints them, and the line's end.
+    pub(crate) fn end_line(&mut self, out: &mut Draft) {
+        self.end(out);
+        out.line("");
+    }
+
+    fn put(&self, value: u16, out: &mut Draft) {
+        out.text(" ");
+        if self.times > 1 {
+            out.number(self.times);
+            out.text("x");
+        }
+        if self.are_bytes {
+            let [_, byte] = value.to_be_bytes();
+            out.hex_byte(byte);
+        } else {
+            out.hex_word(value);
+        }
     }
 }
 
 /// Prints words as a line.
-pub(crate) fn put_words(alloc: Global, out: &mut Vec<u8>, words: &[u16]) -> Result<(), Wrong> {
-    let mut runs = Runs::of_words(alloc);
-    out.extend_from_slice(b"words")?;
+pub(crate) fn put_words(out: &mut Draft, words: &[u16]) {
+    let mut runs = Runs::of_words();
+    out.text("words");
     for word in words {
-        runs.add(*word, out)?;
+        runs.add(*word, out);
     }
-    runs.end(out)?;
-    line(out, "")
+    runs.end_line(out);
+}
+
+/// Prints bytes as a line that begins with a word.
+pub(crate) fn put_bytes_of(out: &mut Draft, word: &str, bytes: &[u8]) {
+    let mut runs = Runs::of_bytes();
+    out.text(word);
+    for byte in bytes {
+        runs.add(u16::from(*byte), out);
+    }
+    runs.end_line(out);
 }
 
 /// Prints bytes as a line.
-pub(crate) fn put_bytes(alloc: Global, out: &mut Vec<u8>, bytes: &[u8]) -> Result<(), Wrong> {
-    let mut runs = Runs::of_bytes(alloc);
-    out.extend_from_slice(b"bytes")?;
-    for byte in bytes {
-        runs.add(u16::from(*byte), out)?;
-    }
-    runs.end(out)?;
-    line(out, "")
+pub(crate) fn put_bytes(out: &mut Draft, bytes: &[u8]) {
+    put_bytes_of(out, "bytes", bytes);
+}
+
+/// Prints the four numbers of a key.
+pub(crate) fn put_key(out: &mut Draft, key: Chrn) {
+    let Chrn { c, h, r, n } = key;
+    out.number(u64::from(c));
+    out.numbers(&[u64::from(h), u64::from(r), u64::from(n)]);
 }

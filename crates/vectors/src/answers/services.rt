@@ -1,46 +1,43 @@
 // The core of INT 13h, call by call.
-use super::print::line;
-use super::{Asked, words_in};
+use super::Asked;
 use floppy_jobs::is_verb;
-use floppy_jobs::numbers::{hex_byte, register};
 use int13::{Int13, Kind, Regs, Work};
-use scene_files::{Wrong, byte};
-use std::alloc::Global;
+use scene_files::{Draft, Line, Wrong, words_in};
 
-pub(crate) fn answer(verb: &[u8], asked: Asked, out: &mut Vec<u8>) -> Result<bool, Wrong> {
-    if is_verb(verb, "int13") {
-        calls(asked, out)?;
-        Ok(true)
-    } else {
-        Ok(false)
+pub(crate) fn answer(
+    verb: &[u8],
+    asked: Asked,
+    line: &mut Line,
+    out: &mut Draft,
+) -> Result<(), Wrong> {
+    if !is_verb(verb, "int13") {
+        line.refuse();
+        return Ok(());
     }
+    calls(asked, out)
 }
 
 /// `int13`: what each line of the file asks for, and the registers after it. A line is `AX BX CX DX ES CODE MOVED`; its code and
 /// count are those of the work, where there is some.
-fn calls(asked: Asked, out: &mut Vec<u8>) -> Result<(), Wrong> {
+fn calls(asked: Asked, out: &mut Draft) -> Result<(), Wrong> {
     let Ok(text) = std::str::from_utf8(asked.bytes) else {
         return Err(Wrong::Line);
     };
     let mut front = Int13::new();
     for call in text.lines() {
         let words = words_in(asked.alloc, call)?;
-        let [registers @ .., code, moved] = words.as_slice() else {
-            return Err(Wrong::Line);
-        };
-        let Some(code) = hex_byte(code.as_bytes()) else {
-            return Err(Wrong::Line);
-        };
-        let regs = registers_of(registers)?;
-        let work = front.plan(regs);
-        put_work(asked.alloc, out, work)?;
-        put_registers(
-            asked.alloc,
-            out,
-            finished(&mut front, regs, code, byte(moved)?),
-        )?;
+        let mut line = Line::of(&words);
+        serve(&mut front, &mut line, out);
+        line.end()?;
     }
     Ok(())
+}
+
+fn serve(front: &mut Int13, line: &mut Line, out: &mut Draft) {
+    let regs = registers_of(line);
+    let (code, moved) = (line.hex_byte(), line.byte());
+    put_work(front.plan(regs), out);
+    put_registers(finished(front, regs, code, moved), out);
 }
 
 fn finished(front: &mut Int13, regs: Regs, code: u8, moved: u8) -> Regs {
@@ -52,31 +49,28 @@ fn finished(front: &mut Int13, regs: Regs, code: u8, moved: u8) -> Regs {
 }
 
 /// The registers before a call.
-fn registers_of(words: &[&str]) -> Result<Regs, Wrong> {
-    let [ax, bx, cx, dx, es] = words else {
-        return Err(Wrong::Line);
-    };
-    Ok(Regs {
-        ax: word(ax)?,
-        bx: word(bx)?,
-        cx: word(cx)?,
-        dx: word(dx)?,
-        es: word(es)?,
+fn registers_of(line: &mut Line) -> Regs {
+    Regs {
+        ax: line.hex_word(),
+        bx: line.hex_word(),
+        cx: line.hex_word(),
+        dx: line.hex_word(),
+        es: line.hex_word(),
         carry: false,
-    })
-}
-
-fn word(digits: &str) -> Result<u16, Wrong> {
-    match register(digits.as_bytes()) {
-        Some(value) => Ok(value),
-        None => Err(Wrong::Line),
     }
 }
 
-fn put_work(alloc: Global, out: &mut Vec<u8>, work: Work) -> Result<(), Wrong> {
-    let told = match work {
-        Work::Answer { code } => format!(in alloc; "answer {code:02X}")?,
-        Work::Changed { bay } => format!(in alloc; "is bay {bay} changed")?,
+fn put_work(work: Work, out: &mut Draft) {
+    match work {
+        Work::Answer { code } => {
+            out.text("answer ");
+            out.hex_byte(code);
+        }
+        Work::Changed { bay } => {
+            out.text("is bay");
+            out.numbers(&[u64::from(bay)]);
+            out.text(" changed");
+        }
         Work::Move {
             kind,
             bay,
@@ -86,27 +80,30 @@ fn put_work(alloc: Global, out: &mut Vec<u8>, work: Work) -> Result<(), Wrong> {
             count,
             address,
         } => {
-            let verb = match kind {
-                Kind::Read => "read",
-                Kind::Write => "write",
-                Kind::Verify => "verify",
-            };
-            format!(in alloc; "{verb} {bay} {c} {h} {r} count {count} {address:05X}")?
+            out.text(verb_of(kind));
+            out.numbers(&[u64::from(bay), u64::from(c), u64::from(h), u64::from(r)]);
+            out.text(" count");
+            out.numbers(&[u64::from(count)]);
+            out.text(" ");
+            out.hex_address(address);
         }
-    };
-    line(out, told.as_str())
+    }
+    out.line("");
 }
 
-fn put_registers(alloc: Global, out: &mut Vec<u8>, regs: Regs) -> Result<(), Wrong> {
-    let Regs {
-        ax,
-        bx,
-        cx,
-        dx,
-        es,
-        carry,
-    } = regs;
-    let carry = if carry { " carry" } else { "" };
-    let told = format!(in alloc; "{ax:04X} {bx:04X} {cx:04X} {dx:04X} {es:04X}{carry}")?;
-    line(out, told.as_str())
+fn verb_of(kind: Kind) -> &'static str {
+    match kind {
+        Kind::Read => "read",
+        Kind::Write => "write",
+        Kind::Verify => "verify",
+    }
+}
+
+fn put_registers(regs: Regs, out: &mut Draft) {
+    out.hex_word(regs.ax);
+    for word in [regs.bx, regs.cx, regs.dx, regs.es] {
+        out.text(" ");
+        out.hex_word(word);
+    }
+    out.line(if regs.carry { " carry" } else { "" });
 }

@@ -1,191 +1,243 @@
 // Texts of jobs, port accesses, calls, plans and logs.
-use super::Asked;
-use super::print::{line, show};
+use super::{Asked, records};
 use drive_model::Fault;
 use fault_plan::{FaultPlan, PlanError, plan_of};
 use floppy_jobs::{CallLine, JobError, PortLine, is_verb, parse_calls, parse_job, parse_ports};
 use rescue::{LogError, read_log, write_log};
-use scene_files::{Wrong, byte};
+use scene_files::{Draft, Line, Wrong};
 use std::alloc::Global;
 
-pub(crate) fn answer(verb: &[u8], asked: Asked, out: &mut Vec<u8>) -> Result<bool, Wrong> {
+pub(crate) fn answer(
+    verb: &[u8],
+    asked: Asked,
+    line: &mut Line,
+    out: &mut Draft,
+) -> Result<(), Wrong> {
     if is_verb(verb, "text") {
-        let [kind] = asked.arguments else {
-            return Err(Wrong::Line);
-        };
-        text(asked.alloc, kind.as_bytes(), asked.bytes, out)?;
+        text(asked.alloc, kind_asked(line), asked.bytes, out)
     } else if is_verb(verb, "lines") {
-        lines(asked, out)?;
+        lines(asked, line, out)
     } else if is_verb(verb, "log") {
-        log(asked, out)?;
+        log(asked, line, out)
     } else {
-        return Ok(false);
+        records::answer(verb, asked, line, out)
     }
-    Ok(true)
+}
+
+/// What a text is of.
+#[derive(Clone, Copy)]
+enum Kind {
+    Job,
+    Ports,
+    Calls,
+    Plan,
+}
+
+fn kind_asked(line: &mut Line) -> Kind {
+    let word = line.word().as_bytes();
+    if is_verb(word, "job") {
+        return Kind::Job;
+    }
+    if is_verb(word, "ports") {
+        return Kind::Ports;
+    }
+    if is_verb(word, "calls") {
+        return Kind::Calls;
+    }
+    if !is_verb(word, "plan") {
+        line.refuse();
+    }
+    Kind::Plan
 }
 
 /// `text job`, `text ports`, `text calls` and `text plan`: the lines of a text as they are understood, or its first bad line
-fn text(alloc: Global, kind: &[u8], bytes: &[u8], out: &mut Vec<u8>) -> Result<(), Wrong> {
-    if is_verb(kind, "job") {
-        job(alloc, bytes, out)
-    } else if is_verb(kind, "ports") {
-        ports(alloc, bytes, out)
-    } else if is_verb(kind, "calls") {
-        calls(alloc, bytes, out)
-    } else if is_verb(kind, "plan") {
-        plan(alloc, bytes, out)
-    } else {
-        Err(Wrong::Line)
+fn text(alloc: Global, kind: Kind, bytes: &[u8], out: &mut Draft) -> Result<(), Wrong> {
+    match kind {
+        Kind::Job => job(alloc, bytes, out),
+        Kind::Ports => ports(alloc, bytes, out),
+        Kind::Calls => calls(alloc, bytes, out),
+        Kind::Plan => plan(alloc, bytes, out),
     }
 }
 
 /// `lines KIND`: each line of the file that has bytes, as a text of its own
-fn lines(asked: Asked, out: &mut Vec<u8>) -> Result<(), Wrong> {
-    let [kind] = asked.arguments else {
-        return Err(Wrong::Line);
-    };
+fn lines(asked: Asked, line: &mut Line, out: &mut Draft) -> Result<(), Wrong> {
+    let kind = kind_asked(line);
     for bytes in asked.bytes.split(|byte| *byte == b'\n') {
         if !bytes.is_empty() {
-            text(asked.alloc, kind.as_bytes(), bytes, out)?;
+            text(asked.alloc, kind, bytes, out)?;
         }
     }
     Ok(())
 }
 
-fn refused(alloc: Global, out: &mut Vec<u8>, error: JobError) -> Result<(), Wrong> {
+fn refused(out: &mut Draft, error: JobError) -> Result<(), Wrong> {
     match error {
-        JobError::NoMemory => Err(Wrong::NoMemory),
-        error => show(alloc, out, &error),
+        JobError::NoMemory => return Err(Wrong::NoMemory),
+        error => out.show_line(&error),
     }
+    Ok(())
 }
 
-fn job(alloc: Global, bytes: &[u8], out: &mut Vec<u8>) -> Result<(), Wrong> {
+fn job(alloc: Global, bytes: &[u8], out: &mut Draft) -> Result<(), Wrong> {
     match parse_job(alloc, bytes) {
         Ok(requests) => {
             for request in &requests {
-                show(alloc, out, request)?;
+                out.show_line(request);
             }
-            line(out, "understood")
+            out.line("understood");
+            Ok(())
         }
-        Err(error) => refused(alloc, out, error),
+        Err(error) => refused(out, error),
     }
 }
 
-fn ports(alloc: Global, bytes: &[u8], out: &mut Vec<u8>) -> Result<(), Wrong> {
+fn ports(alloc: Global, bytes: &[u8], out: &mut Draft) -> Result<(), Wrong> {
     match parse_ports(alloc, bytes) {
         Ok(accesses) => {
             for access in &accesses {
-                put_access(alloc, out, access)?;
+                put_access(out, access);
             }
-            line(out, "understood")
+            out.line("understood");
+            Ok(())
         }
-        Err(error) => refused(alloc, out, error),
+        Err(error) => refused(out, error),
     }
 }
 
-fn put_access(alloc: Global, out: &mut Vec<u8>, access: &PortLine) -> Result<(), Wrong> {
-    let told = match access {
-        PortLine::In { port } => format!(in alloc; "in {port:03X}")?,
-        PortLine::Out { port, value } => format!(in alloc; "out {port:03X} {value:02X}")?,
-        PortLine::Wait { steps } => format!(in alloc; "wait {steps}")?,
-        PortLine::Irq => format!(in alloc; "irq")?,
-        PortLine::Insert { bay, name } => format!(in alloc; "insert {bay} {}", name.as_str())?,
-        PortLine::Eject { bay } => format!(in alloc; "eject {bay}")?,
-    };
-    line(out, told.as_str())
+fn put_access(out: &mut Draft, access: &PortLine) {
+    match access {
+        PortLine::In { port } => {
+            out.text("in ");
+            out.hex_port(*port);
+        }
+        PortLine::Out { port, value } => {
+            out.text("out ");
+            out.hex_port(*port);
+            out.text(" ");
+            out.hex_byte(*value);
+        }
+        PortLine::Wait { steps } => {
+            out.text("wait");
+            out.numbers(&[u64::from(*steps)]);
+        }
+        PortLine::Irq => out.text("irq"),
+        PortLine::Insert { bay, name } => {
+            out.text("insert");
+            out.numbers(&[u64::from(*bay)]);
+            out.text(" ");
+            out.text(name.as_str());
+        }
+        PortLine::Eject { bay } => {
+            out.text("eject");
+            out.numbers(&[u64::from(*bay)]);
+        }
+    }
+    out.line("");
 }
 
-fn calls(alloc: Global, bytes: &[u8], out: &mut Vec<u8>) -> Result<(), Wrong> {
+fn calls(alloc: Global, bytes: &[u8], out: &mut Draft) -> Result<(), Wrong> {
     match parse_calls(alloc, bytes) {
         Ok(calls) => {
             for call in &calls {
-                put_call(alloc, out, call)?;
+                put_call(out, call);
             }
-            line(out, "understood")
+            out.line("understood");
+            Ok(())
         }
-        Err(error) => refused(alloc, out, error),
+        Err(error) => refused(out, error),
     }
 }
 
-fn put_call(alloc: Global, out: &mut Vec<u8>, call: &CallLine) -> Result<(), Wrong> {
-    let told = match call {
-        CallLine::Job(request) => format!(in alloc; "{request}")?,
-        CallLine::Call { ax, bx, cx, dx, es } => format!(in alloc;
-            "call {ax:04X} {bx:04X} {cx:04X} {dx:04X} {es:04X}"
-        )?,
-    };
-    line(out, told.as_str())
+fn put_call(out: &mut Draft, call: &CallLine) {
+    match call {
+        CallLine::Job(request) => out.show(request),
+        CallLine::Call { ax, bx, cx, dx, es } => {
+            out.text("call");
+            for register in [*ax, *bx, *cx, *dx, *es] {
+                out.text(" ");
+                out.hex_word(register);
+            }
+        }
+    }
+    out.line("");
 }
 
-fn plan(alloc: Global, bytes: &[u8], out: &mut Vec<u8>) -> Result<(), Wrong> {
-    let plan = match plan_of(alloc, bytes) {
-        Ok(plan) => plan,
+fn plan(alloc: Global, bytes: &[u8], out: &mut Draft) -> Result<(), Wrong> {
+    match plan_of(alloc, bytes) {
+        Ok(plan) => put_plan(out, &plan),
         Err(PlanError::NoMemory) => return Err(Wrong::NoMemory),
-        Err(error) => return show(alloc, out, &error),
-    };
-    let FaultPlan {
-        bay0,
-        bay1,
-        spare0,
-        spare1,
-        pace,
-    } = plan;
-    put_faults(alloc, out, "bay 0", &bay0)?;
-    put_faults(alloc, out, "bay 1", &bay1)?;
-    put_faults(alloc, out, "spare 0", &spare0)?;
-    put_faults(alloc, out, "spare 1", &spare1)?;
-    put_pace(alloc, out, "gap", &pace.gaps)?;
-    put_pace(alloc, out, "hold", &pace.holds)?;
-    put_pace(alloc, out, "stray", &pace.strays)?;
-    line(out, "understood")
+        Err(error) => out.show_line(&error),
+    }
+    Ok(())
 }
 
-fn put_faults(
-    alloc: Global,
-    out: &mut Vec<u8>,
-    drive: &str,
-    faults: &[Fault],
-) -> Result<(), Wrong> {
+fn put_plan(out: &mut Draft, plan: &FaultPlan) {
+    put_faults(out, "bay 0", &plan.bay0);
+    put_faults(out, "bay 1", &plan.bay1);
+    put_faults(out, "spare 0", &plan.spare0);
+    put_faults(out, "spare 1", &plan.spare1);
+    put_pace(out, "gap ", &plan.pace.gaps);
+    put_pace(out, "hold ", &plan.pace.holds);
+    put_pace(out, "stray ", &plan.pace.strays);
+    out.line("understood");
+}
+
+fn put_faults(out: &mut Draft, drive: &str, faults: &[Fault]) {
     for fault in faults {
-        let told = match *fault {
-            Fault::Dropout { c, h, word, count } => format!(in alloc;
-                "{drive} drop {c} {h} {word} {count}"
-            )?,
-            Fault::Cut { c, h, word, count } => format!(in alloc;
-                "{drive} cut {c} {h} {word} {count}"
-            )?,
-            Fault::Lose { c, count } => format!(in alloc; "{drive} lose {c} {count}")?,
-            Fault::Stick { c, count } => format!(in alloc; "{drive} stick {c} {count}")?,
-        };
-        line(out, told.as_str())?;
+        out.text(drive);
+        put_fault(out, *fault);
     }
-    Ok(())
 }
 
-fn put_pace<T: std::fmt::Display>(
-    alloc: Global,
-    out: &mut Vec<u8>,
-    kind: &str,
-    steps: &[T],
-) -> Result<(), Wrong> {
-    for count in steps {
-        let told = format!(in alloc; "{kind} {count}")?;
-        line(out, told.as_str())?;
+fn put_fault(out: &mut Draft, fault: Fault) {
+    match fault {
+        Fault::Dropout { c, h, word, count } => {
+            out.text(" drop");
+            out.numbers(&[
+                u64::from(c),
+                u64::from(h),
+                u64::from(word),
+                u64::from(count),
+            ]);
+        }
+        Fault::Cut { c, h, word, count } => {
+            out.text(" cut");
+            out.numbers(&[
+                u64::from(c),
+                u64::from(h),
+                u64::from(word),
+                u64::from(count),
+            ]);
+        }
+        Fault::Lose { c, count } => {
+            out.text(" lose");
+            out.numbers(&[u64::from(c), u64::from(count)]);
+        }
+        Fault::Stick { c, count } => {
+            out.text(" stick");
+            out.numbers(&[u64::from(c), u64::from(count)]);
+        }
     }
-    Ok(())
+    out.line("");
+}
+
+fn put_pace<T: std::fmt::Display>(out: &mut Draft, kind: &str, steps: &[T]) {
+    for count in steps {
+        out.text(kind);
+        out.show_line(count);
+    }
 }
 
 /// `log SECTORS`: the log that a rescue would write with the lines of this one, or the first bad line
-fn log(asked: Asked, out: &mut Vec<u8>) -> Result<(), Wrong> {
-    let [sectors] = asked.arguments else {
-        return Err(Wrong::Line);
-    };
-    match read_log(asked.alloc, asked.bytes, byte(sectors)?) {
+fn log(asked: Asked, line: &mut Line, out: &mut Draft) -> Result<(), Wrong> {
+    match read_log(asked.alloc, asked.bytes, line.byte()) {
         Ok(lines) => {
-            out.extend_from_slice(&write_log(asked.alloc, &lines)?)?;
-            line(out, "understood")
+            out.put(&write_log(asked.alloc, &lines)?);
+            out.line("understood");
         }
-        Err(LogError::NoMemory) => Err(Wrong::NoMemory),
-        Err(error) => show(asked.alloc, out, &error),
+        Err(LogError::NoMemory) => return Err(Wrong::NoMemory),
+        Err(error) => out.show_line(&error),
     }
+    Ok(())
 }

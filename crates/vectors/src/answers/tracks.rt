@@ -1,43 +1,46 @@
 // What is found on the first track of an image, and on its disk.
 ghost use Rattle.std.specs.Prelude.{IfOk};
+ghost use Rattle.track_model.specs.Cells.{IsTrackSized};
 ghost use Rattle.track_model.specs.Fields.{IsSizeCode};
 
-use super::print::{Runs, line, put_words};
-use super::{Asked, key, medium_of};
+use super::print::{Runs, put_key, put_words};
+use super::{Asked, key, medium_of, turns};
 use flop_base::Chrn;
 use floppy_jobs::is_verb;
-use raw_image::Medium;
-use scene_files::{Wrong, byte, count};
+use scene_files::{Draft, Line, Wrong};
 use sector_map::{failing, is_regular_disk, place_window};
-use std::alloc::Global;
 use track_fields::{Look, content_byte, field_words, find_sector, is_regular, list_fields};
 
-pub(crate) fn answer(verb: &[u8], asked: Asked, out: &mut Vec<u8>) -> Result<bool, Wrong> {
+pub(crate) fn answer(
+    verb: &[u8],
+    asked: Asked,
+    line: &mut Line,
+    out: &mut Draft,
+) -> Result<(), Wrong> {
     if is_verb(verb, "look") {
-        look(asked, out)?;
+        look(asked, line, out)
     } else if is_verb(verb, "fields") {
-        fields(asked, out)?;
+        fields(asked, out)
     } else if is_verb(verb, "content") {
-        content(asked, out)?;
+        content(asked, line, out)
     } else if is_verb(verb, "words") {
-        words(asked, out)?;
+        words(asked, line, out)
     } else if is_verb(verb, "regular") {
-        regular(asked, out)?;
+        regular(asked, line, out)
     } else if is_verb(verb, "torn") {
-        torn(asked, out)?;
+        torn(asked, line, out)
     } else if is_verb(verb, "failing") {
-        failing_keys(asked, out)?;
+        failing_keys(asked, out)
     } else {
-        return Ok(false);
+        turns::answer(verb, asked, line, out)
     }
-    Ok(true)
 }
 
 /// The key that words are, if its size code is one of a sector's.
-fn sized_key(words: &[&str]) -> Result<Chrn, Wrong>
+pub(crate) fn sized_key(line: &mut Line) -> Result<Chrn, Wrong>
     ensures { IfOk result (λ key. IsSizeCode key.n) }
 {
-    let key = key(words)?;
+    let key = key(line);
     if (1..=6).contains(&key.n) {
         Ok(key)
     } else {
@@ -46,118 +49,116 @@ fn sized_key(words: &[&str]) -> Result<Chrn, Wrong>
 }
 
 /// The words of the first track.
-pub(crate) fn first_track(alloc: Global, medium: &Medium) -> Result<Vec<u16>, Wrong> {
+pub(crate) fn first_track(asked: Asked) -> Result<Vec<u16>, Wrong>
+    ensures { IfOk result (λ track. IsTrackSized track.items) }
+{
+    let track = track_words(asked)?;
+    if track.len() < 64 || track.len() > 16_384 {
+        return Err(Wrong::Line);
+    }
+    Ok(track)
+}
+
+fn track_words(asked: Asked) -> Result<Vec<u16>, Wrong> {
+    let medium = medium_of(asked)?;
     match medium.track(0, 0) {
-        Some(words) => Ok(words.to_vec(alloc)?),
+        Some(words) => Ok(words.to_vec(asked.alloc)?),
         None => Err(Wrong::Line),
     }
 }
 
 /// What a look for a key gives, in words.
-fn put_look(alloc: Global, out: &mut Vec<u8>, look: Look) -> Result<(), Wrong> {
-    let (word, place) = match look {
-        Look::Found {
-            deleted: false,
-            place,
-        } => ("data", place),
-        Look::Found { place, .. } => ("deleted", place),
-        Look::NoMark => return line(out, "no mark"),
-        Look::NoSector => return line(out, "no sector"),
-        Look::NoData => return line(out, "no data"),
-        Look::BadCrc => return line(out, "bad check"),
-    };
-    let told = format!(in alloc; "{word} at {place}")?;
-    line(out, told.as_str())
-}
-
-/// `look C H R N`
-fn look(asked: Asked, out: &mut Vec<u8>) -> Result<(), Wrong> {
-    let key = sized_key(asked.arguments)?;
-    let medium = medium_of(asked)?;
-    match medium.track(0, 0) {
-        Some(track) => put_look(asked.alloc, out, find_sector(track, key)),
-        _ => Err(Wrong::Line),
+fn put_look(out: &mut Draft, look: Look) {
+    match look {
+        Look::Found { deleted, place } => {
+            out.text(if deleted { "deleted at" } else { "data at" });
+            out.numbers(&[place as u64]);
+            out.line("");
+        }
+        Look::NoMark => out.line("no mark"),
+        Look::NoSector => out.line("no sector"),
+        Look::NoData => out.line("no data"),
+        Look::BadCrc => out.line("bad check"),
     }
 }
 
+/// `look C H R N`
+fn look(asked: Asked, line: &mut Line, out: &mut Draft) -> Result<(), Wrong> {
+    let key = sized_key(line)?;
+    let track = first_track(asked)?;
+    put_look(out, find_sector(&track, key));
+    Ok(())
+}
+
+fn put_place(out: &mut Draft, key: Chrn, place: usize) {
+    put_key(out, key);
+    out.text(" at");
+    out.numbers(&[place as u64]);
+    out.line("");
+}
+
 /// `fields`: the place and the key of each address field
-fn fields(asked: Asked, out: &mut Vec<u8>) -> Result<(), Wrong> {
-    let medium = medium_of(asked)?;
-    let Some(track) = medium.track(0, 0) else {
-        return Err(Wrong::Line);
-    };
-    for field in &list_fields(asked.alloc, track)? {
-        let place = field.place;
-        let Chrn { c, h, r, n } = field.key;
-        let told = format!(in asked.alloc; "{c} {h} {r} {n} at {place}")?;
-        line(out, told.as_str())?;
+fn fields(asked: Asked, out: &mut Draft) -> Result<(), Wrong> {
+    let track = first_track(asked)?;
+    for field in &list_fields(asked.alloc, &track)? {
+        put_place(out, field.key, field.place);
     }
     Ok(())
 }
 
 /// `content CELL COUNT`: the bytes from a cell on
-fn content(asked: Asked, out: &mut Vec<u8>) -> Result<(), Wrong> {
-    let [place, length] = asked.arguments else {
+fn content(asked: Asked, line: &mut Line, out: &mut Draft) -> Result<(), Wrong> {
+    let (place, length) = (line.count(), line.count());
+    let track = first_track(asked)?;
+    if place > 262_144 || length > 8_192 || place + 16 * length > 16 * track.len() {
         return Err(Wrong::Line);
-    };
-    let (place, length) = (count(place)?, count(length)?);
-    let medium = medium_of(asked)?;
-    let mut runs = Runs::of_bytes(asked.alloc);
-    out.extend_from_slice(b"bytes")?;
-    match medium.track(0, 0) {
-        Some(track) if place <= 262_144 && length <= 8_192 => {
-            if place + 16 * length > 16 * track.len() {
-                return Err(Wrong::Line);
-            }
-            for i in 0..length {
-                runs.add(u16::from(content_byte(track, place, i)), out)?;
-            }
-        }
-        _ => return Err(Wrong::Line),
     }
-    runs.end(out)?;
-    line(out, "")
+    let mut runs = Runs::of_bytes();
+    out.text("bytes");
+    for i in 0..length {
+        runs.add(u16::from(content_byte(&track, place, i)), out);
+    }
+    runs.end_line(out);
+    Ok(())
 }
 
 /// `words FIRST COUNT`: some words of the track
-fn words(asked: Asked, out: &mut Vec<u8>) -> Result<(), Wrong> {
-    let [first, length] = asked.arguments else {
-        return Err(Wrong::Line);
-    };
-    let (first, length) = (count(first)?, count(length)?);
-    let medium = medium_of(asked)?;
-    let Some(track) = medium.track(0, 0) else {
-        return Err(Wrong::Line);
-    };
-    let behind = track.get(first..).unwrap_or(&[]);
-    put_words(asked.alloc, out, behind.get(..length).unwrap_or(behind))
+fn words(asked: Asked, line: &mut Line, out: &mut Draft) -> Result<(), Wrong> {
+    let (first, length) = (line.count(), line.count());
+    let track = track_words(asked)?;
+    let behind = track.as_slice().get(first..).unwrap_or(&[]);
+    put_words(out, behind.get(..length).unwrap_or(behind));
+    Ok(())
 }
 
-fn put_regular(out: &mut Vec<u8>, regular: bool) -> Result<(), Wrong> {
-    line(out, if regular { "regular" } else { "not regular" })
+fn put_regular(out: &mut Draft, regular: bool) {
+    out.line(if regular { "regular" } else { "not regular" });
 }
 
 /// `regular C H`
-fn regular(asked: Asked, out: &mut Vec<u8>) -> Result<(), Wrong> {
-    let [c, h] = asked.arguments else {
-        return Err(Wrong::Line);
-    };
-    let (c, h) = (byte(c)?, byte(h)?);
-    let medium = medium_of(asked)?;
-    match medium.track(0, 0) {
-        Some(track) => put_regular(out, is_regular(track, c, h)),
-        None => Err(Wrong::Line),
-    }
+fn regular(asked: Asked, line: &mut Line, out: &mut Draft) -> Result<(), Wrong> {
+    let (c, h) = (line.byte(), line.byte());
+    let track = first_track(asked)?;
+    put_regular(out, is_regular(&track, c, h));
+    Ok(())
 }
 
 /// `torn CELL CUT C H R N`: the look for a key of size code 2 behind a write of 512 bytes 00, marked deleted, to the address
 /// field at a cell, which stopped after so many words
-fn torn(asked: Asked, out: &mut Vec<u8>) -> Result<(), Wrong> {
-    let [place, cut, behind @ ..] = asked.arguments else {
-        return Err(Wrong::Line);
-    };
-    let (place, cut, key) = (count(place)?, count(cut)?, sized_key(behind)?);
-    let mut track = first_track(asked.alloc, &medium_of(asked)?)?;
+fn torn(asked: Asked, line: &mut Line, out: &mut Draft) -> Result<(), Wrong> {
+    let (place, cut) = (line.count(), line.count());
+    let key = sized_key(line)?;
+    let track = torn_track(asked, place, cut)?;
+    put_look(out, find_sector(&track, key));
+    put_regular(out, is_regular(&track, key.c, key.h));
+    Ok(())
+}
+
+/// The track behind that write.
+fn torn_track(asked: Asked, place: usize, cut: usize) -> Result<Vec<u16>, Wrong>
+    ensures { IfOk result (λ track. IsTrackSized track.items) }
+{
+    let mut track = track_words(asked)?;
     let window = field_words(asked.alloc, true, &[0; 512])?;
     let room = track.len();
     if room < 64 || room > 16_384 || cut > window.len() {
@@ -167,19 +168,17 @@ fn torn(asked: Asked, out: &mut Vec<u8>) -> Result<(), Wrong> {
         return Err(Wrong::Line);
     }
     place_window(track.as_mut_slice(), place, &window, cut);
-    put_look(asked.alloc, out, find_sector(&track, key))?;
-    put_regular(out, is_regular(&track, key.c, key.h))
+    Ok(track)
 }
 
 /// `failing`: whether each track is regular, and the keys of the standard format that aren't found
-fn failing_keys(asked: Asked, out: &mut Vec<u8>) -> Result<(), Wrong> {
+fn failing_keys(asked: Asked, out: &mut Draft) -> Result<(), Wrong> {
     let medium = medium_of(asked)?;
-    put_regular(out, is_regular_disk(&medium))?;
+    put_regular(out, is_regular_disk(&medium));
     for (key, look) in &failing(asked.alloc, &medium)? {
-        let Chrn { c, h, r, n } = *key;
-        let told = format!(in asked.alloc; "{c} {h} {r} {n} ")?;
-        out.extend_from_slice(told.as_bytes())?;
-        put_look(asked.alloc, out, *look)?;
+        put_key(out, *key);
+        out.text(" ");
+        put_look(out, *look);
     }
     Ok(())
 }

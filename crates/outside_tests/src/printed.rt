@@ -5,15 +5,20 @@ use sector_model::Stop;
 use std::test::Fail;
 
 #[test]
-fn statuses_and_stops_are_printed(rt: HostRuntime) -> Result<(), Fail> {
-    let alloc = rt.alloc();
+fn statuses_are_printed(rt: HostRuntime) -> Result<(), Fail> {
     let status = Status::BadJob;
-    let text = format!(in alloc; "{status}")?;
-    assert_eq!(rt; text.as_str(), "text file not understood");
+    let text = format!(in rt.alloc(); "{status}")?;
+    assert!(rt; text.as_str() == "text file not understood");
+    Ok(())
+}
+
+#[test]
+fn stops_are_printed(rt: HostRuntime) -> Result<(), Fail> {
+    let alloc = rt.alloc();
     let name = Name::copy(alloc, "a.rt")?;
     let error = ImageError::BadField { offset: 11 };
     let stop = Stop::BadImage { name, error };
     let text = format!(in alloc; "{stop}")?;
-    assert_eq!(rt; text.as_str(), "a.rt: bad field at 11");
+    assert!(rt; text.as_str() == "a.rt: bad field at 11");
     Ok(())
 }

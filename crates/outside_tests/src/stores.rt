@@ -1,11 +1,14 @@
 // What a store does to the files of the folder: it writes into none that is there, and a power cut leaves the old file
 // or the new one.
+use crate::calls::{gives, takes};
+use crate::outside::remove;
 use flop_base::{Shelf, StoreError};
 use flop_outside::FileShelf;
-use std::alloc::Allocator;
+use std::alloc::{Allocator, Global};
 use std::cell::Cell;
 use std::fs::{Metadata, OpenFile, OpenOptions, Permissions};
 use std::io::{ErrorKind, Read, Seek, SeekFrom, Write};
+use std::process::Abort;
 use std::rt::Files;
 use std::test::Fail;
 use std::{fs, io};
@@ -193,55 +196,57 @@ impl<'a, R: Files> Files for WatchedFiles<'a, R> {
     }
 }
 
+/// All bytes that an open file has from here on.
+fn reads(rt: &impl Abort, alloc: Global, file: &mut impl Read, wanted: &[u8]) {
+    let mut bytes = Vec::new(alloc);
+    assert!(rt; file.read_to_end(&mut bytes).is_ok());
+    assert!(rt; bytes.as_slice() == wanted);
+}
+
 #[test]
 fn a_store_writes_into_no_file_that_is_there(rt: HostRuntime) -> Result<(), Fail> {
+    let alloc = rt.alloc();
     let mut shelf = FileShelf::new(&rt);
-    shelf.store("floppy-test-held", b"old")?;
-    shelf.store("floppy-test-beside", b"other")?;
+    takes(&rt, &mut shelf, "floppy-test-held", b"old");
+    takes(&rt, &mut shelf, "floppy-test-beside", b"other");
     let mut held = fs::open(&rt, "floppy-test-held")?;
-    shelf.store("floppy-test-held", b"new bytes")?;
-    let mut old = Vec::new(rt.alloc());
-    held.read_to_end(&mut old)?;
-    let beside = shelf.load(rt.alloc(), "floppy-test-beside", 5)?;
-    fs::remove_file(&rt, "floppy-test-held")?;
-    fs::remove_file(&rt, "floppy-test-beside")?;
-    assert_eq!(rt; old.as_slice(), b"old".as_slice());
-    assert_eq!(rt; beside.as_slice(), b"other".as_slice());
+    takes(&rt, &mut shelf, "floppy-test-held", b"new bytes");
+    reads(&rt, alloc, &mut held, b"old");
+    gives(&rt, alloc, &mut shelf, "floppy-test-beside", b"other");
+    remove(&rt, "floppy-test-held");
+    remove(&rt, "floppy-test-beside");
     Ok(())
 }
 
 #[test]
-fn a_store_that_is_done_outlasts_a_power_cut(rt: HostRuntime) -> Result<(), Fail> {
+fn a_store_that_is_done_outlasts_a_power_cut(rt: HostRuntime) {
     let watch = Watch::new(false);
     let files = WatchedFiles {
         inside: &rt,
         watch: &watch,
     };
     let mut shelf = FileShelf::new(&files);
-    shelf.store("floppy-test-synced", b"old")?;
+    assert!(rt; shelf.store("floppy-test-synced", b"old").is_ok());
     assert!(rt; watch.is_at(Progress::Lasting));
-    shelf.store("floppy-test-synced", b"new")?;
+    assert!(rt; shelf.store("floppy-test-synced", b"new").is_ok());
     assert!(rt; watch.is_at(Progress::Lasting));
-    fs::remove_file(&rt, "floppy-test-synced")?;
-    Ok(())
+    remove(&rt, "floppy-test-synced");
 }
 
 #[test]
-fn a_store_whose_sync_fails_leaves_the_old_file(rt: HostRuntime) -> Result<(), Fail> {
+fn a_store_whose_sync_fails_leaves_the_old_file(rt: HostRuntime) {
     let mut plain = FileShelf::new(&rt);
-    plain.store("floppy-test-unsynced", b"old")?;
+    takes(&rt, &mut plain, "floppy-test-unsynced", b"old");
     let watch = Watch::new(true);
     let files = WatchedFiles {
         inside: &rt,
         watch: &watch,
     };
     let mut shelf = FileShelf::new(&files);
-    let refused = shelf.store("floppy-test-unsynced", b"new");
-    let kept = plain.load(rt.alloc(), "floppy-test-unsynced", 3)?;
-    fs::remove_file(&rt, "floppy-test-unsynced")?;
-    assert_eq!(rt; refused.err(), Some(StoreError::Failed));
-    assert_eq!(rt; shelf.faults(), 1);
+    let refused = shelf.store("floppy-test-unsynced", b"new").err();
+    assert!(rt; refused == Some(StoreError::Failed));
+    assert!(rt; shelf.faults() == 1);
     assert!(rt; watch.is_at(Progress::Removed));
-    assert_eq!(rt; kept.as_slice(), b"old".as_slice());
-    Ok(())
+    gives(&rt, rt.alloc(), &mut plain, "floppy-test-unsynced", b"old");
+    remove(&rt, "floppy-test-unsynced");
 }

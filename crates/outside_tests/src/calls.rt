@@ -1,0 +1,55 @@
+// Calls of shelves, each with what it must give. None of them tells its caller anything, so that a test is a row of calls.
+use flop_base::{LoadError, Shelf, StoreError};
+use std::alloc::Global;
+use std::fmt::Debug;
+use std::process::Abort;
+
+/// Both have to be equal.
+pub(crate) fn same<T: PartialEq + Debug>(rt: &impl Abort, found: &T, wanted: &T) {
+    assert!(rt; *found == *wanted, "{found:?}, and not {wanted:?}");
+}
+
+/// The file has these bytes, which the most that is asked for lets through.
+pub(crate) fn gives(
+    rt: &impl Abort,
+    alloc: Global,
+    shelf: &mut impl Shelf,
+    name: &str,
+    wanted: &[u8],
+) {
+    match shelf.load(alloc, name, wanted.len()) {
+        Ok(bytes) => assert!(rt; bytes.as_slice() == wanted),
+        Err(error) => panic!(rt; "{error:?}"),
+    }
+}
+
+/// Its load ends so.
+pub(crate) fn gives_none(
+    rt: &impl Abort,
+    alloc: Global,
+    shelf: &mut impl Shelf,
+    name: &str,
+    most: usize,
+    wanted: LoadError,
+) {
+    same(rt, &shelf.load(alloc, name, most).err(), &Some(wanted));
+}
+
+/// These bytes are stored.
+pub(crate) fn takes(rt: &impl Abort, shelf: &mut impl Shelf, name: &str, bytes: &[u8]) {
+    same(rt, &shelf.store(name, bytes).err(), &None);
+}
+
+/// They aren't, by a fault.
+pub(crate) fn takes_none(rt: &impl Abort, shelf: &mut impl Shelf, name: &str, bytes: &[u8]) {
+    same(
+        rt,
+        &shelf.store(name, bytes).err(),
+        &Some(StoreError::Failed),
+    );
+}
+
+/// So many faults were counted.
+pub(crate) fn has_faults(rt: &impl Abort, shelf: &impl Shelf, wanted: u64) {
+    same(rt, &shelf.faults(), &wanted);
+}

@@ -1,0 +1,163 @@
+// Shelves and sinks: those in memory, whose calls fail where they are told to, and those of the system.
+use crate::calls::{gives, gives_none, has_faults, same, takes, takes_none};
+use flop_base::{
+    Bytes, Chrn, Code, LoadError, MemShelf, MemSink, Name, PutError, Sink, Status, sector_size,
+};
+use flop_outside::{FileShelf, StreamSink};
+use std::fs;
+use std::fs::{OpenOptions, Permissions};
+use std::os::unix::fs::PermissionsExt;
+use std::process::Abort;
+use std::rt::Files;
+use std::test::Fail;
+
+#[test]
+fn numbers_are_those_of_the_bios_and_the_program(rt: HostRuntime) {
+    let codes = [
+        (Code::BadRequest, 0x01),
+        (Code::NoMark, 0x02),
+        (Code::Protected, 0x03),
+        (Code::NotFound, 0x04),
+        (Code::Changed, 0x06),
+        (Code::Overrun, 0x08),
+        (Code::Page, 0x09),
+        (Code::BadCrc, 0x10),
+        (Code::Seek, 0x40),
+        (Code::NotReady, 0x80),
+    ];
+    for (code, number) in codes {
+        same(&rt, &code.number(), &number);
+    }
+    same(&rt, &Status::SinkFault.number(), &8);
+    same(&rt, &sector_size(2), &512);
+}
+
+#[test]
+fn keys_are_equal_where_their_numbers_are(rt: HostRuntime) {
+    let key = Chrn {
+        c: 0,
+        h: 1,
+        r: 2,
+        n: 3,
+    };
+    let other = Chrn {
+        c: 0,
+        h: 1,
+        r: 2,
+        n: 3,
+    };
+    same(&rt, &key, &other);
+}
+
+/// The file that a shelf in memory has under a name.
+fn has_file(rt: &impl Abort, shelf: &MemShelf, name: &str, wanted: Option<&[u8]>) {
+    assert!(rt; shelf.file(name) == wanted);
+}
+
+#[test]
+fn a_shelf_keeps_files_and_its_numbered_calls_fail(rt: HostRuntime) -> Result<(), Fail> {
+    let alloc = rt.alloc();
+    let mut shelf = MemShelf::new(alloc, vec![in alloc; 2, 5]?);
+    assert!(rt; shelf.put_file("a", b"one").is_ok());
+    gives(&rt, alloc, &mut shelf, "a", b"one");
+    gives_none(&rt, alloc, &mut shelf, "a", 3, LoadError::Failed);
+    gives_none(&rt, alloc, &mut shelf, "a", 2, LoadError::TooLong);
+    gives_none(&rt, alloc, &mut shelf, "b", 9, LoadError::Absent);
+    takes_none(&rt, &mut shelf, "b", b"two");
+    has_faults(&rt, &shelf, 2);
+    takes(&rt, &mut shelf, "b", b"two");
+    has_file(&rt, &shelf, "a", Some(b"one".as_slice()));
+    has_file(&rt, &shelf, "b", Some(b"two".as_slice()));
+    has_file(&rt, &shelf, "c", None);
+    Ok(())
+}
+
+/// These bytes are printed, or aren't.
+fn puts(rt: &impl Abort, sink: &mut impl Sink, bytes: &[u8], refused: Option<PutError>) {
+    same(rt, &sink.put(bytes).err(), &refused);
+}
+
+#[test]
+fn a_sink_keeps_lines_in_order_and_its_numbered_calls_fail(rt: HostRuntime) -> Result<(), Fail> {
+    let alloc = rt.alloc();
+    let mut sink = MemSink::new(alloc, vec![in alloc; 2]?);
+    puts(&rt, &mut sink, b"one ", None);
+    puts(&rt, &mut sink, b"two ", Some(PutError::Failed));
+    puts(&rt, &mut sink, b"three", None);
+    assert!(rt; sink.bytes() == b"one three".as_slice());
+    assert!(rt; sink.lengths() == [4usize, 5].as_slice());
+    same(&rt, &sink.faults(), &1);
+    let copy = Bytes::copy(alloc, sink.bytes())?;
+    assert!(rt; copy.as_slice() == b"one three".as_slice());
+    Ok(())
+}
+
+#[test]
+fn a_name_is_copied(rt: HostRuntime) -> Result<(), Fail> {
+    let name = Name::copy(rt.alloc(), "a.rt")?;
+    assert!(rt; name.as_str() == "a.rt");
+    Ok(())
+}
+
+/// Takes a file away.
+pub(crate) fn remove(rt: &(impl Abort + Files), name: &str) {
+    assert!(rt; fs::remove_file(rt, name).is_ok());
+}
+
+#[test]
+fn files_of_the_folder_are_stored_and_loaded(rt: HostRuntime) {
+    let (alloc, name) = (rt.alloc(), "floppy-test-file");
+    let mut shelf = FileShelf::new(&rt);
+    takes(&rt, &mut shelf, name, b"old");
+    takes(&rt, &mut shelf, name, b"bytes");
+    gives(&rt, alloc, &mut shelf, name, b"bytes");
+    gives_none(&rt, alloc, &mut shelf, name, 4, LoadError::TooLong);
+    remove(&rt, name);
+    gives_none(&rt, alloc, &mut shelf, name, 5, LoadError::Absent);
+    has_faults(&rt, &shelf, 0);
+}
+
+#[test]
+fn a_folder_in_a_files_place_is_a_fault(rt: HostRuntime) {
+    let name = "floppy-test-folder";
+    let mut shelf = FileShelf::new(&rt);
+    assert!(rt; fs::create_dir(&rt, name).is_ok());
+    gives_none(&rt, rt.alloc(), &mut shelf, name, 5, LoadError::Failed);
+    takes_none(&rt, &mut shelf, name, b"bytes");
+    assert!(rt; fs::remove_dir(&rt, name).is_ok());
+    has_faults(&rt, &shelf, 2);
+}
+
+/// Whether this user may write a file that none may.
+fn may_write(rt: &(impl Abort + Files), name: &str) -> bool {
+    let closed = fs::set_permissions(rt, name, Permissions::from_mode(0o444));
+    assert!(rt; closed.is_ok());
+    OpenOptions::new().write(true).open(rt, name).is_ok()
+}
+
+// The superuser may write any file, so what is wanted goes by whether this user may.
+#[test]
+fn a_file_that_may_not_be_written_is_not_replaced(rt: HostRuntime) {
+    let name = "floppy-test-kept";
+    let mut shelf = FileShelf::new(&rt);
+    takes(&rt, &mut shelf, name, b"old");
+    let may = may_write(&rt, name);
+    takes(&rt, &mut shelf, name, b"old");
+    if may {
+        takes(&rt, &mut shelf, name, b"new");
+        gives(&rt, rt.alloc(), &mut shelf, name, b"new");
+        has_faults(&rt, &shelf, 0);
+    } else {
+        takes_none(&rt, &mut shelf, name, b"new");
+        gives(&rt, rt.alloc(), &mut shelf, name, b"old");
+        has_faults(&rt, &shelf, 1);
+    }
+    remove(&rt, name);
+}
+
+#[test]
+fn standard_output_takes_all_bytes(rt: HostRuntime) {
+    let mut sink = StreamSink::new(&rt);
+    puts(&rt, &mut sink, b"a line\n", None);
+    same(&rt, &sink.faults(), &0);
+}
