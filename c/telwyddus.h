@@ -121,8 +121,9 @@ TELWYDDUS_NEWS uint32_t telwyddus_tray_blank(telwyddus_tray *tray, uint8_t cylin
 TELWYDDUS_NEWS uint32_t telwyddus_tray_read_flat(telwyddus_tray *tray, const uint8_t *bytes, size_t length);
 
 /* Makes a tray with the medium of a flat sector file of another geometry: 1 to 80 cylinders, 1 or 2 heads, and on each track the records 1 to
- * `sectors`, of 128 << n bytes (n 1 to 6), at 500 or 250 kbit/s; 40, 2, 9, 2, 250 is 360 KB, and 80, 2, 21, 2, 500 is 1.68 MB. UNFIT where a track
- * has no room for so many. DONE, FULL, NO_MEMORY, OUT_OF_RANGE for no such geometry, BAD_IMAGE for another length, UNFIT. */
+ * `sectors`, of 128 << n bytes (n 1 to 6), at 500 or 250 kbit/s; 40, 2, 9, 2, 250 is 360 KB, and 80, 2, 20, 2, 500 is 1.6 MB. UNFIT where a track
+ * has no room for so many with a gap 3 of 16 bytes, as for the 21 sectors of 1.68 MB. DONE, FULL, NO_MEMORY, OUT_OF_RANGE for no such geometry,
+ * BAD_IMAGE for another length, UNFIT. */
 TELWYDDUS_NEWS uint32_t telwyddus_tray_read_flat_as(telwyddus_tray *tray, const uint8_t *bytes, size_t length, uint8_t cylinders,
     uint8_t heads, uint8_t sectors, uint8_t n, uint16_t kilobits);
 
