@@ -326,7 +326,8 @@ class Controller(Planned):
     def dack_block_read(self, room):
         """As many bytes as are asked for, so many at most."""
         out = ctypes.create_string_buffer(room + 1)
-        return out.raw[:self._telling_more(ctypes.c_size_t, "dack_block_read", out, size(room))]
+        moved = self._telling_more(ctypes.c_size_t, "dack_block_read", out, size(room))
+        return out.raw[:moved]
 
     def dack_block_write(self, data):
         """Gives as many of the bytes as are asked for, and tells how many these are."""
