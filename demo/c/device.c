@@ -264,7 +264,7 @@ static void transfers(void) {
     check(is_done(&device), "a sector is written");
     memset(bus.memory, 0, sizeof bus.memory);
     begin(&device, 0xE6, 0, 1, CYLINDER);
-    go(&device, 150000000);
+    go(&device, 250000000);
     check(bus.left > 0 && bus.left < CYLINDER, "a read is under way");
     size_t length = device_state(&device, state, sizeof state);
     moved = bus;
