@@ -744,24 +744,32 @@ static void each_stage(void) {
 /* The bytes of a controller that was just made, field by field: it is held in reset at 250 kbit/s, with polling on and its poll due, and
  * its FIFO off with a threshold of one byte; the change lines of both empty drives are up. Counts have eight bytes, the low one first. */
 static void made_as_written(void) {
-    static const uint8_t wanted[125] = {
+    static const uint8_t wanted[198] = {
+        'T', 'E', 'L', 'W', 'Y', 'D', 'D', 1,
         'G', 'C',
         0, 2, 0, 1, 1, 0, 0, 0,             /* DOR, the rate, non-DMA, polling, poll due, INT, DRQ, the command phase */
         0, 0, 0, 0, 0, 0, 0, 0, 0,          /* the cylinders, no seek, no results */
         0, 0, 0, 0, 0, 0, 0, 0,             /* no command bytes */
         0, 1, 0, 0, 0, 0, 0, 0, 0, 0,       /* the FIFO off, its threshold, no bytes in it */
         0, 0, 0, 0, 0, 0, 0, 0,             /* no data command yet */
-        0, 0, 0, 0, 0, 0, 0, 1, 0, 0, 0,    /* a drive: no medium, cylinder, place, spin, motor, change, gate, cut, written */
+        1,                                  /* a drive whose cable isn't pulled */
+        0, 0, 0, 0, 0, 0, 0, 1, 0, 0, 0,    /* no medium, cylinder, place, spin, motor, change, gate, cut, written */
         0, 0, 0, 0, 0, 0, 0, 0, 0,          /* no planned faults, and none counted */
+        0, 20, 0, 0, 0, 0, 0, 0, 0,         /* no word was replaced; the map of written tracks: its length, and no track */
+        0, 0, 0, 0, 0, 0, 0, 0, 0, 0, 0, 0, 0, 0, 0, 0, 0, 0, 0, 0,
+        1,
         0, 0, 0, 0, 0, 0, 0, 1, 0, 0, 0,
         0, 0, 0, 0, 0, 0, 0, 0, 0,
+        0, 20, 0, 0, 0, 0, 0, 0, 0,
+        0, 0, 0, 0, 0, 0, 0, 0, 0, 0, 0, 0, 0, 0, 0, 0, 0, 0, 0, 0,
         0, 0, 0, 0, 0, 0, 0, 0, 0, 0, 0,    /* nothing in front, no bytes, no strap, no EIS */
         0,                                  /* nothing is under way */
         0, 0, 0, 0, 0, 0, 0, 0, 0,          /* the last command: code, HD, key, EOT, gap, length */
         0,                                  /* no bytes of the next */
         0, 0, 0, 0, 0, 0, 0, 0, 0,          /* no results of the drives, their cylinders, INT */
         0, 0, 0, 0, 0, 32, 0, 0,            /* SPECIFY, EOT, LOCK, PERPENDICULAR, CONFIGURE: EFIFO; PRETRK; nothing to tell again */
-        0,                                  /* no strap */
+        0,                                  /* no strap for seeks */
+        0, 0, 0, 0, 0,                      /* no keys, lines that DOR doesn't let out, no seek in SRT's time, no strap for it */
     };
     telwyddus_controller controller = {0};
     size_t length;
