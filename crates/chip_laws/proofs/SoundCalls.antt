@@ -18,6 +18,7 @@ use Rattle.fdc_chip.specs.Answers.{answer_bytes, is_of_data}
 use Rattle.fdc_chip.specs.Chips.{ChipState, IsNewChip, KeepsChip, is_data, passes, passes_by_channel, passes_by_port, with_front}
 use Rattle.fdc_chip.specs.Codes.{code_of}
 use Rattle.fdc_chip.specs.Orders.{with_byte}
+use Rattle.fdc_chip.specs.Pins.{ResetsByPin, pin_settings}
 use Rattle.fdc_chip.specs.Ports.{CollectsIf, ComesIf, GivesChipIf, GivesIf, ReadsAt, ReadsChip, ReadsIf, TakesByte, TakesIf, WritesChip, byte_told, count_told, counted_if, gated_by, given_one, is_whole, may_come, quieted_if, reset_if, value_behind, with_next}
 use Rattle.fdc_chip.specs.Settings.{is_by_port}
 use Rattle.fdc_chip.specs.declared.answer.Answer.{Answer}
@@ -367,3 +368,24 @@ used_sound bay0 bay1 calls start new is all = on calls start new all (new_sound 
     on : (calls : List Call) (old new : ChipState) → AreMade calls old new → IsSound old → IsSound new
     on [] old new same sound = same_sound old new same sound
     on (call ∷ calls) old new (between, does, few, rest) sound = on calls between new rest (call_sound call old between does few sound)
+
+-- ---- the reset pin
+
+in_bytes : (0 < 256) × (2 < 256)
+in_bytes = (omega arith, omega arith)
+
+with_settings : (chip : ChipState) (other : ChipState) → IsSound chip → IsSound (record chip { settings = other.settings })
+with_settings chip other sound = record {
+  by_dma = sound.by_dma;
+  whole = sound.whole;
+  held = sound.held;
+  comes = sound.comes;
+  code = sound.code;
+  now = sound.now;
+}
+
+pub pin_sound : (old new : ChipState) → ResetsByPin old new → IsSound old → IsSound new
+pin_sound old new resets sound =
+    let held = call_sound (made.Writes 0x3F2 0) old resets.held resets.dor in_bytes.0 sound in
+    let rated = call_sound (made.Writes 0x3F7 2) resets.held resets.rated resets.ccr in_bytes.1 held in
+    subst IsSound (sym resets.settings) (with_settings resets.rated (record resets.rated { settings = pin_settings old.settings }) rated)

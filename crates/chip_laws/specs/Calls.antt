@@ -11,8 +11,8 @@ use Rattle.sequencer_laws.specs.Lasting as lasting
 use Rattle.sequencer_laws.specs.Lasting.{is_under_way}
 
 -- a call: a device step; the channel takes a byte or finds none; it gives one, which is taken or not; it tells the terminal
--- count; a port is read, which gives a value, or written; a medium is put in or taken out; the strap for implied seeks is set or not, or
--- that for the time of step pulses
+-- count; a port is read, which gives a value, or written; a medium is put in, taken out or exchanged, its tab is moved, or a drive is put
+-- in place of another; the strap for implied seeks is set or not, or that for the time of step pulses
 pub data Call : Type 0 where
   Steps : Call
   Takes : Option ℕ → Call

@@ -6,6 +6,7 @@ ghost use Rattle.fdc_chip.specs.Chips.{ChipState, IsNewChip, with_front};
 ghost use Rattle.fdc_chip.specs.Codes.{code_of};
 ghost use Rattle.fdc_chip.specs.Doing.{needs_heads};
 ghost use Rattle.fdc_chip.specs.Paces.{Paces};
+ghost use Rattle.fdc_chip.specs.Pins.{ResetsByPin};
 ghost use Rattle.fdc_chip.specs.Ports.{WritesChip};
 ghost use Rattle.fdc_chip.specs.Steps.{RunsChip, StepsChip};
 ghost use Rattle.fdc_chip.specs.declared.code.Code.{Code};
@@ -18,12 +19,14 @@ ghost use Rattle.chip_laws.specs.Sound.{IsSound};
 ghost use Rattle.chip_laws.specs.Told.{IsBusyOrTells};
 
 /// The parts of a chip agree, from the beginning on: where it is busy something is executed behind, which no results wait of, and
-/// else nothing is. A run is as many device steps. So it is with a chip that was made new and used by any calls.
+/// else nothing is. A run is as many device steps. So it is with a chip that was made new and used by any calls, and behind the reset
+/// pin.
 pub fn a_chip_stays_sound()
     ensures begins { (bay0 bay1 : DriveState) (new : ChipState) → IsNewChip bay0 bay1 new → IsSound new }
     ensures calls { (made : Call) (old new : ChipState) → Does made old new → WritesByte made → IsSound old → IsSound new }
     ensures runs { (most n : ℕ) (old new : ChipState) → RunsChip most old n new → IsSound old → IsSound new }
     ensures used { (bay0 bay1 : DriveState) (calls : List Call) (made new : ChipState) → IsNewChip bay0 bay1 made → AreMade calls made new → IsSound new }
+    ensures pin { (old new : ChipState) → ResetsByPin old new → IsSound old → IsSound new }
 {}
 
 /// With the last byte of a command that needs what stands behind, or in the device step in which heads stand for one that was held,

@@ -1,4 +1,4 @@
-use Rattle.chip_laws.proofs.SoundCalls.{call_sound, new_sound, used_sound}
+use Rattle.chip_laws.proofs.SoundCalls.{call_sound, new_sound, pin_sound, used_sound}
 use Rattle.chip_laws.proofs.SoundSteps.{run_sound}
 use Rattle.chip_laws.proofs.soundness.a_chip_stays_sound.Goals as goal
 
@@ -13,3 +13,6 @@ returns-clause-runs c = run_sound
 
 pub returns-clause-used : goal.returns-clause-used
 returns-clause-used c = used_sound
+
+pub returns-clause-pin : goal.returns-clause-pin
+returns-clause-pin c = pin_sound
