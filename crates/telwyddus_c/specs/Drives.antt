@@ -3,7 +3,11 @@ use Rattle.std.specs.Prelude.{◌≡◌, ◌-◌, ◌==◌, ◌&&◌, ℕ, Bool,
 use Rattle.bay_drive.specs.Bays.{bay_state, drive_in_bay, faults_in_bay, is_attached, state_with_cable, tracks_in_bay}
 use Rattle.bay_drive.specs.Maps.{no_tracks}
 use Rattle.bay_drive.specs.declared.bay.BayDrive.{BayDrive}
+use Rattle.bay_drive.specs.Tracked.{tracked_state}
 use Rattle.c_slots.specs.Controllers.{ControllerValue}
+use Rattle.drive_model.specs.Drive.{DriveState}
+use Rattle.drive_model.specs.Fault.{total_left}
+use Rattle.drive_model.specs.ScriptDrive.{told}
 use Rattle.drive_model.specs.declared.fault.Fault.{Fault}
 use Rattle.fault_plan.specs.Plan.{Plan, plan_spelled}
 use Rattle.fdc_board.specs.Boards.{drive_held}
@@ -43,9 +47,14 @@ OfDrive bay code old stays served = MatchBool (is_attached (held old bay)) serve
 abbrev pub faults_for : ℕ → Plan → List Fault
 faults_for bay plan = if bay == 0 then plan.bay0 else plan.bay1
 
+-- a drive of which so many faults can still come: its medium, its heads, and all else stays
+abbrev pub replanned : List Fault → DriveState → DriveState
+replanned faults drive = record drive { left = told drive.faults (total_left faults) }
+
 -- a drive has these faults to come, in place of those that it had; what it is besides stays
 pub record Replans (bay : ℕ) (faults : List Fault) (old new : ControllerValue) : Type 0 where
   pub faults_are : faults_in_bay (held new bay) ≡ faults
+  pub drive : tracked_state (drive_in_bay (held new bay)) ≡ replanned faults (tracked_state (drive_in_bay (held old bay)))
   pub cable : is_attached (held new bay) ≡ is_attached (held old bay)
   pub tracks : tracks_in_bay (held new bay) ≡ tracks_in_bay (held old bay)
   pub beside : KeepsOther bay old new
