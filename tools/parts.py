@@ -1,4 +1,4 @@
-"""What the tools here and demo/install have in common: the version, what has been built, and the library made of it."""
+"""What the tools here and tools/install have in common: the version, what has been built, and the library made of it."""
 import datetime
 import pathlib
 import re

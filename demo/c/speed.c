@@ -1,4 +1,4 @@
-/* speed idle | bytes | block [FIFO] - what c/check counts the processor's instructions of: an emulated second in which nothing is under way
+/* speed idle | bytes | block [FIFO] - what tools/check counts the processor's instructions of: an emulated second in which nothing is under way
  * while a motor turns; or a whole disk of 1.44 MB that is read, a cylinder a command, byte by byte or as many at once as are asked for,
  * with the FIFO off, or on where FIFO is told. Only what `measured` does is counted. */
 #include "guest.h"
