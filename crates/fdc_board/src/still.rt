@@ -1,5 +1,6 @@
 // Whether the controller does anything.
 ghost use Rattle.std.specs.Prelude.{◌≡◌, true};
+ghost use Rattle.fdc_core.specs.Courses.{is_at_rest};
 ghost use Rattle.fdc_board.specs.Still.{Stands};
 
 use crate::board::FdcBoard;
@@ -10,7 +11,8 @@ impl<D: Inspect> FdcBoard<D> {
 
     /// Whether a device step changes nothing but the drives, and so each further one.
     pub fn is_still(&self) -> bool
-        ensures { result ≡ true → Stands (controller_of self.now) }
+        ensures value { result ≡ is_at_rest (controller_of self.now) }
+        ensures still { result ≡ true → Stands (controller_of self.now) }
     {
         self.controller.is_still()
     }

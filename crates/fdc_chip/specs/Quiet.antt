@@ -1,7 +1,7 @@
 -- How long INT and DRQ surely stay as they are.
-use Rattle.std.specs.Prelude.{◌≡◌, ◌≤◌, ℕ, zero, suc, Bool, true, false, None}
+use Rattle.std.specs.Prelude.{◌≡◌, ◌≤◌, ℕ, zero, suc, Bool, true, false, not, is_none, None, if◌then◌else◌}
 use Rattle.fdc_sequencer.specs.Fronts.{interrupts_outside}
-use Rattle.fdc_sequencer.specs.Still.{StandsFront}
+use Rattle.fdc_sequencer.specs.Still.{stands_at, StandsFront}
 use Rattle.fdc_chip.specs.Chips.{ChipState, interrupts_chip, asks_chip}
 use Rattle.fdc_chip.specs.Steps.{HasLinesChip, StepsChip}
 use Rattle.fdc_chip.specs.declared.stage.Stage.{Stage}
@@ -24,6 +24,22 @@ rests_at (Telling _ _) = true
 rests_at _ = false
 
 -- nor are pulses to come in the time that SPECIFY sets
+abbrev pub idles : ChipState → Bool
+idles chip = if is_none chip.pace then rests_at chip.stage else false
+
+-- and nothing runs behind, from where no result is to be taken over
+abbrev pub is_still_at : ChipState → Bool
+is_still_at chip = if interrupts_outside chip.front then false else if idles chip then stands_at chip.front else false
+
+-- and DOR lets no line out
+abbrev pub is_shut_at : ChipState → Bool
+is_shut_at chip = if chip.gated then false else idles chip
+
+-- for how many device steps, so many at most, the lines are told to stay: for all where nothing runs or no line is let out, else for none
+abbrev pub quiet_steps : (most : ℕ) → ChipState → ℕ
+quiet_steps most chip = if is_still_at chip then most else if is_shut_at chip then most else 0
+
+-- the same as what stands then
 pub record IsIdle (chip : ChipState) : Type 0 where
   pub rests : rests_at chip.stage ≡ true
   pub unpaced : chip.pace ≡ None

@@ -1,7 +1,7 @@
 // How long no line changes, and device steps while nothing runs.
 ghost use Rattle.std.specs.Prelude.{◌≡◌, ◌≤◌, true};
 ghost use Rattle.fdc_chip.specs.Chips.{chip_state, interrupts_chip, asks_chip};
-ghost use Rattle.fdc_chip.specs.Quiet.{IsIdle, IsQuietFor, IsShut, IsStill, rests_at};
+ghost use Rattle.fdc_chip.specs.Quiet.{IsIdle, IsQuietFor, IsShut, IsStill, idles, is_shut_at, is_still_at, quiet_steps, rests_at};
 ghost use Rattle.fdc_chip.specs.Steps.{RunsChipWith};
 
 use crate::chip::Chip;
@@ -26,6 +26,7 @@ impl<D: Inspect> Chip<D> {
     /// until the next call; and 0 where the next step may change a line.
     pub fn quiet(&self, most: u32) -> u32
         ensures few { result ≤ most }
+        ensures value { result ≡ quiet_steps most (chip_state D.state self.now) }
         ensures lines { IsQuietFor result (chip_state D.state self.now) }
     {
         if self.is_still() {
@@ -39,7 +40,8 @@ impl<D: Inspect> Chip<D> {
 
     /// Whether a device step goes on with nothing here.
     fn is_idle(&self) -> bool
-        ensures { result ≡ true → IsIdle (chip_state D.state self.now) }
+        ensures value { result ≡ idles (chip_state D.state self.now) }
+        ensures idle { result ≡ true → IsIdle (chip_state D.state self.now) }
     {
         match self.pace {
             None => self.stage.rests(),
@@ -49,7 +51,8 @@ impl<D: Inspect> Chip<D> {
 
     /// Whether device steps change nothing but the drives.
     fn is_still(&self) -> bool
-        ensures { result ≡ true → IsStill (chip_state D.state self.now) }
+        ensures value { result ≡ is_still_at (chip_state D.state self.now) }
+        ensures still { result ≡ true → IsStill (chip_state D.state self.now) }
     {
         if self.behind.int() {
             return false;
@@ -62,7 +65,8 @@ impl<D: Inspect> Chip<D> {
 
     /// Whether DOR lets no line out, and a device step goes on with nothing here.
     fn is_shut(&self) -> bool
-        ensures { result ≡ true → IsShut (chip_state D.state self.now) }
+        ensures value { result ≡ is_shut_at (chip_state D.state self.now) }
+        ensures shut { result ≡ true → IsShut (chip_state D.state self.now) }
     {
         if self.gated {
             return false;

@@ -1,7 +1,10 @@
 -- Device steps whole, and so many of them in a row.
-use Rattle.std.specs.Prelude.{◌≡◌, ◌==◌, ℕ, zero, suc, ◌+◌, ◌≤◌, false, List, length}
+use Rattle.std.specs.Prelude.{◌≡◌, ◌==◌, ℕ, zero, suc, ◌+◌, ◌≤◌, Bool, true, false, not, List, length, if◌then◌else◌}
 use Rattle.drive_model.specs.Drive.{DriveState, Becomes, at_index}
 use Rattle.drive_model.specs.Ahead.{LetsPass, AreAhead}
+use Rattle.fdc_phases.specs.declared.phases.Phase.{Phase}
+use Rattle.fdc_phases.specs.declared.phases.Phase.TheVariants.{Execute}
+use Rattle.fdc_seek.specs.Seeking.{is_seeking}
 use Rattle.fdc_stages.specs.declared.searching.Search.{Search}
 use Rattle.fdc_stages.specs.Searches.{HearsNothingIn}
 use Rattle.fdc_core.specs.Listening.{Listens, ListensToNone}
@@ -43,6 +46,15 @@ Courses zero old before new after = (new ≡ old) × (after ≡ before)
 Courses (suc count) old before new after =
     (mid : Fdc) × (between : DriveState) × Works old before mid between × HoldsLines old mid
     × Courses count mid between new after
+
+-- a data command is in its execution
+abbrev pub executes : Phase → Bool
+executes (Execute _) = true
+executes _ = false
+
+-- no poll is due, no seek runs, and no data command is in its execution
+abbrev pub is_at_rest : Fdc → Bool
+is_at_rest fdc = if fdc.poll_due then false else if is_seeking fdc.seeks then false else not (executes fdc.phase)
 
 -- a device step changes nothing of the controller, with whatever drive and with none, and lets a word time pass
 pub record IsStill (fdc : Fdc) : Type 0 where

@@ -3,7 +3,7 @@ ghost use Rattle.std.specs.Prelude.{◌≡◌, ◌≤◌, ◌+◌, true, length,
 ghost use Rattle.drive_model.specs.Drive.{rate_of};
 ghost use Rattle.fdc_phases.specs.Phases.{head_of};
 ghost use Rattle.fdc_phases.specs.Rates.{rate_fits};
-ghost use Rattle.fdc_core.specs.Courses.{Courses, IsStill, IsQuiet, PassesMany};
+ghost use Rattle.fdc_core.specs.Courses.{Courses, IsStill, IsQuiet, PassesMany, is_at_rest};
 
 use crate::controller::Fdc;
 use drive_model::Drive;
@@ -14,7 +14,8 @@ impl Fdc {
     /// Whether a device step changes nothing but the places of the disks, and so each further one.
     #[inline(always)]
     pub fn is_still(&self) -> bool
-        ensures { result ≡ true → IsStill self.now }
+        ensures value { result ≡ is_at_rest self.now }
+        ensures still { result ≡ true → IsStill self.now }
     {
         if self.poll_due || self.seeks.is_seeking() {
             return false;

@@ -1,5 +1,6 @@
 -- A front in which nothing is done.
-use Rattle.std.specs.Prelude.{Bool, true, false}
+use Rattle.std.specs.Prelude.{Bool, true, false, if◌then◌else◌}
+use Rattle.fdc_core.specs.Courses.{is_at_rest}
 use Rattle.fdc_sequencer.specs.Fronts.{Front, KeepsFront}
 use Rattle.fdc_sequencer.specs.Moves.{StepsFront}
 use Rattle.fdc_sequencer.specs.declared.stage.Stage.{Stage}
@@ -10,6 +11,10 @@ abbrev pub rests_at : Stage → Bool
 rests_at (Seeking _ _) = false
 rests_at (Moving _) = false
 rests_at _ = true
+
+-- nor does the controller do anything
+abbrev pub stands_at : Front → Bool
+stands_at front = if rests_at front.stage then is_at_rest front.board.controller else false
 
 -- each device step leaves all but the drives as it is
 abbrev pub StandsFront : Front → Type 0

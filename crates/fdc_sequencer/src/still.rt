@@ -1,7 +1,7 @@
 // Whether anything is done.
 ghost use Rattle.std.specs.Prelude.{◌≡◌, true};
 ghost use Rattle.fdc_sequencer.specs.Fronts.{front_state};
-ghost use Rattle.fdc_sequencer.specs.Still.{rests_at, StandsFront};
+ghost use Rattle.fdc_sequencer.specs.Still.{rests_at, stands_at, StandsFront};
 
 use crate::sequencer::Sequencer;
 use crate::stage::Stage;
@@ -20,7 +20,8 @@ impl<D: Inspect> Sequencer<D> {
 
     /// Whether a device step changes nothing but the drives, and so each further one.
     pub fn is_still(&self) -> bool
-        ensures { result ≡ true → StandsFront (front_state D.state self.now) }
+        ensures value { result ≡ stands_at (front_state D.state self.now) }
+        ensures still { result ≡ true → StandsFront (front_state D.state self.now) }
     {
         if self.rests() {
             return self.board.is_still();

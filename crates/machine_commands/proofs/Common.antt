@@ -50,7 +50,7 @@ pub use Rattle.machine_laws.proofs.OnSteps.Runs.{gap, march_wait}
 pub use Rattle.machine_laws.proofs.OnSteps.Words.{controller}
 pub use Rattle.machine_laws.specs.OnAwaits.Awaits.{is_unread}
 pub use Rattle.machine_laws.specs.OnAwaits.Goes.{with_one}
-pub use Rattle.machine_laws.specs.OnCounts.Counts.{counts_of}
+pub use Rattle.pc_bus.specs.Counts.{counts_of}
 pub use Rattle.machine_laws.specs.OnOrders.Orders.{Order, Track, Window, Write}
 pub use Rattle.machine_laws.specs.OnReads.Begins.{scene_of}
 pub use Rattle.machine_laws.specs.OnReads.Scenes.{Scene, data_rate, head_sent, track_met}

@@ -6,7 +6,7 @@ use Rattle.drive_model.specs.Drive.{DriveState, at_speed}
 use Rattle.fdc_core.specs.State.{data_commands_of}
 use Rattle.pc_bus.specs.Boards.{Board, board, controller_of, memory_of, holds_of}
 use Rattle.single_commands.specs.Rigs.{Rig}
-use Rattle.machine_laws.specs.OnCounts.Counts.{counts_of}
+use Rattle.pc_bus.specs.Counts.{counts_of}
 use Rattle.machine_commands.specs.Ready.{IsIdle}
 use Rattle.machine_commands.specs.declared.machine.CommandedMachine.{CommandedMachine}
 

@@ -3,7 +3,7 @@ ghost use Rattle.std.specs.Prelude.{◌≡◌, ◌≤◌, ◌<◌};
 ghost use Rattle.flop_base.specs.Memory.{user_bytes};
 ghost use Rattle.pc_bus.specs.Boards.{IsEmpty, drive_in};
 ghost use Rattle.machine_commands.specs.Handled.{ExchangesDrive, PutsIn, PutsMemory, TakesOut};
-ghost use Rattle.machine_laws.specs.OnCounts.Counts.{counts_of};
+ghost use Rattle.pc_bus.specs.Counts.{counts_of};
 ghost use Rattle.machine_commands.specs.Shown.{board_of, rig_shown, is_idle};
 
 use crate::machine::CommandedMachine;

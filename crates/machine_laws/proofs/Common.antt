@@ -65,7 +65,7 @@ pub use Rattle.fdc_stages.specs.declared.writing.WriteStage.{WriteStage}
 pub use Rattle.flop_base.specs.Counts.{Rose, last_count}
 pub use Rattle.flop_base.specs.declared.key.Chrn.{Chrn}
 pub use Rattle.machine_laws.specs.OnAwaits.Awaits.{HoldsSet, IsAwaited, IsLetOut, TurnsOn, is_unread}
-pub use Rattle.machine_laws.specs.OnCounts.Counts.{CountsGoOn, counts_of}
+pub use Rattle.pc_bus.specs.Counts.{CountsGoOn, counts_of}
 pub use Rattle.machine_laws.specs.OnFormats.Results.{AreKeysOf}
 pub use Rattle.fdc_drives.specs.Heard.{AreHeard, IsHeard, IsHeardFrom, IsHeardWhole, IsWholeFrom, place_in, start_of}
 pub use Rattle.fdc_drives.specs.Hearing.{IsCalm}

@@ -6,7 +6,7 @@ use Rattle.drive_model.specs.Drive.{DriveState}
 use Rattle.single_commands.specs.Rigs.{Rig}
 use Rattle.sector_model.specs.Stations.{StationState, fresh_bay}
 use Rattle.sector_model.specs.Calls.{IsExchanged}
-use Rattle.machine_laws.specs.OnCounts.Counts.{counts_of}
+use Rattle.pc_bus.specs.Counts.{counts_of}
 use Rattle.machine_commands.specs.Handled.{ExchangesDrive}
 use Rattle.floppy_driver.specs.declared.driver.Driver.{Driver}
 use Rattle.floppy_driver.specs.Shown.{shown}

@@ -4,7 +4,7 @@ use Rattle.flop_base.specs.Counters.{DriveCounts}
 use Rattle.drive_model.specs.Drive.{DriveState}
 use Rattle.pc_bus.specs.Boards.{Board, memory_of}
 use Rattle.sector_model.specs.Stations.{StationState}
-use Rattle.machine_laws.specs.OnCounts.Counts.{counts_of}
+use Rattle.pc_bus.specs.Counts.{counts_of}
 use Rattle.machine_commands.specs.Shown.{counters_of, user_part, rig_shown}
 use Rattle.floppy_driver.specs.Shown.{shown, with_waiting}
 use Rattle.machine_station.specs.declared.station.MachineStation.{MachineStation}

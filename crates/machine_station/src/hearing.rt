@@ -3,7 +3,7 @@ ghost use Rattle.std.specs.Prelude.{All};
 ghost use Rattle.flop_base.specs.Counters.{DriveTells};
 ghost use Rattle.drive_model.specs.Drive.{InRange};
 ghost use Rattle.pc_bus.specs.Boards.{board};
-ghost use Rattle.machine_laws.specs.OnCounts.Counts.{counts_of};
+ghost use Rattle.pc_bus.specs.Counts.{counts_of};
 
 use drive_model::Drive;
 use pc_bus::MachineOf;

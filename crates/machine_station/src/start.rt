@@ -2,7 +2,7 @@
 ghost use Rattle.std.specs.Prelude.{All, map};
 ghost use Rattle.pc_bus.specs.Boards.{board, IsEmpty};
 ghost use Rattle.sector_model.specs.Stations.{IsFresh};
-ghost use Rattle.machine_laws.specs.OnCounts.Counts.{counts_of};
+ghost use Rattle.pc_bus.specs.Counts.{counts_of};
 ghost use Rattle.machine_station.specs.Ready.{is_station_ready};
 ghost use Rattle.machine_station.specs.Shown.{station_shown};
 ghost use Rattle.machine_station.specs.Started.{IsFreshBoard, Starts};

@@ -6,3 +6,4 @@ pub mod Ports
 pub mod Handling
 pub mod Calls
 pub mod Saving
+pub mod Counts

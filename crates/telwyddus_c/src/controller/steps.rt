@@ -1,6 +1,6 @@
 // The controller's device steps.
 ghost use Rattle.std.specs.Prelude.{◌≡◌, ◌≤◌};
-ghost use Rattle.fdc_chip.specs.Quiet.{IsQuietFor};
+ghost use Rattle.fdc_chip.specs.Quiet.{IsQuietFor, quiet_steps};
 ghost use Rattle.fdc_chip.specs.Steps.{StepsChip, RunsChip};
 ghost use Rattle.telwyddus_c.specs.Controllers.{state_of, lines_byte};
 ghost use Rattle.telwyddus_c.specs.Slots.{Serves};
@@ -80,7 +80,8 @@ pub extern "C" fn telwyddus_controller_quiet(
     most: u32,
     steps: &mut u32,
 ) -> u32
-    ensures { Serves (λ code old new. (code ≡ 0) × (new ≡ old) × (steps.new ≤ most) × IsQuietFor steps.new (state_of old)) (steps.new ≡ steps.old)
+    ensures { Serves (λ code old new. (code ≡ 0) × (new ≡ old) × (steps.new ≡ quiet_steps most (state_of old)) × (steps.new ≤ most)
+            × IsQuietFor steps.new (state_of old)) (steps.new ≡ steps.old)
         result slot.old.held.controller slot.new.held.controller }
 {
     match slot.take(alloc) {

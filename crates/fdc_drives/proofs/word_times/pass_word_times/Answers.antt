@@ -8,7 +8,7 @@ returns-then-is_still-clause-passes g c =
     times_still c.args.most (selected_by c.args.controller.now) c.args.controller.now
     (g.D.Drive.state c.args.first.now) (g.D.Drive.state c.args.second.now)
     (g.D.Drive.state c.let_pass.new.self) (g.D.Drive.state c.let_pass-then-is_still.new.self)
-    (c.is_still.ensures c.if-is_still.true) c.let_pass.ensures.passes c.let_pass-then-is_still.ensures.passes
+    (c.is_still.ensures.still c.if-is_still.true) c.let_pass.ensures.passes c.let_pass-then-is_still.ensures.passes
 
 pub returns-in-0-clause-passes : goal.returns-in-0-clause-passes
 returns-in-0-clause-passes g c =

@@ -1,6 +1,6 @@
 use Rattle.std.proofs.Common.{take, All}
 use Rattle.flop_base.specs.Counters.{DriveTells}
-use Rattle.machine_laws.specs.OnCounts.Counts.{counts_of}
+use Rattle.pc_bus.specs.Counts.{counts_of}
 use Rattle.machine_station.proofs.hearing.hear_spare.Given as goal
 
 -- so do the drives so far

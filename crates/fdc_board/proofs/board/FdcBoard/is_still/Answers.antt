@@ -1,5 +1,5 @@
 use Rattle.fdc_board.proofs.Standing.{stands}
 use Rattle.fdc_board.proofs.board.FdcBoard.is_still.Goals as goal
 
-pub returns : goal.returns
-returns g c = λ is. stands c.args.self.now.controller (c.is_still.ensures is)
+pub returns-clause-still : goal.returns-clause-still
+returns-clause-still g c = λ is. stands c.args.self.now.controller (c.is_still.ensures.still is)

@@ -12,7 +12,7 @@ returns-then-is_still-clause-few g c = c.run.ensures.within
 
 pub returns-then-is_still-clause-runs : goal.returns-then-is_still-clause-runs
 returns-then-is_still-clause-runs g c =
-    still_runs_on c.args.most c.run.result (chip_state g.D.Drive.state c.args.self.now) _ (c.is_still.ensures c.if-is_still.true) c.run.ensures
+    still_runs_on c.args.most c.run.result (chip_state g.D.Drive.state c.args.self.now) _ (c.is_still.ensures.still c.if-is_still.true) c.run.ensures
 
 pub returns-clause-runs : goal.returns-clause-runs
 returns-clause-runs g c = runs_one _ _ (chip_state g.D.Drive.state c.args.self.now) (chip_state g.D.Drive.state c.step.new.self) (refl, refl) c.step.ensures

@@ -3,7 +3,7 @@ use Rattle.std.specs.Prelude.{◌∷◌, None}
 use Rattle.std.proofs.lemmas.List.Elements.{All-head, All-rest, All-same}
 use Rattle.pc_bus.specs.Boards.{IsEmpty}
 use Rattle.sector_model.specs.Stations.{fresh_bay}
-use Rattle.machine_laws.specs.OnCounts.Counts.{counts_of}
+use Rattle.pc_bus.specs.Counts.{counts_of}
 use Rattle.machine_commands.specs.Shown.{rig_shown}
 use Rattle.floppy_driver.specs.Shown.{shown}
 use Rattle.machine_station.specs.Flagged.{bays_flagged, flags_of, flags_shown}

@@ -5,7 +5,7 @@ use Rattle.flop_base.specs.Counters.{DriveTells}
 use Rattle.pc_bus.specs.Boards.{Board, board, IsEmpty}
 use Rattle.single_commands.specs.Rigs.{IsReset}
 use Rattle.floppy_driver.specs.Attached.{CanSetUp}
-use Rattle.machine_laws.specs.OnCounts.Counts.{counts_of}
+use Rattle.pc_bus.specs.Counts.{counts_of}
 use Rattle.machine_commands.specs.Shown.{rig_of, rig_shown}
 use Rattle.machine_station.specs.Shown.{all_counts}
 use Rattle.machine_station.proofs.Starting.{fresh_can_set_up, flags_free, starts_fresh, starts_so}
