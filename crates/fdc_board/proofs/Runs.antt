@@ -1,7 +1,7 @@
 -- Device steps, one by one and many at once.
 use Rattle.std.proofs.Common.{◌≡◌, ℕ, zero, suc, ◌+◌, ◌%◌, Bool, refl, sym, ap, ◌∙◌, subst, add-suc, arith}
 use Rattle.drive_model.specs.Drive.{DriveState}
-use Rattle.fdc_board.specs.Boards.{BoardState, HasLines, StepsBoard, RunsWith, selected_at}
+use Rattle.fdc_board.specs.Boards.{BoardState, HasLines, StepsBoard, LeapsBoard, RunsWith, selected_at}
 use Rattle.fdc_core.specs.State.{asks, interrupts}
 use Rattle.fdc_core.specs.declared.controller.Fdc.{Fdc}
 use Rattle.fdc_drives.specs.WordTimes.{WordTimes}
@@ -39,6 +39,22 @@ runs_front int drq (suc n) old between new lines step runs =
     (runs.0, runs_front int drq n old between runs.0 lines step runs.1, runs.2, runs.3)
 
 -- ---- word times at once
+
+-- word times of one drive selected are device steps
+pub times_leap : (count : ℕ) (old : BoardState) (fdc : Fdc) (first second : DriveState)
+    → WordTimes count (selected_at old) old.controller old.first old.second fdc first second
+    → LeapsBoard count old (record { controller = fdc; first = first; second = second })
+unfolding WordTimes LeapsBoard
+times_leap zero old fdc first second times =
+    ap (λ (controller : Fdc). record { controller = controller; first = first; second = second }) times.0
+    ∙ ap (λ (drive : DriveState). record { controller = old.controller; first = drive; second = second }) times.1
+    ∙ ap (λ (drive : DriveState). record { controller = old.controller; first = old.first; second = drive }) times.2
+times_leap (suc count) old fdc first second times =
+    let mid : BoardState = record { controller = times.0; first = times.1; second = times.2 } in
+    let selects : selected_at old ≡ selected_at mid =
+    ap (λ dor. dor.0 % 4) (sym (dor_stays (selected_at old) old.controller old.first old.second times.0 times.1 times.2 times.3)) in
+    let left = subst (λ (n : ℕ). WordTimes count n times.0 times.1 times.2 fdc first second) selects times.5 in
+    (mid, times.3, times.4, times_leap count mid fdc first second left)
 
 -- word times in which neither line changes are a run
 times_run : (int drq : Bool) (count : ℕ) (old : BoardState) (fdc : Fdc) (first second : DriveState) → HasLines int drq old

@@ -1,6 +1,7 @@
 -- A controller with two drives, as contracts see it.
 use Rattle.std.specs.Prelude.{◌≡◌, ◌≤◌, zero, suc, ℕ, ◌==◌, if◌then◌else◌, false, not, ◌&&◌, Bool, true, Option, Some, None}
 use Rattle.drive_model.specs.Drive.{DriveState, Becomes, with_motor}
+use Rattle.fdc_core.specs.Courses.{HoldsLines}
 use Rattle.fdc_core.specs.Dma.{byte_out, taken_out, taken_in, to_memory_of}
 use Rattle.fdc_core.specs.Ports.{Writes}
 use Rattle.fdc_core.specs.State.{at_power_up, asks, interrupts}
@@ -75,6 +76,11 @@ HasLines int drq board = (interrupts board.controller ≡ int) × (asks board.co
 -- one device step: the controller's, with the selected drive, and the word time of the others
 abbrev pub StepsBoard : BoardState → BoardState → Type 0
 StepsBoard old new = PassesWordTime (selected_at old) old.controller old.first old.second new.controller new.first new.second
+
+-- so many device steps, in which neither line changes, no data command ends and no mark is met
+unfoldable pub LeapsBoard : ℕ → BoardState → BoardState → Type 0
+LeapsBoard zero old new = new ≡ old
+LeapsBoard (suc n) old new = (between : BoardState) × StepsBoard old between × HoldsLines old.controller between.controller × LeapsBoard n between new
 
 -- so many device steps, each from these lines
 unfoldable pub RunsWith : Bool → Bool → ℕ → BoardState → BoardState → Type 0

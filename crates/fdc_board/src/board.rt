@@ -34,7 +34,7 @@ pub struct FdcBoard<D> {
 }
 
 impl<D: Inspect> FdcBoard<D> {
-    ghost use Rattle.fdc_board.specs.Boards.{board_state, controller_of, lines_at, SameDrives, IsNewBoard, WritesBoard, Takes, Gives, HasLines, StepsBoard, RunsTo, RunsWith, selected_at};
+    ghost use Rattle.fdc_board.specs.Boards.{board_state, controller_of, lines_at, SameDrives, IsNewBoard, WritesBoard, Takes, Gives, HasLines, StepsBoard, LeapsBoard, RunsTo, RunsWith, selected_at};
 
     /// The controller in reset, with two drives, whose motors it turns off.
     pub fn new(alloc: Global, bay0: D, bay1: D) -> Result<FdcBoard<D>, NoMemory>
@@ -121,7 +121,7 @@ impl<D: Inspect> FdcBoard<D> {
         ensures runs { RunsWith (interrupts (controller_of self.old)) (asks (controller_of self.old)) result
             (board_state D.state self.old) (board_state D.state self.new) }
     {
-        let made = self.leap(most);
+        let made = self.pass_times(most);
         if made != 0 {
             return made;
         }
@@ -129,9 +129,17 @@ impl<D: Inspect> FdcBoard<D> {
         1
     }
 
-    /// Makes device steps at once in which neither line changes, and tells how many, `most` at most: where it is 0, the next
-    /// step has to be made alone.
-    fn leap(&mut self, most: u32) -> u32
+    /// Makes device steps at once in which neither line changes, no data command ends and no mark is met, and tells how many, `most`
+    /// at most: where it is 0, the next step has to be made alone.
+    pub fn leap(&mut self, most: u32) -> u32
+        ensures few { result ≤ most }
+        ensures leaps { LeapsBoard result (board_state D.state self.old) (board_state D.state self.new) }
+    {
+        self.pass_times(most)
+    }
+
+    /// The same as word times.
+    fn pass_times(&mut self, most: u32) -> u32
         ensures few { result ≤ most }
         ensures passes { WordTimes result (selected_at (board_state D.state self.old)) (controller_of self.old)
             (D.state self.old.first) (D.state self.old.second)

@@ -1,3 +1,4 @@
 pub mod Runs
 mod Lists
 mod Quieting
+mod Leaping

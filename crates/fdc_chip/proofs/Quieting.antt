@@ -52,7 +52,7 @@ same_shows Held one other same = refl
 same_shows (Busy task) one other same = refl
 same_shows (Telling answer read) one other same = refl
 
-same_lines : (chip : ChipState) (front : Front) → asks_outside front ≡ asks_outside chip.front → interrupts_outside front ≡ interrupts_outside chip.front
+pub same_lines : (chip : ChipState) (front : Front) → asks_outside front ≡ asks_outside chip.front → interrupts_outside front ≡ interrupts_outside chip.front
     → HasLinesChip (interrupts_chip chip) (asks_chip chip) (with_front front chip)
 same_lines chip front asks shows = (
   ap (λ b. interrupts_by chip b (shows_behind chip.stage front)) asks

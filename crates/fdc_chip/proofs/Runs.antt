@@ -19,6 +19,14 @@ pub runs_one : (int drq : Bool) (old new : ChipState) → HasLinesChip int drq o
 unfolding RunsChipWith
 runs_one int drq old new lines step = (old, refl, lines, step)
 
+-- a step where none was made before
+pub runs_after : (none : ℕ) (old between new : ChipState) → none ≡ 0 → RunsChipWith (interrupts_chip old) (asks_chip old) none old between → StepsChip between new
+    → RunsChipWith (interrupts_chip old) (asks_chip old) 1 old new
+unfolding RunsChipWith
+runs_after none old between new is runs step =
+    let same : between ≡ old = subst (λ (n : ℕ). RunsChipWith (interrupts_chip old) (asks_chip old) n old between) is runs in
+    (old, refl, (refl, refl), subst (λ (chip : ChipState). StepsChip chip new) same step)
+
 -- a run behind another
 pub runs_plus : (int drq : Bool) (n m : ℕ) (old between new : ChipState) → RunsChipWith int drq n old between → RunsChipWith int drq m between new
     → RunsChipWith int drq (n + m) old new

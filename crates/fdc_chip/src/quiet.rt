@@ -5,7 +5,7 @@ ghost use Rattle.fdc_chip.specs.Quiet.{IsIdle, IsQuietFor, IsShut, IsStill, idle
 ghost use Rattle.fdc_chip.specs.Steps.{RunsChipWith};
 
 use crate::chip::Chip;
-use crate::stage::Stage;
+use crate::stage::{Stage, Task};
 use drive_model::Inspect;
 
 /// Nothing is said of the next device step.
@@ -86,7 +86,24 @@ impl<D: Inspect> Chip<D> {
         if self.is_still() {
             return self.behind.run(most);
         }
+        let made = self.leap(most);
+        if made != 0 {
+            return made;
+        }
         self.step();
         1
+    }
+
+    /// Makes device steps at once while a command that was sent on moves a sector, in which neither line changes, and tells how many,
+    /// `most` at most: where it is 0, the next step has to be made alone.
+    fn leap(&mut self, most: u32) -> u32
+        ensures few { result ≤ most }
+        ensures runs { RunsChipWith (interrupts_chip (chip_state D.state self.old)) (asks_chip (chip_state D.state self.old)) result
+            (chip_state D.state self.old) (chip_state D.state self.new) }
+    {
+        match self.stage {
+            Stage::Busy { task: Task::Sent } => self.behind.leap(most),
+            _ => 0,
+        }
     }
 }

@@ -237,7 +237,7 @@ id_hears head_drive old quiet steps word search next before after is =
         passes = is.passes;
         does = subst (λ index. StepsOn head_drive steps (ReadId search) index word was new) (sym is.no_index) (inr (is.few, (searched.On next, ((λ past searching. is.hears past None searching), tt), goes)));
       }),
-      record { request = refl; interrupt = refl },
+      record { request = refl; interrupt = refl; ended = refl; mark = refl },
     )
 
 pub id_courses : (old : Fdc) (execution : Execution) (search final : Search) (count last : ℕ) (before after : DriveState) → IsQuiet old → rate_fits old.rate (rate_of before.medium) ≡ true
@@ -266,7 +266,7 @@ reading_hears head_drive reading old quiet low steps word search next before aft
         passes = is.passes;
         does = passed_by head_drive steps word (at_index before) (at_stage reading (stages.Search search)) (stages.Search next) was new is.few is.no_index ((λ past key told reads. (is.hears past (Some key) reads.0, reads.1)), tt) goes;
       }),
-      record { request = refl; interrupt = refl },
+      record { request = refl; interrupt = refl; ended = refl; mark = refl },
     )
 
 pub reading_courses : (old : Fdc) (execution : Execution) (reading : Reading) (search final : Search) (count last : ℕ) (before after : DriveState) → IsQuiet old → wants true false false old.fifo ≡ false → rate_fits old.rate (rate_of before.medium) ≡ true
@@ -308,7 +308,7 @@ writing_hears head_drive writing old quiet low steps word search next before aft
         });
         guards = λ first protects. absurd (omega (arith, first, is.some));
       }),
-      record { request = refl; interrupt = refl },
+      record { request = refl; interrupt = refl; ended = refl; mark = refl },
     )
 
 pub writing_courses : (old : Fdc) (execution : Execution) (writing : Writing) (search final : Search) (count last : ℕ) (before after : DriveState) → IsQuiet old → wants false false writing.counted old.fifo ≡ false → 1 ≤ execution.steps → rate_fits old.rate (rate_of before.medium) ≡ true

@@ -164,7 +164,7 @@ module _ (head_drive : ℕ) (reading : Reading) (old : Fdc) (still : IsQuiet old
         content_at head_drive reading old (steps + 1) next now,
         mid,
         content_step (length words) steps word value stage next fifo before mid room (record { few = omega (arith, sum, few); under = under; no_index = no_index; fits = fits; hears = hears; passes = passes }),
-        record { request = refl; interrupt = refl },
+        record { request = refl; interrupt = refl; ended = refl; mark = hears.same },
         subst (λ f. Courses (length words) (content_at head_drive reading old (steps + 1) next now) mid (content_at head_drive reading old last final f) after) full
             (content_courses words more (steps + 1) last next final now mid after (omega (arith, sum)) few (subst (λ s. rate_fits old.rate (rate_of s.medium) ≡ true) (sym passes.becomes) fits) (ahead_behind (head_of head_drive) words before mid passes ahead) rest (room_behind (length words) value reading.counted fifo room) others),
       )

@@ -2,6 +2,7 @@
 use Rattle.std.specs.Prelude.{◌≡◌, ◌==◌, ℕ, zero, suc, ◌+◌, ◌≤◌, Bool, true, false, not, List, length, if◌then◌else◌}
 use Rattle.drive_model.specs.Drive.{DriveState, Becomes, at_index}
 use Rattle.drive_model.specs.Ahead.{LetsPass, AreAhead}
+use Rattle.fdc_phases.specs.Phases.{ending_of_phase, mark_of_phase}
 use Rattle.fdc_phases.specs.declared.phases.Phase.{Phase}
 use Rattle.fdc_phases.specs.declared.phases.Phase.TheVariants.{Execute}
 use Rattle.fdc_seek.specs.Seeking.{is_seeking}
@@ -35,10 +36,13 @@ pub record WorksAlone (old new : Fdc) : Type 0 where
   pub stays : Stays old new
   pub flows : Flows old new
 
--- the DMA request line and the interrupt line are as before
+-- the DMA request line and the interrupt line are as before, and so is how a data command ended, if it did, and which mark its field has, if
+-- one was met
 pub record HoldsLines (old new : Fdc) : Type 0 where
   pub request : asks new ≡ asks old
   pub interrupt : interrupts new ≡ interrupts old
+  pub ended : ending_of_phase new.phase ≡ ending_of_phase old.phase
+  pub mark : mark_of_phase new.phase ≡ mark_of_phase old.phase
 
 -- so many device steps with the selected drive, in which neither line changes
 unfoldable pub Courses : ℕ → Fdc → DriveState → Fdc → DriveState → Type 0

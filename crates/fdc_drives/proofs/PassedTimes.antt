@@ -79,7 +79,7 @@ times_still (suc count) selected fdc first second first_after second_after still
       at_second = λ _. (still.works second twos.0 twos.1, ones.1);
       at_none = λ _. (still.alone, ones.1, twos.1);
     } in
-    let holds : HoldsLines fdc fdc = record { request = refl; interrupt = refl } in
+    let holds : HoldsLines fdc fdc = record { request = refl; interrupt = refl; ended = refl; mark = refl } in
     (fdc, ones.0, twos.0, passes_one, holds, times_still count selected fdc ones.0 twos.0 first_after second_after still ones.2 twos.2)
 
 -- ---- what stays

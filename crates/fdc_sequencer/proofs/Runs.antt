@@ -1,20 +1,140 @@
 -- Device steps one by one, and those that the board makes at once.
-use Rattle.std.proofs.Common.{◌≡◌, ℕ, zero, suc, ◌+◌, Bool, refl, sym, ap, subst, add-one}
-use Rattle.fdc_board.specs.Boards.{BoardState, RunsWith, RunsTo}
+use Rattle.std.proofs.Common.{◌≡◌, ℕ, zero, suc, ◌+◌, Bool, true, false, Option, None, refl, sym, ap, subst, ◌∙◌, add-suc, arith}
+use Rattle.std.proofs.lemmas.Bool.{true≢false}
+use Rattle.std.specs.Prelude.{◌&&◌, nat_lt}
+use Rattle.fdc_board.specs.Boards.{BoardState, LeapsBoard, RunsWith, RunsTo, StepsBoard}
+use Rattle.fdc_core.specs.Courses.{HoldsLines}
+use Rattle.fdc_core.specs.Listening.{is_executing}
+use Rattle.fdc_phases.specs.Phases.{ending_of_phase}
+use Rattle.fdc_phases.specs.declared.phases.Phase.{Phase}
+use Rattle.fdc_phases.specs.declared.phases.Phase.TheVariants.{Command, Execute, Result}
 use Rattle.fdc_core.specs.State.{asks, interrupts}
-use Rattle.fdc_sequencer.specs.Fronts.{Front}
-use Rattle.fdc_sequencer.specs.Moves.{HasLinesOutside, StepsFront, RunsFrontWith, RunsFront}
+use Rattle.fdc_core.specs.Whole.{ending_told, mark_of}
+use Rattle.fdc_core.specs.declared.controller.Fdc.{Fdc}
+use Rattle.fdc_sequencer.specs.Fronts.{Front, asks_at, asks_outside, interrupts_at, interrupts_outside}
+use Rattle.fdc_sequencer.specs.Moves.{FollowsStep, HasLinesOutside, IsUnderWay, LeapsFront, MovesAlong, MovesOn, StepsFront, RunsFrontWith, RunsFront, is_unwanted, judged_if, passed_over_if}
+use Rattle.fdc_sequencer.specs.declared.stage.Moving.{Moving as MovingSector}
 use Rattle.fdc_sequencer.specs.declared.stage.Stage.{Stage}
-use Rattle.fdc_sequencer.specs.declared.stage.Stage.TheVariants.{Through}
+use Rattle.fdc_sequencer.specs.declared.stage.Stage.TheVariants.{Through, Moving}
 
 pub runs_none : (int drq : Bool) (front : Front) → RunsFrontWith int drq 0 front front
 unfolding RunsFrontWith
 runs_none int drq front = refl
 
-pub runs_more : (int drq : Bool) (n : ℕ) (old between new : Front) → RunsFrontWith int drq n old between → HasLinesOutside int drq between → StepsFront between new
-    → RunsFrontWith int drq (n + 1) old new
+-- a run behind another
+pub runs_plus : (int drq : Bool) (n m : ℕ) (old between new : Front) → RunsFrontWith int drq n old between → RunsFrontWith int drq m between new
+    → RunsFrontWith int drq (n + m) old new
 unfolding RunsFrontWith
-runs_more int drq n old between new runs lines step = rw add-one (between, runs, lines, step)
+runs_plus int drq n zero old between new runs more =
+    let same : n ≡ n + 0 = omega arith in
+    subst (λ (count : ℕ). RunsFrontWith int drq count old new) same (subst (RunsFrontWith int drq n old) (sym more) runs)
+runs_plus int drq n (suc m) old between new runs more =
+    subst (λ (count : ℕ). RunsFrontWith int drq count old new) (sym (add-suc n m))
+    (more.0, runs_plus int drq n m old between more.0 runs more.1, more.2, more.3)
+
+-- the same where the lines are those that the first run began with
+pub runs_on : (int drq : Bool) (n m : ℕ) (old between new : Front) → RunsFrontWith int drq n old between → HasLinesOutside int drq between
+    → RunsFrontWith (interrupts_outside between) (asks_outside between) m between new → RunsFrontWith int drq (n + m) old new
+runs_on int drq n m old between new runs lines more =
+    runs_plus int drq n m old between new runs
+    (subst (λ (int : Bool). RunsFrontWith int drq m between new) lines.0
+    (subst (λ (drq : Bool). RunsFrontWith (interrupts_outside between) drq m between new) lines.1 more))
+
+-- a run behind a step
+runs_behind : (int drq : Bool) (n : ℕ) (old between new : Front) → HasLinesOutside int drq old → StepsFront old between
+    → RunsFrontWith int drq n between new → RunsFrontWith int drq (suc n) old new
+unfolding RunsFrontWith
+runs_behind int drq zero old between new lines step runs = (old, refl, lines, subst (StepsFront old) (sym runs) step)
+runs_behind int drq (suc n) old between new lines step runs =
+    (runs.0, runs_behind int drq n old between runs.0 lines step runs.1, runs.2, runs.3)
+
+-- ---- a sector is moved
+
+-- INT is down then
+moving_shows : (moving : MovingSector) (front : Front) → front.stage ≡ Moving moving → interrupts_outside front ≡ false
+moving_shows moving front at = ap (λ stage. interrupts_at stage front.board.controller) at
+
+pub leaps_none : (front : Front) → LeapsFront 0 front front
+unfolding LeapsFront
+leaps_none front = refl
+
+-- neither line changes
+along_lines : (int drq : Bool) (old new : Front) → MovesAlong old new → HasLinesOutside int drq old → HasLinesOutside int drq new
+along_lines int drq old new along lines = (
+  moving_shows along.moving new along.is ∙ sym (moving_shows along.moving old along.was) ∙ lines.0,
+  along.request ∙ lines.1,
+)
+
+leap_runs_with : (int drq : Bool) (n : ℕ) (old new : Front) → HasLinesOutside int drq old → LeapsFront n old new → RunsFrontWith int drq n old new
+unfolding LeapsFront RunsFrontWith
+leap_runs_with int drq zero old new lines leaps = leaps
+leap_runs_with int drq (suc n) old new lines (mid, step, along, rest) =
+    runs_behind int drq n old mid new lines step (leap_runs_with int drq n mid new (along_lines int drq old mid along lines) rest)
+
+-- device steps at once are a run
+pub leap_runs : (n : ℕ) (old new : Front) → LeapsFront n old new → RunsFrontWith (interrupts_outside old) (asks_outside old) n old new
+leap_runs n old new leaps = leap_runs_with (interrupts_outside old) (asks_outside old) n old new (refl, refl) leaps
+
+-- a step where none was made before
+pub runs_one : (none : ℕ) (old between new : Front) → none ≡ 0 → LeapsFront none old between → StepsFront between new
+    → RunsFrontWith (interrupts_outside old) (asks_outside old) 1 old new
+unfolding LeapsFront RunsFrontWith
+runs_one none old between new is leaps step =
+    let same : between ≡ old = subst (λ (n : ℕ). LeapsFront n old between) is leaps in
+    (old, refl, (refl, refl), subst (λ (front : Front). StepsFront front new) same step)
+
+-- a data command in execution hasn't ended
+pub executing_goes : (phase : Phase) → is_executing phase ≡ true → ending_of_phase phase ≡ None
+executing_goes (Execute execution) is = refl
+executing_goes Command is = absurd (true≢false (sym is))
+executing_goes (Result answer) is = absurd (true≢false (sym is))
+
+-- a step of the board in which nothing ends and no mark is met is one of the whole
+under_way_step : (front : Front) (mid : BoardState) → IsUnderWay front → StepsBoard front.board mid → HoldsLines front.board.controller mid.controller
+    → StepsFront front (record front { board = mid })
+under_way_step front mid under steps holds =
+    let new : Front = record front { board = mid } in
+    let wanted : is_unwanted under.moving (mark_of mid.controller) ≡ false = ap (is_unwanted under.moving) holds.mark ∙ under.wanted in
+    let moves : MovesOn None under.moving new new = ap (λ unwanted. passed_over_if unwanted under.moving new) (sym wanted) in
+    let goes : ending_told mid.controller ≡ None = holds.ended ∙ under.goes in
+    record {
+      between = mid;
+      steps = steps;
+      follows = subst (λ (stage : Stage). FollowsStep stage new new) (sym under.at)
+          (subst (λ ending. MovesOn (judged_if under.moving ending) under.moving new new) (sym goes) moves);
+    }
+
+under_way_along : (front : Front) (mid : BoardState) → IsUnderWay front → HoldsLines front.board.controller mid.controller
+    → MovesAlong front (record front { board = mid })
+under_way_along front mid under holds =
+    let left = under.moving.left in
+    let at : (fdc : Fdc) → asks_at front.stage fdc ≡ (nat_lt 0 left && asks fdc) = λ fdc. ap (λ stage. asks_at stage fdc) under.at in
+    record {
+      moving = under.moving;
+      was = under.at;
+      is = under.at;
+      request = at mid.controller ∙ ap (λ b. nat_lt 0 left && b) holds.request ∙ sym (at front.board.controller);
+    }
+
+under_way_on : (front : Front) (mid : BoardState) → IsUnderWay front → HoldsLines front.board.controller mid.controller
+    → IsUnderWay (record front { board = mid })
+under_way_on front mid under holds = record {
+  moving = under.moving;
+  at = under.at;
+  goes = holds.ended ∙ under.goes;
+  wanted = ap (is_unwanted under.moving) holds.mark ∙ under.wanted;
+}
+
+-- so many are as many of the whole
+pub front_leaps : (n : ℕ) (front : Front) (new : BoardState) → IsUnderWay front → LeapsBoard n front.board new → LeapsFront n front (record front { board = new })
+unfolding LeapsBoard LeapsFront
+front_leaps zero front new under leaps = ap (λ (board : BoardState). record front { board = board }) leaps
+front_leaps (suc n) front new under (mid, step, holds, rest) = (
+  record front { board = mid },
+  under_way_step front mid under step holds,
+  under_way_along front mid under holds,
+  front_leaps n (record front { board = mid }) new (under_way_on front mid under holds) rest,
+)
 
 -- ---- nothing is done in front
 

@@ -101,6 +101,25 @@ pub record StepsFront (old new : Front) : Type 0 where
 abbrev pub HasLinesOutside : Bool → Bool → Front → Type 0
 HasLinesOutside int drq front = (interrupts_outside front ≡ int) × (asks_outside front ≡ drq)
 
+-- a sector is moved, and a device step leaves that and DRQ as they were
+pub record MovesAlong (old new : Front) : Type 0 where
+  pub moving : MovingSector
+  pub was : old.stage ≡ Moving moving
+  pub is : new.stage ≡ Moving moving
+  pub request : asks_outside new ≡ asks_outside old
+
+-- so many of these
+unfoldable pub LeapsFront : ℕ → Front → Front → Type 0
+LeapsFront zero old new = new ≡ old
+LeapsFront (suc n) old new = (between : Front) × StepsFront old between × MovesAlong old between × LeapsFront n between new
+
+-- a sector is moved that hasn't ended, and no field of the mark that isn't wanted is met
+pub record IsUnderWay (front : Front) : Type 0 where
+  pub moving : MovingSector
+  pub at : front.stage ≡ Moving moving
+  pub goes : ending_told front.board.controller ≡ None
+  pub wanted : is_unwanted moving (mark_of front.board.controller) ≡ false
+
 -- so many device steps, each from these lines
 unfoldable pub RunsFrontWith : Bool → Bool → ℕ → Front → Front → Type 0
 RunsFrontWith int drq zero old new = new ≡ old

@@ -143,7 +143,7 @@ impl Moving {
     }
 
     /// Whether a mark is met that isn't wanted, before a byte passed, so that the field is to be passed over.
-    fn is_unwanted(self, mark: Option<bool>) -> bool
+    pub(crate) fn is_unwanted(self, mark: Option<bool>) -> bool
         ensures { result ≡ is_unwanted self mark }
     {
         match mark {

@@ -1,11 +1,12 @@
 // The state, and the lines that are seen outside.
-ghost use Rattle.std.specs.Prelude.{◌≡◌, IfOk, IsTrue, IsFalse};
+ghost use Rattle.std.specs.Prelude.{◌≡◌, ◌≤◌, IfOk, IsTrue, IsFalse, true, false, None};
 ghost use Rattle.fdc_board.specs.Boards.{controller_of, SameDrives};
 ghost use Rattle.fdc_core.specs.Dma.{to_memory_of};
+ghost use Rattle.fdc_core.specs.Whole.{ending_told, mark_of};
 ghost use Rattle.fdc_sequencer.specs.Fronts.{front_state, board_of, IsNewFront, interrupts_outside, asks_outside};
-ghost use Rattle.fdc_sequencer.specs.Moves.{HasLinesOutside, RunsFront};
+ghost use Rattle.fdc_sequencer.specs.Moves.{HasLinesOutside, IsUnderWay, LeapsFront, RunsFront, RunsFrontWith, is_unwanted};
 
-use crate::stage::Stage;
+use crate::stage::{Moving, Stage};
 use drive_model::Inspect;
 use fdc_board::FdcBoard;
 use fdc_commands::CommandBytes;
@@ -91,7 +92,7 @@ impl<D: Inspect> Sequencer<D> {
     {
         match self.stage {
             Stage::Through => self.run_through(most),
-            _ => self.run_by_steps(most),
+            _ => self.run_on(most),
         }
     }
 
@@ -103,18 +104,68 @@ impl<D: Inspect> Sequencer<D> {
         self.board.run(most)
     }
 
-    /// The same, step by step.
-    fn run_by_steps(&mut self, most: u32) -> u32
+    /// The same while something may be done behind a step.
+    fn run_on(&mut self, most: u32) -> u32
         ensures { RunsFront most (front_state D.state self.old) result (front_state D.state self.new) }
     {
         let int = self.int();
         let drq = self.drq();
-        for i in 0..most {
-            self.step();
+        let mut made = 0;
+        while made < most {
+            made += self.advance(most - made);
             if !self.has_lines(int, drq) {
-                return i + 1;
+                return made;
             }
         }
         most
+    }
+
+    /// At least one device step, `most` at most, and none behind one in which a line changes; tells how many.
+    fn advance(&mut self, most: u32) -> u32
+        requires { 1 ≤ most }
+        ensures some { 1 ≤ result }
+        ensures few { result ≤ most }
+        ensures runs { RunsFrontWith (interrupts_outside (front_state D.state self.old)) (asks_outside (front_state D.state self.old)) result
+            (front_state D.state self.old) (front_state D.state self.new) }
+    {
+        let made = self.leap(most);
+        if made != 0 {
+            return made;
+        }
+        self.step();
+        1
+    }
+
+    /// Makes device steps at once while a sector is moved, in which neither line changes and nothing is done behind the board's, and tells
+    /// how many, `most` at most: where it is 0, the next step has to be made alone.
+    pub fn leap(&mut self, most: u32) -> u32
+        ensures few { result ≤ most }
+        ensures leaps { LeapsFront result (front_state D.state self.old) (front_state D.state self.new) }
+    {
+        if self.is_under_way() {
+            return self.board.leap(most);
+        }
+        0
+    }
+
+    /// Whether a sector is moved that hasn't ended, and no field of the mark that isn't wanted is met.
+    fn is_under_way(&self) -> bool
+        ensures { result ≡ true → IsUnderWay (front_state D.state self.now) }
+    {
+        match self.stage {
+            Stage::Moving { moving } => self.goes_along(moving),
+            _ => false,
+        }
+    }
+
+    /// Whether the sector hasn't ended, and no field of the mark that isn't wanted is met.
+    fn goes_along(&self, moving: Moving) -> bool
+        ensures goes { result ≡ true → ending_told (controller_of (board_of self.now)) ≡ None }
+        ensures wanted { result ≡ true → is_unwanted moving (mark_of (controller_of (board_of self.now))) ≡ false }
+    {
+        if self.board.is_executing() {
+            return !moving.is_unwanted(self.board.mark());
+        }
+        false
     }
 }

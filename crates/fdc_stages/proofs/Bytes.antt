@@ -19,6 +19,7 @@ byte_comes word before now deleted stage (Some value) is reads = subst (λ stage
   gives = λ past key told was.
       byte_heard false past word key told before now (seen.Byte value) deleted was (λ p q taken. reads past.seen p q deleted (content_size key.n) taken) value refl;
   mark = refl;
+  same = refl;
   content = tt;
 })
 

@@ -162,6 +162,7 @@ IsContent _ = ⊥
 pub record HearsByte (word value : ℕ) (stage next : ReadStage) : Type 0 where
   pub gives : (past : Past) (key : Chrn) (told : List ℕ) → IsReading past key told stage → IsReading (heard false word past) key (told ++ value ∷ []) next
   pub mark : KeepsMark stage (Byte next value)
+  pub same : mark_at next ≡ mark_at stage
   pub content : IsContent next
 
 -- words of a content, and the bytes that they give

@@ -5,10 +5,10 @@ use Rattle.fdc_board.proofs.board.FdcBoard.advance.Goals as goal
 
 pub returns-then-made-ne0-clause-runs : goal.returns-then-made-ne0-clause-runs
 returns-then-made-ne0-clause-runs g c =
-    leap_runs c.leap-made.result (board_state g.D.Drive.state c.args.self.now) (board_state g.D.Drive.state c.leap-made.new.self)
-    c.leap-made.ensures.passes
+    leap_runs c.pass_times-made.result (board_state g.D.Drive.state c.args.self.now) (board_state g.D.Drive.state c.pass_times-made.new.self)
+    c.pass_times-made.ensures.passes
 
 pub returns-clause-runs : goal.returns-clause-runs
 returns-clause-runs g c =
-    runs_one c.leap-made.result (board_state g.D.Drive.state c.args.self.now) (board_state g.D.Drive.state c.leap-made.new.self)
-    (board_state g.D.Drive.state c.step.new.self) (omega arith) c.leap-made.ensures.passes c.step.ensures
+    runs_one c.pass_times-made.result (board_state g.D.Drive.state c.args.self.now) (board_state g.D.Drive.state c.pass_times-made.new.self)
+    (board_state g.D.Drive.state c.step.new.self) (omega arith) c.pass_times-made.ensures.passes c.step.ensures

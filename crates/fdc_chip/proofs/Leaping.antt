@@ -1,0 +1,49 @@
+-- Device steps at once while a sector is moved behind.
+use Rattle.std.proofs.Common.{◌≡◌, ℕ, zero, suc, ◌+◌, Bool, false, refl, sym, ap, subst, ◌∙◌}
+use Rattle.std.specs.Prelude.{◌==◌, bit_and}
+use Rattle.fdc_sequencer.specs.Fronts.{Front, interrupts_at, interrupts_outside, value_outside}
+use Rattle.fdc_sequencer.specs.Moves.{LeapsFront, MovesAlong, StepsFront}
+use Rattle.fdc_sequencer.specs.declared.stage.Moving.{Moving as MovingSector}
+use Rattle.fdc_sequencer.specs.declared.stage.Stage.TheVariants.{Moving}
+use Rattle.fdc_chip.specs.Chips.{ChipState, with_front, interrupts_chip, asks_chip}
+use Rattle.fdc_chip.specs.Ending.{EndsIf, has_results}
+use Rattle.fdc_chip.specs.Steps.{Follows, HasLinesChip, RunsChipWith, StepsChip}
+use Rattle.fdc_chip.specs.declared.stage.Stage.{Stage}
+use Rattle.fdc_chip.specs.declared.stage.Stage.TheVariants.{Busy}
+use Rattle.fdc_chip.specs.declared.stage.Task.TheVariants.{Sent}
+use Rattle.fdc_chip.proofs.Quieting.{same_lines}
+use Rattle.fdc_chip.proofs.Runs.{runs_one, runs_plus}
+
+-- no results wait then, and INT is down
+moving_waits : (moving : MovingSector) (front : Front) → front.stage ≡ Moving moving → has_results front ≡ false
+moving_waits moving front at = ap (λ stage. bit_and (value_outside 0x3F4 (record front { stage = stage })) 0xC0 == 0xC0) at
+
+moving_shows : (moving : MovingSector) (front : Front) → front.stage ≡ Moving moving → interrupts_outside front ≡ false
+moving_shows moving front at = ap (λ stage. interrupts_at stage front.board.controller) at
+
+-- nothing follows a step
+sent_step : (chip : ChipState) (front : Front) → chip.stage ≡ Busy Sent → StepsFront chip.front front → MovesAlong chip.front front
+    → StepsChip chip (with_front front chip)
+sent_step chip front at step along =
+    let new : ChipState = with_front front chip in
+    record {
+      between = front;
+      steps = step;
+      follows = subst (λ (stage : Stage). Follows stage new new) (sym at)
+          (subst (λ (ends : Bool). EndsIf ends Sent new new) (sym (moving_waits along.moving front along.is)) refl);
+    }
+
+-- and neither line changes
+sent_lines : (int drq : Bool) (chip : ChipState) (front : Front) → MovesAlong chip.front front → HasLinesChip int drq chip → HasLinesChip int drq (with_front front chip)
+sent_lines int drq chip front along lines =
+    let same = same_lines chip front along.request (moving_shows along.moving front along.is ∙ sym (moving_shows along.moving chip.front along.was)) in
+    (same.0 ∙ lines.0, same.1 ∙ lines.1)
+
+pub sent_runs : (int drq : Bool) (n : ℕ) (chip : ChipState) (front : Front) → chip.stage ≡ Busy Sent → HasLinesChip int drq chip → LeapsFront n chip.front front
+    → RunsChipWith int drq n chip (with_front front chip)
+unfolding LeapsFront RunsChipWith
+sent_runs int drq zero chip front at lines leaps = ap (λ (f : Front). with_front f chip) leaps
+sent_runs int drq (suc n) chip front at lines (mid, step, along, rest) =
+    runs_plus int drq 1 n chip (with_front mid chip) (with_front front chip)
+    (runs_one int drq chip (with_front mid chip) lines (sent_step chip mid at step along))
+    (sent_runs int drq n (with_front mid chip) front at (sent_lines int drq chip mid along lines) rest)
