@@ -73,6 +73,7 @@ def surveys(book):
     step = 16 * (100 + 12 + 10)
     book.run("survey x.rt", f"0 0 {first} 255 0 10 6 deleted;0 0 {behind + 16 * 112} 255 0 10 1 02;"
              f"0 0 {behind + 16 * 112 + step} 255 0 10 7 size;0 0 {behind + 16 * 112 + 2 * step} 255 0 10 0 size;survey 4")
+    book.run("toimd x.rt x.imd", "track 0 0 unfit", 1)
 
 
 def remasters(book):
