@@ -84,6 +84,7 @@ impl BayDrive {
         ensures taken { result ≡ tracks_in_bay self.old }
         ensures left { tracks_in_bay self.new ≡ no_tracks }
         ensures state { bay_state self.new ≡ bay_state self.old }
+        ensures faults { faults_in_bay self.new ≡ faults_in_bay self.old }
         ensures cable { is_attached self.new ≡ is_attached self.old }
     {
         match self {

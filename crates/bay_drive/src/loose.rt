@@ -64,6 +64,7 @@ impl LooseDrive {
         ensures taken { result ≡ tracks_of (drive_within self.old) }
         ensures left { tracks_of (drive_within self.new) ≡ no_tracks }
         ensures state { loose_state self.new ≡ loose_state self.old }
+        ensures faults { faults_of (drive_within self.new) ≡ faults_of (drive_within self.old) }
     {
         self.inside.take_tracks()
     }

@@ -60,6 +60,7 @@ impl TrackedDrive {
         ensures taken { result ≡ tracks_of self.old }
         ensures left { tracks_of self.new ≡ no_tracks }
         ensures state { tracked_state self.new ≡ tracked_state self.old }
+        ensures faults { faults_of self.new ≡ faults_of self.old }
     {
         std::mem::replace(&mut self.tracks, TrackMap::new())
     }

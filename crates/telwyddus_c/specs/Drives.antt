@@ -71,5 +71,6 @@ pub record TellsTracks (bay : ℕ) (old : ControllerValue) (map : List ℕ) (new
   pub told : map ≡ tracks_in_bay (held old bay)
   pub forgets : tracks_in_bay (held new bay) ≡ no_tracks
   pub state : bay_state (held new bay) ≡ bay_state (held old bay)
+  pub faults : faults_in_bay (held new bay) ≡ faults_in_bay (held old bay)
   pub cable : is_attached (held new bay) ≡ is_attached (held old bay)
   pub beside : KeepsOther bay old new
