@@ -1,5 +1,5 @@
 -- Device steps at once while a sector is moved behind.
-use Rattle.std.proofs.Common.{◌≡◌, ℕ, zero, suc, ◌+◌, Bool, false, refl, sym, ap, subst, ◌∙◌}
+use Rattle.std.proofs.Common.{◌≡◌, ℕ, zero, suc, ◌+◌, Bool, false, refl, sym, ap, subst, ◌∙◌, arith}
 use Rattle.std.specs.Prelude.{◌==◌, bit_and}
 use Rattle.fdc_sequencer.specs.Fronts.{Front, interrupts_at, interrupts_outside, value_outside}
 use Rattle.fdc_sequencer.specs.Moves.{LeapsFront, MovesAlong, StepsFront}
@@ -44,6 +44,8 @@ pub sent_runs : (int drq : Bool) (n : ℕ) (chip : ChipState) (front : Front) �
 unfolding LeapsFront RunsChipWith
 sent_runs int drq zero chip front at lines leaps = ap (λ (f : Front). with_front f chip) leaps
 sent_runs int drq (suc n) chip front at lines (mid, step, along, rest) =
-    runs_plus int drq 1 n chip (with_front mid chip) (with_front front chip)
+    let same : 1 + n ≡ suc n = omega arith in
+    subst (λ (count : ℕ). RunsChipWith int drq count chip (with_front front chip)) same
+    (runs_plus int drq 1 n chip (with_front mid chip) (with_front front chip)
     (runs_one int drq chip (with_front mid chip) lines (sent_step chip mid at step along))
-    (sent_runs int drq n (with_front mid chip) front at (sent_lines int drq chip mid along lines) rest)
+    (sent_runs int drq n (with_front mid chip) front at (sent_lines int drq chip mid along lines) rest))

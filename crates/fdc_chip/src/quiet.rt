@@ -3,6 +3,8 @@ ghost use Rattle.std.specs.Prelude.{◌≡◌, ◌≤◌, true};
 ghost use Rattle.fdc_chip.specs.Chips.{chip_state, interrupts_chip, asks_chip};
 ghost use Rattle.fdc_chip.specs.Quiet.{IsIdle, IsQuietFor, IsShut, IsStill, idles, is_shut_at, is_still_at, quiet_steps, rests_at};
 ghost use Rattle.fdc_chip.specs.Steps.{RunsChipWith};
+ghost use Rattle.fdc_chip.specs.declared.stage.Stage.TheVariants.{Busy};
+ghost use Rattle.fdc_chip.specs.declared.stage.Task.TheVariants.{Sent};
 
 use crate::chip::Chip;
 use crate::stage::{Stage, Task};
@@ -101,9 +103,19 @@ impl<D: Inspect> Chip<D> {
         ensures runs { RunsChipWith (interrupts_chip (chip_state D.state self.old)) (asks_chip (chip_state D.state self.old)) result
             (chip_state D.state self.old) (chip_state D.state self.new) }
     {
+        if self.has_sent() {
+            return self.behind.leap(most);
+        }
+        0
+    }
+
+    /// Whether a command is executed that was sent on.
+    fn has_sent(&self) -> bool
+        ensures { result ≡ true → (chip_state D.state self.now).stage ≡ Busy Sent }
+    {
         match self.stage {
-            Stage::Busy { task: Task::Sent } => self.behind.leap(most),
-            _ => 0,
+            Stage::Busy { task } => matches!(task, Task::Sent),
+            _ => false,
         }
     }
 }
