@@ -1,2 +1,4 @@
 pub mod Filed
 pub mod Valid
+pub mod Places
+pub mod FormValid

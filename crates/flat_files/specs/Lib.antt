@@ -1,3 +1,5 @@
 pub mod Flat
 pub mod Flats
 pub mod Files
+pub mod Forms
+pub mod FormMaking

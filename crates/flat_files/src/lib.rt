@@ -1,12 +1,17 @@
 //! Flat files: the sectors of a diskette and nothing else, by cylinder, then head, then record, 512 bytes each. And media of flat
 //! files, without a drive: each sector of the file under its key on a formatted medium, and back.
 //!
-//! A flat file has 80 cylinders of 2 heads. Its tracks have 9 sectors (720 KB) or 18 (1.44 MB).
+//! A flat file has 80 cylinders of 2 heads. Its tracks have 9 sectors (720 KB) or 18 (1.44 MB). Media of flat files of any other
+//! geometry are made too, as far as tracks have room.
 #![tactic(auto)]
 
 mod fault;
 mod filing;
 mod finding;
+mod form;
+mod form_fault;
+mod form_imaging;
+mod form_making;
 mod imaging;
 pub mod laws;
 mod making;
@@ -15,6 +20,9 @@ mod whole;
 
 pub use fault::FlatFault;
 pub use filing::flat_file;
+pub use form::FlatForm;
+pub use form_fault::FormFault;
+pub use form_making::flat_medium_as;
 pub use making::flat_medium;
 pub use sectors::place;
 pub use whole::{blank_flat, check};

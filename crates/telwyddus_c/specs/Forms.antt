@@ -1,9 +1,9 @@
 -- Flat sector files of any geometry.
 use Rattle.std.specs.Prelude.{◌≡◌, ◌==◌, ℕ, List, length, Option, Some, MatchBool, MatchOption, ⊤}
 use Rattle.c_slots.specs.Trays.{TrayValue}
-use Rattle.flat_forms.specs.Forms.{IsForm, file_length}
-use Rattle.flat_forms.specs.Making.{HasForm, form_image}
-use Rattle.flat_forms.specs.declared.form.FlatForm.{FlatForm}
+use Rattle.flat_files.specs.Forms.{IsForm, file_length}
+use Rattle.flat_files.specs.FormMaking.{HasForm, form_image}
+use Rattle.flat_files.specs.declared.form.FlatForm.{FlatForm}
 use Rattle.imagedisk.specs.Made.{IsFirstCrowded}
 use Rattle.raw_image.specs.Disk.{Disk}
 use Rattle.telwyddus_c.specs.Rates.{rate_named}

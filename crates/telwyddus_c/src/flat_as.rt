@@ -6,7 +6,7 @@ use crate::blank::fill;
 use crate::code::{BAD_IMAGE, FULL, NO_MEMORY, OUT_OF_RANGE, UNFIT};
 use crate::rate::rate_named;
 use c_slots::TraySlot;
-use flat_forms::{FlatForm, FormFault, flat_medium_as};
+use flat_files::{FlatForm, FormFault, flat_medium_as};
 use std::alloc::Global;
 
 /// Makes a tray with the medium of a flat file of so many cylinders and heads, on each track the records 1 to so many, of size code `n`,

@@ -1,6 +1,6 @@
 -- The geometry of a flat file: its sectors and nothing else, by cylinder, then head, then record.
 use Rattle.std.specs.Prelude.{ℕ, ◌+◌, ◌*◌, ◌/◌, ◌%◌, ◌^◌, ◌≤◌, ◌==◌, if◌then◌else◌}
-use Rattle.flat_forms.specs.declared.form.FlatForm.{FlatForm}
+use Rattle.flat_files.specs.declared.form.FlatForm.{FlatForm}
 
 -- a medium has such a geometry
 pub record IsForm (form : FlatForm) : Type 0 where

@@ -4,10 +4,10 @@ use Rattle.std.specs.List.{range_with_len}
 use Rattle.imagedisk.specs.Images.{IsImdImage, IsImdTrack}
 use Rattle.imagedisk.specs.declared.image.ImdImage.{ImdImage}
 use Rattle.imagedisk.specs.declared.track.ImdTrack.{ImdTrack}
-use Rattle.flat_forms.specs.Forms.{tracks_of}
-use Rattle.flat_forms.specs.Making.{form_track}
-use Rattle.flat_forms.proofs.Valid.{pushed_more, valid_image}
-use Rattle.flat_forms.proofs.imaging.form_image.Goals as goal
+use Rattle.flat_files.specs.Forms.{tracks_of}
+use Rattle.flat_files.specs.FormMaking.{form_track}
+use Rattle.flat_files.proofs.FormValid.{pushed_more, valid_image}
+use Rattle.flat_files.proofs.form_imaging.form_image.Goals as goal
 
 pub loop-track-preserved : goal.loop-track-preserved
 loop-track-preserved c =

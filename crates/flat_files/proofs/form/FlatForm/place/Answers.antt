@@ -1,6 +1,6 @@
-use Rattle.flat_forms.specs.Forms.{sector_bytes, tracks_of}
-use Rattle.flat_forms.proofs.Places.{place_inside}
-use Rattle.flat_forms.proofs.form.FlatForm.place.Goals as goal
+use Rattle.flat_files.specs.Forms.{sector_bytes, tracks_of}
+use Rattle.flat_files.proofs.Places.{place_inside}
+use Rattle.flat_files.proofs.form.FlatForm.place.Goals as goal
 
 pub returns-clause-inside : goal.returns-clause-inside
 returns-clause-inside c =

@@ -8,10 +8,10 @@ use Rattle.imagedisk.specs.declared.sector.ImdKind.TheVariants.{Good}
 use Rattle.imagedisk.specs.declared.sector.ImdSector.{ImdSector}
 use Rattle.imagedisk.specs.declared.track.ImdTrack.{ImdTrack}
 use Rattle.raw_image.specs.Disk.{Disk}
-use Rattle.flat_forms.specs.Forms.{IsForm, cylinder_of, file_length, head_of, sector_bytes, sector_place, tracks_of}
-use Rattle.flat_forms.specs.declared.fault.FormFault.{FormFault}
-use Rattle.flat_forms.specs.declared.fault.FormFault.TheVariants as fault
-use Rattle.flat_forms.specs.declared.form.FlatForm.{FlatForm}
+use Rattle.flat_files.specs.Forms.{IsForm, cylinder_of, file_length, head_of, sector_bytes, sector_place, tracks_of}
+use Rattle.flat_files.specs.declared.form_fault.FormFault.{FormFault}
+use Rattle.flat_files.specs.declared.form_fault.FormFault.TheVariants as fault
+use Rattle.flat_files.specs.declared.form.FlatForm.{FlatForm}
 
 -- a sector of a track, counted from 0: its bytes in the file, under the record behind that
 abbrev pub form_sector : FlatForm → List ℕ → (track i : ℕ) → ImdSector

@@ -7,9 +7,9 @@ use Rattle.std.proofs.lemmas.List.{length-drop, length-take}
 use Rattle.std.proofs.lemmas.List.FromFn.{length-map-range_with_len, get_or-map-range_with_len, map-range_with_len_more}
 use Rattle.imagedisk.specs.Images.{AreApart, IsImdImage, IsImdTrack}
 use Rattle.imagedisk.specs.declared.track.ImdTrack.{ImdTrack}
-use Rattle.flat_forms.specs.Forms.{IsForm, cylinder_of, head_of, tracks_of}
-use Rattle.flat_forms.specs.Making.{form_image, form_track}
-use Rattle.flat_forms.specs.declared.form.FlatForm.{FlatForm}
+use Rattle.flat_files.specs.Forms.{IsForm, cylinder_of, head_of, tracks_of}
+use Rattle.flat_files.specs.FormMaking.{form_image, form_track}
+use Rattle.flat_files.specs.declared.form.FlatForm.{FlatForm}
 
 -- one more of a list made of the index
 pub pushed_more : {X : Type 0} (f : ℕ → X) (kept new : List X) (n : ℕ) (x : X) → kept ≡ map f (range_with_len 0 n) → x ≡ f n → new ≡ kept ++ x ∷ []

@@ -1,9 +1,9 @@
 // The medium of a flat file.
-ghost use Rattle.flat_forms.specs.Making.{MakesForm};
+ghost use Rattle.flat_files.specs.FormMaking.{MakesForm};
 
-use crate::fault::FormFault;
+use crate::form_fault::FormFault;
 use crate::form::FlatForm;
-use crate::imaging::form_image;
+use crate::form_imaging::form_image;
 use imagedisk::{ImdError, to_medium};
 use raw_image::Medium;
 use std::alloc::Global;

@@ -1,6 +1,6 @@
 // The geometry of a flat file, and where its sectors stand.
 ghost use Rattle.std.specs.Prelude.{◌≡◌, ◌≤◌, ◌<◌, ◌+◌, IsTrue, IsFalse};
-ghost use Rattle.flat_forms.specs.Forms.{IsForm, cylinder_of, file_length, head_of, sector_place, sector_bytes, tracks_of};
+ghost use Rattle.flat_files.specs.Forms.{IsForm, cylinder_of, file_length, head_of, sector_place, sector_bytes, tracks_of};
 
 use flop_base::{Rate, sector_size};
 

@@ -1,6 +1,6 @@
 // Why a flat file makes no medium.
 ghost use Rattle.std.specs.Prelude.{◌≡◌};
-ghost use Rattle.flat_forms.specs.declared.fault.FormFault.TheVariants as cause;
+ghost use Rattle.flat_files.specs.declared.form_fault.FormFault.TheVariants as cause;
 
 use flop_base::NoMemory;
 use thiserror::Error;
