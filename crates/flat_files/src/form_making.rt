@@ -1,8 +1,8 @@
 // The medium of a flat file.
 ghost use Rattle.flat_files.specs.FormMaking.{MakesForm};
 
-use crate::form_fault::FormFault;
 use crate::form::FlatForm;
+use crate::form_fault::FormFault;
 use crate::form_imaging::form_image;
 use imagedisk::{ImdError, to_medium};
 use raw_image::Medium;

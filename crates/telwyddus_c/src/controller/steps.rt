@@ -81,7 +81,7 @@ pub extern "C" fn telwyddus_controller_quiet(
     steps: &mut u32,
 ) -> u32
     ensures { Serves (λ code old new. (code ≡ 0) × (new ≡ old) × (steps.new ≡ quiet_steps most (state_of old)) × (steps.new ≤ most)
-            × IsQuietFor steps.new (state_of old)) (steps.new ≡ steps.old)
+        × IsQuietFor steps.new (state_of old)) (steps.new ≡ steps.old)
         result slot.old.held.controller slot.new.held.controller }
 {
     match slot.take(alloc) {
