@@ -1,10 +1,10 @@
 -- The turns of a loop over numbers.
-use Rattle.std.proofs.Common.{arith, ◌≡◌, ◌<◌, ◌≤◌, ℕ, zero, suc, ◌+◌, ◌-◌, refl, ap, ◌∙◌, sym, subst, Ok, Err}
+use Rattle.std.proofs.Common.{rules, arith, ◌≡◌, ◌<◌, ◌≤◌, ℕ, zero, suc, ◌+◌, ◌-◌, refl, ap, ◌∙◌, sym, subst, Ok, Err, Result}
 use Rattle.flop_base.specs.declared.answers.Status.{Status}
 use Rattle.sector_model.specs.Plays.{World}
 use Rattle.commands.specs.Scripts.{Script}
 use Rattle.commands.specs.Parts.{Part, through, each}
-use Rattle.commands.specs.Leading.{Leads, Goes, IsAtTurn}
+use Rattle.commands.specs.Leading.{Leads, Goes, IsAtTurn, Hand, IsSameHand, IsAmid, IsTurning, RanPart}
 
 -- the first turn, and the others
 each_more : {Found : Type 0} (i n : ℕ) (part : ℕ → Found → Part Found) (found : Found) (rest : Found → Script)
@@ -65,3 +65,82 @@ turns_over first count i part begun found old now at all whole start rest leads 
     let none : first + count - i ≡ 0 = omega (arith, all) in
     subst (λ s. Leads whole start s now) (ap (λ k. each i k part found rest) none ∙ none_left i part found rest)
     (at whole start rest leads)
+
+-- ---- With what is in the hand.
+
+still : {a b c : Hand} → IsSameHand a b → IsSameHand b c → IsSameHand a c
+still one two = record { session = two.session ∙ one.session; shelf = two.shelf ∙ one.shelf; out = two.out ∙ one.out }
+
+-- a command begins
+pub amid_begins : {R : Type 0} (hand : R → Hand) (At : World → World → Type 0) (old : R) → At (hand old).world (hand old).world → IsAmid hand At old old
+amid_begins hand At old at = record { at = at; counted = refl; stays = refl; same = record { session = refl; shelf = refl; out = refl } }
+
+-- a part of it is gone through
+pub amid_goes : {R T : Type 0} (hand : R → Hand) (At Then : World → World → Type 0) (Does : World → Result T Status → World → Type 0) (found : T) (old mid new : R)
+    → IsAmid hand At old mid → RanPart hand Does mid (Ok found) new → Then (hand old).world (hand new).world → IsAmid hand Then old new
+amid_goes hand At Then Does found old mid new amid ran then = record {
+  at = then;
+  counted = ran.shelf_faults.else_stays (λ no. search rules) ∙ amid.counted;
+  stays = ran.sink_faults.else_stays (λ no. search rules) ∙ amid.stays;
+  same = still amid.same ran.same;
+}
+
+-- a part of it ends it
+pub amid_ends : {R T Found : Type 0} (hand : R → Hand) (At : World → World → Type 0) (Does : World → Result T Status → World → Type 0)
+    (Ends : World → Result Found Status → World → Type 0) (ended : Status) (old mid new : R)
+    → IsAmid hand At old mid → RanPart hand Does mid (Err ended) new → Ends (hand old).world (Err ended) (hand new).world → RanPart hand Ends old (Err ended) new
+amid_ends hand At Does Ends ended old mid new amid ran ends =
+    let counted = amid.counted in
+    let stays = amid.stays in
+    let form = ran.is_form in
+    let shelf = ran.shelf_faults in
+    let sink = ran.sink_faults in
+    record {
+      goes = ends;
+      is_form = search rules;
+      shelf_faults = search rules;
+      sink_faults = search rules;
+      same = still amid.same ran.same;
+    }
+
+-- it comes to its end
+pub amid_over : {R Found : Type 0} (hand : R → Hand) (At : World → World → Type 0) (Ends : World → Result Found Status → World → Type 0) (found : Found)
+    (old now : R)
+    → IsAmid hand At old now → Ends (hand old).world (Ok found) (hand now).world → RanPart hand Ends old (Ok found) now
+amid_over hand At Ends found old now amid ends =
+    let counted = amid.counted in
+    let stays = amid.stays in
+    record {
+      goes = ends;
+      is_form = λ no. search rules;
+      shelf_faults = search rules;
+      sink_faults = search rules;
+      same = amid.same;
+    }
+
+-- the loop begins
+pub begins : {R Found : Type 0} (hand : R → Hand) (first count : ℕ) (part : ℕ → Found → Part Found) (begun : Found) (old : R)
+    → IsTurning hand first count part begun old first begun old
+begins hand first count part begun old = record { amid = amid_begins hand _ old (turn_begins first count part begun (hand old).world) }
+
+-- a turn is gone through
+pub goes_on : {R Found : Type 0} (hand : R → Hand) (first count i : ℕ) (part : ℕ → Found → Part Found) (begun found next : Found) (old mid new : R)
+    → IsTurning hand first count part begun old i found mid → RanPart hand (Goes (part i found)) mid (Ok next) new → i < first + count
+    → IsTurning hand first count part begun old (i + 1) next new
+goes_on hand first count i part begun found next old mid new at ran less = record {
+  amid = amid_goes hand _ _ _ next old mid new at.amid ran (turn_goes first count i part begun found next _ _ _ at.amid.at ran.goes less);
+}
+
+-- a turn ends the script
+pub ends : {R Found : Type 0} (hand : R → Hand) (first count i : ℕ) (part : ℕ → Found → Part Found) (begun found : Found) (old mid new : R) (ended : Status)
+    → IsTurning hand first count part begun old i found mid → RanPart hand (Goes (part i found)) mid (Err ended) new → i < first + count
+    → RanPart hand (Goes (each first count part begun)) old (Err ended) new
+ends hand first count i part begun found old mid new ended at ran less =
+    amid_ends hand _ _ _ ended old mid new at.amid ran (turn_ends first count i part begun found _ _ _ ended at.amid.at ran.goes less)
+
+-- all turns are gone through
+pub over : {R Found : Type 0} (hand : R → Hand) (first count i : ℕ) (part : ℕ → Found → Part Found) (begun found : Found) (old now : R)
+    → IsTurning hand first count part begun old i found now → i ≡ first + count
+    → RanPart hand (Goes (each first count part begun)) old (Ok found) now
+over hand first count i part begun found old now at all =
+    amid_over hand _ _ found old now at.amid (turns_over first count i part begun found _ _ at.amid.at all)

@@ -19,9 +19,9 @@ use Rattle.sector_model.specs.Ties.{TiesCounts}
 use Rattle.sector_model.specs.Plays.{World, Prints, IsPutFault}
 use Rattle.sector_model.proofs.PlayTies.{ran_ties, stopped_ties}
 use Rattle.commands.specs.LastLines.{stopped_text}
-use Rattle.commands.specs.Scripts.{Script, Ends, Says, Asks, Stores, MayStarve, Fails, RunsScript, unless_refused, StoresLast, IsStored, NotStored}
+use Rattle.commands.specs.Scripts.{Script, Ends, Says, Asks, Stores, MayStarve, Fails, IsPrinted, RunsScript, unless_refused, StoresLast, IsStored, NotStored}
 use Rattle.commands.specs.Parts.{asks, needs, says, may_starve}
-use Rattle.commands.specs.Leading.{IsRunOf, Leads, Goes, Finishes, Runs, with_report}
+use Rattle.commands.specs.Leading.{IsRunOf, Leads, Goes, PutsLines, Finishes, Runs, with_report}
 
 -- nothing was done yet
 pub leads_itself : (script : Script) (start : World) → Leads script start script start
@@ -142,6 +142,13 @@ said line state files before after (Ok done) put part fault = λ whole start res
 said line state files before after (Err ended) put part fault = λ whole start rest leads.
     said_cut whole start line rest state files before after ended part fault leads
 
+-- so it is, whatever the line is a part of
+pub put_whole : (lines : List (List ℕ)) (state : State) (files : Option Files) (before after : Option (List (List ℕ))) (result : Result (Unit {0}) Status)
+    → OnOk result (after ≡ grown before lines) → OnErr result (GrowsByPart before lines after) → IfErr result IsPutFault
+    → PutsLines lines (with_report state files before) result (with_report state files after)
+put_whole lines state files before after (Ok done) put part fault = record { state = refl; files = refl; report = put }
+put_whole lines state files before after (Err ended) put part fault = (record { state = refl; files = refl; report = part }, fault)
+
 -- the last line
 pub ends_here : (whole : Script) (start : World) (line : List (List ℕ)) (wanted : Status) (state : State) (files : Option Files)
     (before after : Option (List (List ℕ))) (ended : Status)
@@ -150,6 +157,12 @@ pub ends_here : (whole : Script) (start : World) (line : List (List ℕ)) (wante
 unfolding Leads
 ends_here whole start line wanted state files before after ended prints leads =
     leads _ ended (ended_by line wanted (with_report state files before) (with_report state files after) ended refl refl prints)
+
+-- so it is, whatever the worlds are
+pub ends_told : (whole : Script) (start : World) (line : List (List ℕ)) (wanted : Status) (old new : World) (ended : Status)
+    → IsPrinted (λ before after. Prints line wanted before after ended) old new → Leads whole start (Ends line wanted) old → IsRunOf whole start new ended
+unfolding Leads
+ends_told whole start line wanted old new ended printed leads = leads new ended (ended_by line wanted old new ended printed.state printed.files printed.report)
 
 -- ---- Memory, and a file that is stored.
 

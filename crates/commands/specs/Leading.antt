@@ -1,16 +1,25 @@
 -- How code goes through a script, part by part.
-use Rattle.std.specs.Prelude.{◌≡◌, ◌≢◌, ℕ, ◌+◌, ◌-◌, List, Option, Result, Ok, Err, IsErrOf}
-use Rattle.flop_base.specs.Shelf.{Files}
+use Rattle.std.specs.Prelude.{◌≡◌, ◌≢◌, ◌≤◌, ℕ, ◌+◌, ◌-◌, List, [], ◌∷◌, length, Option, Result, Ok, Err, IfOk, IfSome, IsErrOf, String, Vec, string_bytes}
+use Rattle.std.specs.declared.alloc.Global.{Global}
+use Rattle.flop_base.specs.Shelf.{Files, Loads}
+use Rattle.flop_base.specs.Sink.{grown, GrowsByPart}
+use Rattle.flop_base.specs.declared.answers.LoadError.{LoadError}
+use Rattle.flop_base.specs.declared.answers.LoadError.TheVariants as load
 use Rattle.flop_base.specs.declared.answers.Status.{Status}
 use Rattle.flop_base.specs.declared.answers.Status.TheVariants as status
+use Rattle.floppy_requests.specs.declared.request.Request.{Request}
 use Rattle.sector_model.specs.declared.reply.Reply.{Reply}
+use Rattle.sector_model.specs.declared.reply.Stop.{Stop}
 use Rattle.sector_model.specs.Faults.{Blames}
 use Rattle.sector_model.specs.States.{State}
-use Rattle.sector_model.specs.Runs.{Taken}
-use Rattle.sector_model.specs.Plays.{World}
+use Rattle.sector_model.specs.Steps.{Step, StopsAt}
+use Rattle.sector_model.specs.Texts.{stop_lines, stop_status}
+use Rattle.sector_model.specs.Runs.{Taken, Ends as EndsBays, EndStopsAt, IsEndStop}
+use Rattle.sector_model.specs.Plays.{World, Prints, Tells, IsPutFault}
 use Rattle.commands.specs.Puts.{Printed}
-use Rattle.commands.specs.Scripts.{Script, RunsScript}
-use Rattle.commands.specs.Parts.{Part, each}
+use Rattle.commands.specs.Scripts.{Script, Ends, Stores, IsPrinted, RunsScript}
+use Rattle.commands.specs.Parts.{Part, says, each}
+use Rattle.commands.specs.Texts.{MissesText}
 
 -- a script was run by some course
 unfoldable pub IsRunOf : Script → World → World → Status → Type 0
@@ -45,43 +54,137 @@ pub record IsTold (ended : Status) : Type 0 where
 abbrev pub Finishes : Script → World → World → Status → Type 0
 Finishes left old new ended = (whole : Script) (start : World) → Leads whole start left old → IsRunOf whole start new ended
 
+-- so it is with a line that was made, whatever it says
+abbrev pub SaysLine : {Z E : Type 0} → Result (String Z) E → World → Result (Unit {0}) Status → World → Type 0
+SaysLine line old result new = (text : List ℕ) → IfOk line (λ made. string_bytes made ≡ text) → Goes (says text) old result new
+
+-- what was left was the last line, which was made
+abbrev pub FinishesBy : {Z E : Type 0} → Result (String Z) E → Status → World → World → Status → Type 0
+FinishesBy line wanted old new ended =
+    (text : List ℕ) → IfOk line (λ made. string_bytes made ≡ text) → Finishes (Ends (text ∷ []) wanted) old new ended
+
+-- or a file to be stored, and then the last line
+abbrev pub StoresBy : {Z E : Type 0} → List ℕ → List ℕ → Result (String Z) E → Status → World → World → Status → Type 0
+StoresBy name bytes line wanted old new ended =
+    (text : List ℕ) → IfOk line (λ made. string_bytes made ≡ text) → Finishes (Stores name bytes text wanted) old new ended
+
 -- at a turn of a loop over numbers: the loop's other turns are left
 abbrev pub IsAtTurn : {Found : Type 0} → ℕ → ℕ → (ℕ → Found → Part Found) → Found → World → ℕ → Found → World → Type 0
 IsAtTurn {Found = Found} first count part begun old i found now =
     (whole : Script) (start : World) (rest : Found → Script)
     → Leads whole start (each first count part begun rest) old → Leads whole start (each i (first + count - i) part found rest) now
 
--- ---- With the faults that are counted.
+-- ---- Single calls, whatever they are a part of.
 
--- a world, with the faults that its shelf and its sink counted
-pub record Faulty : Type 0 where
+-- a request was answered, and nothing was printed; or it stopped the run, and that was told
+abbrev pub AsksOne : Request → World → Result Reply Status → World → Type 0
+AsksOne asked old (Ok answer) new = Step asked old.state old.files answer new.state new.files × (new.report ≡ old.report)
+AsksOne asked old (Err ended) new =
+    (cause : Stop) × StopsAt asked old.state old.files cause new.state new.files
+    × Prints (stop_lines cause) (stop_status cause) old.report new.report ended
+
+-- lines were put whole, or a part of them was
+abbrev pub PutsLines : List (List ℕ) → World → Result (Unit {0}) Status → World → Type 0
+PutsLines lines old (Ok done) new = IsPrinted (λ before after. after ≡ grown before lines) old new
+PutsLines lines old (Err ended) new = IsPrinted (λ before after. GrowsByPart before lines after) old new × IsPutFault ended
+
+-- so was a line that was made
+abbrev pub PutsLine : {Z E : Type 0} → Result (String Z) E → World → Result (Unit {0}) Status → World → Type 0
+PutsLine line old result new = (text : List ℕ) → IfOk line (λ made. string_bytes made ≡ text) → PutsLines (text ∷ []) old result new
+
+-- a last line that was made told how a command ended
+abbrev pub TellsLine : {Z E : Type 0} → Result (String Z) E → Status → World → World → Status → Type 0
+TellsLine line wanted old new ended = (text : List ℕ) → IfOk line (λ made. string_bytes made ≡ text) → Tells text wanted old new ended
+
+-- the last lines of a run that stopped did
+abbrev pub TellsStop : Stop → World → World → Status → Type 0
+TellsStop cause old new ended = IsPrinted (λ before after. Prints (stop_lines cause) (stop_status cause) before after ended) old new
+
+-- a text was loaded, and nothing changed; or it wasn't, and that was told
+abbrev pub LoadsText : List ℕ → ℕ → World → Result (Vec ℕ Global) Status → World → Type 0
+LoadsText name most old (Ok text) new = (new ≡ old) × IfSome old.files (λ files. Loads files name most (Ok text))
+LoadsText name most old (Err ended) new =
+    (cause : LoadError) × IfSome old.files (λ files. Loads files name most (Err cause))
+    × IsPrinted (λ before after. MissesText cause name before after ended) old new
+
+-- what was left in the bays was stored, or a stop came at a store
+abbrev pub Leaves : World → Result (Unit {0}) Status → World → Type 0
+Leaves old (Ok done) new = EndsBays old.state old.files new.state new.files × (new.report ≡ old.report)
+Leaves old (Err ended) new =
+    (cause : Stop) × IsEndStop cause × EndStopsAt old.state old.files new.state new.files × (ended ≡ stop_status cause)
+    × (new.report ≡ old.report)
+
+-- ---- What a command has in its hand.
+
+-- a world, the faults that its shelf and its sink counted, and the references through which it has the three
+pub record Hand : Type 0 where
   pub world : World
   pub shelf_faults : ℕ
   pub sink_faults : ℕ
+  pub session_ref : ℕ
+  pub shelf_ref : ℕ
+  pub out_ref : ℕ
 
--- a session, a shelf and a sink, by what they show
-abbrev pub world_of : {S K : Type 0} → (S → Option Files) → (K → Option (List (List ℕ))) → State → S → K → World
-world_of files report session shelf out = record { state = session; files = files shelf; report = report out }
+-- the references are the same
+pub record IsSameHand (old new : Hand) : Type 0 where
+  pub session : new.session_ref ≡ old.session_ref
+  pub shelf : new.shelf_ref ≡ old.shelf_ref
+  pub out : new.out_ref ≡ old.out_ref
 
--- with the faults that they counted
-abbrev pub faulty_of : {S K : Type 0} → (S → Option Files) → (S → ℕ) → (K → Option (List (List ℕ))) → (K → ℕ) → State → S → K → Faulty
-faulty_of files shelf_count report sink_count session shelf out =
-    record { world = world_of files report session shelf out; shelf_faults = shelf_count shelf; sink_faults = sink_count out }
-
--- a command that takes session, shelf and sink through did this, its words were a form, and a fault was counted once where its status
--- tells it, and else none was
-pub record Ran (Does : World → World → Status → Type 0) (old new : Faulty) (ended : Status) : Type 0 where
-  pub does : Does old.world new.world ended
+-- a command did this, its words were a form, and a fault was counted once where its status tells it, and else none was
+pub record Ran {R : Type 0} (hand : R → Hand) (Does : World → World → Status → Type 0) (old new : R) (ended : Status) : Type 0 where
+  pub does : Does (hand old).world (hand new).world ended
   pub is_form : ended ≢ status.BadWords
-  pub shelf_faults : Blames (ended ≡ status.FileFault) old.shelf_faults new.shelf_faults
-  pub sink_faults : Blames (ended ≡ status.SinkFault) old.sink_faults new.sink_faults
+  pub shelf_faults : Blames (ended ≡ status.FileFault) (hand old).shelf_faults (hand new).shelf_faults
+  pub sink_faults : Blames (ended ≡ status.SinkFault) (hand old).sink_faults (hand new).sink_faults
+  pub same : IsSameHand (hand old) (hand new)
 
 -- the same of a part of a command, whose error is the status
-pub record RanPart {T : Type 0} (Does : World → Result T Status → World → Type 0) (old : Faulty) (result : Result T Status) (new : Faulty) : Type 0 where
-  pub goes : Does old.world result new.world
+pub record RanPart {R T : Type 0} (hand : R → Hand) (Does : World → Result T Status → World → Type 0) (old : R) (result : Result T Status) (new : R) : Type 0 where
+  pub goes : Does (hand old).world result (hand new).world
   pub is_form : result ≢ Err status.BadWords
-  pub shelf_faults : Blames (IsErrOf result status.FileFault) old.shelf_faults new.shelf_faults
-  pub sink_faults : Blames (IsErrOf result status.SinkFault) old.sink_faults new.sink_faults
+  pub shelf_faults : Blames (IsErrOf result status.FileFault) (hand old).shelf_faults (hand new).shelf_faults
+  pub sink_faults : Blames (IsErrOf result status.SinkFault) (hand old).sink_faults (hand new).sink_faults
+  pub same : IsSameHand (hand old) (hand new)
+
+-- a call told how a command ended: its words were a form, it tells a fault of a file just where that was so before, and a fault of
+-- the sink was counted once where it tells one, and else none was
+pub record RanLast {R : Type 0} (hand : R → Hand) (Does : World → World → Status → Type 0) (FileFault : Type 0) (old new : R) (ended : Status) : Type 0 where
+  pub does : Does (hand old).world (hand new).world ended
+  pub is_form : ended ≢ status.BadWords
+  pub shelf_fault : ended ≡ status.FileFault → FileFault
+  pub fault_told : FileFault → ended ≡ status.FileFault
+  pub no_fault : (hand new).shelf_faults ≡ (hand old).shelf_faults
+  pub sink_faults : Blames (ended ≡ status.SinkFault) (hand old).sink_faults (hand new).sink_faults
+  pub same : IsSameHand (hand old) (hand new)
+
+-- a file was loaded, or why it wasn't is told: the world stays, and a fault of the shelf was counted once where that is why
+pub record HasLoaded {R : Type 0} (hand : R → Hand) (name : List ℕ) (most : ℕ) (old : R) (result : Result (Vec ℕ Global) LoadError) (new : R) : Type 0 where
+  pub gives : IfSome (hand old).world.files (λ files. Loads files name most result)
+  pub fits : IfOk result (λ bytes. length bytes.items ≤ most)
+  pub stays : (hand new).world ≡ (hand old).world
+  pub shelf_faults : Blames (IsErrOf result load.Failed) (hand old).shelf_faults (hand new).shelf_faults
+  pub no_fault : (hand new).sink_faults ≡ (hand old).sink_faults
+  pub same : IsSameHand (hand old) (hand new)
+
+-- the session alone did something
+pub record IsInSession {R : Type 0} (hand : R → Hand) (old new : R) : Type 0 where
+  pub files : (hand new).world.files ≡ (hand old).world.files
+  pub report : (hand new).world.report ≡ (hand old).world.report
+  pub no_shelf_fault : (hand new).shelf_faults ≡ (hand old).shelf_faults
+  pub no_sink_fault : (hand new).sink_faults ≡ (hand old).sink_faults
+  pub same : IsSameHand (hand old) (hand new)
+
+-- in the middle of a command, this is so of the worlds at its begin and now, and no fault was told yet
+pub record IsAmid {R : Type 0} (hand : R → Hand) (At : World → World → Type 0) (old now : R) : Type 0 where
+  pub at : At (hand old).world (hand now).world
+  pub counted : (hand now).shelf_faults ≡ (hand old).shelf_faults
+  pub stays : (hand now).sink_faults ≡ (hand old).sink_faults
+  pub same : IsSameHand (hand old) (hand now)
+
+-- at a turn of a loop over numbers in a command
+pub record IsTurning {R Found : Type 0} (hand : R → Hand) (first count : ℕ) (part : ℕ → Found → Part Found) (begun : Found) (old : R) (i : ℕ) (found : Found) (now : R) : Type 0 where
+  pub amid : IsAmid hand (λ before after. IsAtTurn first count part begun before i found after) old now
 
 -- what is done between two worlds, by some course
 pub record Runs (Does : World → List Taken → World → Status → Type 0) (old new : World) (ended : Status) : Type 0 where

@@ -5,3 +5,4 @@ pub mod Records
 pub mod Texts
 pub mod LastLines
 pub mod Puts
+pub mod Hands

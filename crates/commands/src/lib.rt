@@ -1,24 +1,27 @@
 //! What the program's commands have in common: scripts of commands over a session, and the lines of reports.
 //!
-//! A script is what a command asks, prints and stores, part by part; each function on scripts goes through one part. The lines are
-//! those that answer the requests of a job, and the last line of each way in which a run ends.
+//! A script is what a command asks, prints and stores, part by part; each function on scripts goes through one part. A command is a
+//! function over any run, which has a session, a shelf and a sink in one hand. The lines are those that answer the requests of a job,
+//! and the last line of each way in which a run ends.
 #![tactic(auto)]
 
+mod any_run;
 mod asking;
 mod lines;
 mod opening;
 mod printing;
 mod records;
-mod storing;
+mod run;
 mod texts;
 
-pub use asking::{ask, carry, is_refusal, need};
+pub use any_run::AnyRun;
+pub use asking::is_refusal;
 pub use lines::{
-    put_last, put_last_absent, put_last_bad_line, put_last_bad_words, put_last_line,
-    put_last_stopped, put_last_unfit, put_line, put_reply, reason_word, stop_status,
+    bad_line, put_last, put_last_absent, put_last_bad_line, put_last_bad_words, put_last_line,
+    put_last_unfit, put_line, reason_word, stop_status, stopped_line,
 };
-pub use opening::{acknowledge, blank_request, format_tracks, open_disk};
-pub use printing::{finish, say, whole_status};
+pub use opening::{acknowledge, blank_request, format_tracks};
+pub use printing::whole_status;
 pub use records::{TRACK_ADDRESS, record_address};
-pub use storing::store_last;
+pub use run::Run;
 pub use texts::tell_missing_text;

@@ -190,8 +190,9 @@ fn put_bad_line<K: Sink>(alloc: Global, out: &mut K, line: usize) -> Result<(), 
     put_line(out, bad_line(alloc, line))
 }
 
+/// The last line where a job's line isn't understood.
 #[tactic(auto, unfolding(sector_model::specs::Texts::bad_line_text))]
-fn bad_line(alloc: Global, line: usize) -> Result<String, AllocError>
+pub fn bad_line(alloc: Global, line: usize) -> Result<String, AllocError>
     ensures { IfOk result (λ made. string_bytes made ≡ bad_line_text line) }
 {
     format!(in alloc; "job line {line} not understood\n")
@@ -248,7 +249,7 @@ pub fn put_last_bad_line<K: Sink>(alloc: Global, out: &mut K, line: usize) -> St
 
 /// The line of a command that stopped at a refused request.
 #[tactic(auto, unfolding(crate::specs::LastLines::stopped_text))]
-fn stopped_line(alloc: Global, request: &Request, reason: Reason) -> Result<String, AllocError>
+pub fn stopped_line(alloc: Global, request: &Request, reason: Reason) -> Result<String, AllocError>
     ensures { IfOk result (λ line. string_bytes line ≡ stopped_text request.now reason) }
 {
     let word = reason_word(alloc, reason)?;

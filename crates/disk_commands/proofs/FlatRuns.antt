@@ -1,17 +1,15 @@
 -- Whole commands.
-use Rattle.std.proofs.Common.{◌≡◌, ℕ, List, Option, Result, Ok, Err, sym, subst}
-use Rattle.flop_base.specs.Shelf.{Files}
+use Rattle.std.proofs.Common.{◌≡◌, ℕ, List, Result, Ok, Err, subst}
 use Rattle.flop_base.specs.declared.answers.Rate.{Rate}
 use Rattle.flop_base.specs.declared.answers.Status.{Status}
 use Rattle.flop_base.specs.declared.answers.Status.TheVariants as status
 use Rattle.sector_model.specs.declared.reply.Stop.{Stop}
-use Rattle.sector_model.specs.States.{State}
 use Rattle.sector_model.specs.Texts.{stop_lines, stop_status}
-use Rattle.sector_model.specs.Plays.{World, Prints}
+use Rattle.sector_model.specs.Plays.{World}
 use Rattle.commands.specs.Scripts.{Script, RunsScript}
 use Rattle.commands.specs.Parts.{may_starve}
-use Rattle.commands.specs.Leading.{Finishes, Runs, with_report}
-use Rattle.commands.proofs.Running.{finished, fed, starved, ends_here}
+use Rattle.commands.specs.Leading.{Finishes, Runs, TellsStop}
+use Rattle.commands.proofs.Running.{finished, fed, starved, ends_told}
 use Rattle.disk_commands.specs.FlatFiles.{IsFlatFile, IsNotTaken, IsFlatFound}
 use Rattle.disk_commands.specs.Import.{import_script, Imports}
 
@@ -34,19 +32,16 @@ imported flat name found old new ended is goes =
     record { course = ran.course; does = (found, is, ran.does) }
 
 -- an import was run, behind the load of its flat file
-pub imported_flat : (flat name bytes : List ℕ) (rate : Rate) (state : State) (files after : Option Files)
-    (report : Option (List (List ℕ))) (new : World) (ended : Status)
-    → after ≡ files → IsFlatFile files flat bytes rate → Finishes (import_script (Ok (bytes, rate)) name) (with_report state after report) new ended
-    → Runs (Imports flat name) (with_report state files report) new ended
-imported_flat flat name bytes rate state files after report new ended same is goes =
-    imported flat name (Ok (bytes, rate)) (with_report state files report) new ended is
-    (subst (λ (f : Option Files). Finishes (import_script (Ok (bytes, rate)) name) (with_report state f report) new ended) same goes)
+pub imported_flat : (flat name bytes : List ℕ) (rate : Rate) (old mid new : World) (ended : Status)
+    → mid ≡ old → IsFlatFile old.files flat bytes rate → Finishes (import_script (Ok (bytes, rate)) name) mid new ended → Runs (Imports flat name) old new ended
+imported_flat flat name bytes rate old mid new ended same is goes =
+    imported flat name (Ok (bytes, rate)) old new ended is
+    (subst (λ (w : World). Finishes (import_script (Ok (bytes, rate)) name) w new ended) same goes)
 
 -- or it told why that isn't taken
-pub not_taken : (flat name : List ℕ) (cause : Stop) (state : State) (files after : Option Files) (report told : Option (List (List ℕ))) (ended : Status)
-    → after ≡ files → IsNotTaken files flat cause → Prints (stop_lines cause) (stop_status cause) report told ended
-    → Runs (Imports flat name) (with_report state files report) (with_report state after told) ended
-not_taken flat name cause state files after report told ended same is prints =
-    subst (λ (f : Option Files). Runs (Imports flat name) (with_report state files report) (with_report state f told) ended) (sym same)
-    (imported flat name (Err cause) (with_report state files report) (with_report state files told) ended is
-    (λ whole start leads. ends_here whole start (stop_lines cause) (stop_status cause) state files report told ended prints leads))
+pub not_taken : (flat name : List ℕ) (cause : Stop) (old mid new : World) (ended : Status)
+    → mid ≡ old → IsNotTaken old.files flat cause → TellsStop cause mid new ended → Runs (Imports flat name) old new ended
+not_taken flat name cause old mid new ended same is told =
+    imported flat name (Err cause) old new ended is
+    (λ whole start leads. ends_told whole start (stop_lines cause) (stop_status cause) old new ended
+    (subst (λ (w : World). TellsStop cause w new ended) same told) leads)

@@ -1,11 +1,8 @@
 -- The tracks of a disk with two heads, one after the other.
-use Rattle.std.proofs.Common.{◌≡◌, ℕ, zero, suc, ◌+◌, ◌*◌, ◌/◌, ◌%◌, refl, ap, ◌∙◌, sym, subst, Result, arith}
+use Rattle.std.proofs.Common.{◌≡◌, ℕ, zero, suc, ◌+◌, ◌*◌, ◌/◌, ◌%◌, refl, ap, ◌∙◌, sym, arith}
 use Rattle.std.proofs.Math.Path.{fun_ext}
-use Rattle.flop_base.specs.declared.answers.Status.{Status}
-use Rattle.sector_model.specs.Plays.{World}
 use Rattle.commands.specs.Scripts.{Script}
 use Rattle.commands.specs.Parts.{Part, through, each, by_track}
-use Rattle.commands.specs.Leading.{Goes}
 
 -- the part of a track, by its number
 abbrev pub of_track : {Found : Type 0} → (ℕ → ℕ → Found → Part Found) → ℕ → Found → Part Found
@@ -41,8 +38,7 @@ tracks_are {Found = Found} i (suc n) part found rest =
     ∙ rw (c, h, same_c, other_h) (ap (λ (r : Found → Script). part i 0 found (λ now. part i 1 now r)) later)
     ∙ sym (two_more (2 * i) (2 * n) (of_track part) found rest) ∙ ap (λ k. each (2 * i) k (of_track part) found rest) (sym count)
 
--- all tracks were gone through, one after the other
-pub by_tracks : {Found : Type 0} (n : ℕ) (part : ℕ → ℕ → Found → Part Found) (begun : Found) (old new : World) (result : Result Found Status)
-    → Goes (each 0 (2 * n) (of_track part) begun) old result new → Goes (by_track n 2 part begun) old result new
-by_tracks {Found = Found} n part begun old new result goes =
-    subst (λ (all : Part Found). Goes all old result new) (sym (fun_ext (λ (rest : Found → Script). tracks_are 0 n part begun rest))) goes
+-- so it is with all tracks of a disk
+pub tracks_same : {Found : Type 0} (n : ℕ) (part : ℕ → ℕ → Found → Part Found) (begun : Found)
+    → each 0 (2 * n) (of_track part) begun ≡ by_track n 2 part begun
+tracks_same {Found = Found} n part begun = sym (fun_ext (λ (rest : Found → Script). tracks_are 0 n part begun rest))

@@ -1,20 +1,29 @@
--- What a `?` gives on.
-use Rattle.std.specs.Prelude.{IsErrAnd}
-use Rattle.std.proofs.Common.{◌≡◌, List, ℕ, Result, Ok, Err, sym, subst}
+-- The turns of a loop that puts bytes behind an argument.
+use Rattle.std.proofs.Common.{◌≡◌, ◌<◌, ◌+◌, List, ℕ, Ok, Err}
 use Rattle.flop_base.specs.declared.answers.Status.{Status}
-use Rattle.sector_model.specs.Plays.{World}
-use Rattle.commands.specs.Parts.{Part}
-use Rattle.commands.specs.Leading.{Goes}
+use Rattle.commands.specs.Parts.{Part, each}
+use Rattle.commands.specs.Leading.{Hand, IsTurning, RanPart}
+use Rattle.commands.proofs.Looping.{turn_goes, turn_ends, turns_over, amid_goes, amid_ends, amid_over}
 use Rattle.disk_commands.specs.Export.{GoesOn}
 
--- a part that ended the script, whose status is given on
-pub given_on : {Found : Type 0} (part : Part Found) (old new : World) (ended : Status) (result : Result Found Status)
-    → IsErrAnd result (λ given. given ≡ ended) → Goes part old (Err ended) new → Goes part old result new
-given_on part old new ended (Ok found) is goes = absurd is
-given_on part old new ended (Err given) is goes = subst (λ (e : Status). Goes part old (Err e) new) (sym is) goes
+-- a turn is gone through
+pub bytes_go : {R : Type 0} (hand : R → Hand) (first count i : ℕ) (part : ℕ → List ℕ → Part (List ℕ)) (begun found next : List ℕ) (old mid new : R)
+    → IsTurning hand first count part begun old i found mid → RanPart hand (GoesOn (part i found) next) mid (Ok tt) new → i < first + count
+    → IsTurning hand first count part begun old (i + 1) next new
+bytes_go hand first count i part begun found next old mid new at ran less = record {
+  amid = amid_goes hand _ _ _ tt old mid new at.amid ran (turn_goes first count i part begun found next _ _ _ at.amid.at ran.goes less);
+}
 
--- so with a part that finds bytes behind an argument
-pub given_behind : (part : Part (List ℕ)) (bytes : List ℕ) (old new : World) (ended : Status) (result : Result (Unit {0}) Status)
-    → IsErrAnd result (λ given. given ≡ ended) → Goes part old (Err ended) new → GoesOn part bytes old result new
-given_behind part bytes old new ended (Ok done) is goes = absurd is
-given_behind part bytes old new ended (Err given) is goes = subst (λ (e : Status). Goes part old (Err e) new) (sym is) goes
+-- a turn ends the script, whatever the bytes are then
+pub bytes_end : {R : Type 0} (hand : R → Hand) (first count i : ℕ) (part : ℕ → List ℕ → Part (List ℕ)) (begun found next : List ℕ) (old mid new : R) (ended : Status)
+    → IsTurning hand first count part begun old i found mid → RanPart hand (GoesOn (part i found) next) mid (Err ended) new → i < first + count
+    → RanPart hand (GoesOn (each first count part begun) next) old (Err ended) new
+bytes_end hand first count i part begun found next old mid new ended at ran less =
+    amid_ends hand _ _ _ ended old mid new at.amid ran (turn_ends first count i part begun found _ _ _ ended at.amid.at ran.goes less)
+
+-- all turns are gone through
+pub bytes_over : {R : Type 0} (hand : R → Hand) (first count i : ℕ) (part : ℕ → List ℕ → Part (List ℕ)) (begun found : List ℕ) (old now : R)
+    → IsTurning hand first count part begun old i found now → i ≡ first + count
+    → RanPart hand (GoesOn (each first count part begun) found) old (Ok tt) now
+bytes_over hand first count i part begun found old now at all =
+    amid_over hand _ _ tt old now at.amid (turns_over first count i part begun found _ _ at.amid.at all)

@@ -4,7 +4,7 @@ use Rattle.flop_base.specs.Sink.{grown}
 use Rattle.flop_base.specs.declared.key.Chrn.{Chrn}
 use Rattle.flop_base.specs.declared.answers.Status.{Status}
 use Rattle.flop_base.specs.declared.answers.Status.TheVariants as status
-use Rattle.sector_model.specs.Plays.{World}
+use Rattle.sector_model.specs.Plays.{World, Prints, Whole, Part, IsPutFault}
 use Rattle.floppy_session.specs.declared.shape.Shape.{Shape}
 use Rattle.commands.specs.Scripts.{Script, Stores}
 use Rattle.commands.specs.Leading.{Leads, Finishes}
@@ -15,6 +15,12 @@ use Rattle.rescue.specs.declared.line.LogLine.{LogLine}
 use Rattle.rescue.specs.declared.outcome.Outcome.{Outcome}
 use Rattle.disk_commands.specs.Logs.{lines_found}
 use Rattle.disk_commands.specs.Rescue.{stores_log, last_text, outcome_of, asked_keys, rescues_all, rescue_found}
+
+-- a last line tells no fault of a file
+pub no_file_fault : (lines : List (List ℕ)) (wanted : Status) (report after : Option (List (List ℕ))) (ended : Status) → (wanted ≡ status.FileFault → ⊥)
+    → Prints lines wanted report after ended → ended ≡ status.FileFault → ⊥
+no_file_fault lines wanted report after ended other (Whole told same) is = other (sym same ∙ is)
+no_file_fault lines wanted report after ended other (Part grows fault) is = subst IsPutFault is fault
 
 nothing_more : (report : Option (List (List ℕ))) → report ≡ grown report []
 nothing_more None = refl

@@ -3,52 +3,40 @@ ghost use Rattle.std.specs.Prelude.{◌≡◌, ◌+◌, ◌≤◌, ◌++◌, IfO
 ghost use Rattle.flop_base.specs.Memory.{user_bytes, bytes_from};
 ghost use Rattle.commands.specs.Scripts.{RunsScript};
 ghost use Rattle.commands.specs.Parts.{by_track};
-ghost use Rattle.commands.specs.Leading.{RanPart, Ran, Runs, faulty_of};
+ghost use Rattle.commands.specs.Leading.{RanPart, Ran, Runs};
 ghost use Rattle.disk_commands.specs.Import.{sectors_of};
 ghost use Rattle.disk_commands.specs.Export.{reads_record, reads_track, reads_disk, export_text, export_script, GoesOn};
 
 use crate::import::CYLINDERS;
-use commands::{acknowledge, need, open_disk, record_address, store_last};
+use commands::{AnyRun, acknowledge, record_address};
 use flop_base::standard::SIZE_CODE;
-use flop_base::{Chrn, Name, NoMemory, Rate, Shelf, Sink, Status};
+use flop_base::{Chrn, Name, NoMemory, Rate, Status};
 use floppy_requests::Request;
-use floppy_session::Session;
-use sector_model::Station;
 use std::alloc::{AllocError, Global};
 
 /// Puts bytes of memory behind those of a flat file.
-fn gather<D: Station>(
-    session: &Session<D>,
-    address: u32,
-    count: u32,
-    flat: &mut Vec<u8>,
-) -> Result<(), NoMemory>
+fn gather<R: AnyRun>(run: &R, address: u32, count: u32, flat: &mut Vec<u8>) -> Result<(), NoMemory>
     requires { address + count ≤ user_bytes }
-    ensures { OnOk result (flat.new.items ≡ flat.old.items ++ bytes_from session.now.station.memory address count) }
+    ensures { OnOk result (flat.new.items ≡ flat.old.items ++ bytes_from (R.hand run.now).world.state.station.memory address count) }
 {
     for i in 0..count {
-        flat.push(session.station().memory(address + i))?;
+        flat.push(run.memory(address + i))?;
     }
     Ok(())
 }
 
 /// Reads a record to its own place, and puts its bytes behind those of the flat file.
 #[tactic(auto, using(commands::proofs::Running::starved), unfolding(crate::specs::Export::reads_record))]
-fn read_record<S: Shelf, K: Sink, D: Station>(
-    alloc: Global,
-    session: &mut Session<D>,
+fn read_record<R: AnyRun>(
+    run: &mut R,
     c: u8,
     h: u8,
     r: u8,
     flat: &mut Vec<u8>,
-    shelf: &mut S,
-    out: &mut K,
 ) -> Result<(), Status>
     requires least { 1 ≤ r }
     requires most { r ≤ 18 }
-    ensures { RanPart (GoesOn (reads_record c h r flat.old.items) flat.new.items)
-        (faulty_of S.told S.fault_count K.told K.fault_count session.old shelf.old out.old) result
-        (faulty_of S.told S.fault_count K.told K.fault_count session.new shelf.new out.new) }
+    ensures { RanPart R.hand (GoesOn (reads_record c h r flat.old.items) flat.new.items) run.old result run.new }
 {
     let n = SIZE_CODE;
     let key = Chrn { c, h, r, n };
@@ -58,79 +46,47 @@ fn read_record<S: Shelf, K: Sink, D: Station>(
         key,
         address,
     };
-    need(alloc, session, &read, shelf, out)?;
-    match gather(session, address, 512, flat) {
+    run.need(&read)?;
+    match gather(run, address, 512, flat) {
         Ok(()) => Ok(()),
         Err(NoMemory) => Err(Status::NoMemory),
     }
 }
 
 /// Reads the records of a track.
-fn read_track<S: Shelf, K: Sink, D: Station>(
-    alloc: Global,
-    session: &mut Session<D>,
+fn read_track<R: AnyRun>(
+    run: &mut R,
     sectors: u8,
     c: u8,
     h: u8,
     flat: &mut Vec<u8>,
-    shelf: &mut S,
-    out: &mut K,
 ) -> Result<(), Status>
     requires most { sectors ≤ 18 }
-    ensures { RanPart (GoesOn (reads_track sectors c h flat.old.items) flat.new.items)
-        (faulty_of S.told S.fault_count K.told K.fault_count session.old shelf.old out.old) result
-        (faulty_of S.told S.fault_count K.told K.fault_count session.new shelf.new out.new) }
+    ensures { RanPart R.hand (GoesOn (reads_track sectors c h flat.old.items) flat.new.items) run.old result run.new }
 {
     for r in 1..sectors + 1 {
-        read_record(alloc, session, c, h, r, flat, shelf, out)?;
+        read_record(run, c, h, r, flat)?;
     }
     Ok(())
 }
 
 /// Reads all tracks, by cylinder, then head.
-fn read_tracks<S: Shelf, K: Sink, D: Station>(
-    alloc: Global,
-    session: &mut Session<D>,
-    sectors: u8,
-    flat: &mut Vec<u8>,
-    shelf: &mut S,
-    out: &mut K,
-) -> Result<(), Status>
+fn read_tracks<R: AnyRun>(run: &mut R, sectors: u8, flat: &mut Vec<u8>) -> Result<(), Status>
     requires most { sectors ≤ 18 }
-    ensures { RanPart (GoesOn (by_track 80 2 (reads_track sectors) flat.old.items) flat.new.items)
-        (faulty_of S.told S.fault_count K.told K.fault_count session.old shelf.old out.old) result
-        (faulty_of S.told S.fault_count K.told K.fault_count session.new shelf.new out.new) }
+    ensures { RanPart R.hand (GoesOn (by_track 80 2 (reads_track sectors) flat.old.items) flat.new.items) run.old result run.new }
 {
     for track in 0..2 * CYLINDERS {
-        read_track(
-            alloc,
-            session,
-            sectors,
-            track / 2,
-            track % 2,
-            flat,
-            shelf,
-            out,
-        )?;
+        read_track(run, sectors, track / 2, track % 2, flat)?;
     }
     Ok(())
 }
 
 /// Reads all records of the disk in bay 0, which is at this rate.
-fn read_disk<S: Shelf, K: Sink, D: Station>(
-    alloc: Global,
-    session: &mut Session<D>,
-    rate: Rate,
-    flat: &mut Vec<u8>,
-    shelf: &mut S,
-    out: &mut K,
-) -> Result<(), Status>
-    ensures { RanPart (GoesOn (reads_disk rate flat.old.items) flat.new.items)
-        (faulty_of S.told S.fault_count K.told K.fault_count session.old shelf.old out.old) result
-        (faulty_of S.told S.fault_count K.told K.fault_count session.new shelf.new out.new) }
+fn read_disk<R: AnyRun>(run: &mut R, rate: Rate, flat: &mut Vec<u8>) -> Result<(), Status>
+    ensures { RanPart R.hand (GoesOn (reads_disk rate flat.old.items) flat.new.items) run.old result run.new }
 {
-    acknowledge(alloc, session, 0, rate, shelf, out)?;
-    read_tracks(alloc, session, rate.sectors(), flat, shelf, out)
+    acknowledge(run, 0, rate)?;
+    read_tracks(run, rate.sectors(), flat)
 }
 
 #[tactic(auto, unfolding(crate::specs::Export::export_text))]
@@ -144,27 +100,18 @@ fn export_line(alloc: Global, rate: Rate) -> Result<String, AllocError>
 /// Stores the bytes of all records of a disk, by cylinder, then head, then record, in a flat file. It prints how many there are, or
 /// what stopped it: a record that can't be read, or one that isn't there.
 #[tactic(auto, using(commands::proofs::Running::finished))]
-pub fn export_disk<S: Shelf, K: Sink, D: Station>(
-    alloc: Global,
-    session: &mut Session<D>,
-    name: Name,
-    flat: Name,
-    shelf: &mut S,
-    out: &mut K,
-) -> Status
-    ensures { Ran (Runs (RunsScript (export_script name flat)))
-        (faulty_of S.told S.fault_count K.told K.fault_count session.old shelf.old out.old)
-        (faulty_of S.told S.fault_count K.told K.fault_count session.new shelf.new out.new) result }
+pub fn export_disk<R: AnyRun>(run: &mut R, name: Name, flat: Name) -> Status
+    ensures { Ran R.hand (Runs (RunsScript (export_script name flat))) run.old run.new result }
 {
-    let shape = match open_disk(alloc, session, name, shelf, out) {
+    let shape = match run.open_disk(name) {
         Ok(shape) => shape,
         Err(ended) => return ended,
     };
-    let mut bytes = Vec::new(alloc);
-    match read_disk(alloc, session, shape.rate, &mut bytes, shelf, out) {
+    let mut bytes = Vec::new(run.alloc());
+    match read_disk(run, shape.rate, &mut bytes) {
         Ok(()) => {
-            let line = export_line(alloc, shape.rate);
-            store_last(flat.as_str(), &bytes, line, Status::AllOk, shelf, out)
+            let line = export_line(run.alloc(), shape.rate);
+            run.store_last(flat.as_str(), &bytes, line, Status::AllOk)
         }
         Err(ended) => ended,
     }

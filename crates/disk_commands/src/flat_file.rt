@@ -1,14 +1,14 @@
 // Flat files on a shelf.
-ghost use Rattle.std.specs.Prelude.{◌≡◌, length, IfOk, IfErr, IsErrOf};
+ghost use Rattle.std.specs.Prelude.{◌≡◌};
 ghost use Rattle.flop_base.specs.Standard.{sectors_at};
-ghost use Rattle.flat_files.specs.Flat.{IsDensity, flat_length};
-ghost use Rattle.sector_model.specs.Faults.{Blames};
-ghost use Rattle.disk_commands.specs.FlatFiles.{IsFlatFile, IsNotTaken, StopsFor};
+ghost use Rattle.flat_files.specs.Flat.{IsDensity};
+ghost use Rattle.disk_commands.specs.FlatFiles.{StopsFor};
+ghost use Rattle.disk_commands.specs.FlatLoads.{LoadsFlat};
 
+use commands::AnyRun;
 use flat_files::check;
-use flop_base::{LoadError, Name, Rate, Shelf};
+use flop_base::{LoadError, Name, Rate};
 use sector_model::Stop;
-use std::alloc::Global;
 
 /// The most bytes of a flat file: 80 cylinders of 2 heads with 18 records.
 const MOST_FLAT_BYTES: usize = 1_474_560;
@@ -22,18 +22,10 @@ pub(crate) struct FlatFile {
 }
 
 /// Loads the flat file of this name: 737,280 bytes for a disk at 250 kbit/s, 1,474,560 for one at 500 kbit/s.
-pub(crate) fn load_flat<S: Shelf>(
-    alloc: Global,
-    shelf: &mut S,
-    name: Name,
-) -> Result<FlatFile, Stop>
-    ensures flat { IfOk result (λ flat. IsFlatFile (S.told shelf.old) name flat.bytes.items flat.rate) }
-    ensures size { IfOk result (λ flat. length flat.bytes.items ≡ flat_length (sectors_at flat.rate)) }
-    ensures cause { IfErr result (λ stop. IsNotTaken (S.told shelf.old) name stop) }
-    ensures stays { S.told shelf.new ≡ S.told shelf.old }
-    ensures faults { Blames (IsErrOf result Stop.FileFault) (S.fault_count shelf.old) (S.fault_count shelf.new) }
+pub(crate) fn load_flat<R: AnyRun>(run: &mut R, name: Name) -> Result<FlatFile, Stop>
+    ensures { LoadsFlat R.hand name run.old result run.new }
 {
-    let bytes = match shelf.load(alloc, name.as_str(), MOST_FLAT_BYTES) {
+    let bytes = match run.load(name.as_str(), MOST_FLAT_BYTES) {
         Ok(bytes) => bytes,
         Err(error) => return Err(stop_at_load(name, error)),
     };

@@ -1,12 +1,12 @@
 // The log's file.
 ghost use Rattle.std.specs.Prelude.{◌≡◌, IfOk, string_bytes};
-ghost use Rattle.commands.specs.Puts.{printed_of};
+ghost use Rattle.commands.specs.Leading.{Finishes, RanLast};
 ghost use Rattle.disk_commands.specs.Logs.{NotUnderstood, NotLoaded};
 ghost use Rattle.disk_commands.specs.Rescue.{bad_log_text, tells_no_log};
-ghost use Rattle.disk_commands.specs.RescueLeading.{Finds, Tells, shelved_of};
+ghost use Rattle.disk_commands.specs.RescueLeading.{Finds};
 
-use commands::finish;
-use flop_base::{LoadError, Name, Shelf, Sink, Status};
+use commands::AnyRun;
+use flop_base::{LoadError, Name, Status};
 use rescue::{LogError, LogLine, read_log};
 use std::alloc::{AllocError, Global};
 
@@ -25,16 +25,15 @@ pub(crate) enum NoLog {
 }
 
 /// The lines of the log under this name, of a diskette with so many sectors on a track; nothing where there is no log.
-pub(crate) fn find_log<S: Shelf>(
-    alloc: Global,
+pub(crate) fn find_log<R: AnyRun>(
+    run: &mut R,
     name: &Name,
     sectors: u8,
-    shelf: &mut S,
 ) -> Result<Option<Vec<LogLine>>, NoLog>
-    ensures { Finds name.now sectors (shelved_of S.told S.fault_count shelf.old) (shelved_of S.told S.fault_count shelf.new) result }
+    ensures { Finds R.hand name.now sectors run.old result run.new }
 {
-    match shelf.load(alloc, name.as_str(), MOST_LOG_BYTES) {
-        Ok(bytes) => match read_log(alloc, &bytes, sectors) {
+    match run.load(name.as_str(), MOST_LOG_BYTES) {
+        Ok(bytes) => match read_log(run.alloc(), &bytes, sectors) {
             Ok(lines) => Ok(Some(lines)),
             Err(error) => Err(not_understood(error)),
         },
@@ -73,12 +72,11 @@ fn bad_log_line(alloc: Global, line: usize) -> Result<String, AllocError>
 
 /// Tells why a log wasn't had.
 #[tactic(auto, using(commands::proofs::Running::fails_here), unfolding(crate::specs::Rescue::tells_no_log))]
-pub(crate) fn tell_no_log<K: Sink>(alloc: Global, cause: NoLog, out: &mut K) -> Status
-    ensures { Tells (tells_no_log cause) (cause ≡ NoLog.FileFault)
-        (printed_of K.told K.fault_count out.old) (printed_of K.told K.fault_count out.new) result }
+pub(crate) fn tell_no_log<R: AnyRun>(run: &mut R, cause: NoLog) -> Status
+    ensures { RanLast R.hand (Finishes (tells_no_log cause)) (cause ≡ NoLog.FileFault) run.old run.new result }
 {
     match cause {
-        NoLog::BadLine { line } => finish(out, bad_log_line(alloc, line), Status::BadJob),
+        NoLog::BadLine { line } => run.finish(bad_log_line(run.alloc(), line), Status::BadJob),
         NoLog::FileFault => Status::FileFault,
         NoLog::NoMemory => Status::NoMemory,
     }

@@ -1,17 +1,14 @@
 // The records that are asked for: each is read, and then written or logged.
 ghost use Rattle.std.specs.Prelude.{◌≡◌, [], ◌∷◌, ◌++◌, IfOk};
 ghost use Rattle.commands.specs.Parts.{through};
-ghost use Rattle.commands.specs.Puts.{printed_of};
-ghost use Rattle.commands.specs.Leading.{RanPart, faulty_of};
+ghost use Rattle.commands.specs.Leading.{Finishes, Ran, RanPart};
 ghost use Rattle.disk_commands.specs.Rescue.{after_answer, gives_up, does_next, follows, rescues};
-ghost use Rattle.disk_commands.specs.RescueLeading.{HasNextTries, LogGoes, Tells};
+ghost use Rattle.disk_commands.specs.RescueLeading.{HasNextTries, LogGoes};
 
-use commands::{ask, carry, put_last_stopped};
-use flop_base::{Chrn, NoMemory, Shelf, Sink, Status};
-use floppy_session::Session;
+use commands::{AnyRun, stopped_line};
+use flop_base::{Chrn, NoMemory, Status};
 use rescue::{AfterRead, LogLine, after_read, read_request};
-use sector_model::{Reason, Reply, Station};
-use std::alloc::Global;
+use sector_model::{Reason, Reply};
 
 /// What the answer to the read of a record says is next; an error where no drive gives it.
 fn next_of(key: Chrn, reply: &Reply) -> Result<AfterRead, Reason>
@@ -27,10 +24,11 @@ fn next_of(key: Chrn, reply: &Reply) -> Result<AfterRead, Reason>
 }
 
 /// Tells that the read of a record was refused so that the rescue ends there.
-fn give_up<K: Sink>(alloc: Global, key: Chrn, reason: Reason, out: &mut K) -> Status
-    ensures { Tells (gives_up key reason) ⊥ (printed_of K.told K.fault_count out.old) (printed_of K.told K.fault_count out.new) result }
+fn give_up<R: AnyRun>(run: &mut R, key: Chrn, reason: Reason) -> Status
+    ensures { Ran R.hand (Finishes (gives_up key reason)) run.old run.new result }
 {
-    put_last_stopped(alloc, out, &read_request(key), reason)
+    let line = stopped_line(run.alloc(), &read_request(key), reason);
+    run.finish(line, Status::SomeRefused)
 }
 
 /// Puts a line behind a log.
@@ -45,87 +43,64 @@ fn push_line(mut log: Vec<LogLine>, line: LogLine) -> Result<Vec<LogLine>, NoMem
 
 /// Writes a record, or puts its line behind the log, or ends the rescue.
 #[tactic(auto, using(commands::proofs::Running::fed, commands::proofs::Running::starved), unfolding(crate::specs::Rescue::does_next))]
-fn do_next<S: Shelf, K: Sink, D: Station>(
-    alloc: Global,
-    session: &mut Session<D>,
+fn do_next<R: AnyRun>(
+    run: &mut R,
     key: Chrn,
     next: AfterRead,
     log: Vec<LogLine>,
-    shelf: &mut S,
-    out: &mut K,
 ) -> Result<Vec<LogLine>, Status>
     requires tries { HasNextTries next }
-    ensures { RanPart (LogGoes (does_next key (Ok next) log.items))
-        (faulty_of S.told S.fault_count K.told K.fault_count session.old shelf.old out.old) result
-        (faulty_of S.told S.fault_count K.told K.fault_count session.new shelf.new out.new) }
+    ensures { RanPart R.hand (LogGoes (does_next key (Ok next) log.items)) run.old result run.new }
 {
     match next {
         AfterRead::Write(request) => {
-            carry(alloc, session, &request, shelf, out)?;
+            run.carry(&request)?;
             Ok(log)
         }
         AfterRead::Log(line) => match push_line(log, line) {
             Ok(log) => Ok(log),
             Err(_) => Err(Status::NoMemory),
         },
-        AfterRead::Stop(code) => Err(give_up(alloc, key, Reason::Driver(code), out)),
+        AfterRead::Stop(code) => Err(give_up(run, key, Reason::Driver(code))),
     }
 }
 
 /// Does what follows the answer to the read of a record, and gives the log.
 #[tactic(auto, unfolding(crate::specs::Rescue::follows, crate::specs::Rescue::does_next))]
-fn follow<S: Shelf, K: Sink, D: Station>(
-    alloc: Global,
-    session: &mut Session<D>,
+fn follow<R: AnyRun>(
+    run: &mut R,
     key: Chrn,
     reply: &Reply,
     log: Vec<LogLine>,
-    shelf: &mut S,
-    out: &mut K,
 ) -> Result<Vec<LogLine>, Status>
-    ensures { RanPart (LogGoes (follows key reply.now log.items))
-        (faulty_of S.told S.fault_count K.told K.fault_count session.old shelf.old out.old) result
-        (faulty_of S.told S.fault_count K.told K.fault_count session.new shelf.new out.new) }
+    ensures { RanPart R.hand (LogGoes (follows key reply.now log.items)) run.old result run.new }
 {
     match next_of(key, reply) {
-        Ok(next) => do_next(alloc, session, key, next, log, shelf, out),
-        Err(reason) => Err(give_up(alloc, key, reason, out)),
+        Ok(next) => do_next(run, key, next, log),
+        Err(reason) => Err(give_up(run, key, reason)),
     }
 }
 
 /// Reads a record and writes it to the other diskette, or puts its line behind the log.
 #[tactic(auto, unfolding(crate::specs::Rescue::rescues))]
-fn rescue_record<S: Shelf, K: Sink, D: Station>(
-    alloc: Global,
-    session: &mut Session<D>,
+fn rescue_record<R: AnyRun>(
+    run: &mut R,
     key: Chrn,
     log: Vec<LogLine>,
-    shelf: &mut S,
-    out: &mut K,
 ) -> Result<Vec<LogLine>, Status>
-    ensures { RanPart (LogGoes (rescues key log.items))
-        (faulty_of S.told S.fault_count K.told K.fault_count session.old shelf.old out.old) result
-        (faulty_of S.told S.fault_count K.told K.fault_count session.new shelf.new out.new) }
+    ensures { RanPart R.hand (LogGoes (rescues key log.items)) run.old result run.new }
 {
-    let reply = ask(alloc, session, &read_request(key), shelf, out)?;
-    follow(alloc, session, key, &reply, log, shelf, out)
+    let reply = run.ask(&read_request(key))?;
+    follow(run, key, &reply, log)
 }
 
 /// Rescues records, one after the other, and gives the new log.
-pub(crate) fn rescue_records<S: Shelf, K: Sink, D: Station>(
-    alloc: Global,
-    session: &mut Session<D>,
-    keys: &[Chrn],
-    shelf: &mut S,
-    out: &mut K,
-) -> Result<Vec<LogLine>, Status>
-    ensures { RanPart (LogGoes (through rescues keys.now []))
-        (faulty_of S.told S.fault_count K.told K.fault_count session.old shelf.old out.old) result
-        (faulty_of S.told S.fault_count K.told K.fault_count session.new shelf.new out.new) }
+pub(crate) fn rescue_records<R: AnyRun>(run: &mut R, keys: &[Chrn]) -> Result<Vec<LogLine>, Status>
+    ensures { RanPart R.hand (LogGoes (through rescues keys.now [])) run.old result run.new }
 {
-    let mut log = Vec::new(alloc);
+    let mut log = Vec::new(run.alloc());
     for key in keys {
-        log = rescue_record(alloc, session, *key, log, shelf, out)?;
+        log = rescue_record(run, *key, log)?;
     }
     Ok(log)
 }

@@ -1,6 +1,6 @@
 // The rescue of a diskette.
-ghost use Rattle.std.specs.Prelude.{◌≡◌, length, IfOk, string_bytes};
-ghost use Rattle.commands.specs.Leading.{Runs, Ran, RanPart, Finishes, faulty_of};
+ghost use Rattle.std.specs.Prelude.{◌≡◌, IfOk, string_bytes};
+ghost use Rattle.commands.specs.Leading.{Runs, Ran, RanPart, Finishes};
 ghost use Rattle.disk_commands.specs.Logs.{lines_found};
 ghost use Rattle.disk_commands.specs.Rescue.{asked_keys, rescues_all, outcome_of, last_text, stores_log, rescue_found, Rescues};
 ghost use Rattle.disk_commands.specs.RescueLeading.{LogGoes, FinishesFound};
@@ -8,12 +8,11 @@ ghost use Rattle.disk_commands.specs.RescueLeading.{LogGoes, FinishesFound};
 use crate::logs::{find_log, tell_no_log};
 use crate::prepare::prepare;
 use crate::records::rescue_records;
-use commands::{carry, open_disk, store_last};
-use flop_base::{Chrn, Name, NoMemory, Shelf, Sink, Status};
+use commands::AnyRun;
+use flop_base::{Chrn, Name, NoMemory, Status};
 use floppy_requests::Request;
-use floppy_session::{Session, Shape};
+use floppy_session::Shape;
 use rescue::{LogLine, Outcome, logged_keys, standard_keys, write_log};
-use sector_model::Station;
 use std::alloc::{AllocError, Global};
 
 /// The records that are asked for: those of the log, or all where there is none.
@@ -32,31 +31,25 @@ fn asked_keys(
 
 /// Rescues the records to the other diskette, and stores that. It gives the new log.
 #[tactic(auto, unfolding(crate::specs::Rescue::rescues_all))]
-fn rescue_all<S: Shelf, K: Sink, D: Station>(
-    alloc: Global,
-    session: &mut Session<D>,
+fn rescue_all<R: AnyRun>(
+    run: &mut R,
     to: Name,
     shape: Shape,
     logged: bool,
     keys: &[Chrn],
-    shelf: &mut S,
-    out: &mut K,
 ) -> Result<Vec<LogLine>, Status>
-    ensures { RanPart (LogGoes (rescues_all to shape logged keys.now))
-        (faulty_of S.told S.fault_count K.told K.fault_count session.old shelf.old out.old) result
-        (faulty_of S.told S.fault_count K.told K.fault_count session.new shelf.new out.new) }
+    ensures { RanPart R.hand (LogGoes (rescues_all to shape logged keys.now)) run.old result run.new }
 {
-    prepare(alloc, session, to, shape, logged, shelf, out)?;
-    let log = rescue_records(alloc, session, keys, shelf, out)?;
-    carry(alloc, session, &Request::Eject { bay: 1 }, shelf, out)?;
+    prepare(run, to, shape, logged)?;
+    let log = rescue_records(run, keys)?;
+    run.carry(&Request::Eject { bay: 1 })?;
     Ok(log)
 }
 
 /// How a rescue ended that left these lines.
-fn outcome(asked: &[Chrn], lines: &[LogLine]) -> Outcome
-    ensures { result ≡ outcome_of (length asked.now) lines.now }
+fn outcome(asked: usize, lines: &[LogLine]) -> Outcome
+    ensures { result ≡ outcome_of asked lines.now }
 {
-    let asked = asked.len();
     Outcome {
         written: asked.saturating_sub(lines.len()),
         asked,
@@ -69,90 +62,45 @@ fn last_line(alloc: Global, outcome: Outcome) -> Result<String, AllocError>
     format!(in alloc; "{outcome}\n")
 }
 
-/// Rescues these records, and stores the new log, also where it is empty, and tells how many were written.
+/// Stores the new log, also where it is empty, and tells how many of the records that were asked for were written.
 #[tactic(auto, using(commands::proofs::Running::starved), unfolding(crate::specs::Rescue::stores_log))]
-fn rescue_keys<S: Shelf, K: Sink, D: Station>(
-    alloc: Global,
-    session: &mut Session<D>,
-    to: Name,
-    log: &Name,
-    shape: Shape,
-    logged: bool,
-    keys: &[Chrn],
-    shelf: &mut S,
-    out: &mut K,
-) -> Status
-    ensures { Ran (Finishes (rescues_all to shape logged keys.now (stores_log log.now (length keys.now))))
-        (faulty_of S.told S.fault_count K.told K.fault_count session.old shelf.old out.old)
-        (faulty_of S.told S.fault_count K.told K.fault_count session.new shelf.new out.new) result }
+fn store_log<R: AnyRun>(run: &mut R, log: &Name, asked: usize, lines: &[LogLine]) -> Status
+    ensures { Ran R.hand (Finishes (stores_log log.now asked lines.now)) run.old run.new result }
 {
-    let lines = match rescue_all(alloc, session, to, shape, logged, keys, shelf, out) {
-        Ok(lines) => lines,
-        Err(ended) => return ended,
-    };
-    let Ok(bytes) = write_log(alloc, &lines) else {
+    let Ok(bytes) = write_log(run.alloc(), lines) else {
         return Status::NoMemory;
     };
-    let outcome = outcome(keys, &lines);
-    let status = outcome.status();
-    store_last(
-        log.as_str(),
-        &bytes,
-        last_line(alloc, outcome),
-        status,
-        shelf,
-        out,
-    )
+    let outcome = outcome(asked, lines);
+    let line = last_line(run.alloc(), outcome);
+    run.store_last(log.as_str(), &bytes, line, outcome.status())
 }
 
 /// Rescues what the log that was found asks for.
-fn rescue_found<S: Shelf, K: Sink, D: Station>(
-    alloc: Global,
-    session: &mut Session<D>,
+fn rescue_found<R: AnyRun>(
+    run: &mut R,
     to: Name,
     log: &Name,
     shape: Shape,
     found: &Option<Vec<LogLine>>,
-    shelf: &mut S,
-    out: &mut K,
 ) -> Status
-    ensures { Ran (Finishes (rescue_found to log.now shape (lines_found found.now)))
-        (faulty_of S.told S.fault_count K.told K.fault_count session.old shelf.old out.old)
-        (faulty_of S.told S.fault_count K.told K.fault_count session.new shelf.new out.new) result }
+    ensures { Ran R.hand (Finishes (rescue_found to log.now shape (lines_found found.now))) run.old run.new result }
 {
-    let Ok(keys) = asked_keys(alloc, shape, found) else {
+    let Ok(keys) = asked_keys(run.alloc(), shape, found) else {
         return Status::NoMemory;
     };
-    rescue_keys(
-        alloc,
-        session,
-        to,
-        log,
-        shape,
-        found.is_some(),
-        &keys,
-        shelf,
-        out,
-    )
+    match rescue_all(run, to, shape, found.is_some(), &keys) {
+        Ok(lines) => store_log(run, log, keys.len(), &lines),
+        Err(ended) => ended,
+    }
 }
 
 /// Rescues the disk that was put in, by its log.
-fn rescue_opened<S: Shelf, K: Sink, D: Station>(
-    alloc: Global,
-    session: &mut Session<D>,
-    to: Name,
-    log: Name,
-    shape: Shape,
-    shelf: &mut S,
-    out: &mut K,
-) -> Status
-    ensures { Ran (FinishesFound to log shape)
-        (faulty_of S.told S.fault_count K.told K.fault_count session.old shelf.old out.old)
-        (faulty_of S.told S.fault_count K.told K.fault_count session.new shelf.new out.new) result }
+fn rescue_opened<R: AnyRun>(run: &mut R, to: Name, log: Name, shape: Shape) -> Status
+    ensures { Ran R.hand (FinishesFound to log shape) run.old run.new result }
 {
-    match find_log(alloc, &log, shape.rate.sectors(), shelf) {
-        Ok(found) => rescue_found(alloc, session, to, &log, shape, &found, shelf, out),
-        Err(cause) => tell_no_log(alloc, cause, out),
+    match find_log(run, &log, shape.rate.sectors()) {
+        Ok(found) => rescue_found(run, to, &log, shape, &found),
+        Err(cause) => tell_no_log(run, cause),
     }
 }
 
@@ -160,21 +108,11 @@ fn rescue_opened<S: Shelf, K: Sink, D: Station>(
 /// diskette under another name. That diskette is stored first, and then the new log: a line for each record that wasn't read. It
 /// prints how many were written of how many, or what stopped it.
 #[tactic(auto, using(crate::proofs::RescueOpening::not_opened))]
-pub fn rescue_disk<S: Shelf, K: Sink, D: Station>(
-    alloc: Global,
-    session: &mut Session<D>,
-    from: Name,
-    to: Name,
-    log: Name,
-    shelf: &mut S,
-    out: &mut K,
-) -> Status
-    ensures { Ran (Runs (Rescues from to log))
-        (faulty_of S.told S.fault_count K.told K.fault_count session.old shelf.old out.old)
-        (faulty_of S.told S.fault_count K.told K.fault_count session.new shelf.new out.new) result }
+pub fn rescue_disk<R: AnyRun>(run: &mut R, from: Name, to: Name, log: Name) -> Status
+    ensures { Ran R.hand (Runs (Rescues from to log)) run.old run.new result }
 {
-    match open_disk(alloc, session, from, shelf, out) {
-        Ok(shape) => rescue_opened(alloc, session, to, log, shape, shelf, out),
+    match run.open_disk(from) {
+        Ok(shape) => rescue_opened(run, to, log, shape),
         Err(ended) => ended,
     }
 }

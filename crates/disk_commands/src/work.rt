@@ -2,18 +2,15 @@
 ghost use Rattle.std.specs.Prelude.{◌≡◌, ◌+◌, ◌≤◌, IfOk, sum};
 ghost use Rattle.flop_base.specs.Memory.{user_bytes, bytes_from};
 ghost use Rattle.floppy_session.specs.Tries.{HasTries};
-ghost use Rattle.commands.specs.Leading.{Goes, RanPart, faulty_of};
+ghost use Rattle.commands.specs.Leading.{Goes, RanPart};
 ghost use Rattle.disk_commands.specs.Workload.{number_after};
 ghost use Rattle.disk_commands.specs.Exercise.{no_work, reads_work, write_request, writes_work, works_behind, works, HasRoom, IsOneMore};
 
 use crate::draws::Draws;
 use crate::work_tally::Tally;
-use commands::{ask, is_refusal};
-use flop_base::{Chrn, Shelf, Sink, Status};
+use commands::{AnyRun, is_refusal};
+use flop_base::{Chrn, Status};
 use floppy_requests::Request;
-use floppy_session::Session;
-use sector_model::Station;
-use std::alloc::Global;
 
 /// Where a read puts its bytes.
 const READ_ADDRESS: u32 = 0x10000;
@@ -22,32 +19,23 @@ const READ_ADDRESS: u32 = 0x10000;
 const WRITE_ADDRESS: u32 = 0x20000;
 
 /// The sum of the bytes of a record in memory.
-fn sum_read<D: Station>(session: &Session<D>, address: u32) -> u64
+fn sum_read<R: AnyRun>(run: &R, address: u32) -> u64
     requires { address + 512 ≤ user_bytes }
-    ensures sum { result ≡ sum (bytes_from session.now.station.memory address 512) }
+    ensures sum { result ≡ sum (bytes_from (R.hand run.now).world.state.station.memory address 512) }
     ensures small { result ≤ 130560 }
 {
     let mut sum = 0;
     for i in 0..512u32 {
-        sum += session.station().memory(address + i) as u64;
+        sum += run.memory(address + i) as u64;
     }
     sum
 }
 
 /// Reads the record of a key.
 #[tactic(auto, unfolding(crate::specs::Exercise::reads_work))]
-fn read<S: Shelf, K: Sink, D: Station>(
-    alloc: Global,
-    session: &mut Session<D>,
-    key: Chrn,
-    tally: Tally,
-    shelf: &mut S,
-    out: &mut K,
-) -> Result<Tally, Status>
+fn read<R: AnyRun>(run: &mut R, key: Chrn, tally: Tally) -> Result<Tally, Status>
     requires room { HasRoom tally }
-    ensures ran { RanPart (Goes (reads_work key tally))
-        (faulty_of S.told S.fault_count K.told K.fault_count session.old shelf.old out.old) result
-        (faulty_of S.told S.fault_count K.told K.fault_count session.new shelf.new out.new) }
+    ensures ran { RanPart R.hand (Goes (reads_work key tally)) run.old result run.new }
     ensures more { IfOk result (IsOneMore tally) }
 {
     let read = Request::Read {
@@ -55,11 +43,11 @@ fn read<S: Shelf, K: Sink, D: Station>(
         key,
         address: READ_ADDRESS,
     };
-    let reply = ask(alloc, session, &read, shelf, out)?;
+    let reply = run.ask(&read)?;
     if is_refusal(&reply) {
         Ok(tally.and_refused())
     } else {
-        Ok(tally.and_done(sum_read(session, READ_ADDRESS)))
+        Ok(tally.and_done(sum_read(run, READ_ADDRESS)))
     }
 }
 
@@ -86,20 +74,15 @@ fn write_request(deleted: bool, key: Chrn) -> Request
 
 /// Fills memory with a byte and writes it to the record of a key.
 #[tactic(auto, unfolding(crate::specs::Exercise::writes_work))]
-fn write<S: Shelf, K: Sink, D: Station>(
-    alloc: Global,
-    session: &mut Session<D>,
+fn write<R: AnyRun>(
+    run: &mut R,
     deleted: bool,
     key: Chrn,
     byte: u8,
     tally: Tally,
-    shelf: &mut S,
-    out: &mut K,
 ) -> Result<Tally, Status>
     requires room { HasRoom tally }
-    ensures ran { RanPart (Goes (writes_work deleted key byte tally))
-        (faulty_of S.told S.fault_count K.told K.fault_count session.old shelf.old out.old) result
-        (faulty_of S.told S.fault_count K.told K.fault_count session.new shelf.new out.new) }
+    ensures ran { RanPart R.hand (Goes (writes_work deleted key byte tally)) run.old result run.new }
     ensures more { IfOk result (IsOneMore tally) }
 {
     let fill = Request::Fill {
@@ -107,8 +90,8 @@ fn write<S: Shelf, K: Sink, D: Station>(
         length: 512,
         byte,
     };
-    ask(alloc, session, &fill, shelf, out)?;
-    let reply = ask(alloc, session, &write_request(deleted, key), shelf, out)?;
+    run.ask(&fill)?;
+    let reply = run.ask(&write_request(deleted, key))?;
     if is_refusal(&reply) {
         Ok(tally.and_refused())
     } else {
@@ -118,45 +101,25 @@ fn write<S: Shelf, K: Sink, D: Station>(
 
 /// Runs what the next five draws ask for.
 #[tactic(auto, unfolding(crate::specs::Exercise::works_behind, crate::specs::Exercise::works_drawn))]
-fn run_next<S: Shelf, K: Sink, D: Station>(
-    alloc: Global,
-    session: &mut Session<D>,
-    draws: &mut Draws,
-    tally: Tally,
-    shelf: &mut S,
-    out: &mut K,
-) -> Result<Tally, Status>
+fn run_next<R: AnyRun>(run: &mut R, draws: &mut Draws, tally: Tally) -> Result<Tally, Status>
     requires room { HasRoom tally }
-    ensures ran { RanPart (Goes (works_behind draws.old.number tally))
-        (faulty_of S.told S.fault_count K.told K.fault_count session.old shelf.old out.old) result
-        (faulty_of S.told S.fault_count K.told K.fault_count session.new shelf.new out.new) }
+    ensures ran { RanPart R.hand (Goes (works_behind draws.old.number tally)) run.old result run.new }
     ensures more { IfOk result (IsOneMore tally) }
     ensures number { draws.new.number ≡ number_after 5 draws.old.number }
 {
     let work = draws.work();
     if work.kind == 0 {
-        write(
-            alloc, session, false, work.key, work.byte, tally, shelf, out,
-        )
+        write(run, false, work.key, work.byte, tally)
     } else if work.kind == 3 {
-        write(alloc, session, true, work.key, work.byte, tally, shelf, out)
+        write(run, true, work.key, work.byte, tally)
     } else {
-        read(alloc, session, work.key, tally, shelf, out)
+        read(run, work.key, tally)
     }
 }
 
 /// Runs a workload: so many times what five draws ask for, the first behind the seed.
-pub(crate) fn run_work<S: Shelf, K: Sink, D: Station>(
-    alloc: Global,
-    session: &mut Session<D>,
-    seed: u32,
-    count: u16,
-    shelf: &mut S,
-    out: &mut K,
-) -> Result<Tally, Status>
-    ensures { RanPart (Goes (works seed count no_work))
-        (faulty_of S.told S.fault_count K.told K.fault_count session.old shelf.old out.old) result
-        (faulty_of S.told S.fault_count K.told K.fault_count session.new shelf.new out.new) }
+pub(crate) fn run_work<R: AnyRun>(run: &mut R, seed: u32, count: u16) -> Result<Tally, Status>
+    ensures { RanPart R.hand (Goes (works seed count no_work)) run.old result run.new }
 {
     let mut draws = Draws { number: seed };
     let mut tally = Tally {
@@ -165,7 +128,7 @@ pub(crate) fn run_work<S: Shelf, K: Sink, D: Station>(
         sum: 0,
     };
     for _i in 0..count {
-        tally = run_next(alloc, session, &mut draws, tally, shelf, out)?;
+        tally = run_next(run, &mut draws, tally)?;
     }
     Ok(tally)
 }

@@ -19,8 +19,10 @@ use Rattle.floppy_requests.specs.declared.request.Request.{Request}
 use Rattle.floppy_requests.specs.declared.request.Request.TheVariants as request
 use Rattle.floppy_requests.specs.Valid.{IsRequest}
 use Rattle.floppy_session.specs.Tries.{HasTries}
+use Rattle.sector_model.specs.declared.reply.Reply.{Reply}
 use Rattle.sector_model.specs.States.{State}
-use Rattle.sector_model.specs.Texts.{reply_lines, stop_lines, stop_status, bad_line_text}
+use Rattle.sector_model.specs.Steps.{Step}
+use Rattle.sector_model.specs.Texts.{reply_lines, stop_lines, stop_status, bad_line_text, is_refusal}
 use Rattle.sector_model.specs.Runs.{Taken, course_lines, has_refusal}
 use Rattle.sector_model.specs.Plays.{World, PlaysRequests, PlaysParsed, Played, Stopped, BrokenOff, EndStopped, Prints, Tells, IsText, Plays, There, Missing, TooLong, Faulty, Starved, whole_status}
 use Rattle.text_commands.specs.JobRounds.{world, IsRound, HasRun, HasPlayed, Breaks, AtStop, AtPut, PlaysOrStarves, AsParsed, Starving}
@@ -28,7 +30,36 @@ use Rattle.text_commands.specs.Ending.{EndsAs, InWhole, AtStore}
 use Rattle.sector_model.proofs.Runs.{run_more, requests_more, text_more, refusal_more}
 use Rattle.flop_base.specs.declared.answers.NoMemory.{NoMemory}
 use Rattle.commands.specs.Texts.{MissesText}
+use Rattle.commands.specs.Leading.{AsksOne, PutsLines, LoadsText}
 use Rattle.commands.proofs.DumpLines.{grown-twice, grown-nothing}
+
+-- ---- One request.
+
+step_to : (asked : Request) (answer : Reply) (old mid new : World) → Step asked old.state old.files answer mid.state mid.files → new.state ≡ mid.state → new.files ≡ mid.files → Step asked old.state old.files answer new.state new.files
+step_to asked answer old mid new step state files =
+    subst (λ (s : State). Step asked old.state old.files answer s new.files) (sym state)
+    (subst (λ (f : Option Files). Step asked old.state old.files answer mid.state f) (sym files) step)
+
+-- a request was answered, and its answer told whole
+pub told_round : (asked : Request) (answer : Reply) (refused : Bool) (old mid new : World) → AsksOne asked old (Ok answer) mid → PutsLines (reply_lines asked answer) mid (Ok tt) new → refused ≡ is_refusal answer → IsRound asked old refused new
+told_round asked answer refused old mid new asks put is = record {
+  answer = answer;
+  step = step_to asked answer old mid new asks.0 put.state put.files;
+  report = put.report ∙ ap (λ (r : Option (List (List ℕ))). grown r (reply_lines asked answer)) asks.1;
+  is_refused = is;
+}
+
+-- it couldn't be told whole
+pub told_cut : (asked : Request) (answer : Reply) (old mid new : World) (ended : Status) → AsksOne asked old (Ok answer) mid → PutsLines (reply_lines asked answer) mid (Err ended) new → Breaks asked old new ended
+told_cut asked answer old mid new ended asks put =
+    AtPut answer (step_to asked answer old mid new asks.0 put.0.state put.0.files)
+    (subst (λ (r : Option (List (List ℕ))). GrowsByPart r (reply_lines asked answer) new.report) asks.1 put.0.report) put.1
+
+-- a request stopped the run
+pub told_stop : (asked : Request) (old new : World) (ended : Status) → AsksOne asked old (Err ended) new → Breaks asked old new ended
+told_stop asked old new ended stopped = AtStop stopped.0 stopped.1 stopped.2
+
+-- ---- All requests.
 
 -- no request was run
 pub has-run-none : (old : World) → HasRun [] old false old
@@ -166,7 +197,7 @@ loaded_text None job bytes loads = tt
 loaded_text (Some files) job bytes loads = subst (λ (found : Option (List ℕ)). IsSomeAnd found (λ b. (b ≡ bytes.items) × (length b ≤ 4194304))) (sym loads.0) (refl, loads.1)
 
 -- a play whose text wasn't had
-pub as_missed : (told : Option Files) (state : State) (report after : Option (List (List ℕ))) (job : List ℕ) (error : LoadError) (ended : Status) → IfSome told (λ files. Loads files job 4194304 (Err error)) → MissesText error job report after ended → (course : List Taken) × Plays job (world state told report) course (world state told after) ended
+as_missed : (told : Option Files) (state : State) (report after : Option (List (List ℕ))) (job : List ℕ) (error : LoadError) (ended : Status) → IfSome told (λ files. Loads files job 4194304 (Err error)) → MissesText error job report after ended → (course : List Taken) × Plays job (world state told report) course (world state told after) ended
 as_missed None state report after job load.Absent ended loads missed = ([], Missing tt (record { nothing = refl; tells = record { state = refl; files = refl; prints = missed } }))
 as_missed (Some files) state report after job load.Absent ended loads missed = ([], Missing loads (record { nothing = refl; tells = record { state = refl; files = refl; prints = missed } }))
 as_missed None state report after job load.TooLong ended loads missed = ([], TooLong tt (record { nothing = refl; tells = record { state = refl; files = refl; prints = missed } }))
@@ -174,15 +205,17 @@ as_missed (Some files) state report after job load.TooLong ended loads missed = 
 as_missed told state report after job load.Failed ended loads missed = ([], Faulty refl (record { same = ap (world state told) missed.0; status = missed.1 }))
 as_missed told state report after job load.NoMemory ended loads missed = ([], Starved refl (record { same = ap (world state told) missed.0; status = missed.1 }))
 
--- a file that was loaded, and a text that was played
-pub text_plays : (state : State) (told loaded : Option Files) (report : Option (List (List ℕ))) (new : World) (job text : List ℕ) (bytes : Vec ℕ Global) (ended : Status) → loaded ≡ told → text ≡ bytes.items → IfSome told (λ files. Loads files job 4194304 (Ok bytes)) → PlaysOrStarves text (world state loaded report) new ended → (course : List Taken) × Plays job (world state told report) course new ended
-text_plays state told loaded report new job text bytes ended stays same loads plays =
-    as_text (world state told report) new job bytes.items ended (loaded_text told job bytes loads)
-    (subst (λ (files : Option Files). PlaysOrStarves bytes.items (world state files report) new ended) stays
-    (subst (λ (read : List ℕ). PlaysOrStarves read (world state loaded report) new ended) same plays))
+-- a text that was loaded, and played
+pub text_plays : (old mid new : World) (job text : List ℕ) (bytes : Vec ℕ Global) (ended : Status) → LoadsText job 4194304 old (Ok bytes) mid → text ≡ bytes.items → PlaysOrStarves text mid new ended → (course : List Taken) × Plays job old course new ended
+text_plays old mid new job text bytes ended loaded same plays =
+    as_text old new job bytes.items ended (loaded_text old.files job bytes loaded.1)
+    (subst (λ (w : World). PlaysOrStarves bytes.items w new ended) loaded.0
+    (subst (λ (read : List ℕ). PlaysOrStarves read mid new ended) same plays))
 
--- a file that wasn't loaded
-pub missed_plays : (state : State) (told loaded : Option Files) (report after : Option (List (List ℕ))) (job : List ℕ) (error : LoadError) (ended : Status) → loaded ≡ told → IfSome told (λ files. Loads files job 4194304 (Err error)) → MissesText error job report after ended → (course : List Taken) × Plays job (world state told report) course (world state loaded after) ended
-missed_plays state told loaded report after job error ended stays loads missed =
-    subst (λ (files : Option Files). (course : List Taken) × Plays job (world state told report) course (world state files after) ended) (sym stays)
-    (as_missed told state report after job error ended loads missed)
+-- a text that wasn't loaded
+pub missed_plays : (old new : World) (job : List ℕ) (ended : Status) → LoadsText job 4194304 old (Err ended) new → (course : List Taken) × Plays job old course new ended
+missed_plays old new job ended missed =
+    let told = missed.2 in
+    subst (λ (s : State). (course : List Taken) × Plays job old course (world s new.files new.report) ended) (sym told.state)
+    (subst (λ (f : Option Files). (course : List Taken) × Plays job old course (world old.state f new.report) ended) (sym told.files)
+    (as_missed old.files old.state old.report new.report job missed.0 ended missed.1 told.report))

@@ -27,10 +27,12 @@ use Rattle.commands.proofs.DumpLines.{grown-twice, grown-nothing}
 use Rattle.int13.specs.declared.regs.Regs.{Regs}
 use Rattle.floppy_session.specs.Services.{Serves}
 use Rattle.commands.specs.Texts.{MissesText}
+use Rattle.commands.specs.Leading.{PutsLines, LoadsText}
+use Rattle.text_commands.specs.JobRounds.{RoundGoes, AtStop as AtRequest, AtPut as AtAnswer}
 use Rattle.text_commands.specs.CallTexts.{call_text}
 use Rattle.text_commands.specs.CallRounds.{Round, DoesLine, AreRounds, lines_of, course_of, rounds_lines, has_refused, IsRound, Breaks, AtStop, AtPut}
 use Rattle.text_commands.specs.CallCourses.{Through, Broken, EndStopped, ServesLines, ServesParsed, ServesCalls, There, Missing, TooLong, Faulty, Starved}
-use Rattle.text_commands.specs.CallLines.{IsCallOf, HasServed, HasBroken, Serving, ServesOrStarves, AsParsed, Starving}
+use Rattle.text_commands.specs.CallLines.{IsCallOf, LineGoes, HasServed, HasBroken, Serving, ServesOrStarves, AsParsed, Starving}
 use Rattle.text_commands.specs.Ending.{EndsAs, InWhole, AtStore}
 
 -- ---- One line.
@@ -45,7 +47,7 @@ asked_line asked answer kept after = record {
   after = after;
 }
 
-pub asked_round : (kept : ℕ) (asked : Request) (answer : Reply) (refused : Bool) (old new : World) → Step asked old.state old.files answer new.state new.files → new.report ≡ grown old.report (reply_lines asked answer) → refused ≡ is_refusal answer → IsRound kept (call.Job asked) old refused new kept
+asked_round : (kept : ℕ) (asked : Request) (answer : Reply) (refused : Bool) (old new : World) → Step asked old.state old.files answer new.state new.files → new.report ≡ grown old.report (reply_lines asked answer) → refused ≡ is_refusal answer → IsRound kept (call.Job asked) old refused new kept
 asked_round kept asked answer refused old new step report is = record {
   round = asked_line asked answer kept new.state;
   line_is = refl;
@@ -56,12 +58,18 @@ asked_round kept asked answer refused old new step report is = record {
   is_refused = is;
 }
 
-pub asked_cut : (kept : ℕ) (asked : Request) (answer : Reply) (old new : World) (ended : Status) → Step asked old.state old.files answer new.state new.files → GrowsByPart old.report (reply_lines asked answer) new.report → IsPutFault ended → (last : List Taken) × Breaks kept (call.Job asked) old last new ended
+asked_cut : (kept : ℕ) (asked : Request) (answer : Reply) (old new : World) (ended : Status) → Step asked old.state old.files answer new.state new.files → GrowsByPart old.report (reply_lines asked answer) new.report → IsPutFault ended → (last : List Taken) × Breaks kept (call.Job asked) old last new ended
 asked_cut kept asked answer old new ended step part fault =
     ((asked_line asked answer kept new.state).course, AtPut (asked_line asked answer kept new.state) (record { answer = answer; step = step; course_is = refl; lines_are = refl; is_refused = refl; keeps = refl }) refl refl part fault)
 
-pub asked_stop : (kept : ℕ) (asked : Request) (cause : Stop) (old new : World) (ended : Status) → StopsAt asked old.state old.files cause new.state new.files → Prints (stop_lines cause) (stop_status cause) old.report new.report ended → (last : List Taken) × Breaks kept (call.Job asked) old last new ended
+asked_stop : (kept : ℕ) (asked : Request) (cause : Stop) (old new : World) (ended : Status) → StopsAt asked old.state old.files cause new.state new.files → Prints (stop_lines cause) (stop_status cause) old.report new.report ended → (last : List Taken) × Breaks kept (call.Job asked) old last new ended
 asked_stop kept asked cause old new ended stops prints = ([], AtStop asked cause refl refl stops prints)
+
+-- a request that was run as in a job
+pub job_line : (asked : Request) (kept : ℕ) (old new : World) (result : Result Bool Status) → RoundGoes asked old result new → LineGoes kept kept (call.Job asked) old result new
+job_line asked kept old new (Ok refused) round = asked_round kept asked round.answer refused old new round.step round.report round.is_refused
+job_line asked kept old new (Err ended) (AtRequest cause stops prints) = asked_stop kept asked cause old new ended stops prints
+job_line asked kept old new (Err ended) (AtAnswer answer step part fault) = asked_cut kept asked answer old new ended step part fault
 
 abbrev served_line : CallLine → Regs → List Taken → ℕ → State → Round
 served_line line answered course kept after = record {
@@ -83,7 +91,7 @@ served_does (call.Call ax bx cx dx es) regs kept kept_after old new answered cou
   files = files;
 }
 
-pub served_round : (line : CallLine) (regs : Regs) (kept kept_after : ℕ) (old new : World) (answered : Regs) → IsCallOf regs line → ((course : List Taken) × Serves kept regs old.state old.files answered kept_after course new.state) → new.files ≡ old.files → new.report ≡ grown old.report (call_text answered ∷ []) → IsRound kept line old answered.carry new kept_after
+served_round : (line : CallLine) (regs : Regs) (kept kept_after : ℕ) (old new : World) (answered : Regs) → IsCallOf regs line → ((course : List Taken) × Serves kept regs old.state old.files answered kept_after course new.state) → new.files ≡ old.files → new.report ≡ grown old.report (call_text answered ∷ []) → IsRound kept line old answered.carry new kept_after
 served_round line regs kept kept_after old new answered is serves files report = record {
   round = served_line line answered serves.0 kept_after new.state;
   line_is = refl;
@@ -94,9 +102,23 @@ served_round line regs kept kept_after old new answered is serves files report =
   is_refused = refl;
 }
 
-pub served_cut : (line : CallLine) (regs : Regs) (kept kept_after : ℕ) (old new : World) (answered : Regs) (ended : Status) → IsCallOf regs line → ((course : List Taken) × Serves kept regs old.state old.files answered kept_after course new.state) → new.files ≡ old.files → GrowsByPart old.report (call_text answered ∷ []) new.report → IsPutFault ended → (last : List Taken) × Breaks kept line old last new ended
+served_cut : (line : CallLine) (regs : Regs) (kept kept_after : ℕ) (old new : World) (answered : Regs) (ended : Status) → IsCallOf regs line → ((course : List Taken) × Serves kept regs old.state old.files answered kept_after course new.state) → new.files ≡ old.files → GrowsByPart old.report (call_text answered ∷ []) new.report → IsPutFault ended → (last : List Taken) × Breaks kept line old last new ended
 served_cut line regs kept kept_after old new answered ended is serves files part fault =
     (serves.0, AtPut (served_line line answered serves.0 kept_after new.state) (served_does line regs kept kept_after old new answered serves.0 is serves.1 files) refl refl part fault)
+
+-- a call was served, and then told whole
+pub told_call : (line : CallLine) (regs : Regs) (kept kept_after : ℕ) (old mid new : World) (answered : Regs) → IsCallOf regs line → ((course : List Taken) × Serves kept regs old.state old.files answered kept_after course mid.state) → mid.files ≡ old.files → mid.report ≡ old.report → PutsLines (call_text answered ∷ []) mid (Ok tt) new → IsRound kept line old answered.carry new kept_after
+told_call line regs kept kept_after old mid new answered is serves files report put =
+    served_round line regs kept kept_after old new answered is
+    (subst (λ (s : State). (course : List Taken) × Serves kept regs old.state old.files answered kept_after course s) (sym put.state) serves)
+    (put.files ∙ files) (put.report ∙ ap (λ (r : Option (List (List ℕ))). grown r (call_text answered ∷ [])) report)
+
+-- or a part of its line was
+pub cut_call : (line : CallLine) (regs : Regs) (kept kept_after : ℕ) (old mid new : World) (answered : Regs) (ended : Status) → IsCallOf regs line → ((course : List Taken) × Serves kept regs old.state old.files answered kept_after course mid.state) → mid.files ≡ old.files → mid.report ≡ old.report → PutsLines (call_text answered ∷ []) mid (Err ended) new → (last : List Taken) × Breaks kept line old last new ended
+cut_call line regs kept kept_after old mid new answered ended is serves files report put =
+    served_cut line regs kept kept_after old new answered ended is
+    (subst (λ (s : State). (course : List Taken) × Serves kept regs old.state old.files answered kept_after course s) (sym put.0.state) serves)
+    (put.0.files ∙ files) (subst (λ (r : Option (List (List ℕ))). GrowsByPart r (call_text answered ∷ []) new.report) report put.0.report) put.1
 
 -- ---- One line more.
 
@@ -237,11 +259,11 @@ abbrev world : State → Option Files → Option (List (List ℕ)) → World
 world state files report = record { state = state; files = files; report = report }
 
 -- a text that was loaded
-pub text_serves : (state : State) (told loaded : Option Files) (report : Option (List (List ℕ))) (new : World) (name text : List ℕ) (bytes : Vec ℕ Global) (ended : Status) → loaded ≡ told → text ≡ bytes.items → IfSome told (λ files. Loads files name 4194304 (Ok bytes)) → ServesOrStarves text (world state loaded report) new ended → (course : List Taken) × ServesCalls name (world state told report) course new ended
-text_serves state told loaded report new name text bytes ended stays same loads serves =
-    as_text (world state told report) new name bytes.items ended (loaded_text told name bytes loads)
-    (subst (λ (files : Option Files). ServesOrStarves bytes.items (world state files report) new ended) stays
-    (subst (λ (read : List ℕ). ServesOrStarves read (world state loaded report) new ended) same serves))
+pub text_serves : (old mid new : World) (name text : List ℕ) (bytes : Vec ℕ Global) (ended : Status) → LoadsText name 4194304 old (Ok bytes) mid → text ≡ bytes.items → ServesOrStarves text mid new ended → (course : List Taken) × ServesCalls name old course new ended
+text_serves old mid new name text bytes ended loaded same serves =
+    as_text old new name bytes.items ended (loaded_text old.files name bytes loaded.1)
+    (subst (λ (w : World). ServesOrStarves bytes.items w new ended) loaded.0
+    (subst (λ (read : List ℕ). ServesOrStarves read mid new ended) same serves))
 
 -- a text that wasn't had
 as_missed : (told : Option Files) (state : State) (report after : Option (List (List ℕ))) (name : List ℕ) (cause : LoadError) (ended : Status) → IfSome told (λ files. Loads files name 4194304 (Err cause)) → MissesText cause name report after ended → (course : List Taken) × ServesCalls name (world state told report) course (world state told after) ended
@@ -252,8 +274,10 @@ as_missed (Some files) state report after name load.TooLong ended loads missed =
 as_missed told state report after name load.Failed ended loads missed = ([], Faulty refl (record { same = ap (world state told) missed.0; status = missed.1 }))
 as_missed told state report after name load.NoMemory ended loads missed = ([], Starved refl (record { same = ap (world state told) missed.0; status = missed.1 }))
 
--- a file that wasn't loaded
-pub missed_serves : (state : State) (told loaded : Option Files) (report after : Option (List (List ℕ))) (name : List ℕ) (cause : LoadError) (ended : Status) → loaded ≡ told → IfSome told (λ files. Loads files name 4194304 (Err cause)) → MissesText cause name report after ended → (course : List Taken) × ServesCalls name (world state told report) course (world state loaded after) ended
-missed_serves state told loaded report after name cause ended stays loads missed =
-    subst (λ (files : Option Files). (course : List Taken) × ServesCalls name (world state told report) course (world state files after) ended) (sym stays)
-    (as_missed told state report after name cause ended loads missed)
+-- a text that wasn't loaded
+pub missed_serves : (old new : World) (name : List ℕ) (ended : Status) → LoadsText name 4194304 old (Err ended) new → (course : List Taken) × ServesCalls name old course new ended
+missed_serves old new name ended missed =
+    let told = missed.2 in
+    subst (λ (s : State). (course : List Taken) × ServesCalls name old course (world s new.files new.report) ended) (sym told.state)
+    (subst (λ (f : Option Files). (course : List Taken) × ServesCalls name old course (world old.state f new.report) ended) (sym told.files)
+    (as_missed old.files old.state old.report new.report name missed.0 ended missed.1 told.report))

@@ -5,7 +5,6 @@ use Rattle.flop_base.specs.declared.answers.Status.TheVariants as status
 use Rattle.floppy_jobs.specs.Texts.{calls_of}
 use Rattle.floppy_jobs.specs.declared.calls.CallLine.{CallLine}
 use Rattle.floppy_jobs.specs.declared.calls.CallLine.TheVariants as call
-use Rattle.floppy_requests.specs.declared.request.Request.{Request}
 use Rattle.sector_model.specs.Runs.{Taken}
 use Rattle.sector_model.specs.Plays.{World, IsIdle}
 use Rattle.int13.specs.declared.regs.Regs.{Regs}
@@ -39,11 +38,7 @@ abbrev pub LineGoes : ℕ → ℕ → CallLine → World → Result Bool Status 
 LineGoes kept kept_after line old (Ok refused) new = IsRound kept line old refused new kept_after
 LineGoes kept kept_after line old (Err ended) new = (last : List Taken) × Breaks kept line old last new ended
 
--- a request as in a job was, whatever status the service keeps
-abbrev pub AskGoes : Request → World → Result Bool Status → World → Type 0
-AskGoes asked old result new = (kept : ℕ) → LineGoes kept kept (call.Job asked) old result new
-
--- a call with these registers was
+-- so it is with a call with these registers
 abbrev pub CallGoes : Regs → ℕ → ℕ → World → Result Bool Status → World → Type 0
 CallGoes regs kept kept_after old result new =
     (line : CallLine) → IsCallOf regs line → LineGoes kept kept_after line old result new

@@ -1,12 +1,10 @@
 // The end of a text whose lines were all done: whether one was refused, and what is left in the bays.
-ghost use Rattle.std.specs.Prelude.{◌≡◌, ◌≢◌, ◌||◌, Err};
-ghost use Rattle.sector_model.specs.Faults.{Blames};
-ghost use Rattle.text_commands.specs.Ending.{EndsAs};
+ghost use Rattle.std.specs.Prelude.{◌≡◌, ◌||◌};
+ghost use Rattle.commands.specs.Leading.{Ran};
+ghost use Rattle.text_commands.specs.Ending.{EndsQuietly};
 
-use commands::{stop_status, whole_status};
-use flop_base::{Shelf, Status};
-use floppy_session::Session;
-use sector_model::Station;
+use commands::{AnyRun, whole_status};
+use flop_base::Status;
 
 /// Whether one of two lines, or parts of lines, was refused.
 pub(crate) fn either(first: bool, second: bool) -> bool
@@ -16,18 +14,11 @@ pub(crate) fn either(first: bool, second: bool) -> bool
 }
 
 /// Stores what is left in the bays of a session, and gives the status of a run to the end.
-pub(crate) fn finish<S: Shelf, D: Station>(
-    session: &mut Session<D>,
-    shelf: &mut S,
-    refused: bool,
-) -> Status
-    ensures ends { EndsAs refused session.old (S.told shelf.old) session.new (S.told shelf.new) result }
-    ensures is_form { result ≢ Status.BadWords }
-    ensures shelf_faults { Blames (result ≡ Status.FileFault) (S.fault_count shelf.old) (S.fault_count shelf.new) }
-    ensures no_sink_fault { result ≢ Status.SinkFault }
+pub(crate) fn finish<R: AnyRun>(run: &mut R, refused: bool) -> Status
+    ensures { Ran R.hand (EndsQuietly refused) run.old run.new result }
 {
-    match session.end(shelf) {
+    match run.end() {
         Ok(()) => whole_status(refused),
-        Err(stop) => stop_status(&stop),
+        Err(ended) => ended,
     }
 }

@@ -1,36 +1,18 @@
-use Rattle.std.proofs.Common.{rules, arith}
+use Rattle.std.proofs.Common.{arith}
 use Rattle.std.proofs.lemmas.Result.{err_from_is_err_and}
-use Rattle.commands.proofs.Looping.{turn_begins, turn_goes, turn_ends, turns_over}
+use Rattle.commands.proofs.Looping.{begins, goes_on, ends, over}
 use Rattle.disk_commands.proofs.copy.copy_cylinder.Goals as goal
 
 pub loop-h-init : goal.loop-h-init
-loop-h-init g c = record {
-  turn = turn_begins _ _ _ _ _;
-  counted = search rules;
-  stays = search rules;
-}
+loop-h-init g c = begins _ _ _ _ _ _
 
 pub returns-in_err-copy_track : goal.returns-in_err-copy_track
-returns-in_err-copy_track g c = record {
-  goes =
-      let p = err_from_is_err_and c.from_residual.result c.from_residual.ensures.1 in
-      rw (p.1, p.2) (turn_ends _ _ _ _ _ _ _ _ _ _ c.loop-h.invariant.turn c.in_err-copy_track.ensures.goes (omega arith));
-  is_form = search rules;
-  shelf_faults = search rules;
-  sink_faults = search rules;
-}
+returns-in_err-copy_track g c =
+    let p = err_from_is_err_and c.from_residual.result c.from_residual.ensures.1 in
+    rw (p.1, p.2) (ends _ _ _ _ _ _ _ _ _ _ _ c.loop-h.invariant c.in_err-copy_track.ensures (omega arith))
 
 pub loop-h-preserved : goal.loop-h-preserved
-loop-h-preserved g c = record {
-  turn = turn_goes _ _ _ _ _ _ _ _ _ _ c.loop-h.invariant.turn c.in_ok-copy_track.ensures.goes (omega arith);
-  counted = search rules;
-  stays = search rules;
-}
+loop-h-preserved g c = goes_on _ _ _ _ _ _ _ _ _ _ _ c.loop-h.invariant c.in_ok-copy_track.ensures (omega arith)
 
 pub returns : goal.returns
-returns g c = record {
-  goes = turns_over _ _ _ _ _ _ _ _ c.loop-h.invariant.turn (omega arith);
-  is_form = search rules;
-  shelf_faults = search rules;
-  sink_faults = search rules;
-}
+returns g c = over _ _ _ _ _ _ _ _ _ c.loop-h.invariant (omega arith)

@@ -3,4 +3,4 @@ use Rattle.flop_base.specs.Memory.{bytes_from}
 use Rattle.disk_commands.proofs.export.gather.Given as goal
 
 abbrev pub invariant-loop-i : goal.invariant-loop-i
-invariant-loop-i g l = l.flat.items ≡ l.fn.flat.items ++ bytes_from l.fn.session.station.memory l.fn.address l.i
+invariant-loop-i g l = l.flat.items ≡ l.fn.flat.items ++ bytes_from (g.R.AnyRun.hand l.fn.run).world.state.station.memory l.fn.address l.i

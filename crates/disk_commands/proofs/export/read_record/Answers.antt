@@ -17,10 +17,11 @@ unfolding reads_record
 returns-in-Ok g c = record {
   goes = λ whole start rest leads.
       rw (c.in-Ok.ensures, c.record_address-address.ensures)
-      (fed whole start (kept c.args.r c.args.flat.now.items rest c.need.new.session) _
+      (fed whole start (kept c.args.r c.args.flat.now.items rest (g.R.AnyRun.hand c.need.new.self).world.state) _
       (c.in_ok-need.ensures.ran.goes whole start (λ answer after. may_starve (kept c.args.r c.args.flat.now.items rest after))
       (rw c.record_address-address.ensures leads)));
   is_form = search rules;
   shelf_faults = search rules;
   sink_faults = search rules;
+  same = search rules;
 }

@@ -1,31 +1,24 @@
-use Rattle.std.proofs.Common.{rules, arith, sym}
-use Rattle.commands.proofs.Looping.{turn_begins, turn_goes, turn_ends, turns_over}
+use Rattle.std.proofs.Common.{arith, sym}
+use Rattle.std.proofs.lemmas.Result.{err_from_is_err_and}
+use Rattle.commands.proofs.Looping.{begins, goes_on, ends, over}
 use Rattle.disk_commands.specs.Import.{fills_track}
-use Rattle.disk_commands.proofs.FlatTurns.{given_on}
 use Rattle.disk_commands.proofs.import.fill_track.Goals as goal
 
 pub loop-r-init : goal.loop-r-init
-loop-r-init g c = search (rules, turn_begins)
+loop-r-init g c = begins _ _ _ _ _ _
 
 pub returns-in_err-fill_record : goal.returns-in_err-fill_record
 unfolding fills_track
-returns-in_err-fill_record g c = record {
-  goes = given_on _ _ _ _ _ c.from_residual.ensures.1
-      (turn_ends _ _ _ _ _ _ _ _ _ _ c.loop-r.invariant.turn
-      (rw (sym c.place-from.ensures.place, sym c.record_address.ensures) c.in_err-fill_record.ensures.goes) (omega arith));
-  is_form = search rules;
-  shelf_faults = search rules;
-  sink_faults = search rules;
-}
+returns-in_err-fill_record g c =
+    let p = err_from_is_err_and c.from_residual.result c.from_residual.ensures.1 in
+    rw (p.1, p.2) (ends _ _ _ _ _ _ _ _ _ _ _ c.loop-r.invariant
+    (rw (sym c.place-from.ensures.place, sym c.record_address.ensures) c.in_err-fill_record.ensures) (omega arith))
 
 pub loop-r-preserved : goal.loop-r-preserved
-loop-r-preserved g c = record {
-  turn = turn_goes _ _ _ _ _ _ _ _ _ _ c.loop-r.invariant.turn
-      (rw (sym c.place-from.ensures.place, sym c.record_address.ensures) c.in_ok-fill_record.ensures.goes) (omega arith);
-  counted = search rules;
-  stays = search rules;
-}
+loop-r-preserved g c =
+    goes_on _ _ _ _ _ _ _ _ _ _ _ c.loop-r.invariant
+    (rw (sym c.place-from.ensures.place, sym c.record_address.ensures) c.in_ok-fill_record.ensures) (omega arith)
 
 pub returns : goal.returns
 unfolding fills_track
-returns g c = let goes = turns_over _ _ _ _ _ _ _ _ c.loop-r.invariant.turn (omega arith) in search rules
+returns g c = over _ _ _ _ _ _ _ _ _ c.loop-r.invariant (omega arith)

@@ -1,26 +1,27 @@
-use Rattle.std.proofs.Common.{rules, arith, Ok}
-use Rattle.commands.proofs.Looping.{turn_begins, turn_goes, turn_ends, turns_over}
+use Rattle.std.proofs.Common.{arith, Ok, Err, subst}
+use Rattle.std.proofs.lemmas.Result.{err_from_is_err_and}
+use Rattle.commands.proofs.Looping.{begins, goes_on, ends, over}
+use Rattle.commands.specs.Parts.{Part}
+use Rattle.commands.specs.Leading.{Goes, RanPart}
 use Rattle.disk_commands.specs.Import.{imports_track}
-use Rattle.disk_commands.proofs.FlatTurns.{given_on}
-use Rattle.disk_commands.proofs.FlatTracks.{by_tracks}
+use Rattle.disk_commands.proofs.FlatTracks.{tracks_same}
 use Rattle.disk_commands.proofs.import.import_tracks.Goals as goal
 
 pub loop-track-init : goal.loop-track-init
-loop-track-init g c = search (rules, turn_begins)
+loop-track-init g c = begins _ _ _ _ _ _
 
 pub returns-in_err-import_track : goal.returns-in_err-import_track
 returns-in_err-import_track g c =
-    let goes = by_tracks 80 (imports_track c.args.flat.now c.args.sectors) _ _ _ _ (given_on _ _ _ _ _ c.from_residual.ensures.1
-    (turn_ends _ _ _ _ _ _ _ _ _ _ c.loop-track.invariant.turn c.in_err-import_track.ensures.goes (omega arith))) in
-    search rules
+    let p = err_from_is_err_and c.from_residual.result c.from_residual.ensures.1 in
+    rw (p.1, p.2) (subst (λ (all : Part (Unit {0})). RanPart g.R.AnyRun.hand (Goes all) c.args.run.now (Err c.in_err-import_track.field-0.0)
+    c.import_track.new.run) (tracks_same 80 (imports_track c.args.flat.now c.args.sectors) tt)
+    (ends _ _ _ _ _ _ _ _ _ _ _ c.loop-track.invariant c.in_err-import_track.ensures (omega arith)))
 
 pub loop-track-preserved : goal.loop-track-preserved
-loop-track-preserved g c =
-    let turn = turn_goes _ _ _ _ _ _ _ _ _ _ c.loop-track.invariant.turn c.in_ok-import_track.ensures.goes (omega arith) in
-    search rules
+loop-track-preserved g c = goes_on _ _ _ _ _ _ _ _ _ _ _ c.loop-track.invariant c.in_ok-import_track.ensures (omega arith)
 
 pub returns : goal.returns
 returns g c =
-    let goes = by_tracks 80 (imports_track c.args.flat.now c.args.sectors) _ _ _ (Ok tt)
-    (turns_over _ _ _ _ _ _ _ _ c.loop-track.invariant.turn (omega arith)) in
-    search rules
+    subst (λ (all : Part (Unit {0})). RanPart g.R.AnyRun.hand (Goes all) c.args.run.now (Ok tt) c.loop-track.run)
+    (tracks_same 80 (imports_track c.args.flat.now c.args.sectors) tt)
+    (over _ _ _ _ _ _ _ _ _ c.loop-track.invariant (omega arith))

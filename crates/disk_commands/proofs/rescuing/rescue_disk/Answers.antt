@@ -8,4 +8,5 @@ returns-in-Ok g c = record {
   is_form = search rules;
   shelf_faults = search rules;
   sink_faults = search rules;
+  same = search rules;
 }

@@ -1,7 +1,13 @@
+use Rattle.std.proofs.Common.{rules}
 use Rattle.disk_commands.specs.Verify.{failure_line, tells_failure}
 use Rattle.disk_commands.proofs.verify.tell_failure.Goals as goal
 
-pub returns-in-Refused-clause-goes : goal.returns-in-Refused-clause-goes
+pub returns-in-Refused : goal.returns-in-Refused
 unfolding tells_failure
-returns-in-Refused-clause-goes g c = λ state files.
-    rw c.in-Refused.is (c.say.ensures.goes (failure_line c.args.key c.in-Refused.reason) state files c.failure_line.ensures)
+returns-in-Refused g c = record {
+  goes = rw c.in-Refused.is (c.say.ensures.ran.goes (failure_line c.args.key c.in-Refused.reason) c.failure_line.ensures);
+  is_form = search rules;
+  shelf_faults = search rules;
+  sink_faults = search rules;
+  same = search rules;
+}

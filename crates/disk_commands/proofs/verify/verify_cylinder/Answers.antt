@@ -1,44 +1,27 @@
 use Rattle.std.proofs.Common.{rules, arith}
 use Rattle.std.proofs.lemmas.Result.{err_from_is_err_and}
-use Rattle.commands.proofs.Looping.{turn_begins, turn_goes, turn_ends, turns_over}
+use Rattle.commands.proofs.Looping.{begins, goes_on, ends, over}
 use Rattle.disk_commands.proofs.verify.verify_cylinder.Goals as goal
 
 pub loop-h-init : goal.loop-h-init
-loop-h-init g c = record {
-  turn = turn_begins _ _ _ _ _;
-  counted = search rules;
-  stays = search rules;
-  few = search rules;
-}
+loop-h-init g c = record { turning = begins _ _ _ _ _ _; few = search rules }
 
 pub returns-in_err-now : goal.returns-in_err-now
 returns-in_err-now g c = record {
-  ran = record {
-    goes =
-        let p = err_from_is_err_and c.from_residual.result c.from_residual.ensures.1 in
-        rw (p.1, p.2) (turn_ends _ _ _ _ _ _ _ _ _ _ c.loop-h.invariant.turn c.in_err-now.ensures.ran.goes (omega arith));
-    is_form = search rules;
-    shelf_faults = search rules;
-    sink_faults = search rules;
-  };
+  ran =
+      let p = err_from_is_err_and c.from_residual.result c.from_residual.ensures.1 in
+      rw (p.1, p.2) (ends _ _ _ _ _ _ _ _ _ _ _ c.loop-h.invariant.turning c.in_err-now.ensures.ran (omega arith));
   few = search rules;
 }
 
 pub loop-h-preserved : goal.loop-h-preserved
 loop-h-preserved g c = record {
-  turn = turn_goes _ _ _ _ _ _ _ _ _ _ c.loop-h.invariant.turn c.in_ok-now.ensures.ran.goes (omega arith);
-  counted = search rules;
-  stays = search rules;
+  turning = goes_on _ _ _ _ _ _ _ _ _ _ _ c.loop-h.invariant.turning c.in_ok-now.ensures.ran (omega arith);
   few = search rules;
 }
 
 pub returns : goal.returns
 returns g c = record {
-  ran = record {
-    goes = turns_over _ _ _ _ _ _ _ _ c.loop-h.invariant.turn (omega arith);
-    is_form = search rules;
-    shelf_faults = search rules;
-    sink_faults = search rules;
-  };
+  ran = over _ _ _ _ _ _ _ _ _ c.loop-h.invariant.turning (omega arith);
   few = search rules;
 }

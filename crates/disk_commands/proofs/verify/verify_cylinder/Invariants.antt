@@ -1,14 +1,10 @@
-use Rattle.std.proofs.Common.{◌≡◌, ◌≤◌, ◌+◌, ◌*◌}
-use Rattle.commands.specs.Leading.{world_of, IsAtTurn}
+use Rattle.std.proofs.Common.{◌≤◌, ◌+◌, ◌*◌}
+use Rattle.commands.specs.Leading.{IsTurning}
 use Rattle.disk_commands.specs.Verify.{verifies_track}
 use Rattle.disk_commands.proofs.verify.verify_cylinder.Given as goal
 
 abbrev pub invariant-loop-h : goal.invariant-loop-h
 invariant-loop-h g l = record {
-  turn : IsAtTurn 0 l.fn.heads (verifies_track l.fn.sectors l.fn.c) l.fn.tally
-      (world_of g.S.Shelf.told g.K.Sink.told l.fn.session l.fn.shelf l.fn.out)
-      l.h l.now (world_of g.S.Shelf.told g.K.Sink.told l.session l.shelf l.out);
-  counted : g.S.Shelf.fault_count l.shelf ≡ g.S.Shelf.fault_count l.fn.shelf;
-  stays : g.K.Sink.fault_count l.out ≡ g.K.Sink.fault_count l.fn.out;
+  turning : IsTurning g.R.AnyRun.hand 0 l.fn.heads (verifies_track l.fn.sectors l.fn.c) l.fn.tally l.fn.run l.h l.now l.run;
   few : l.now.well ≤ l.fn.tally.well + 18 * l.h;
 }

@@ -4,6 +4,6 @@ use Rattle.disk_commands.proofs.work.sum_read.Given as goal
 
 abbrev pub invariant-loop-i : goal.invariant-loop-i
 invariant-loop-i g l = record {
-  total : l.sum ≡ sum (bytes_from l.fn.session.station.memory l.fn.address l.i);
+  total : l.sum ≡ sum (bytes_from (g.R.AnyRun.hand l.fn.run).world.state.station.memory l.fn.address l.i);
   small : l.sum ≤ 255 * l.i;
 }

@@ -1,24 +1,21 @@
-use Rattle.std.proofs.Common.{rules, arith, ◌<◌, length}
-use Rattle.text_commands.proofs.JobRounds.{has-run-next, broken}
+use Rattle.std.proofs.Common.{arith, ◌<◌, length}
+use Rattle.commands.proofs.Looping.{amid_begins, amid_goes, amid_ends}
+use Rattle.text_commands.proofs.JobRounds.{has-run-none, has-run-next, broken}
 use Rattle.text_commands.proofs.jobs.run_requests.Goals as goal
 
+pub loop-request-init : goal.loop-request-init
+loop-request-init g c = amid_begins _ _ _ (has-run-none _)
+
 pub returns-in-Err : goal.returns-in-Err
-returns-in-Err g c = record {
-  goes =
-      let within : c.loop-request.request-index < length c.args.requests.now = omega arith in
-      broken _ _ _ c.args.requests.now c.loop-request.request-index c.request-item.result c.loop-request.refused c.in-Err.ended
-      c.loop-request.invariant.run within c.request-item.is c.in-Err.ensures.goes;
-  is_form = search rules;
-  shelf_faults = search rules;
-  sink_faults = search rules;
-}
+returns-in-Err g c =
+    let within : c.loop-request.request-index < length c.args.requests.now = omega arith in
+    amid_ends _ _ _ _ c.in-Err.ended _ _ _ c.loop-request.invariant c.in-Err.ensures
+    (broken _ _ _ c.args.requests.now c.loop-request.request-index c.request-item.result c.loop-request.refused c.in-Err.ended
+    c.loop-request.invariant.at within c.request-item.is c.in-Err.ensures.goes)
 
 pub loop-request-preserved : goal.loop-request-preserved
 loop-request-preserved g c =
     let within : c.loop-request.request-index < length c.args.requests.now = omega arith in
-    record {
-      run = has-run-next _ _ _ c.args.requests.now c.loop-request.request-index c.request-item.result c.loop-request.refused c.in-Ok.refusal
-          c.either-refused.result c.loop-request.invariant.run c.in-Ok.ensures.goes within c.request-item.is c.either-refused.ensures;
-      shelf_counts = search rules;
-      sink_counts = search rules;
-    }
+    amid_goes _ _ _ _ c.in-Ok.refusal _ _ _ c.loop-request.invariant c.in-Ok.ensures
+    (has-run-next _ _ _ c.args.requests.now c.loop-request.request-index c.request-item.result c.loop-request.refused c.in-Ok.refusal
+    c.either-refused.result c.loop-request.invariant.at c.in-Ok.ensures.goes within c.request-item.is c.either-refused.ensures)

@@ -1,13 +1,14 @@
-use Rattle.std.proofs.Common.{rules, refl}
+use Rattle.std.proofs.Common.{rules}
 use Rattle.text_commands.proofs.ServedCalls.{served_ends, broken_serving}
 use Rattle.text_commands.proofs.calls.serve.serve_all.Goals as goal
 
 pub returns-in-Ok : goal.returns-in-Ok
 returns-in-Ok g c = record {
-  does = served_ends _ _ _ c.args.lines.now c.in-Ok.refused c.finish.result c.in-Ok.ensures.goes refl c.finish.ensures.ends;
+  does = served_ends _ _ _ c.args.lines.now c.in-Ok.refused c.finish.result c.in-Ok.ensures.goes c.finish.ensures.does.report c.finish.ensures.does.ends;
   is_form = search rules;
   shelf_faults = search rules;
   sink_faults = search rules;
+  same = search rules;
 }
 
 pub returns-in-Err : goal.returns-in-Err
@@ -16,4 +17,5 @@ returns-in-Err g c = record {
   is_form = search rules;
   shelf_faults = search rules;
   sink_faults = search rules;
+  same = search rules;
 }

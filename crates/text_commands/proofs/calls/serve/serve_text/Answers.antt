@@ -1,8 +1,9 @@
-use Rattle.std.proofs.Common.{rules, refl, subst, sym, List}
+use Rattle.std.proofs.Common.{rules, subst, sym, List}
 use Rattle.std.specs.Prelude.{Vec, All}
 use Rattle.std.specs.declared.alloc.Global.{Global}
 use Rattle.floppy_jobs.specs.Texts.{calls_of}
 use Rattle.floppy_jobs.specs.declared.calls.CallLine.{CallLine}
+use Rattle.sector_model.specs.Texts.{bad_line_text}
 use Rattle.text_commands.specs.CallLines.{LineHasTries}
 use Rattle.text_commands.proofs.ParsedCalls.{all_tries}
 use Rattle.text_commands.proofs.ServedCalls.{parsed_serves, read_bad, unparsed_tells}
@@ -19,14 +20,16 @@ returns-in-Ok g c = record {
   is_form = search rules;
   shelf_faults = search rules;
   sink_faults = search rules;
+  same = search rules;
 }
 
 pub returns-in-Err-BadLine : goal.returns-in-Err-BadLine
 returns-in-Err-BadLine g c = record {
-  does = unparsed_tells _ _ c.args.text.now c.in-Err-BadLine.line c.put_last_bad_line.result
+  does = unparsed_tells _ _ c.args.text.now c.in-Err-BadLine.line c.finish.result
       (read_bad (λ (lines : Vec CallLine Global). lines.items) c.in-Err-BadLine.field-0 (calls_of c.args.text.now) c.in-Err-BadLine.line
-      c.in-Err-BadLine.ensures c.in-Err-BadLine.field-0-is) (record { state = refl; files = refl; prints = c.put_last_bad_line.ensures.prints });
+      c.in-Err-BadLine.ensures c.in-Err-BadLine.field-0-is) (c.finish.ensures.tells (bad_line_text c.in-Err-BadLine.line) c.bad_line.ensures);
   is_form = search rules;
   shelf_faults = search rules;
   sink_faults = search rules;
+  same = search rules;
 }

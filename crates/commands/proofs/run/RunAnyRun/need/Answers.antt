@@ -1,6 +1,6 @@
 use Rattle.std.proofs.Common.{rules, refl, sym}
 use Rattle.commands.proofs.Running.{needed_on, needed_refused, needed_stops}
-use Rattle.commands.proofs.asking.need.Goals as goal
+use Rattle.commands.proofs.run.RunAnyRun.need.Goals as goal
 
 pub returns-in-Some-clause-ran : goal.returns-in-Some-clause-ran
 returns-in-Some-clause-ran g c = record {
@@ -9,6 +9,7 @@ returns-in-Some-clause-ran g c = record {
   is_form = search rules;
   shelf_faults = search rules;
   sink_faults = search rules;
+  same = search rules;
 }
 
 pub returns-in-None-clause-ran : goal.returns-in-None-clause-ran
@@ -17,6 +18,7 @@ returns-in-None-clause-ran g c = record {
   is_form = search rules;
   shelf_faults = search rules;
   sink_faults = search rules;
+  same = search rules;
 }
 
 pub returns-in-Err-clause-ran : goal.returns-in-Err-clause-ran
@@ -26,4 +28,5 @@ returns-in-Err-clause-ran g c = record {
   is_form = search rules;
   shelf_faults = search rules;
   sink_faults = search rules;
+  same = search rules;
 }

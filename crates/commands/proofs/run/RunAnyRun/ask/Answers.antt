@@ -1,6 +1,6 @@
 use Rattle.std.proofs.Common.{rules, refl}
 use Rattle.commands.proofs.Running.{asked_on, asked_stops}
-use Rattle.commands.proofs.asking.ask.Goals as goal
+use Rattle.commands.proofs.run.RunAnyRun.ask.Goals as goal
 
 pub returns-in-Ok-clause-ran : goal.returns-in-Ok-clause-ran
 returns-in-Ok-clause-ran g c = record {
@@ -8,6 +8,7 @@ returns-in-Ok-clause-ran g c = record {
   is_form = search rules;
   shelf_faults = search rules;
   sink_faults = search rules;
+  same = search rules;
 }
 
 pub returns-in-Err-clause-ran : goal.returns-in-Err-clause-ran
@@ -17,4 +18,8 @@ returns-in-Err-clause-ran g c = record {
   is_form = search rules;
   shelf_faults = search rules;
   sink_faults = search rules;
+  same = search rules;
 }
+
+pub returns-in-Err-clause-asks : goal.returns-in-Err-clause-asks
+returns-in-Err-clause-asks g c = (c.in-Err.stop, c.in-Err.ensures.stop, c.put_last.ensures.prints)

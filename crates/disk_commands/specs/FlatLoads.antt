@@ -1,0 +1,21 @@
+-- How a flat file is loaded.
+use Rattle.std.specs.Prelude.{◌≡◌, List, ℕ, length, Result, IfOk, IfErr, IsErrOf}
+use Rattle.flop_base.specs.Standard.{sectors_at}
+use Rattle.flat_files.specs.Flat.{flat_length}
+use Rattle.sector_model.specs.declared.reply.Stop.{Stop}
+use Rattle.sector_model.specs.declared.reply.Stop.TheVariants as stop
+use Rattle.sector_model.specs.Faults.{Blames}
+use Rattle.commands.specs.Leading.{Hand, IsSameHand}
+use Rattle.disk_commands.specs.declared.flat_file.FlatFile.{FlatFile}
+use Rattle.disk_commands.specs.FlatFiles.{IsFlatFile, IsNotTaken}
+
+-- the flat file of a name was loaded, or why it isn't taken is told: the world stays, and a fault of the shelf was counted once where
+-- that is why
+pub record LoadsFlat {R : Type 0} (hand : R → Hand) (name : List ℕ) (old : R) (result : Result FlatFile Stop) (new : R) : Type 0 where
+  pub flat : IfOk result (λ flat. IsFlatFile (hand old).world.files name flat.bytes.items flat.rate)
+  pub size : IfOk result (λ flat. length flat.bytes.items ≡ flat_length (sectors_at flat.rate))
+  pub cause : IfErr result (λ cause. IsNotTaken (hand old).world.files name cause)
+  pub stays : (hand new).world ≡ (hand old).world
+  pub shelf_faults : Blames (IsErrOf result stop.FileFault) (hand old).shelf_faults (hand new).shelf_faults
+  pub no_fault : (hand new).sink_faults ≡ (hand old).sink_faults
+  pub same : IsSameHand (hand old) (hand new)
