@@ -4,9 +4,10 @@ use Rattle.flop_base.specs.declared.answers.Rate.TheVariants.{R500, R250}
 use Rattle.flop_base.specs.declared.answers.Status.{Status}
 use Rattle.flop_base.specs.declared.answers.Status.TheVariants as status
 use Rattle.flop_base.specs.Bays.{Two}
+use Rattle.flop_base.specs.Shelf.{Files}
 use Rattle.sector_model.specs.Faults.{Blames}
 use Rattle.sector_model.specs.Stations.{StationState}
-use Rattle.sector_model.specs.States.{start_of}
+use Rattle.sector_model.specs.States.{State, start_of}
 use Rattle.sector_model.specs.Runs.{Taken}
 use Rattle.sector_model.specs.Plays.{World, Plays, TellsAlone, IsIdle}
 use Rattle.commands.specs.LastLines.{bad_words_text}
@@ -14,7 +15,7 @@ use Rattle.floppy_words.specs.declared.form.Form.{Form}
 use Rattle.floppy_words.specs.declared.form.Form.TheVariants as form
 use Rattle.floppy_words.specs.Forms.{form_of}
 use Rattle.commands.specs.Scripts.{RunsScript}
-use Rattle.commands.specs.Leading.{Faulty, Runs}
+use Rattle.commands.specs.Leading.{Runs}
 use Rattle.disk_commands.specs.Format.{format_script}
 use Rattle.disk_commands.specs.Verify.{verify_script}
 use Rattle.disk_commands.specs.Copy.{copy_script}
@@ -62,6 +63,21 @@ pub data DoesOrStarves (asked : Form) (old : World) (course : List Taken) (new :
 abbrev pub Does : Option Form → World → List Taken → World → Status → Type 0
 Does (Some asked) old course new ended = DoesOrStarves asked old course new ended
 Does None old course new ended = TellsAlone bad_words_text status.BadWords old course new ended
+
+-- a world, with the faults that its shelf and its sink counted
+pub record Faulty : Type 0 where
+  pub world : World
+  pub shelf_faults : ℕ
+  pub sink_faults : ℕ
+
+-- a session, a shelf and a sink, by what they show
+abbrev pub world_of : {S K : Type 0} → (S → Option Files) → (K → Option (List (List ℕ))) → State → S → K → World
+world_of files report session shelf out = record { state = session; files = files shelf; report = report out }
+
+-- with the faults that they counted
+abbrev pub faulty_of : {S K : Type 0} → (S → Option Files) → (S → ℕ) → (K → Option (List (List ℕ))) → (K → ℕ) → State → S → K → Faulty
+faulty_of files shelf_count report sink_count session shelf out =
+    record { world = world_of files report session shelf out; shelf_faults = shelf_count shelf; sink_faults = sink_count out }
 
 -- what words ask for was done, the words are no form where the status says so, and one fault was counted where it tells one, and else none
 pub record Performed (Does : World → World → Status → Type 0) (NoForm : Type 0) (old new : Faulty) (ended : Status) : Type 0 where

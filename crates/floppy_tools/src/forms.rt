@@ -4,13 +4,13 @@ ghost use Rattle.sector_model.specs.Faults.{Blames};
 ghost use Rattle.sector_model.specs.Stations.{IsFresh};
 ghost use Rattle.floppy_words.specs.declared.form.Form.{Form};
 ghost use Rattle.floppy_words.specs.Forms.{form_of, Reads};
-ghost use Rattle.commands.specs.Leading.{Runs};
-ghost use Rattle.commands.specs.Leading.{world_of, faulty_of, Ran};
+ghost use Rattle.commands.specs.Hands.{hand_of};
+ghost use Rattle.commands.specs.Leading.{Ran, Runs};
 ghost use Rattle.archive_commands.specs.Files.{faulty_desk_of};
-ghost use Rattle.floppy_tools.specs.Programs.{Does, DoesForm, Performed, RanWords};
+ghost use Rattle.floppy_tools.specs.Programs.{Does, DoesForm, Performed, RanWords, faulty_of, world_of};
 
 use archive_commands::{from_imd, remaster_disk, survey_disk, to_imd};
-use commands::put_last_bad_words;
+use commands::{Run, put_last_bad_words};
 use disk_commands::{
     copy_disk, exercise_disk, export_disk, format_disk, import_disk, rescue_disk, verify_disk,
 };
@@ -93,53 +93,40 @@ fn perform_any<S: Shelf, K: Sink, D: Station>(
         (faulty_of S.told S.fault_count K.told K.fault_count session.new shelf.new out.new) result }
 {
     match form {
-        Some(form) => perform_form(alloc, session, form, shelf, out),
+        Some(form) => {
+            let mut run = Run {
+                alloc,
+                session,
+                shelf,
+                out,
+            };
+            perform_form(&mut run, form)
+        }
         None => put_last_bad_words(out),
     }
 }
 
 /// Does what a form asks for.
 fn perform_form<S: Shelf, K: Sink, D: Station>(
-    alloc: Global,
-    session: &mut Session<D>,
+    run: &mut Run<'_, '_, '_, D, S, K>,
     form: Form,
-    shelf: &mut S,
-    out: &mut K,
 ) -> Status
-    ensures { Ran (Runs (DoesForm form))
-        (faulty_of S.told S.fault_count K.told K.fault_count session.old shelf.old out.old)
-        (faulty_of S.told S.fault_count K.told K.fault_count session.new shelf.new out.new) result }
+    ensures { Ran (hand_of S.told S.fault_count K.told K.fault_count) (Runs (DoesForm form)) run.old run.new result }
 {
     match form {
-        Form::Play { job } => play(alloc, session, job.as_str(), shelf, out),
-        Form::Format { name, cylinders } => format_disk(
-            alloc,
-            session,
-            name,
-            cylinders.count(),
-            Rate::R500,
-            shelf,
-            out,
-        ),
-        Form::FormatDd { name, cylinders } => format_disk(
-            alloc,
-            session,
-            name,
-            cylinders.count(),
-            Rate::R250,
-            shelf,
-            out,
-        ),
-        Form::Copy { from, to } => copy_disk(alloc, session, from, to, shelf, out),
-        Form::Verify { name } => verify_disk(alloc, session, name, shelf, out),
-        Form::FromImd { imd, name } => from_imd(alloc, imd, name, shelf, out),
-        Form::ToImd { name, imd } => to_imd(alloc, name, imd, shelf, out),
-        Form::Survey { name } => survey_disk(alloc, name, shelf, out),
-        Form::Remaster { from, to } => remaster_disk(alloc, from, to, shelf, out),
-        Form::Import { flat, name } => import_disk(alloc, session, flat, name, shelf, out),
-        Form::Export { name, flat } => export_disk(alloc, session, name, flat, shelf, out),
-        Form::Exercise { seed, count } => exercise_disk(alloc, session, seed, count, shelf, out),
-        Form::Int13 { calls } => serve_calls(alloc, session, calls, shelf, out),
-        Form::Rescue { from, to, log } => { rescue_disk(alloc, session, from, to, log, shelf, out) }
+        Form::Play { job } => play(run, job.as_str()),
+        Form::Format { name, cylinders } => format_disk(run, name, cylinders.count(), Rate::R500),
+        Form::FormatDd { name, cylinders } => format_disk(run, name, cylinders.count(), Rate::R250),
+        Form::Copy { from, to } => copy_disk(run, from, to),
+        Form::Verify { name } => verify_disk(run, name),
+        Form::FromImd { imd, name } => from_imd(run.alloc, imd, name, run.shelf, run.out),
+        Form::ToImd { name, imd } => to_imd(run.alloc, name, imd, run.shelf, run.out),
+        Form::Survey { name } => survey_disk(run.alloc, name, run.shelf, run.out),
+        Form::Remaster { from, to } => remaster_disk(run.alloc, from, to, run.shelf, run.out),
+        Form::Import { flat, name } => import_disk(run, flat, name),
+        Form::Export { name, flat } => export_disk(run, name, flat),
+        Form::Exercise { seed, count } => exercise_disk(run, seed, count),
+        Form::Int13 { calls } => serve_calls(run, calls),
+        Form::Rescue { from, to, log } => rescue_disk(run, from, to, log),
     }
 }

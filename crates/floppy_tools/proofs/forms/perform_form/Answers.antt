@@ -2,7 +2,8 @@ use Rattle.std.proofs.Common.{rules, subst, List, ℕ}
 use Rattle.flop_base.specs.declared.answers.Rate.TheVariants.{R500, R250}
 use Rattle.floppy_words.specs.declared.form.Form.TheVariants as form
 use Rattle.commands.specs.Scripts.{RunsScript}
-use Rattle.commands.specs.Leading.{Runs, world_of}
+use Rattle.commands.specs.Leading.{Runs}
+use Rattle.commands.specs.Hands.{hand_of}
 use Rattle.disk_commands.specs.Format.{format_script}
 use Rattle.floppy_tools.specs.Programs.{DoesForm}
 use Rattle.archive_commands.specs.Files.{desk_of}
@@ -15,87 +16,90 @@ use Rattle.floppy_tools.proofs.forms.perform_form.Goals as goal
 pub returns-in-Play : goal.returns-in-Play
 returns-in-Play g c = record {
   does =
+      let hand = hand_of g.S.Shelf.told g.S.Shelf.fault_count g.K.Sink.told g.K.Sink.fault_count in
       form_runs c.args.form (form.Play c.in-Play.job) _ _ c.play.result c.in-Play.is
-      (subst (λ (j : List ℕ). Runs (DoesForm (form.Play j)) (world_of g.S.Shelf.told g.K.Sink.told c.args.session.now c.args.shelf.now
-      c.args.out.now) (world_of g.S.Shelf.told g.K.Sink.told c.play.new.session c.play.new.shelf c.play.new.out) c.play.result) c.as_str.ensures
-      (play_runs c.as_str.result.now (world_of g.S.Shelf.told g.K.Sink.told c.args.session.now c.args.shelf.now c.args.out.now)
-      (world_of g.S.Shelf.told g.K.Sink.told c.play.new.session c.play.new.shelf c.play.new.out) c.play.result c.play.ensures.does));
+      (subst (λ (j : List ℕ). Runs (DoesForm (form.Play j)) (hand c.args.run.now).world (hand c.play.new.run).world c.play.result) c.as_str.ensures
+      (play_runs c.as_str.result.now _ _ c.play.result c.play.ensures.does));
   is_form = search rules;
   shelf_faults = search rules;
   sink_faults = search rules;
+  same = search rules;
 }
 
 pub returns-in-Format : goal.returns-in-Format
 returns-in-Format g c = record {
   does =
+      let hand = hand_of g.S.Shelf.told g.S.Shelf.fault_count g.K.Sink.told g.K.Sink.fault_count in
       form_runs c.args.form (form.Format c.in-Format.name c.in-Format.cylinders) _ _ c.format_disk.result c.in-Format.is
-      (subst (λ (n : ℕ). Runs (RunsScript (format_script c.in-Format.name n R500))
-      (world_of g.S.Shelf.told g.K.Sink.told c.args.session.now c.args.shelf.now c.args.out.now)
-      (world_of g.S.Shelf.told g.K.Sink.told c.format_disk.new.session c.format_disk.new.shelf c.format_disk.new.out) c.format_disk.result)
-      c.count.ensures.value c.format_disk.ensures.does);
+      (subst (λ (n : ℕ). Runs (RunsScript (format_script c.in-Format.name n R500)) (hand c.args.run.now).world
+      (hand c.format_disk.new.run).world c.format_disk.result) c.count.ensures.value c.format_disk.ensures.does);
   is_form = search rules;
   shelf_faults = search rules;
   sink_faults = search rules;
+  same = search rules;
 }
 
 pub returns-in-FormatDd : goal.returns-in-FormatDd
 returns-in-FormatDd g c = record {
   does =
+      let hand = hand_of g.S.Shelf.told g.S.Shelf.fault_count g.K.Sink.told g.K.Sink.fault_count in
       form_runs c.args.form (form.FormatDd c.in-FormatDd.name c.in-FormatDd.cylinders) _ _ c.format_disk-in-FormatDd.result c.in-FormatDd.is
-      (subst (λ (n : ℕ). Runs (RunsScript (format_script c.in-FormatDd.name n R250))
-      (world_of g.S.Shelf.told g.K.Sink.told c.args.session.now c.args.shelf.now c.args.out.now)
-      (world_of g.S.Shelf.told g.K.Sink.told c.format_disk-in-FormatDd.new.session c.format_disk-in-FormatDd.new.shelf
-      c.format_disk-in-FormatDd.new.out) c.format_disk-in-FormatDd.result) c.count-in-FormatDd.ensures.value
-      c.format_disk-in-FormatDd.ensures.does);
+      (subst (λ (n : ℕ). Runs (RunsScript (format_script c.in-FormatDd.name n R250)) (hand c.args.run.now).world
+      (hand c.format_disk-in-FormatDd.new.run).world c.format_disk-in-FormatDd.result) c.count-in-FormatDd.ensures.value c.format_disk-in-FormatDd.ensures.does);
   is_form = search rules;
   shelf_faults = search rules;
   sink_faults = search rules;
+  same = search rules;
 }
 
 pub returns-in-FromImd : goal.returns-in-FromImd
 returns-in-FromImd g c = record {
   does =
       form_runs c.args.form (form.FromImd c.in-FromImd.imd c.in-FromImd.name) _ _ c.from_imd.result c.in-FromImd.is
-      (on_files (FromImd c.in-FromImd.imd c.in-FromImd.name) c.args.session.now
-      (desk_of g.S.Shelf.told g.K.Sink.told c.args.shelf.now c.args.out.now)
+      (on_files (FromImd c.in-FromImd.imd c.in-FromImd.name) c.args.run.now.session.now
+      (desk_of g.S.Shelf.told g.K.Sink.told c.args.run.now.shelf.now c.args.run.now.out.now)
       (desk_of g.S.Shelf.told g.K.Sink.told c.from_imd.new.shelf c.from_imd.new.out) c.from_imd.result c.from_imd.ensures.does);
   is_form = search rules;
   shelf_faults = search rules;
   sink_faults = search rules;
+  same = search rules;
 }
 
 pub returns-in-ToImd : goal.returns-in-ToImd
 returns-in-ToImd g c = record {
   does =
       form_runs c.args.form (form.ToImd c.in-ToImd.name c.in-ToImd.imd) _ _ c.to_imd.result c.in-ToImd.is
-      (on_files (ToImd c.in-ToImd.name c.in-ToImd.imd) c.args.session.now (desk_of g.S.Shelf.told g.K.Sink.told c.args.shelf.now c.args.out.now)
+      (on_files (ToImd c.in-ToImd.name c.in-ToImd.imd) c.args.run.now.session.now (desk_of g.S.Shelf.told g.K.Sink.told c.args.run.now.shelf.now c.args.run.now.out.now)
       (desk_of g.S.Shelf.told g.K.Sink.told c.to_imd.new.shelf c.to_imd.new.out) c.to_imd.result c.to_imd.ensures.does);
   is_form = search rules;
   shelf_faults = search rules;
   sink_faults = search rules;
+  same = search rules;
 }
 
 pub returns-in-Survey : goal.returns-in-Survey
 returns-in-Survey g c = record {
   does =
       form_runs c.args.form (form.Survey c.in-Survey.name) _ _ c.survey_disk.result c.in-Survey.is
-      (on_files (Surveys c.in-Survey.name) c.args.session.now (desk_of g.S.Shelf.told g.K.Sink.told c.args.shelf.now c.args.out.now)
+      (on_files (Surveys c.in-Survey.name) c.args.run.now.session.now (desk_of g.S.Shelf.told g.K.Sink.told c.args.run.now.shelf.now c.args.run.now.out.now)
       (desk_of g.S.Shelf.told g.K.Sink.told c.survey_disk.new.shelf c.survey_disk.new.out) c.survey_disk.result c.survey_disk.ensures.does);
   is_form = search rules;
   shelf_faults = search rules;
   sink_faults = search rules;
+  same = search rules;
 }
 
 pub returns-in-Remaster : goal.returns-in-Remaster
 returns-in-Remaster g c = record {
   does =
       form_runs c.args.form (form.Remaster c.in-Remaster.from c.in-Remaster.to) _ _ c.remaster_disk.result c.in-Remaster.is
-      (on_files (Remaster c.in-Remaster.from c.in-Remaster.to) c.args.session.now
-      (desk_of g.S.Shelf.told g.K.Sink.told c.args.shelf.now c.args.out.now)
+      (on_files (Remaster c.in-Remaster.from c.in-Remaster.to) c.args.run.now.session.now
+      (desk_of g.S.Shelf.told g.K.Sink.told c.args.run.now.shelf.now c.args.run.now.out.now)
       (desk_of g.S.Shelf.told g.K.Sink.told c.remaster_disk.new.shelf c.remaster_disk.new.out) c.remaster_disk.result c.remaster_disk.ensures.does);
   is_form = search rules;
   shelf_faults = search rules;
   sink_faults = search rules;
+  same = search rules;
 }
 
 pub returns-in-Copy : goal.returns-in-Copy
@@ -104,6 +108,7 @@ returns-in-Copy g c = record {
   is_form = search rules;
   shelf_faults = search rules;
   sink_faults = search rules;
+  same = search rules;
 }
 
 pub returns-in-Verify : goal.returns-in-Verify
@@ -112,6 +117,7 @@ returns-in-Verify g c = record {
   is_form = search rules;
   shelf_faults = search rules;
   sink_faults = search rules;
+  same = search rules;
 }
 
 pub returns-in-Export : goal.returns-in-Export
@@ -120,6 +126,7 @@ returns-in-Export g c = record {
   is_form = search rules;
   shelf_faults = search rules;
   sink_faults = search rules;
+  same = search rules;
 }
 
 pub returns-in-Import : goal.returns-in-Import
@@ -128,6 +135,7 @@ returns-in-Import g c = record {
   is_form = search rules;
   shelf_faults = search rules;
   sink_faults = search rules;
+  same = search rules;
 }
 
 pub returns-in-Int13 : goal.returns-in-Int13
@@ -136,6 +144,7 @@ returns-in-Int13 g c = record {
   is_form = search rules;
   shelf_faults = search rules;
   sink_faults = search rules;
+  same = search rules;
 }
 
 pub returns-in-Rescue : goal.returns-in-Rescue
@@ -144,4 +153,5 @@ returns-in-Rescue g c = record {
   is_form = search rules;
   shelf_faults = search rules;
   sink_faults = search rules;
+  same = search rules;
 }
