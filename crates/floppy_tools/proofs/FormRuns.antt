@@ -28,6 +28,11 @@ pub runs_asked : (spelled : Option Form) (asked : Form) (old new : World) (ended
 runs_asked spelled asked old new ended is runs =
     subst (λ (o : Option Form). Runs (Does o) old new ended) (sym is) (record { course = runs.course; does = AsAsked runs.does })
 
+-- up to a world that is the same
+pub ran_asked : (spelled : Option Form) (asked : Form) (old new same : World) (ended : Status) → spelled ≡ Some asked → Runs (DoesForm asked) old new ended → new ≡ same
+    → Runs (Does spelled) old same ended
+ran_asked spelled asked old new same ended is runs ends = subst (λ (w : World). Runs (Does spelled) old w ended) ends (runs_asked spelled asked old new ended is runs)
+
 -- memory for the words of a form couldn't be had
 pub runs_starving : (spelled : Option Form) (old : World) → IsSome spelled → Runs (Does spelled) old old status.NoMemory
 runs_starving None old some = absurd (true≢false (sym some))

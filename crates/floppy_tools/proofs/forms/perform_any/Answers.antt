@@ -1,10 +1,10 @@
 use Rattle.std.proofs.Common.{rules, refl}
-use Rattle.floppy_tools.proofs.FormRuns.{runs_asked, runs_none}
+use Rattle.floppy_tools.proofs.FormRuns.{ran_asked, runs_none}
 use Rattle.floppy_tools.proofs.forms.perform_any.Goals as goal
 
 pub returns-in-Some : goal.returns-in-Some
 returns-in-Some g c = record {
-  runs = runs_asked c.args.form c.in-Some.form _ _ c.perform_form.result c.in-Some.is c.perform_form.ensures.does;
+  runs = ran_asked c.args.form c.in-Some.form _ _ _ c.perform_form.result c.in-Some.is c.perform_form.ensures.does (search rules);
   bad_words = search rules;
   shelf_faults = search rules;
   sink_faults = search rules;
