@@ -180,7 +180,7 @@ TELWYDDUS_NEWS uint32_t telwyddus_tray_set_track(telwyddus_tray *tray, uint8_t c
  * THE CONTROLLER (82077AA, PC/AT mode), with two drives. Your emulator has the DMA controller, the interrupt controller and the
  * clock.
  *
- *   - It has all commands of the data sheet but the three SCANs. docs/C.md has a table of what it does at each, their result bytes,
+ *   - It has all commands of the data sheet but the three SCANs. docs/C.md says what it does at each, their result bytes,
  *     and what it says of a guest's mistakes.
  *   - READ DATA, READ DELETED DATA, WRITE DATA and WRITE DELETED DATA move sectors from R up to EOT, with MT over both heads, until
  *     the terminal count comes; with SK a read passes over those of the other mark.
