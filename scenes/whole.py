@@ -74,9 +74,9 @@ def calls(book):
     book.play("insert 0 a.rt;ack 0;read 0 0 1 2 2 10000;dump 10000 2", "insert ok;ack ok;read ok;10000 5A 5A")
     book.scene("calls read a protected disk and neither write it nor anything else in its file")
     book.file("a.rt", A_PROTECTED)
-    book.file("calls", text("insert 0 a.rt;call 1600 0000 0000 0000 0000;call 0201 0000 0001 0000 1000;call 0302 0000 0001 0000 1000;"
+    book.file("calls", text("insert 0 a.rt;call 0201 0000 0001 0000 1000;call 0201 0000 0001 0000 1000;call 0302 0000 0001 0000 1000;"
                             "call 0100 0000 0000 0000 0000;eject 0"))
-    book.run("int13 calls", "insert ok;call 0600 0000 0000 0000 1;call 0001 0000 0001 0000 0;call 0300 0000 0001 0000 1;"
+    book.run("int13 calls", "insert ok;call 0600 0000 0001 0000 1;call 0001 0000 0001 0000 0;call 0300 0000 0001 0000 1;"
              "call 0300 0000 0000 0000 1;eject ok", 1)
     serves(book, "a call with too few registers", "insert 0 a.rt;call 0201 0000 0001 0000", "job line 2 not understood", 3)
     serves(book, "a request among calls", "read 0 0 0 1 2 10000", "job line 1 not understood", 3)
