@@ -95,6 +95,13 @@ class Place:
             return file.read(), status, said
 
 
+class Said:
+    """What came of a line of the shell."""
+
+    def __init__(self, text, status, seconds, cpu):
+        self.text, self.status, self.seconds, self.cpu = text, status, seconds, cpu
+
+
 class Guest:
     """A QEMU that runs."""
 
@@ -196,40 +203,6 @@ class Guest:
         self.log.append(f"{time.time() - self.began:8.3f} {text}")
         return text
 
-    def screen(self):
-        """The text on the screen."""
-        path = os.path.abspath(f"{self.name}.screen")
-        self.qmp("pmemsave", val=0xB8000, size=4000, filename=path)
-        with open(path, "rb") as file:
-            data = file.read()[::2]
-        return "\n".join(data[i:i + 80].decode("cp437").rstrip() for i in range(0, 2000, 80)).rstrip()
-
-
-class Said:
-    """What came of a line of the shell."""
-
-    def __init__(self, text, status, seconds, cpu):
-        self.text, self.status, self.seconds, self.cpu = text, status, seconds, cpu
-
-
-class Linux(Guest):
-    """Linux with busybox, and the floppy driver `driver`: floppy, or floppy-raw, which takes raw commands; or None for none yet."""
-
-    def __init__(self, place, name, device, files=(), driver="floppy", append="", words=(), **more):
-        initramfs = f"{name}.{os.getpid()}.initramfs"
-        with open(os.path.join(place.work, "initramfs"), "rb") as base, open(initramfs, "wb") as file:
-            file.write(base.read() + cpio(dict(files)))
-        append = f"console=ttyS0 quiet panic=-1 no_timer_check {append}"
-        super().__init__(place, name, device, ["-kernel", os.path.join(place.work, "vmlinuz"), "-initrd", initramfs, "-append", append, *words], **more)
-        try:
-            self.ready()
-            self.probed = self.sh(f"insmod /modules/{driver}.ko") if driver else None
-        except BaseException:
-            self.end(False)
-            raise
-        finally:
-            os.unlink(initramfs)
-
     def ready(self):
         """Waits until Linux has booted."""
         while self.line() != "==READY":
@@ -253,3 +226,30 @@ class Linux(Guest):
             lines.append(line)
         status, before, behind = line.split()[1:]
         return Said("\n".join(lines), int(status), float(behind) - float(before), self.cpu() - cpu)
+
+    def screen(self):
+        """The text on the screen."""
+        path = os.path.abspath(f"{self.name}.screen")
+        self.qmp("pmemsave", val=0xB8000, size=4000, filename=path)
+        with open(path, "rb") as file:
+            data = file.read()[::2]
+        return "\n".join(data[i:i + 80].decode("cp437").rstrip() for i in range(0, 2000, 80)).rstrip()
+
+
+class Linux(Guest):
+    """Linux with busybox, and the floppy driver `driver`: floppy, or floppy-raw, which takes raw commands; or None for none yet."""
+
+    def __init__(self, place, name, device, files=(), driver="floppy", append="", words=(), **more):
+        initramfs = f"{name}.{os.getpid()}.initramfs"
+        with open(os.path.join(place.work, "initramfs"), "rb") as base, open(initramfs, "wb") as file:
+            file.write(base.read() + cpio(dict(files)))
+        append = f"console=ttyS0 quiet panic=-1 no_timer_check {append}"
+        super().__init__(place, name, device, ["-kernel", os.path.join(place.work, "vmlinuz"), "-initrd", initramfs, "-append", append, *words], **more)
+        try:
+            self.ready()
+            self.probed = self.sh(f"insmod /modules/{driver}.ko") if driver else None
+        except BaseException:
+            self.end(False)
+            raise
+        finally:
+            os.unlink(initramfs)

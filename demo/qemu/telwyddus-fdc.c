@@ -158,6 +158,15 @@ static int telwyddus_fdc_drop_state(void *opaque)
     return 0;
 }
 
+static int telwyddus_fdc_pre_load(void *opaque)
+{
+    TelwyddusFDC *s = opaque;
+
+    g_free(s->pauses);
+    s->pauses = NULL;
+    return 0;
+}
+
 static int telwyddus_fdc_post_load(void *opaque, int version_id)
 {
     TelwyddusFDC *s = opaque;
@@ -173,7 +182,7 @@ static int telwyddus_fdc_post_load(void *opaque, int version_id)
     telwyddus_ask_step(s);
     s->is_held = false;         /* i8257 forgets it too: the timer asks again */
     for (unsigned bay = 0; bay < BAYS; bay++) {
-        s->bays[bay].is_unsaved = true;
+        s->bays[bay].is_unsaved = s->bays[bay].image && *s->bays[bay].image;
     }
     return 0;
 }
@@ -196,6 +205,7 @@ static const VMStateDescription telwyddus_fdc_vmstate = {
     .minimum_version_id = 1,
     .pre_save = telwyddus_fdc_pre_save,
     .post_save = telwyddus_fdc_drop_state,
+    .pre_load = telwyddus_fdc_pre_load,
     .post_load = telwyddus_fdc_post_load,
     .fields = (VMStateField[]) {
         VMSTATE_BOOL(is_up, TelwyddusFDC),

@@ -25,8 +25,8 @@ enum {
 };
 
 typedef struct TelwyddusBay {
-    char *image;        /* the file of its medium; none or "" where none is in */
-    char *plan;         /* the file of its drive's faults; none or "" as well */
+    char *image;        /* the file of its medium; none or "" for none */
+    char *plan;         /* the file of its drive's faults; the same */
     char *beside;       /* where cells are stored that a flat file can't have */
     bool is_flat;       /* its file has sectors, and no cells */
     bool is_protected;  /* by its property; its image or file may be besides */
@@ -47,7 +47,7 @@ struct TelwyddusFDC {
     uint32_t isairq;
     uint32_t channel;
     uint32_t drives;            /* the other bays have no drive */
-    uint32_t speed;             /* so many times that of a drive; 0: no waiting */
+    uint32_t speed;             /* so many times a drive's; 0: no waiting */
 
     PortioList ports;
     qemu_irq irq;
@@ -61,11 +61,10 @@ struct TelwyddusFDC {
     uint8_t lines;              /* of the chip, as the last call told them */
     bool is_up;                 /* INT, as the guest was told */
     bool is_held;               /* DREQ, as the channel was told */
-    bool is_asking;             /* the device itself has the channel pass bytes */
+    bool is_asking;             /* for bytes, of the channel, at this time */
     uint32_t step;              /* nanoseconds of a device step */
-    int64_t at;                 /* of the virtual clock, up to which steps were
-                                 * made: ahead of it within a command */
-    int64_t until;              /* up to which they may be made */
+    int64_t at;                 /* when the last step that is made is over */
+    int64_t until;              /* when the last that may be made now is */
     uint8_t msr;                /* what these ports answer until it is `at` */
     uint8_t dir;
 

@@ -84,6 +84,11 @@ bool telwyddus_store(TelwyddusFDC *s, unsigned bay, Error **errp)
     if (telwyddus_is_stored(s, bay)) {
         return true;
     }
+    if (!name || !*name) {
+        error_setg(errp, "bay %u: its disk came by a state, and has no file",
+                   bay);
+        return false;
+    }
     if (b->is_flat) {
         code = telwyddus_sectors(s, bay, &bytes, &length);
     }
@@ -212,17 +217,17 @@ bool telwyddus_insert(TelwyddusFDC *s, unsigned bay, const char *name,
 static void telwyddus_plan_bus(TelwyddusFDC *s, const char *text)
 {
     g_auto(GStrv) lines = g_strsplit(text, "\n", -1);
+    TelwyddusPause it;
     char verb[8];
-    TelwyddusPause pause;
 
     g_free(s->pauses);
     s->pauses = g_new(TelwyddusPause, g_strv_length(lines) + 1);
     s->pause_count = 0;
     for (char **line = lines; *line; line++) {
-        if (sscanf(*line, " %7s %u %u", verb, &pause.steps, &pause.times) == 3) {
-            pause.is_stray = !strcmp(verb, "stray");
-            if (pause.is_stray || !strcmp(verb, "hold")) {
-                s->pauses[s->pause_count++] = pause;
+        if (sscanf(*line, " %7s %u %u", verb, &it.steps, &it.times) == 3) {
+            it.is_stray = !strcmp(verb, "stray");
+            if (it.is_stray || !strcmp(verb, "hold")) {
+                s->pauses[s->pause_count++] = it;
             }
         }
     }

@@ -17,10 +17,10 @@
 #include "trace.h"
 
 enum {
-    AHEAD = 250000,     /* steps at once: some commands never end by themselves */
-    SLICE = 32,         /* steps between two looks where the guest has to act */
-    MOMENT = 20000,     /* nanoseconds in which the guest's `out` has returned */
-    NOMINAL = 16000,    /* nanoseconds of a step of which stray interrupts come */
+    AHEAD = 250000,     /* steps at once: a command may never end by itself */
+    SLICE = 32,         /* steps between looks while the guest has to act */
+    MOMENT = 20000,     /* nanoseconds in which the guest's OUT is over */
+    NOMINAL = 16000,    /* nanoseconds of a step between stray interrupts */
     FIFO = 16,          /* bytes that are asked for at once, at most */
 };
 
@@ -190,10 +190,19 @@ static void telwyddus_set_timer(TelwyddusFDC *s)
 }
 
 /*
- * Where INT is up the guest has to act, so nothing is made ahead. Without
- * waiting (speed 0) a change is told as soon as the guest can take it; where
- * there is none, time goes by as ever.
+ * Behind steps made ahead. Without waiting (speed 0) a change is told as soon
+ * as the guest can take it; where there is none, time goes by as ever.
  */
+static void telwyddus_end_ahead(TelwyddusFDC *s)
+{
+    if (s->speed == 0 && telwyddus_has_news(s)) {
+        s->at = MIN(s->at, telwyddus_now() + MOMENT);
+    }
+    telwyddus_release(s);
+    telwyddus_set_timer(s);
+}
+
+/* Where INT is up the guest has to act, so nothing is made ahead */
 void telwyddus_go_on(TelwyddusFDC *s)
 {
     int64_t from = s->at;
@@ -208,12 +217,8 @@ void telwyddus_go_on(TelwyddusFDC *s)
             s->is_asking = false;
         }
         trace_telwyddus_fdc_ahead((s->at - from) / s->step);
-        if (s->speed == 0 && telwyddus_has_news(s)) {
-            s->at = MIN(s->at, telwyddus_now() + MOMENT);
-        }
     }
-    telwyddus_release(s);
-    telwyddus_set_timer(s);
+    telwyddus_end_ahead(s);
 }
 
 /* Called by the device itself, or where the guest has unmasked the channel */
@@ -221,18 +226,16 @@ int telwyddus_transfer(void *opaque, int nchan, int pos, int size)
 {
     TelwyddusFDC *s = opaque;
 
-    if (!s->is_asking) {
-        if (!telwyddus_has_news(s)) {
-            s->until = telwyddus_now();
-            telwyddus_run(s);
-        }
+    if (s->is_asking) {
+        return telwyddus_make(s, pos, size);
+    }
+    if (!telwyddus_has_news(s)) {
+        s->until = telwyddus_now();
+        telwyddus_run(s);
         telwyddus_show(s);
+        pos = telwyddus_make(s, pos, size);
     }
-    pos = telwyddus_make(s, pos, size);
-    if (!s->is_asking) {
-        telwyddus_release(s);
-        telwyddus_set_timer(s);
-    }
+    telwyddus_end_ahead(s);
     return pos;
 }
 
