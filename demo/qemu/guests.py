@@ -13,7 +13,7 @@
         guest.start("program"), guest.line(), guest.send("..\n")    # one that talks by itself: give it < /dev/ttyS1
     place.exported("disk.rt")                               # (sectors or None, status, what was printed)
 
-At the end of `with` the guest's power is off, so the image is stored; guest.errors has what QEMU said. Time is the guest's own (-icount), so that the
+At the end of `with` the guest's power is off, so the image is stored; guest.said() is what QEMU has said. Time is the guest's own (-icount), so that the
 host's load doesn't tell; clock="host" lets the host's pass. While nothing is asked the guest's time runs on, faster than the host's: guest.stop() and
 guest.go() stop it. A guest that says nothing for `most` host seconds is ended: Gone.
 """
@@ -131,10 +131,14 @@ class Guest:
             pass
         self.process.kill()
         self.process.wait()
-        with open(f"{self.name}.errors") as file:
-            self.errors = file.read()
+        self.errors = self.said()
         with open(f"{self.name}.log", "w") as file:
             file.write("\n".join(self.log) + "\n" + self.errors)
+
+    def said(self):
+        """What QEMU has said."""
+        with open(f"{self.name}.errors") as file:
+            return file.read()
 
     def cpu(self):
         """Seconds of the host's processor."""
@@ -165,7 +169,7 @@ class Guest:
                 break
             except OSError:
                 if self.process.poll() is not None:
-                    raise Gone(f"{self.name}: {open(self.name + '.errors').read()}")
+                    raise Gone(f"{self.name}: {self.said()}")
                 time.sleep(0.05)
         self.lines = self.socket.makefile("rw")
         self.lines.readline()
@@ -196,7 +200,7 @@ class Guest:
                 raise Gone(f"{self.name} is silent")
             data = os.read(self.process.stdout.fileno(), 65536)
             if not data:
-                raise Gone(f"{self.name} has ended: {open(self.name + '.errors').read()}")
+                raise Gone(f"{self.name} has ended: {self.said()}")
             self.pending += data
         line, self.pending = self.pending.split(b"\n", 1)
         text = line.decode("latin-1").rstrip("\r")

@@ -228,7 +228,6 @@ static Property telwyddus_fdc_properties[] = {
     DEFINE_PROP_UINT32("irq", TelwyddusFDC, isairq, 6),
     DEFINE_PROP_UINT32("dma", TelwyddusFDC, channel, 2),
     DEFINE_PROP_UINT32("drives", TelwyddusFDC, drives, BAYS),
-    DEFINE_PROP_UINT32("speed", TelwyddusFDC, speed, 1),
     DEFINE_PROP_END_OF_LIST(),
 };
 
@@ -246,10 +245,16 @@ static void telwyddus_fdc_class_init(ObjectClass *klass, void *data)
     set_bit(DEVICE_CATEGORY_STORAGE, dc->categories);
 }
 
+static void telwyddus_fdc_init(Object *obj)
+{
+    TELWYDDUS_FDC(obj)->speed = 1;
+}
+
 static const TypeInfo telwyddus_fdc_info = {
     .name = TYPE_TELWYDDUS_FDC,
     .parent = TYPE_ISA_DEVICE,
     .instance_size = sizeof(TelwyddusFDC),
+    .instance_init = telwyddus_fdc_init,
     .class_init = telwyddus_fdc_class_init,
 };
 

@@ -124,7 +124,7 @@ bool telwyddus_plan(TelwyddusFDC *s, unsigned bay, const char *name,
 /* The steps of the next pause of a kind; 0 where there is none any more */
 uint32_t telwyddus_next_pause(TelwyddusFDC *s, bool is_stray);
 
-/* The properties image0, image1, plan0, plan1, protect0, protect1 */
+/* The properties that can be set while the guest runs */
 void telwyddus_add_properties(ObjectClass *klass);
 
 #endif

@@ -343,8 +343,31 @@ static void telwyddus_set_protect(Object *obj, Visitor *v, const char *property,
     }
 }
 
+static void telwyddus_get_speed(Object *obj, Visitor *v, const char *property,
+                                void *opaque, Error **errp)
+{
+    visit_type_uint32(v, property, &TELWYDDUS_FDC(obj)->speed, errp);
+}
+
+static void telwyddus_set_speed(Object *obj, Visitor *v, const char *property,
+                                void *opaque, Error **errp)
+{
+    TelwyddusFDC *s = TELWYDDUS_FDC(obj);
+
+    if (!DEVICE(obj)->realized) {
+        visit_type_uint32(v, property, &s->speed, errp);
+    } else {
+        telwyddus_settle(s);
+        visit_type_uint32(v, property, &s->speed, errp);
+        telwyddus_ask_step(s);
+        telwyddus_go_on(s);
+    }
+}
+
 void telwyddus_add_properties(ObjectClass *klass)
 {
+    object_class_property_add(klass, "speed", "uint32", telwyddus_get_speed,
+                              telwyddus_set_speed, NULL, NULL);
     for (uintptr_t bay = 0; bay < BAYS; bay++) {
         g_autofree char *image = g_strdup_printf("image%u", (unsigned)bay);
         g_autofree char *plan = g_strdup_printf("plan%u", (unsigned)bay);
