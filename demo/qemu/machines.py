@@ -99,30 +99,42 @@ def bare(place, say):
 
 # ---- what it costs: alone, one behind the other
 
+# Reads by Linux's cache wait in its queue, which Linux looks at every 8 ms meanwhile: that is its own cost.
+DIRECT = "dd if=/dev/fd0 of=/tmp/a bs=18k iflag=direct 2> /tmp/said; sum /tmp/a"
+CONTROLLERS = [("isa-fdc", [None]), ("telwyddus-fdc", [1, 0])]
+
 
 def costs(place, say):
-    """A whole disk read and written, and 30 idle seconds, beside QEMU's own controller."""
-    sectors = disk(place, "costs.rt", 90)
+    """A whole disk read and written, beside QEMU's own controller."""
+    sectors, cost = disk(place, "costs.rt", 90), {}
     put("costs.img", sectors)
-    cost = {}
-    for what, device, speeds in (("isa-fdc", qemus_own("costs.img"), [None]), ("telwyddus-fdc", telwyddus("costs.rt"), [1, 0])):
+    for what, speeds in CONTROLLERS:
+        device = telwyddus("costs.rt") if speeds[0] else qemus_own("costs.img")
         with Linux(place, "costs-" + what, device, {"new": NEW}) as guest:
             for speed in speeds:
                 if speed is not None:
                     put_in(guest, place.imported(sectors, f"costs{speed}.rt"), speed)
-                got, written = guest.sh(READ), guest.sh(WRITE)
+                guest.sh("dd if=/dev/fd0 of=/dev/null count=1 2>&1")
+                got, cached, written = guest.sh(DIRECT), guest.sh("fresh; " + READ), guest.sh(WRITE)
                 cost[speed] = got
+                is_so = sum_of(got) == sum_of(cached) == md5(sectors) and written.status == 0
                 told = what + ("" if speed is None else f", speed {speed}")
-                say(sum_of(got) == md5(sectors) and written.status == 0, f"{told}: read {figures(got)}; write {figures(written)}")
+                say(is_so, f"{told}: a disk read {figures(got)}; by the cache {figures(cached)}; written {figures(written)}")
     say(cost[0].seconds <= 4, "without waiting a disk is read in at most 4 s of the guest")
-    say(cost[1].cpu <= 2 * max(cost[None].cpu, 0.35), "at a drive's speed it costs at most twice what QEMU's own does, or .7 s")
+    say(max(cost[0].cpu, cost[1].cpu) <= 2 * cost[None].cpu, "a read costs at most twice what QEMU's own controller does")
+
+
+def idles(place, say):
+    """30 idle seconds of the host, with a disk in that was read."""
+    put("costs.img", disk(place, "costs.rt", 90))
     idle = {}
-    for what, device in (("isa-fdc", qemus_own("costs.img")), ("telwyddus-fdc", telwyddus("costs.rt"))):
+    for what, speeds in CONTROLLERS:
+        device = telwyddus("costs.rt") if speeds[0] else qemus_own("costs.img")
         with Linux(place, "idle-" + what, device, clock="host") as guest:
             guest.sh("dd if=/dev/fd0 of=/dev/null bs=512 count=1 2>&1; sleep 5")
-            idle[what] = guest.sh("sleep 30")
-    say(idle["telwyddus-fdc"].cpu <= idle["isa-fdc"].cpu + 0.1, "idle for 30 s of the host: " + ", ".join(f"{what} {said.cpu:.2f} s" for what, said in idle.items()))
+            idle[what] = guest.sh("sleep 30").cpu
+    say(idle["telwyddus-fdc"] <= idle["isa-fdc"] + 0.1, "idle for 30 s of the host: " + ", ".join(f"{what} {cpu:.2f} s of the processor" for what, cpu in idle.items()))
 
 
 CHECKS = [probe, reset, moved, other_machine, bare]
-ALONE = [costs]
+ALONE = [costs, idles]
