@@ -1,6 +1,7 @@
-/* Reads sector 1 of cylinder 0 at the ports, with no driver: the bytes go to /tmp/a, and the result bytes are printed.
- *   bare nodma CONFIGURE        byte by byte at 3F5; CONFIGURE is the second byte of that command, hexadecimal
- *   bare dma CONFIGURE WAIT     by channel 2, which is unmasked WAIT microseconds behind the command
+/* Reads sector 1 of a cylinder at the ports, with no driver: the bytes go to /tmp/a, and the result bytes are printed.
+ *   bare CYLINDER CONFIGURE         byte by byte at 3F5; CONFIGURE is the second byte of that command, hexadecimal
+ *   bare CYLINDER CONFIGURE WAIT    by channel 2, which is unmasked WAIT microseconds behind the command
+ * The heads are at cylinder 0, so another one wants implied seeks (40 in CONFIGURE).
  * The kernel keeps 64 KiB from 80000 for it (memmap=64K$0x80000).
  */
 #include <fcntl.h>
@@ -82,14 +83,14 @@ static void set_channel(void) {
 }
 
 int main(int words, char **word) {
-    int is_dma = words == 4, memory = open("/dev/mem", O_RDWR | O_SYNC);
+    int is_dma = words == 4, cylinder = words > 1 ? atoi(word[1]) : 0, memory = open("/dev/mem", O_RDWR | O_SYNC);
     if (words < 3 || iopl(3) != 0 || memory < 0) return 2;
     buffer = mmap(NULL, LENGTH, PROT_READ | PROT_WRITE, MAP_SHARED, memory, BUFFER);
     if (buffer == MAP_FAILED) return 2;
     memset(buffer, 0, LENGTH);
     start((unsigned)strtoul(word[2], NULL, 16), is_dma);
     if (is_dma) set_channel();
-    send(9, (const unsigned char[]){0x46, 0, 0, 0, 1, 2, 1, 0x1B, 0xFF});
+    send(9, (const unsigned char[]){0x46, 0, (unsigned char)cylinder, 0, 1, 2, 1, 0x1B, 0xFF});
     if (is_dma) {
         for (double end = now() + atof(word[3]) / 1e6; now() < end;) continue;
         outb(0x02, 0x0A);
