@@ -83,9 +83,12 @@ def other_machine(place, say):
 
 
 # What is tried, the words of bare.c, its result bytes, and the cylinder whose first sector is read.
-BARE = [("without DMA, the FIFO off", "0 30", "40 80 00 00 00 01 02", 0), ("without DMA, with the FIFO", "0 17", "40 80 00 00 00 01 02", 0),
-        ("by DMA, the FIFO off", "0 30 0", "00 00 00 01 00 01 02", 0), ("by an implied seek", "40 57 0", "00 00 00 29 00 01 02", 40),
-        ("with a channel that is unmasked 2 ms behind the command", "0 17 2000", "00 00 00 01 00 01 02", 0), ("too late", "0 17 700000", "40 10 00", None)]
+BARE = [("a sector is read without DMA, the FIFO off", "0 30", "40 80 00 00 00 01 02", 0),
+        ("a sector is read without DMA, with the FIFO", "0 17", "40 80 00 00 00 01 02", 0),
+        ("a sector is read by DMA, the FIFO off", "0 30 0", "00 00 00 01 00 01 02", 0),
+        ("a sector is read by an implied seek", "40 57 0", "00 00 00 29 00 01 02", 40),
+        ("a sector is read by a channel that is unmasked 2 ms behind the command", "0 17 2000", "00 00 00 01 00 01 02", 0),
+        ("a channel that is unmasked too late is an overrun", "0 17 700000", "40 10 00", None)]
 
 
 def bare(place, say):
@@ -97,7 +100,7 @@ def bare(place, say):
             for what, words, results, cylinder in BARE:
                 said = guest.sh(f"bare {words} && sum /tmp/a").text.split("\n")
                 is_read = cylinder is None or said[-1] == md5(sectors[cylinder * CYLINDER:cylinder * CYLINDER + 512])
-                say(said[0].startswith(results) and is_read, f"speed {speed}: a sector is read {what}: {said[0]}")
+                say(said[0].startswith(results) and is_read, f"speed {speed}: {what}: {said[0]}")
 
 
 # ---- what it costs: alone, one behind the other
