@@ -4,6 +4,7 @@
  * The heads are at cylinder 0, so another one wants implied seeks (40 in CONFIGURE).
  * The kernel keeps 64 KiB from 80000 for it (memmap=64K$0x80000).
  */
+#define _DEFAULT_SOURCE
 #include <fcntl.h>
 #include <stdio.h>
 #include <stdlib.h>
@@ -68,7 +69,7 @@ static void start(unsigned configure, int is_dma) {
     send(2, (const unsigned char[]){0x07, 0});
     while (inb(MSR) & 0x0F && now() < end) continue;
     sense();
-    while (now() < end) continue;
+    usleep(600000);
 }
 
 static void set_channel(void) {
@@ -91,10 +92,10 @@ static void read_bytes(const unsigned char *command) {
     }
 }
 
-static void read_by_channel(const unsigned char *command, double wait) {
+static void read_by_channel(const unsigned char *command, unsigned wait) {
     set_channel();
     send(9, command);
-    for (double end = now() + wait; now() < end;) continue;
+    usleep((useconds_t)wait);
     outb(0x02, 0x0A);
     results();
 }
@@ -107,7 +108,7 @@ int main(int words, char **word) {
     if (buffer == MAP_FAILED) return 2;
     memset(buffer, 0, LENGTH);
     start((unsigned)strtoul(word[2], NULL, 16), is_dma);
-    if (is_dma) read_by_channel(command, atof(word[3]) / 1e6);
+    if (is_dma) read_by_channel(command, (unsigned)atoi(word[3]));
     else read_bytes(command);
     for (unsigned i = 0; i < answers; i++) printf("%02X ", answer[i]);
     printf("\n");

@@ -14,7 +14,7 @@
     place.exported("disk.rt")                               # (sectors or None, status, what was printed)
 
 At the end of `with` the guest's power is off, so the image is stored; guest.said() is what QEMU has said. Time is the guest's own (-icount), so that the
-host's load doesn't tell; clock="host" lets the host's pass. While nothing is asked the guest's time runs on, faster than the host's: guest.stop() and
+host's load doesn't tell, an instruction taking 2 ** shift nanoseconds; clock="host" lets the host's pass. While nothing is asked the guest's time runs on, faster than the host's: guest.stop() and
 guest.go() stop it. A guest that says nothing for `most` host seconds is ended: Gone.
 """
 import hashlib
@@ -25,7 +25,6 @@ import socket
 import subprocess
 import time
 
-OWN_TIME = ["-icount", "shift=3,align=off,sleep=off"]
 DEVICE = "/machine/peripheral/fd"
 
 
@@ -105,13 +104,14 @@ class Said:
 class Guest:
     """A QEMU that runs."""
 
-    def __init__(self, place, name, device, words=(), clock="own", most=600):
+    def __init__(self, place, name, device, words=(), clock="own", shift=3, most=600):
         self.place, self.name, self.most, self.began = place, name, most, time.time()
         self.log, self.pending, self.lines = [], b"", None
         self.socket_path = f"{name}.{os.getpid()}.qmp"
         roms = [os.path.join(place.root, "usr/share", folder) for folder in ("seabios", "qemu")]
-        line = [place.qemu, "-L", roms[0], "-L", roms[1], "-M", "q35", "-m", "192", "-accel", "tcg", *(OWN_TIME if clock == "own" else []), "-nodefaults",
-                "-display", "none", "-serial", f"file:{name}.console", "-serial", "stdio", "-qmp", f"unix:{self.socket_path},server=on,wait=off", *device, *words]
+        own = ["-icount", f"shift={shift},align=off,sleep=off"] if clock == "own" else []
+        line = [place.qemu, "-L", roms[0], "-L", roms[1], "-M", "q35", "-m", "192", "-accel", "tcg", *own, "-nodefaults", "-display",
+                "none", "-serial", f"file:{name}.console", "-serial", "stdio", "-qmp", f"unix:{self.socket_path},server=on,wait=off", *device, *words]
         with open(f"{name}.errors", "wb") as errors:
             self.process = subprocess.Popen(line, stdin=subprocess.PIPE, stdout=subprocess.PIPE, stderr=errors)
 

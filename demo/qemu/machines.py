@@ -92,9 +92,12 @@ BARE = [("a sector is read without DMA, the FIFO off", "0 30", "40 80 00 00 00 0
 
 
 def bare(place, say):
-    """At the ports, with no driver: without DMA, by implied seeks, and with a channel that is masked at first."""
+    """At the ports, with no driver: without DMA, by implied seeks, and with a channel that is masked at first.
+
+    The processor is a fast one, so that Linux's own timer doesn't take as long as a byte may wait.
+    """
     sectors = disk(place, "bare.rt", 78)
-    with Linux(place, "bare", telwyddus("bare.rt"), driver=None, append="memmap=64K$0x80000") as guest:
+    with Linux(place, "bare", telwyddus("bare.rt"), driver=None, append="memmap=64K$0x80000", shift=1) as guest:
         for speed in (1, 0):
             guest.set("speed", speed)
             for what, words, results, cylinder in BARE:
