@@ -7,7 +7,7 @@
 /* Answers that say well where it isn't so, by what is to blame; and rounds behind which the drive doesn't work. */
 typedef enum {
     UNSEEN,                 /* the drive stopped writing: nobody can know without reading back */
-    LOST,                /* pulses were lost, and a format asks for no cylinder */
+    LOST,                       /* pulses were lost, and a format asks for no cylinder */
     UNHEARD,               /* the controller told that cylinder 0 wasn't reached, and the BIOS didn't look */
     ASTRAY,                     /* no pulse was lost: the BIOS went on behind a reset of its own without a recalibration */
     UNVERIFIED,                 /* the BIOS verifies nothing */

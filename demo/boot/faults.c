@@ -1,5 +1,6 @@
-/* faults ROM IMAGE SEED FROM COUNT PER_WORD FIFO EXAMPLES: SeaBIOS boots on the bare controller, and then does COUNT rounds of calls of INT 13h,
- * each under a plan of its own. Each call is judged. FIFO is the byte of a CONFIGURE behind each reset, -1: none. */
+/* faults ROM IMAGE SEED FROM COUNT PER_WORD FIFO SLOW EXAMPLES: SeaBIOS boots on the bare controller, and then does COUNT rounds of calls of
+ * INT 13h, each under a plan of its own. Each call is judged. FIFO is the byte of a CONFIGURE behind each reset, -1: none. Where SLOW isn't 0
+ * heads move as slowly as SPECIFY says. */
 #include "cpu.h"
 #include "examine.h"
 #include "floppy.h"
@@ -145,12 +146,6 @@ static void asked(void) {
     static bool is_begun;
     if (!is_begun) judge_new(), begin_round(), is_begun = true;
     if (is_out) take_answer();
-    if (owes_reset && !is_again) {
-        owes_reset = false;
-        lay(&(Call){.ah = RESET});
-        return;
-    }
-    if (!is_again && at == round_now.call_count) begin_again();
     if (is_again && again_at == again_count) {
         check_medium();
         end_round();
@@ -158,6 +153,12 @@ static void asked(void) {
         if (is_done) return;
         begin_round();
     }
+    if (owes_reset && !is_again) {
+        owes_reset = false;
+        lay(&(Call){.ah = RESET});
+        return;
+    }
+    if (!is_again && at == round_now.call_count) begin_again();
     lay(is_again ? &calls_again[again_at++] : &round_now.calls[at++]);
 }
 
@@ -189,16 +190,17 @@ static void assemble(const char *bios, const char *image) {
 }
 
 int main(int count, char **words) {
-    if (count != 9) { fputs("faults ROM IMAGE SEED FROM COUNT PER_WORD FIFO EXAMPLES\n", stderr); return 2; }
+    if (count != 10) { fputs("faults ROM IMAGE SEED FROM COUNT PER_WORD FIFO SLOW EXAMPLES\n", stderr); return 2; }
     seed = strtoull(words[3], NULL, 10);
     next_round = strtoull(words[4], NULL, 10);
     last_round = next_round + strtoull(words[5], NULL, 10);
     cpu_per_word = (uint32_t)strtoul(words[6], NULL, 10);
     floppy_fifo = (int)strtol(words[7], NULL, 10);
-    for (int kind = 0; kind < KINDS; kind++) examples_wanted[kind] = kind >= STUCK ? 3 : atoi(words[8]);
+    for (int kind = 0; kind < KINDS; kind++) examples_wanted[kind] = kind >= STUCK ? 3 : atoi(words[9]);
     cpu_slice = 8;
     limit = 2 * MOST_WORDS;
     assemble(words[1], words[2]);
+    if (atoi(words[8])) chip_strap_steps();
     const char *why = cpu_run(UINT64_MAX, is_over);
     if (!is_done) {                     /* a call that doesn't come back */
         of_round.of[STUCK]++;

@@ -119,6 +119,8 @@ void chip_tc(void) { must(telwyddus_controller_tc(&controller, &lines), "control
 
 void chip_strap(void) { must(telwyddus_controller_strap_seeks(&controller, 1), "controller_strap_seeks"); }
 
+void chip_strap_steps(void) { must(telwyddus_controller_strap_steps(&controller, 1), "controller_strap_steps"); }
+
 bool chip_plan(const char *text, size_t *line) {
     uint32_t code = telwyddus_controller_plan(&controller, 0, (const uint8_t *)text, strlen(text), line);
     if (code != TELWYDDUS_BAD_PLAN) must(code, "controller_plan");

@@ -35,6 +35,7 @@ uint8_t chip_dack_read(void);           /* only where DRQ is up */
 void chip_dack_write(uint8_t byte);
 void chip_tc(void);
 void chip_strap(void);                  /* seeks are implied from now on */
+void chip_strap_steps(void);            /* heads move as slowly as SPECIFY says */
 bool chip_plan(const char *text, size_t *line); /* drive A's faults from now on; false: that line isn't understood */
 
 /* The medium in drive A, past the drive: the words of a track, which tracks were written since this was asked (track 2 * cylinder +
