@@ -1,0 +1,259 @@
+"""Guests in the QEMU that `build` leaves: Linux, to which one talks line by line, and floppies that boot. For `run` and `faults`.
+
+    place = Place("/path/WORK", "/path/floppy")             # as `build` and `guest` left it, and the program
+    os.chdir(place.scratch)                                 # images lie here, and logs
+    place.imported(sectors, "disk.rt")                      # the image of a flat file
+    with Linux(place, "name", telwyddus("disk.rt", speed=0), {"new": b".."}) as guest:   # files of its root besides
+        said = guest.sh("dd if=/dev/fd0 of=/tmp/a bs=18k; sum /tmp/a")      # one line of the shell
+        said.text, said.status                              # what it printed, stdout and stderr; its status
+        said.seconds, said.cpu                              # in the guest, and of the host's processor for all of QEMU
+        guest.set("plan0", "plan.text")                     # a property of the device while the guest runs; Refused has QEMU's text
+        guest.set("image0", ""), guest.get("image0")
+        guest.qmp("system_reset"), guest.ready()            # any command of QMP; waits until Linux has booted anew
+        guest.start("program"), guest.line(), guest.send("..\n")    # one that talks by itself: give it < /dev/ttyS1
+    place.exported("disk.rt")                               # (sectors or None, status, what was printed)
+
+At the end of `with` the guest's power is off, so the image is stored; guest.said() is what QEMU has said. Time is the guest's own (-icount), so that the
+host's load doesn't tell; clock="host" lets the host's pass. While nothing is asked the guest's time runs on, faster than the host's: guest.stop() and
+guest.go() stop it. A guest that says nothing for `most` host seconds is ended: Gone.
+"""
+import hashlib
+import json
+import os
+import select
+import socket
+import subprocess
+import time
+
+OWN_TIME = ["-icount", "shift=3,align=off,sleep=off"]
+DEVICE = "/machine/peripheral/fd"
+
+
+class Gone(Exception):
+    """The guest has ended, or is silent."""
+
+
+class Refused(Exception):
+    """QEMU refuses a command."""
+
+
+def md5(data):
+    return hashlib.md5(data).hexdigest()
+
+
+def telwyddus(image0="", image1="", **more):
+    """The device's words for QEMU."""
+    told = {"image0": image0, "image1": image1, **more}
+    return ["-device", "telwyddus-fdc,id=fd," + ",".join(f"{name}={value}" for name, value in told.items() if value != "")]
+
+
+def qemus_own(*flats):
+    """QEMU's own controller, with flat files."""
+    words = ["-device", "isa-fdc,id=fdc"]
+    for i, name in enumerate(flats):
+        words += ["-drive", f"if=none,id=d{i},file={name},format=raw", "-device", f"floppy,id=f{i},drive=d{i},bus=fdc.0,unit={i}"]
+    return words
+
+
+def cpio(files):
+    """An archive of the form newc: by name the bytes of a file that can be run, or None for a folder."""
+    out = bytearray()
+    for name, data in [*files.items(), ("TRAILER!!!", b"")]:
+        mode, data, text = (0o040755, b"", name) if data is None else (0o100755, data, name)
+        fields = (0, mode, 0, 0, 1, 0, len(data), 0, 0, 0, 0, len(text) + 1, 0)
+        out += b"070701" + "".join(f"{field:08X}" for field in fields).encode() + text.encode() + b"\0"
+        out += bytes(-len(out) % 4) + data
+        out += bytes(-len(out) % 4)
+    return bytes(out)
+
+
+class Place:
+    def __init__(self, work, floppy):
+        self.work, self.floppy = os.path.abspath(work), os.path.abspath(floppy)
+        self.qemu, self.root = os.path.join(self.work, "qemu-system-x86_64"), os.path.join(self.work, "root")
+        self.scratch = os.path.join(self.work, "scratch")
+        os.makedirs(self.scratch, exist_ok=True)
+
+    def program(self, *words):
+        """The program `floppy`, which takes plain names: its status, and what it printed."""
+        done = subprocess.run([self.floppy, *words], stdout=subprocess.PIPE, text=True)
+        return done.returncode, done.stdout
+
+    def imported(self, sectors, name):
+        with open(name + ".in", "wb") as file:
+            file.write(sectors)
+        status, said = self.program("import", name + ".in", name)
+        if status != 0:
+            raise RuntimeError(said)
+        return name
+
+    def exported(self, name):
+        status, said = self.program("export", name, name + ".out")
+        if status not in (0, 1):
+            return None, status, said
+        with open(name + ".out", "rb") as file:
+            return file.read(), status, said
+
+
+class Said:
+    """What came of a line of the shell."""
+
+    def __init__(self, text, status, seconds, cpu):
+        self.text, self.status, self.seconds, self.cpu = text, status, seconds, cpu
+
+
+class Guest:
+    """A QEMU that runs."""
+
+    def __init__(self, place, name, device, words=(), clock="own", most=120):
+        self.place, self.name, self.most, self.began = place, name, most, time.time()
+        self.log, self.pending, self.lines = [], b"", None
+        self.socket_path = f"{name}.{os.getpid()}.qmp"
+        roms = [os.path.join(place.root, "usr/share", folder) for folder in ("seabios", "qemu")]
+        line = [place.qemu, "-L", roms[0], "-L", roms[1], "-M", "q35", "-m", "192", "-accel", "tcg", *(OWN_TIME if clock == "own" else []), "-nodefaults",
+                "-display", "none", "-serial", f"file:{name}.console", "-serial", "stdio", "-qmp", f"unix:{self.socket_path},server=on,wait=off", *device, *words]
+        with open(f"{name}.errors", "wb") as errors:
+            self.process = subprocess.Popen(line, stdin=subprocess.PIPE, stdout=subprocess.PIPE, stderr=errors)
+
+    def __enter__(self):
+        return self
+
+    def __exit__(self, kind, *_):
+        self.end(kind is None)
+
+    def end(self, is_orderly=True):
+        """Ends it, by its power switch where all is well; what QEMU said is in `errors`."""
+        try:
+            if is_orderly and self.process.poll() is None:
+                self.qmp("quit")
+                self.process.wait(30)
+        except (OSError, ValueError, Gone, subprocess.TimeoutExpired):
+            pass
+        self.process.kill()
+        self.process.wait()
+        self.errors = self.said()
+        with open(f"{self.name}.log", "w") as file:
+            file.write("\n".join(self.log) + "\n" + self.errors)
+
+    def said(self):
+        """What QEMU has said."""
+        with open(f"{self.name}.errors") as file:
+            return file.read()
+
+    def cpu(self):
+        """Seconds of the host's processor."""
+        fields = open(f"/proc/{self.process.pid}/stat").read().rsplit(")", 1)[1].split()
+        return (int(fields[11]) + int(fields[12])) / os.sysconf("SC_CLK_TCK")
+
+    def qmp(self, execute, **arguments):
+        if self.lines is None:
+            self.connect()
+        self.lines.write(json.dumps({"execute": execute, "arguments": arguments}) + "\n")
+        self.lines.flush()
+        while True:
+            line = self.lines.readline()
+            if not line:
+                raise Gone(self.name)
+            answer = json.loads(line)
+            if "error" in answer:
+                raise Refused(answer["error"]["desc"])
+            if "return" in answer:
+                return answer["return"]
+
+    def connect(self):
+        self.socket = socket.socket(socket.AF_UNIX)
+        self.socket.settimeout(self.most)
+        for _ in range(200):
+            try:
+                self.socket.connect(self.socket_path)
+                break
+            except OSError:
+                if self.process.poll() is not None:
+                    raise Gone(f"{self.name}: {self.said()}")
+                time.sleep(0.05)
+        self.lines = self.socket.makefile("rw")
+        self.lines.readline()
+        os.unlink(self.socket_path)
+        self.qmp("qmp_capabilities")
+
+    def set(self, name, value):
+        self.qmp("qom-set", path=DEVICE, property=name, value=value)
+
+    def get(self, name):
+        return self.qmp("qom-get", path=DEVICE, property=name)
+
+    def stop(self):
+        self.qmp("stop")
+
+    def go(self):
+        self.qmp("cont")
+
+    def send(self, text):
+        self.process.stdin.write(text.encode())
+        self.process.stdin.flush()
+
+    def line(self, most=None):
+        """The next line that the guest says."""
+        end = time.time() + (most or self.most)
+        while b"\n" not in self.pending:
+            if not select.select([self.process.stdout], [], [], max(0, end - time.time()))[0]:
+                raise Gone(f"{self.name} is silent")
+            data = os.read(self.process.stdout.fileno(), 65536)
+            if not data:
+                raise Gone(f"{self.name} has ended: {self.said()}")
+            self.pending += data
+        line, self.pending = self.pending.split(b"\n", 1)
+        text = line.decode("latin-1").rstrip("\r")
+        self.log.append(f"{time.time() - self.began:8.3f} {text}")
+        return text
+
+    def ready(self):
+        """Waits until Linux has booted."""
+        while self.line() != "==READY":
+            pass
+
+    def start(self, line):
+        self.log.append(f"{time.time() - self.began:8.3f} > {line}")
+        self.send(line + "\n")
+
+    def sh(self, line, most=None):
+        cpu = self.cpu()
+        self.start(line)
+        return self.finish(cpu, most)
+
+    def finish(self, cpu=0.0, most=None):
+        """Waits for the end of a line that was started."""
+        lines = []
+        while not (line := self.line(most)).startswith("==ENDS "):
+            if line == "==READY":
+                raise Gone(f"{self.name} has booted anew")
+            lines.append(line)
+        status, before, behind = line.split()[1:]
+        return Said("\n".join(lines), int(status), float(behind) - float(before), self.cpu() - cpu)
+
+    def screen(self):
+        """The text on the screen."""
+        path = os.path.abspath(f"{self.name}.screen")
+        self.qmp("pmemsave", val=0xB8000, size=4000, filename=path)
+        with open(path, "rb") as file:
+            data = file.read()[::2]
+        return "\n".join(data[i:i + 80].decode("cp437").rstrip() for i in range(0, 2000, 80)).rstrip()
+
+
+class Linux(Guest):
+    """Linux with busybox, and the floppy driver `driver`: floppy, or floppy-raw, which takes raw commands; or None for none yet."""
+
+    def __init__(self, place, name, device, files=(), driver="floppy", append="", words=(), **more):
+        initramfs = f"{name}.{os.getpid()}.initramfs"
+        with open(os.path.join(place.work, "initramfs"), "rb") as base, open(initramfs, "wb") as file:
+            file.write(base.read() + cpio(dict(files)))
+        append = f"console=ttyS0 quiet panic=-1 no_timer_check {append}"
+        super().__init__(place, name, device, ["-kernel", os.path.join(place.work, "vmlinuz"), "-initrd", initramfs, "-append", append, *words], **more)
+        try:
+            self.ready()
+            self.probed = self.sh(f"insmod /modules/{driver}.ko") if driver else None
+        except BaseException:
+            self.end(False)
+            raise
+        finally:
+            os.unlink(initramfs)

@@ -1,0 +1,128 @@
+"""What `run` tries on machines of their own: each function is a check, given a place and a `say` of what came of it."""
+import os
+import re
+import time
+
+from checks import FLAT, MESSAGES, NEW, READ, WRITE, disk, figures, put, put_in, sum_of
+from guests import Guest, Linux, md5, qemus_own, telwyddus
+
+
+def probe(place, say):
+    """Linux finds a post-1991 82077 and the drives that there are."""
+    disk(place, "probe.rt", 1)
+    for drives in (2, 1):
+        with Linux(place, f"probe{drives}", telwyddus("probe.rt", drives=drives)) as guest:
+            messages = guest.sh(MESSAGES).text
+            say("FDC 0 is a post-1991 82077" in messages, f"drives={drives}: Linux finds: " + "; ".join(re.findall(r"(?:FDC 0 is|Floppy drive).*", messages)))
+            nodes = guest.sh("ls /dev/fd?").text.split()
+            say(nodes == [f"/dev/fd{i}" for i in range(drives)], f"drives={drives}: it makes {' '.join(nodes)}")
+            if drives == 2:
+                said = guest.sh("dd if=/dev/fd0 of=/dev/null bs=512 count=1 2>&1; floppycontrol -P; floppycontrol --printfdcstate; floppycontrol --pollstate")
+                say("82077" in said.text or "version" in said.text.lower(), "floppycontrol asks for the states of drive and controller")
+
+
+# ---- the machine is reset, and moved
+
+
+def reset(place, say):
+    """system_reset in the middle of a read."""
+    sectors = disk(place, "reset.rt", 65)
+    with Linux(place, "reset", telwyddus("reset.rt")) as guest:
+        guest.start("(sleep 5; echo NOW > /dev/ttyS1) & " + READ)
+        while guest.line() != "NOW":
+            pass
+        guest.qmp("system_reset")
+        guest.ready()
+        guest.sh("insmod /modules/floppy.ko")
+        say("post-1991 82077" in guest.sh(MESSAGES).text and sum_of(guest.sh(READ)) == md5(sectors), "behind a reset in the middle of a read Linux boots again and reads all")
+
+
+def go_elsewhere(place, guest, name, device):
+    """Saves the machine, ends its QEMU, and goes on in another one."""
+    state = os.path.abspath(name + ".state")
+    guest.stop()
+    guest.qmp("migrate", uri=f"exec:cat > {state}")
+    while (status := guest.qmp("query-migrate").get("status")) not in ("completed", "failed"):
+        time.sleep(0.02)
+    guest.end()
+    words = ["-kernel", os.path.join(place.work, "vmlinuz"), "-incoming", f"exec:cat {state}"]
+    other = Guest(place, name, device, words)
+    while other.qmp("query-status")["status"] == "inmigrate":
+        time.sleep(0.02)
+    os.remove(state)
+    other.go()
+    return other
+
+
+def moved(place, say):
+    """The machine is saved in the middle of a read or a write, and goes on in another QEMU, again and again."""
+    sectors = disk(place, "moved.rt", 70)
+    guest = Linux(place, "moved", telwyddus("moved.rt", speed=1), {"new": NEW})
+    try:
+        for number, (speed, seconds, line) in enumerate(((1, "2.07", READ), (1, "4.613", READ), (1, "7.9", READ), (1, "7.1", WRITE), (0, "0.91", READ), (0, "1.07", WRITE))):
+            wanted = FLAT if line == WRITE or number > 3 else sectors
+            guest.set("speed", speed)
+            guest.start(f"(sleep {seconds}; echo NOW > /dev/ttyS1) & {line}")
+            while guest.line() != "NOW":
+                continue
+            guest = go_elsewhere(place, guest, f"moved-{number}", telwyddus("moved.rt", speed=speed))
+            said = guest.finish()
+            guest.set("image0", "moved.rt")
+            is_so = said.status == 0 and place.exported("moved.rt")[0] == wanted and (line == WRITE or sum_of(said) == md5(wanted))
+            say(is_so, f"speed {speed}: saved after {seconds} s of a {'write' if line == WRITE else 'read'}, the machine goes on elsewhere and ends it")
+    finally:
+        guest.end()
+
+
+def other_machine(place, say):
+    """The machine type pc, whose own isa-fdc is moved away."""
+    sectors = disk(place, "pc.rt", 75)
+    away = [word for name, value in (("iobase", "0x370"), ("irq", 5), ("dma", 3)) for word in ("-global", f"isa-fdc.{name}={value}")]
+    with Linux(place, "pc", telwyddus("pc.rt", speed=0), words=["-M", "pc", *away]) as guest:
+        say(sum_of(guest.sh(READ)) == md5(sectors), "on the machine type pc the whole disk is read")
+
+
+def bare(place, say):
+    """At the ports, with no driver: without DMA, and with a channel that is unmasked at once, late, or too late."""
+    sectors = disk(place, "bare.rt", 78)
+    with Linux(place, "bare", telwyddus("bare.rt"), driver=None, append="memmap=64K$0x80000") as guest:
+        for speed in (1, 0):
+            guest.set("speed", speed)
+            for what, words, results, is_read in (
+                    ("without DMA, the FIFO off", "nodma 30", "40 80 00 00 00 01 02", True), ("without DMA, with the FIFO", "nodma 17", "40 80 00 00 00 01 02", True),
+                    ("with the channel unmasked at once", "dma 30 0", "00 00 00 01 00 01 02", True),
+                    ("2 ms behind the command", "dma 17 2000", "00 00 00 01 00 01 02", True), ("too late", "dma 17 700000", "40 10 00", False)):
+                said = guest.sh(f"bare {words} && sum /tmp/a").text.split("\n")
+                is_so = said[0].startswith(results) and (not is_read or said[-1] == md5(sectors[:512]))
+                say(is_so, f"speed {speed}: {what}: {said[0]}")
+
+
+# ---- what it costs: alone, one behind the other
+
+
+def costs(place, say):
+    """A whole disk read and written, and 30 idle seconds, beside QEMU's own controller."""
+    sectors = disk(place, "costs.rt", 90)
+    put("costs.img", sectors)
+    cost = {}
+    for what, device, speeds in (("isa-fdc", qemus_own("costs.img"), [None]), ("telwyddus-fdc", telwyddus("costs.rt"), [1, 0])):
+        with Linux(place, "costs-" + what, device, {"new": NEW}) as guest:
+            for speed in speeds:
+                if speed is not None:
+                    put_in(guest, place.imported(sectors, f"costs{speed}.rt"), speed)
+                got, written = guest.sh(READ), guest.sh(WRITE)
+                cost[speed] = got
+                told = what + ("" if speed is None else f", speed {speed}")
+                say(sum_of(got) == md5(sectors) and written.status == 0, f"{told}: read {figures(got)}; write {figures(written)}")
+    say(cost[0].seconds <= 4, "without waiting a disk is read in at most 4 s of the guest")
+    say(cost[1].cpu <= 2 * max(cost[None].cpu, 0.35), "at a drive's speed it costs at most twice what QEMU's own does, or .7 s")
+    idle = {}
+    for what, device in (("isa-fdc", qemus_own("costs.img")), ("telwyddus-fdc", telwyddus("costs.rt"))):
+        with Linux(place, "idle-" + what, device, clock="host") as guest:
+            guest.sh("dd if=/dev/fd0 of=/dev/null bs=512 count=1 2>&1; sleep 5")
+            idle[what] = guest.sh("sleep 30")
+    say(idle["telwyddus-fdc"].cpu <= idle["isa-fdc"].cpu + 0.1, "idle for 30 s of the host: " + ", ".join(f"{what} {said.cpu:.2f} s" for what, said in idle.items()))
+
+
+CHECKS = [probe, reset, moved, other_machine, bare]
+ALONE = [costs]

@@ -1,0 +1,292 @@
+/*
+ * A floppy controller whose work the library Telwyddus does: its time, its
+ * interrupt and its DMA channel.
+ *
+ * The library moves by device steps, a word under the heads each. Behind each
+ * access what is under way is made ahead at once, up to the change of INT that
+ * it ends with: `at` is then the time at which the guest is told, by a timer.
+ * Until then MSR and DIR answer what they did before, and every other access
+ * counts the steps as passed first. So a command takes one timer, and the calls
+ * of the library come in an order in which a bus could bring them.
+ */
+
+#include "qemu/osdep.h"
+#include "qemu/error-report.h"
+#include "hw/irq.h"
+#include "telwyddus-fdc.h"
+#include "trace.h"
+
+enum {
+    AHEAD = 250000,     /* steps at once: a command may never end by itself */
+    SLICE = 32,         /* steps between looks while the guest has to act */
+    MOMENT = 20000,     /* nanoseconds in which the guest's OUT is over */
+    NOMINAL = 16000,    /* nanoseconds of a step between stray interrupts */
+    FIFO = 16,          /* bytes that are asked for at once, at most */
+};
+
+void telwyddus_must(uint32_t code)
+{
+    if (code != TELWYDDUS_DONE) {
+        error_report("telwyddus-fdc: %s", telwyddus_code_name(code));
+        abort();
+    }
+}
+
+int64_t telwyddus_now(void)
+{
+    return qemu_clock_get_ns(QEMU_CLOCK_VIRTUAL);
+}
+
+/* Whether the guest has still to be told of a change of INT */
+static bool telwyddus_has_news(TelwyddusFDC *s)
+{
+    return !!(s->lines & TELWYDDUS_INT) != s->is_up;
+}
+
+/* Changes alone: an I/O APIC takes each telling of level 1 for an edge */
+void telwyddus_tell(TelwyddusFDC *s)
+{
+    if (telwyddus_has_news(s)) {
+        s->is_up = !s->is_up;
+        trace_telwyddus_fdc_int(s->is_up);
+        qemu_set_irq(s->irq, s->is_up);
+    }
+}
+
+uint8_t telwyddus_look(TelwyddusFDC *s, uint16_t port)
+{
+    uint8_t value;
+
+    telwyddus_must(telwyddus_controller_read(&s->chip, port, &value,
+                                             &s->lines));
+    return value;
+}
+
+void telwyddus_ask_step(TelwyddusFDC *s)
+{
+    uint32_t word;
+
+    telwyddus_must(telwyddus_controller_word_time(&s->chip, &word));
+    s->step = MAX(1, word / MAX(1, s->speed));
+}
+
+/* Steps that surely change no line; UINT32_MAX where nothing is under way */
+static uint32_t telwyddus_quiet(TelwyddusFDC *s)
+{
+    uint32_t steps;
+
+    telwyddus_must(telwyddus_controller_quiet(&s->chip, UINT32_MAX, &steps));
+    return steps;
+}
+
+/* Steps up to a change of INT or DRQ; whether there was time for any */
+static bool telwyddus_run(TelwyddusFDC *s)
+{
+    int64_t most = (s->until - s->at) / s->step;
+    uint32_t made;
+
+    if (most <= 0) {
+        return false;
+    }
+    telwyddus_must(telwyddus_controller_run(&s->chip, MIN(most, UINT32_MAX),
+                                            &made, &s->lines));
+    s->at += (int64_t)made * s->step;
+    return true;
+}
+
+/* A planned hold of the next DACK; whether bytes are still asked for then */
+static bool telwyddus_hold(TelwyddusFDC *s)
+{
+    int64_t until = s->until;
+
+    s->until = s->at + (int64_t)telwyddus_next_pause(s, false) * s->step;
+    telwyddus_run(s);
+    s->until = until;
+    return s->lines & TELWYDDUS_DRQ;
+}
+
+/* Passes bytes as they are asked for, and tells how many */
+static int telwyddus_pass(TelwyddusFDC *s, int pos, int room)
+{
+    IsaDmaClass *k = ISADMA_GET_CLASS(s->dma);
+    uint8_t bytes[FIFO] = { 0 };
+    size_t moved;
+
+    room = MIN(room, FIFO);
+    if (s->lines & TELWYDDUS_TO_MEMORY) {
+        telwyddus_must(telwyddus_controller_dack_block_read(&s->chip, bytes,
+                           room, &moved, &s->lines));
+        k->write_memory(s->dma, s->channel, bytes, pos, moved);
+    } else {
+        k->read_memory(s->dma, s->channel, bytes, pos, room);
+        telwyddus_must(telwyddus_controller_dack_block_write(&s->chip, bytes,
+                           room, &moved, &s->lines));
+    }
+    g_assert(moved > 0);
+    return moved;
+}
+
+/*
+ * Steps up to a change of INT, or as long as there is time, with the bytes that
+ * are asked for meanwhile: as far as the channel, at `pos`, has room for them.
+ */
+static int telwyddus_make(TelwyddusFDC *s, int pos, int size)
+{
+    IsaDmaClass *k = ISADMA_GET_CLASS(s->dma);
+
+    while (!telwyddus_has_news(s)) {
+        if (!(s->lines & TELWYDDUS_DRQ)) {
+            if (!telwyddus_run(s)) {
+                break;
+            }
+        } else if (pos == size) {
+            break;
+        } else if (telwyddus_hold(s)) {
+            pos += telwyddus_pass(s, pos, size - pos);
+            if (pos == size) {
+                telwyddus_must(telwyddus_controller_tc(&s->chip, &s->lines));
+                pos = k->has_autoinitialization(s->dma, s->channel) ? 0 : pos;
+            }
+        }
+    }
+    return pos;
+}
+
+static void telwyddus_release(TelwyddusFDC *s)
+{
+    if (s->is_held && !(s->lines & TELWYDDUS_DRQ)) {
+        s->is_held = false;
+        ISADMA_GET_CLASS(s->dma)->release_DREQ(s->dma, s->channel);
+    }
+}
+
+/* What the guest sees until that is due which is made ahead now */
+static void telwyddus_show(TelwyddusFDC *s)
+{
+    s->msr = telwyddus_look(s, PORT_MSR);
+    s->dir = telwyddus_look(s, PORT_DIR);
+    s->until = s->at + (int64_t)AHEAD * s->step;
+}
+
+/*
+ * The timer is due where the guest is to be told, or where it may have failed
+ * to act: to unmask the channel, or to read or write a byte without DMA.
+ */
+static void telwyddus_set_timer(TelwyddusFDC *s)
+{
+    uint32_t quiet;
+
+    if (telwyddus_has_news(s)) {
+        timer_mod(s->timer, s->at);
+    } else if (s->lines & TELWYDDUS_DRQ) {
+        timer_mod(s->timer, s->at + (int64_t)SLICE * s->step);
+    } else if ((quiet = telwyddus_quiet(s)) == UINT32_MAX) {
+        timer_del(s->timer);
+    } else if (s->is_up) {
+        timer_mod(s->timer, s->at + ((int64_t)MAX(quiet, SLICE) + 1) * s->step);
+    } else {
+        timer_mod(s->timer, s->at);
+    }
+}
+
+/*
+ * Behind steps made ahead. Without waiting (speed 0) a change is told as soon
+ * as the guest can take it; where there is none, time goes by as ever.
+ */
+static void telwyddus_end_ahead(TelwyddusFDC *s)
+{
+    if (s->speed == 0 && telwyddus_has_news(s)) {
+        s->at = MIN(s->at, telwyddus_now() + MOMENT);
+    }
+    telwyddus_release(s);
+    telwyddus_set_timer(s);
+}
+
+/* Where INT is up the guest has to act, so nothing is made ahead */
+void telwyddus_go_on(TelwyddusFDC *s)
+{
+    int64_t from = s->at;
+
+    if (!s->is_up && telwyddus_quiet(s) < UINT32_MAX) {
+        telwyddus_show(s);
+        telwyddus_make(s, 0, 0);
+        if (s->lines & TELWYDDUS_DRQ) {
+            /* Comes to .._transfer and goes on there, if it isn't masked */
+            s->is_asking = s->is_held = true;
+            ISADMA_GET_CLASS(s->dma)->hold_DREQ(s->dma, s->channel);
+            s->is_asking = false;
+        }
+        trace_telwyddus_fdc_ahead((s->at - from) / s->step);
+    }
+    telwyddus_end_ahead(s);
+}
+
+/* Called by the device itself, or where the guest has unmasked the channel */
+int telwyddus_transfer(void *opaque, int nchan, int pos, int size)
+{
+    TelwyddusFDC *s = opaque;
+
+    if (s->is_asking) {
+        return telwyddus_make(s, pos, size);
+    }
+    if (!telwyddus_has_news(s)) {
+        s->until = telwyddus_now();
+        telwyddus_run(s);
+        telwyddus_show(s);
+        pos = telwyddus_make(s, pos, size);
+    }
+    telwyddus_end_ahead(s);
+    return pos;
+}
+
+/*
+ * Steps made ahead count as passed; else those that are due are made. A change
+ * of the lines is told at once, and time goes on from there: where the host is
+ * late, the guest has as long to act as ever.
+ */
+void telwyddus_settle(TelwyddusFDC *s)
+{
+    int64_t now = telwyddus_now();
+    uint8_t were = s->lines;
+
+    if (s->at > now || telwyddus_has_news(s)) {
+        s->at = now;
+    }
+    s->until = now;
+    while (telwyddus_run(s)) {
+        if ((were ^ s->lines) & (TELWYDDUS_INT | TELWYDDUS_DRQ)) {
+            s->at = now;
+        }
+    }
+    telwyddus_tell(s);
+    telwyddus_release(s);
+}
+
+void telwyddus_tick(void *opaque)
+{
+    telwyddus_settle(opaque);
+    telwyddus_go_on(opaque);
+}
+
+/* An interrupt without cause; where INT is up there is no edge */
+void telwyddus_stray(void *opaque)
+{
+    TelwyddusFDC *s = opaque;
+
+    trace_telwyddus_fdc_stray(s->is_up);
+    if (!s->is_up) {
+        qemu_irq_pulse(s->irq);
+    }
+    telwyddus_set_stray(s);
+}
+
+void telwyddus_set_stray(TelwyddusFDC *s)
+{
+    uint32_t steps = telwyddus_next_pause(s, true);
+
+    if (steps == 0) {
+        timer_del(s->stray);
+    } else {
+        timer_mod(s->stray, telwyddus_now() + (int64_t)steps * NOMINAL);
+    }
+}
