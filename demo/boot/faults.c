@@ -57,7 +57,8 @@ static void plan(const char *text) {
     exit(3);
 }
 
-/* Without faults: a reset, a format of each track that isn't standard, and a sector that is written and read. */
+/* Without faults: a reset, a format of each track that isn't standard, and a sector that is written and read. Where a recalibration went unheard a
+ * second one comes first, before any far seek. */
 static void begin_again(void) {
     uint64_t state = round_now.number;
     uint8_t c = (uint8_t)random_below(&state, 80);
@@ -67,6 +68,10 @@ static void begin_again(void) {
     not_at_zero_again = floppy_counts.not_at_zero;
     again_at = again_count = 0;
     calls_again[again_count++] = (Call){.ah = RESET};
+    if (was_unheard) {
+        calls_again[again_count++] = (Call){.ah = VERIFY, .count = 1, .r = 1, .es = 0x1000};
+        calls_again[again_count++] = (Call){.ah = RESET};
+    }
     for (uint8_t track = 0; track < 160; track++)
         if (!track_is_standard(judge_fields(track / 2, track % 2), track / 2, track % 2))
             calls_again[again_count++] = (Call){.ah = FORMAT, .count = SECTORS, .c = track / 2, .h = track % 2, .r = 1, .es = 0x1000};
@@ -85,7 +90,7 @@ static void tell_call(bool is_error, Verdict verdict) {
     printf("%s%s\n", verdict > TOLD ? "  <- " : "", verdict > TOLD ? judge_why : "");
 }
 
-/* Behind a recalibration that didn't reach cylinder 0, which the controller told, one more reset has to do. */
+/* Once it may fail, behind a recalibration that didn't reach cylinder 0 and of which the controller told that. */
 static void fails_again(void) {
     if (was_unheard || floppy_counts.not_at_zero == not_at_zero_again) {
         of_round.of[STUCK]++;
@@ -98,7 +103,7 @@ static void fails_again(void) {
 
 static void count_call(bool is_error, Verdict verdict) {
     if (!is_again || verdict == WRONG) tally_call(&of_round, call_now.ah, verdict);
-    if (is_again && (is_error || verdict != WELL)) fails_again();
+    if (is_again && (is_error || (verdict != WELL && verdict != UNREAD))) fails_again();
     if (is_error && !is_again && call_now.ah != RESET) owes_reset = round_now.resets;
 }
 

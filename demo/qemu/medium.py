@@ -20,8 +20,16 @@ class Fields(ctypes.Structure):
     _fields_ = [("count", ctypes.c_int), ("fields", Field * 40)]
 
 
+def swapped(words):
+    """Between the order of an image file, the high byte first, and this machine's."""
+    values = array.array("H", words)
+    if sys.byteorder == "little":
+        values.byteswap()
+    return values.tobytes()
+
+
 class Tracks:
-    """The calls of track.c, compiled into a folder."""
+    """The calls of track.c, compiled into a folder. Words are as an image file has them."""
 
     def __init__(self, work):
         made = os.path.join(work, f"track.{os.getpid()}.so")
@@ -31,39 +39,31 @@ class Tracks:
     def formatted(self, c, h, first=0):
         words = (ctypes.c_uint16 * WORDS)()
         self.calls.track_format(words, c, h, first)
-        return bytes(words)
+        return swapped(bytes(words))
 
     def window(self, content):
         words = (ctypes.c_uint16 * WINDOW)()
         self.calls.track_window(words, (ctypes.c_uint8 * 512)(*content))
-        return bytes(words)
+        return swapped(bytes(words))
 
     def sectors(self, track):
         """By key: where the window of a sector begins, and its bytes, or None where they aren't whole. A key that is there twice counts once."""
         found = Fields()
-        self.calls.track_fields(ctypes.byref(found), (ctypes.c_uint16 * WORDS).from_buffer_copy(track))
+        self.calls.track_fields(ctypes.byref(found), (ctypes.c_uint16 * WORDS).from_buffer_copy(swapped(track)))
         return {bytes(field.key): (field.window, bytes(field.bytes) if field.is_whole else None)
                 for field in reversed(found.fields[:found.count])}
 
 
-def words_of(track):
-    """Between the order of an image file and this machine's."""
-    words = array.array("H", track)
-    if sys.byteorder == "little":
-        words.byteswap()
-    return words.tobytes()
-
-
 def read(name):
-    """The tracks of an image file, in this machine's order of bytes."""
+    """The tracks of an image file."""
     with open(name, "rb") as file:
         image = file.read()
     if len(image) != BYTES or image[:8] != HEADER:
         raise ValueError(f"{name} is no image of 1.44 MB")
-    words = words_of(image[14:])
-    return [words[2 * WORDS * t:2 * WORDS * (t + 1)] for t in range(TRACKS)]
+    return [image[14 + 2 * WORDS * t:14 + 2 * WORDS * (t + 1)] for t in range(TRACKS)]
 
 
 def write(name, tracks):
     with open(name, "wb") as file:
-        file.write(HEADER + bytes([0, 80, 2, 0]) + WORDS.to_bytes(2, "big") + words_of(b"".join(tracks)))
+        file.write(HEADER + bytes([0, 80, 2, 0]) + WORDS.to_bytes(2, "big"))
+        file.writelines(tracks)
