@@ -1,6 +1,7 @@
-/* Reads sector 1 of cylinder 0 at the ports, with no driver: the bytes go to /tmp/a, and the result bytes are printed.
- *   bare nodma CONFIGURE        byte by byte at 3F5; CONFIGURE is the second byte of that command, hexadecimal
- *   bare dma CONFIGURE WAIT     by channel 2, which is unmasked WAIT microseconds behind the command
+/* Reads sector 1 of a cylinder at the ports, with no driver: the bytes go to /tmp/a, and the result bytes are printed.
+ *   bare CYLINDER CONFIGURE         byte by byte at 3F5; CONFIGURE is the second byte of that command, hexadecimal
+ *   bare CYLINDER CONFIGURE WAIT    by channel 2, which is unmasked WAIT microseconds behind the command
+ * The heads are at cylinder 0, so another one wants implied seeks (40 in CONFIGURE).
  * The kernel keeps 64 KiB from 80000 for it (memmap=64K$0x80000).
  */
 #include <fcntl.h>
@@ -15,8 +16,8 @@
 enum { DOR = 0x3F2, MSR = 0x3F4, DATA = 0x3F5, CCR = 0x3F7, BUFFER = 0x80000, LENGTH = 512 };
 
 static unsigned char *buffer;
-static unsigned char bytes[4 * LENGTH];
-static unsigned count;
+static unsigned char bytes[4 * LENGTH], answer[16];
+static unsigned count, answers;
 
 static double now(void) {
     struct timespec time;
@@ -41,19 +42,19 @@ static void send(unsigned length, const unsigned char *command) {
 }
 
 /* Bytes of data where there is no DMA, and then the results. */
-static void results(int is_told) {
+static void results(void) {
     unsigned status;
+    answers = count = 0;
     while ((status = ready()) & 0x40) {
         unsigned char byte = inb(DATA);
         if (status & 0x20) bytes[count++ % sizeof bytes] = byte;
-        else if (is_told) printf("%02X ", byte);
+        else answer[answers++ % sizeof answer] = byte;
     }
-    if (is_told) printf("\n");
 }
 
 static void sense(void) {
     send(1, (const unsigned char[]){0x08});
-    results(0);
+    results();
 }
 
 static void start(unsigned configure, int is_dma) {
@@ -81,20 +82,35 @@ static void set_channel(void) {
     outb((LENGTH - 1) >> 8, 0x05);
 }
 
+/* Without DMA a byte waits for 16 microseconds, and Linux's own timer may take as long: then it is tried again. */
+static void read_bytes(const unsigned char *command) {
+    for (int tries = 0; tries < 20; tries++) {
+        send(9, command);
+        results();
+        if (!(answer[1] & 0x10)) return;
+    }
+}
+
+static void read_by_channel(const unsigned char *command, double wait) {
+    set_channel();
+    send(9, command);
+    for (double end = now() + wait; now() < end;) continue;
+    outb(0x02, 0x0A);
+    results();
+}
+
 int main(int words, char **word) {
     int is_dma = words == 4, memory = open("/dev/mem", O_RDWR | O_SYNC);
     if (words < 3 || iopl(3) != 0 || memory < 0) return 2;
+    const unsigned char command[] = {0x46, 0, (unsigned char)atoi(word[1]), 0, 1, 2, 1, 0x1B, 0xFF};
     buffer = mmap(NULL, LENGTH, PROT_READ | PROT_WRITE, MAP_SHARED, memory, BUFFER);
     if (buffer == MAP_FAILED) return 2;
     memset(buffer, 0, LENGTH);
     start((unsigned)strtoul(word[2], NULL, 16), is_dma);
-    if (is_dma) set_channel();
-    send(9, (const unsigned char[]){0x46, 0, 0, 0, 1, 2, 1, 0x1B, 0xFF});
-    if (is_dma) {
-        for (double end = now() + atof(word[3]) / 1e6; now() < end;) continue;
-        outb(0x02, 0x0A);
-    }
-    results(1);
+    if (is_dma) read_by_channel(command, atof(word[3]) / 1e6);
+    else read_bytes(command);
+    for (unsigned i = 0; i < answers; i++) printf("%02X ", answer[i]);
+    printf("\n");
     FILE *file = fopen("/tmp/a", "wb");
     if (file == NULL || fwrite(is_dma ? buffer : bytes, 1, is_dma ? LENGTH : count, file) == 0) return 2;
     return fclose(file);

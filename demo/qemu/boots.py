@@ -24,7 +24,7 @@ def until(guest, pattern, most):
     return text
 
 
-def boots(place, say, name, flat, pattern, most=150):
+def boots(place, say, name, flat, pattern, most=400):
     place.imported(flat, f"{name}.rt")
     for speed in (1, 0):
         try:

@@ -105,7 +105,7 @@ class Said:
 class Guest:
     """A QEMU that runs."""
 
-    def __init__(self, place, name, device, words=(), clock="own", most=120):
+    def __init__(self, place, name, device, words=(), clock="own", most=600):
         self.place, self.name, self.most, self.began = place, name, most, time.time()
         self.log, self.pending, self.lines = [], b"", None
         self.socket_path = f"{name}.{os.getpid()}.qmp"

@@ -3,7 +3,7 @@ import os
 import re
 import time
 
-from checks import FLAT, MESSAGES, NEW, READ, WRITE, disk, figures, put, put_in, sum_of
+from checks import CYLINDER, FLAT, MESSAGES, NEW, READ, WRITE, disk, figures, put, put_in, sum_of
 from guests import Guest, Linux, md5, qemus_own, telwyddus
 
 
@@ -82,47 +82,65 @@ def other_machine(place, say):
         say(sum_of(guest.sh(READ)) == md5(sectors), "on the machine type pc the whole disk is read")
 
 
+# What is tried, the words of bare.c, its result bytes, and the cylinder whose first sector is read.
+BARE = [("a sector is read without DMA, the FIFO off", "0 30", "40 80 00 00 00 01 02", 0),
+        ("a sector is read without DMA, with the FIFO", "0 17", "40 80 00 00 00 01 02", 0),
+        ("a sector is read by DMA, the FIFO off", "0 30 0", "00 00 00 01 00 01 02", 0),
+        ("a sector is read by an implied seek", "40 57 0", "00 00 00 29 00 01 02", 40),
+        ("a sector is read by a channel that is unmasked 2 ms behind the command", "0 17 2000", "00 00 00 01 00 01 02", 0),
+        ("a channel that is unmasked too late is an overrun", "0 17 700000", "40 10 00", None)]
+
+
 def bare(place, say):
-    """At the ports, with no driver: without DMA, and with a channel that is unmasked at once, late, or too late."""
+    """At the ports, with no driver: without DMA, by implied seeks, and with a channel that is masked at first."""
     sectors = disk(place, "bare.rt", 78)
     with Linux(place, "bare", telwyddus("bare.rt"), driver=None, append="memmap=64K$0x80000") as guest:
         for speed in (1, 0):
             guest.set("speed", speed)
-            for what, words, results, is_read in (
-                    ("without DMA, the FIFO off", "nodma 30", "40 80 00 00 00 01 02", True), ("without DMA, with the FIFO", "nodma 17", "40 80 00 00 00 01 02", True),
-                    ("with the channel unmasked at once", "dma 30 0", "00 00 00 01 00 01 02", True),
-                    ("2 ms behind the command", "dma 17 2000", "00 00 00 01 00 01 02", True), ("too late", "dma 17 700000", "40 10 00", False)):
+            for what, words, results, cylinder in BARE:
                 said = guest.sh(f"bare {words} && sum /tmp/a").text.split("\n")
-                is_so = said[0].startswith(results) and (not is_read or said[-1] == md5(sectors[:512]))
-                say(is_so, f"speed {speed}: {what}: {said[0]}")
+                is_read = cylinder is None or said[-1] == md5(sectors[cylinder * CYLINDER:cylinder * CYLINDER + 512])
+                say(said[0].startswith(results) and is_read, f"speed {speed}: {what}: {said[0]}")
 
 
 # ---- what it costs: alone, one behind the other
 
+# Reads by Linux's cache wait in its queue, which Linux looks at every 8 ms meanwhile: that is its own cost.
+DIRECT = "dd if=/dev/fd0 of=/tmp/a bs=18k iflag=direct 2> /tmp/said; sum /tmp/a"
+CONTROLLERS = [("isa-fdc", [None]), ("telwyddus-fdc", [1, 0])]
+
 
 def costs(place, say):
-    """A whole disk read and written, and 30 idle seconds, beside QEMU's own controller."""
-    sectors = disk(place, "costs.rt", 90)
+    """A whole disk read and written, beside QEMU's own controller."""
+    sectors, cost = disk(place, "costs.rt", 90), {}
     put("costs.img", sectors)
-    cost = {}
-    for what, device, speeds in (("isa-fdc", qemus_own("costs.img"), [None]), ("telwyddus-fdc", telwyddus("costs.rt"), [1, 0])):
+    for what, speeds in CONTROLLERS:
+        device = telwyddus("costs.rt") if speeds[0] else qemus_own("costs.img")
         with Linux(place, "costs-" + what, device, {"new": NEW}) as guest:
             for speed in speeds:
                 if speed is not None:
                     put_in(guest, place.imported(sectors, f"costs{speed}.rt"), speed)
-                got, written = guest.sh(READ), guest.sh(WRITE)
+                guest.sh("dd if=/dev/fd0 of=/dev/null count=1 2>&1")
+                got, cached, written = guest.sh(DIRECT), guest.sh("fresh; " + READ), guest.sh(WRITE)
                 cost[speed] = got
+                is_so = sum_of(got) == sum_of(cached) == md5(sectors) and written.status == 0
                 told = what + ("" if speed is None else f", speed {speed}")
-                say(sum_of(got) == md5(sectors) and written.status == 0, f"{told}: read {figures(got)}; write {figures(written)}")
+                say(is_so, f"{told}: a disk read {figures(got)}; by the cache {figures(cached)}; written {figures(written)}")
     say(cost[0].seconds <= 4, "without waiting a disk is read in at most 4 s of the guest")
-    say(cost[1].cpu <= 2 * max(cost[None].cpu, 0.35), "at a drive's speed it costs at most twice what QEMU's own does, or .7 s")
+    say(max(cost[0].cpu, cost[1].cpu) <= 2 * cost[None].cpu, "a read costs at most twice what QEMU's own controller does")
+
+
+def idles(place, say):
+    """30 idle seconds of the host, with a disk in that was read."""
+    put("costs.img", disk(place, "costs.rt", 90))
     idle = {}
-    for what, device in (("isa-fdc", qemus_own("costs.img")), ("telwyddus-fdc", telwyddus("costs.rt"))):
+    for what, speeds in CONTROLLERS:
+        device = telwyddus("costs.rt") if speeds[0] else qemus_own("costs.img")
         with Linux(place, "idle-" + what, device, clock="host") as guest:
             guest.sh("dd if=/dev/fd0 of=/dev/null bs=512 count=1 2>&1; sleep 5")
-            idle[what] = guest.sh("sleep 30")
-    say(idle["telwyddus-fdc"].cpu <= idle["isa-fdc"].cpu + 0.1, "idle for 30 s of the host: " + ", ".join(f"{what} {said.cpu:.2f} s" for what, said in idle.items()))
+            idle[what] = guest.sh("sleep 30").cpu
+    say(idle["telwyddus-fdc"] <= idle["isa-fdc"] + 0.1, "idle for 30 s of the host: " + ", ".join(f"{what} {cpu:.2f} s of the processor" for what, cpu in idle.items()))
 
 
 CHECKS = [probe, reset, moved, other_machine, bare]
-ALONE = [costs]
+ALONE = [costs, idles]

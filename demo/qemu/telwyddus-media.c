@@ -71,33 +71,47 @@ static bool telwyddus_is_stored(TelwyddusFDC *s, unsigned bay)
               != TELWYDDUS_DONE;
 }
 
-bool telwyddus_store(TelwyddusFDC *s, unsigned bay, Error **errp)
+/* What is to be stored of a medium that stays in, and the name for it */
+static const char *telwyddus_to_store(TelwyddusFDC *s, unsigned bay,
+                                      uint8_t **bytes, size_t *length,
+                                      Error **errp)
 {
     TelwyddusBay *b = &s->bays[bay];
     const char *name = b->image;
+    uint32_t code = TELWYDDUS_UNFIT;
+
+    if (!name || !*name) {
+        error_setg(errp, "bay %u: its disk came by a state, and has no file",
+                   bay);
+        return NULL;
+    }
+    if (b->is_flat) {
+        code = telwyddus_sectors(s, bay, bytes, length);
+    }
+    if (code == TELWYDDUS_UNFIT) {
+        name = b->is_flat ? telwyddus_beside(b) : name;
+        code = telwyddus_cells(s, bay, bytes, length);
+    }
+    if (code != TELWYDDUS_DONE) {
+        error_setg(errp, "%s: %s", name, telwyddus_code_name(code));
+        return NULL;
+    }
+    return name;
+}
+
+bool telwyddus_store(TelwyddusFDC *s, unsigned bay, Error **errp)
+{
     g_autofree uint8_t *bytes = NULL;
     g_autoptr(GError) error = NULL;
+    const char *name;
     size_t length;
-    uint32_t code = TELWYDDUS_UNFIT;
     uint8_t forgotten;
 
     if (telwyddus_is_stored(s, bay)) {
         return true;
     }
-    if (!name || !*name) {
-        error_setg(errp, "bay %u: its disk came by a state, and has no file",
-                   bay);
-        return false;
-    }
-    if (b->is_flat) {
-        code = telwyddus_sectors(s, bay, &bytes, &length);
-    }
-    if (code == TELWYDDUS_UNFIT) {
-        name = b->is_flat ? telwyddus_beside(b) : name;
-        code = telwyddus_cells(s, bay, &bytes, &length);
-    }
-    if (code != TELWYDDUS_DONE) {
-        error_setg(errp, "%s: %s", name, telwyddus_code_name(code));
+    name = telwyddus_to_store(s, bay, &bytes, &length, errp);
+    if (!name) {
         return false;
     }
     /* To a new file, which is renamed then */
@@ -106,11 +120,11 @@ bool telwyddus_store(TelwyddusFDC *s, unsigned bay, Error **errp)
         return false;
     }
     trace_telwyddus_fdc_store(bay, name, length);
-    if (name == b->beside) {
-        warn_report("%s: the cells are stored in %s", b->image, name);
+    if (name == s->bays[bay].beside) {
+        warn_report("%s: the cells are stored in %s", s->bays[bay].image, name);
     }
     telwyddus_must(telwyddus_controller_written(&s->chip, bay, &forgotten));
-    b->is_unsaved = false;
+    s->bays[bay].is_unsaved = false;
     return true;
 }
 

@@ -17,7 +17,7 @@
 #include "trace.h"
 
 enum {
-    AHEAD = 250000,     /* steps at once: a command may never end by itself */
+    AHEAD = 4000000,    /* steps at once: READ TRACK may take 256 turns */
     SLICE = 32,         /* steps between looks while the guest has to act */
     MOMENT = 20000,     /* nanoseconds in which the guest's OUT is over */
     NOMINAL = 16000,    /* nanoseconds of a step between stray interrupts */
