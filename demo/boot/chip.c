@@ -1,5 +1,6 @@
-/* A machine around the bare controller: channel 2 of an 8237, 1 MiB, and the latch of line 6. */
+/* A machine around the bare controller: channel 2 of an 8237, 1 MiB, and the latch of line 6; and what a plan has of the bus. */
 #include "machine.h"
+#include <stdio.h>
 #include <string.h>
 
 static uint8_t memory[1 << 20];
@@ -7,12 +8,51 @@ static uint16_t address, count;
 static uint8_t page, mode, command, status;
 static bool second_byte, is_masked = true, latch, line;
 
+/* ---- of a plan: steps behind port accesses, steps before a request is granted, interrupts without cause */
+
+typedef struct { uint32_t steps[64], left[64], count, at; } Delays;
+static Delays gaps, holds, strays;
+static uint32_t ahead, hold, until_stray;       /* steps that a gap made already; that a request waits yet; to the next stray */
+static bool is_asked;                           /* a request is up, and its hold was taken */
+
+static uint32_t next_of(Delays *delays) {
+    while (delays->at < delays->count && !delays->left[delays->at]) delays->at++;
+    if (delays->at == delays->count) return 0;
+    delays->left[delays->at]--;
+    return delays->steps[delays->at];
+}
+
+static bool take_line(const char *line, const char *form, Delays *delays) {
+    unsigned steps, times;
+    if (sscanf(line, form, &steps, &times) != 2) return true;
+    if (delays->count == 64) return false;
+    delays->steps[delays->count] = steps;
+    delays->left[delays->count++] = times;
+    return true;
+}
+
+bool bare_plan(const char *text) {
+    size_t line;
+    gaps = holds = strays = (Delays){0};
+    until_stray = 0;
+    if (!chip_plan(text, &line)) return false;
+    for (const char *at = text; at && *at; at = strchr(at, '\n'), at += at != NULL)
+        if (!take_line(at, " gap %u %u", &gaps) || !take_line(at, " hold %u %u", &holds) || !take_line(at, " stray %u %u", &strays)) return false;
+    until_stray = next_of(&strays);
+    return true;
+}
+
+/* ---- the channel */
+
 static bool grants(void) { return !is_masked && !(command & 4) && (mode & 0xF0) == 0x40 && (mode & 0x0C) != 0x0C; }
 
-/* After every call: DMA while it is asked for, and the line's edge. */
+/* After every call: DMA while it is asked for and no hold is on it, and the line's edge. */
 static void attend(void) {
     uint8_t lines;
     while ((lines = chip_lines()) & CHIP_DRQ && grants()) {
+        if (!is_asked) hold = next_of(&holds);
+        is_asked = true;
+        if (hold) break;
         uint8_t kind = mode >> 2 & 3, *place = memory + ((page & 15) << 16 | address);
         if (lines & CHIP_TO_MEMORY) {
             uint8_t byte = chip_dack_read();
@@ -24,9 +64,33 @@ static void attend(void) {
             is_masked = true;
             chip_tc();
         }
+        if (!(chip_lines() & CHIP_DRQ)) is_asked = false;
     }
+    lines = chip_lines();
+    if (!(lines & CHIP_DRQ)) is_asked = false, hold = 0;
     if (lines & CHIP_INT && !line) latch = true;
     line = lines & CHIP_INT;
+}
+
+/* Steps, at most so many, up to one in which anything changes; how many. */
+static uint32_t pass(uint32_t most) {
+    uint32_t made = most;
+    if (hold && hold < made) made = hold;
+    if (until_stray && until_stray < made) made = until_stray;
+    made = chip_run(made);
+    if (hold) hold -= made;
+    if (until_stray && !(until_stray -= made)) {
+        latch = true;
+        until_stray = next_of(&strays);
+    }
+    attend();
+    return made;
+}
+
+static void gap(void) {
+    uint32_t steps = next_of(&gaps);
+    ahead += steps;
+    while (steps) steps -= pass(steps);
 }
 
 static uint16_t with_half(uint16_t old, uint8_t value) {
@@ -50,6 +114,7 @@ static uint8_t in(uint16_t port) {
     if (port < 0x10) return 0xFF;
     value = chip_in(port);
     attend();
+    gap();
     return value;
 }
 
@@ -69,15 +134,14 @@ static void out(uint16_t port, uint8_t value) {
     if (port < 0x10) return;
     chip_out(port, value);
     attend();
+    gap();
 }
 
 static uint32_t run(uint32_t most) {
-    uint32_t made = 0;
+    uint32_t made = ahead < most ? ahead : most;
+    ahead -= made;
     attend();
-    while (made < most && !latch) {
-        made += chip_run(most - made);
-        attend();
-    }
+    while (made < most && !latch) made += pass(most - made);
     return made;
 }
 

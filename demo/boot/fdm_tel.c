@@ -3,6 +3,7 @@
 #include "telwyddus.h"
 #include <stdio.h>
 #include <stdlib.h>
+#include <string.h>
 
 static telwyddus_machine machine;
 static telwyddus_controller controller;
@@ -74,7 +75,7 @@ void chip_make(void) { must(telwyddus_controller_new(&controller), "controller_n
 
 bool chip_insert(const uint8_t *image, size_t length) {
     telwyddus_tray tray = {0};
-    if (telwyddus_tray_read(&tray, image, length) != TELWYDDUS_DONE) return false;
+    if (telwyddus_tray_read(&tray, image, length) != TELWYDDUS_DONE && telwyddus_tray_read_flat(&tray, image, length) != TELWYDDUS_DONE) return false;
     must(telwyddus_controller_insert(&controller, 0, &tray), "controller_insert");
     must(telwyddus_tray_free(&tray), "tray_free");
     return true;
@@ -117,3 +118,37 @@ void chip_dack_write(uint8_t byte) { must(telwyddus_controller_dack_write(&contr
 void chip_tc(void) { must(telwyddus_controller_tc(&controller, &lines), "controller_tc"); }
 
 void chip_strap(void) { must(telwyddus_controller_strap_seeks(&controller, 1), "controller_strap_seeks"); }
+
+void chip_strap_steps(void) { must(telwyddus_controller_strap_steps(&controller, 1), "controller_strap_steps"); }
+
+bool chip_plan(const char *text, size_t *line) {
+    uint32_t code = telwyddus_controller_plan(&controller, 0, (const uint8_t *)text, strlen(text), line);
+    if (code != TELWYDDUS_BAD_PLAN) must(code, "controller_plan");
+    return code == TELWYDDUS_DONE;
+}
+
+void chip_track(uint8_t cylinder, uint8_t head, uint16_t *words, size_t count) {
+    size_t length = 0;
+    must(telwyddus_controller_track(&controller, 0, cylinder, head, words, count, &length), "controller_track");
+    if (length != count) must(TELWYDDUS_UNFIT, "a track");
+}
+
+void chip_written_tracks(uint8_t map[20]) {
+    telwyddus_tracks tracks;
+    must(telwyddus_controller_written_tracks(&controller, 0, &tracks), "controller_written_tracks");
+    memcpy(map, tracks.bytes, sizeof tracks.bytes);
+}
+
+bool chip_flat(uint8_t *bytes, size_t length) {
+    uint8_t cylinder, head;
+    size_t told = 0;
+    uint32_t code = telwyddus_controller_flat(&controller, 0, bytes, length, &told, &cylinder, &head);
+    if (code != TELWYDDUS_UNFIT) must(code, "controller_flat");
+    return code == TELWYDDUS_DONE && told == length;
+}
+
+uint8_t chip_cylinder(void) {
+    uint8_t cylinder = 0, signs;
+    must(telwyddus_controller_bay(&controller, 0, &cylinder, &signs), "controller_bay");
+    return cylinder;
+}

@@ -82,6 +82,7 @@ static struct {
     bool data, mt;                      /* it reads or writes sectors; on both sides */
     bool running, seeking;              /* such a command goes on by itself; after the adapter's own seek */
     bool moving;                        /* a command that writes the PC's memory */
+    bool sensing;                       /* ST0 of a SENSE INTERRUPT is the next byte */
     uint32_t place, rest;               /* address within the page; bytes still to be moved */
     uint8_t result[7], at, left;        /* results kept for the PC */
 } A;
@@ -164,6 +165,7 @@ static void command_byte(uint8_t v) {
         A.mt = v & 0x80;
         A.held = A.level == ADAPT_SEEK && (A.data || kind == 0x0D);
         N.commands[v]++;
+        A.sensing = v == 0x08;
         if (A.level && A.data) v &= 0x5F;
     }
     A.cmd[A.given++] = v;
@@ -227,7 +229,11 @@ uint8_t floppy_in(uint16_t port) {
     if (port == 0x3F4 && (A.left || A.held)) return seen_msr();
     if (A.left && port == 0x3F5) { A.left--; return A.result[A.at++]; }
     if (port == 4 || port == 5) dma.flip = !dma.flip;
-    return raw_in(port);
+    uint8_t value = raw_in(port);
+    if (port != 0x3F5) return value;
+    if (A.sensing && value & 0x10) N.not_at_zero++;
+    A.sensing = false;
+    return value;
 }
 
 void floppy_out(uint16_t port, uint8_t v) {

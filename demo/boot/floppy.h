@@ -11,6 +11,7 @@ enum { ADAPT_NONE, ADAPT_CODE, ADAPT_MULTI, ADAPT_SEEK };
 
 struct floppy_counts {
     uint64_t words, ins, outs, hidden, irqs, data_commands, continued;
+    uint64_t not_at_zero;               /* recalibrations of which the PC was told that they didn't reach cylinder 0 */
     uint64_t commands[256];
 };
 extern struct floppy_counts floppy_counts;

@@ -25,7 +25,7 @@ extern const Machine whole_machine, bare_controller;
 enum { CHIP_INT = 1, CHIP_DRQ = 2, CHIP_TO_MEMORY = 4 };
 
 void chip_make(void);
-bool chip_insert(const uint8_t *image, size_t length);
+bool chip_insert(const uint8_t *image, size_t length);  /* an image file, or a flat one */
 uint8_t *chip_image(size_t *length);
 uint8_t chip_in(uint16_t port);
 void chip_out(uint16_t port, uint8_t value);
@@ -35,5 +35,17 @@ uint8_t chip_dack_read(void);           /* only where DRQ is up */
 void chip_dack_write(uint8_t byte);
 void chip_tc(void);
 void chip_strap(void);                  /* seeks are implied from now on */
+void chip_strap_steps(void);            /* heads move as slowly as SPECIFY says */
+bool chip_plan(const char *text, size_t *line); /* drive A's faults from now on; false: that line isn't understood */
+
+/* The medium in drive A, past the drive: the words of a track, which tracks were written since this was asked (track 2 * cylinder +
+ * head in byte t / 8, bit t % 8), its flat file where it has one, and the cylinder under the heads. */
+void chip_track(uint8_t cylinder, uint8_t head, uint16_t *words, size_t count);
+void chip_written_tracks(uint8_t map[20]);
+bool chip_flat(uint8_t *bytes, size_t length);
+uint8_t chip_cylinder(void);
+
+/* Plans the bare controller anew, by a plan's whole text: faults of drive A, gaps, holds and strays. False: it isn't understood. */
+bool bare_plan(const char *text);
 
 #endif

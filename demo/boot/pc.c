@@ -5,6 +5,7 @@
 uint8_t pc_ram[RAM_BYTES];
 struct pc_counts pc_counts;
 bool pc_verbose;
+void (*pc_asked)(void);
 static FILE *printed;
 char pc_tail[4096];
 
@@ -344,6 +345,7 @@ void pc_out(uint16_t port, uint8_t v) {
     case 0x70: cmos_at = v & 0x7F; return;
     case 0x71: if (cmos_at != 0x0D) cmos[cmos_at] = v; return;
     case 0x80: case 0x92: case 0xED: return;
+    case 0x5E0: if (pc_asked) pc_asked(); return;
     case 0xE9: case 0x400: case 0x401: case 0x402: case 0x403: case 0x500:  /* messages of BIOSes */
         if (pc_verbose) fputc(v, stderr);
         return;

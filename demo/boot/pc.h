@@ -11,6 +11,7 @@ extern uint8_t pc_ram[RAM_BYTES];
 struct pc_counts { uint64_t ticks, unknown_in, unknown_out, ins, outs; };
 extern struct pc_counts pc_counts;
 extern bool pc_verbose;
+extern void (*pc_asked)(void);          /* what a write of port 5E0 calls: a boot sector asks its bench */
 extern char pc_tail[4096];              /* the end of it, to look for a text */
 
 void pc_new(FILE *to);                  /* what it prints goes there */

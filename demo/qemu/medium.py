@@ -1,0 +1,69 @@
+"""A 1.44 MB medium as demo/qemu/faults judges it: the tracks of an image file, by demo/boot/track.c and with nothing of the library."""
+import array
+import ctypes
+import os
+import subprocess
+import sys
+
+HERE = os.path.dirname(os.path.abspath(__file__))
+BOOT = os.path.join(os.path.dirname(HERE), "boot")
+WORDS, WINDOW, SECTORS, TRACKS = 12500, 530, 18, 160
+HEADER = b"RTIMAGE2"
+BYTES = 14 + 2 * WORDS * TRACKS
+
+
+class Field(ctypes.Structure):
+    _fields_ = [("key", ctypes.c_uint8 * 4), ("window", ctypes.c_uint16), ("is_whole", ctypes.c_bool), ("bytes", ctypes.c_uint8 * 512)]
+
+
+class Fields(ctypes.Structure):
+    _fields_ = [("count", ctypes.c_int), ("fields", Field * 40)]
+
+
+def swapped(words):
+    """Between the order of an image file, the high byte first, and this machine's."""
+    values = array.array("H", words)
+    if sys.byteorder == "little":
+        values.byteswap()
+    return values.tobytes()
+
+
+class Tracks:
+    """The calls of track.c, compiled into a folder. Words are as an image file has them."""
+
+    def __init__(self, work):
+        made = os.path.join(work, f"track.{os.getpid()}.so")
+        subprocess.run(["gcc", "-std=c11", "-O2", "-fPIC", "-shared", "-o", made, os.path.join(BOOT, "track.c")], check=True)
+        self.calls = ctypes.CDLL(made)
+
+    def formatted(self, c, h, first=0):
+        words = (ctypes.c_uint16 * WORDS)()
+        self.calls.track_format(words, c, h, first)
+        return swapped(bytes(words))
+
+    def window(self, content):
+        words = (ctypes.c_uint16 * WINDOW)()
+        self.calls.track_window(words, (ctypes.c_uint8 * 512)(*content))
+        return swapped(bytes(words))
+
+    def sectors(self, track):
+        """By key: where the window of a sector begins, and its bytes, or None where they aren't whole. A key that is there twice counts once."""
+        found = Fields()
+        self.calls.track_fields(ctypes.byref(found), (ctypes.c_uint16 * WORDS).from_buffer_copy(swapped(track)))
+        return {bytes(field.key): (field.window, bytes(field.bytes) if field.is_whole else None)
+                for field in reversed(found.fields[:found.count])}
+
+
+def read(name):
+    """The tracks of an image file."""
+    with open(name, "rb") as file:
+        image = file.read()
+    if len(image) != BYTES or image[:8] != HEADER:
+        raise ValueError(f"{name} is no image of 1.44 MB")
+    return [image[14 + 2 * WORDS * t:14 + 2 * WORDS * (t + 1)] for t in range(TRACKS)]
+
+
+def write(name, tracks):
+    with open(name, "wb") as file:
+        file.write(HEADER + bytes([0, 80, 2, 0]) + WORDS.to_bytes(2, "big"))
+        file.writelines(tracks)
