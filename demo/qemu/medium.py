@@ -47,11 +47,12 @@ class Tracks:
         return swapped(bytes(words))
 
     def sectors(self, track):
-        """By key: where the window of a sector begins, and its bytes, or None where they aren't whole. A key that is there twice counts once."""
-        found = Fields()
+        """By key the sectors that have it, two behind a format that was cut: where the window begins, and the bytes, or None where they aren't whole."""
+        found, by_key = Fields(), {}
         self.calls.track_fields(ctypes.byref(found), (ctypes.c_uint16 * WORDS).from_buffer_copy(swapped(track)))
-        return {bytes(field.key): (field.window, bytes(field.bytes) if field.is_whole else None)
-                for field in reversed(found.fields[:found.count])}
+        for field in found.fields[:found.count]:
+            by_key.setdefault(bytes(field.key), []).append((field.window, bytes(field.bytes) if field.is_whole else None))
+        return by_key
 
 
 def read(name):
