@@ -13,6 +13,7 @@ mod shelf;
 mod sink;
 pub mod standard;
 mod text;
+mod two;
 
 pub use answers::{Code, LoadError, NoMemory, PutError, Rate, Status, StoreError};
 pub use key::{Chrn, sector_size};
@@ -20,6 +21,7 @@ pub use memory::{MemShelf, MemSink};
 pub use shelf::Shelf;
 pub use sink::Sink;
 pub use text::{Bytes, Name};
+pub use two::Two;
 
 /// The bytes of user memory, from 00000 to EFFFF; the page behind it is the driver's.
 pub const USER_BYTES: u32 = 983_040;

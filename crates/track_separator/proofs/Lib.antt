@@ -15,3 +15,4 @@ mod Waited
 mod Read
 mod Ended
 mod Told
+mod Taken

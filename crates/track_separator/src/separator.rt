@@ -5,10 +5,10 @@ use crate::register::BLANK;
 use crate::state::{Seen, Separator, Stage};
 
 impl Separator {
-    ghost use Rattle.track_separator.specs.Hunts.{SHunts, SFollows, SAddressed, Stands, SHuntSeen, GivesAll};
+    ghost use Rattle.track_separator.specs.Hunts.{SHunts, SFollows, SAddressed};
     ghost use Rattle.track_separator.specs.Waits.{SWaits, SReads, SWaitSeen, SReadSeen};
-    ghost use Rattle.track_separator.specs.Turns.{IsHunted, SWaitFed, SReadFed, STurnEnded, SBegins, WantsIn, SFed, IsTold, Feeds};
-    ghost use Rattle.track_separator.specs.Parts.{with_word, turn_after};
+    ghost use Rattle.track_separator.specs.Turns.{IsHunted, STurnEnded, SBegins, WantsIn, SFed, Feeds};
+    ghost use Rattle.track_separator.specs.Parts.{with_word};
 
     /// A separator that hunts for address marks, at the beginning of a turn.
     pub fn new() -> Separator
@@ -27,22 +27,7 @@ impl Separator {
     /// Takes one word of the turn. `index` says that the turn ends after it.
     #[inline(always)]
     pub fn feed(&mut self, word: u16, index: bool) -> Seen
-        ensures keeps { (fed : List ℕ) → SHunts self.old fed → SHunts self.new (turn_after index fed word) }
-        ensures stands { (fed : List ℕ) → SHunts self.old fed → Stands (with_word fed word) result }
-        ensures address { (fed : List ℕ) → SHunts self.old fed → index ≡ false
-            → SHuntSeen (with_word fed word) self.new result }
-        ensures follows { (fed : List ℕ) → SFollows self.old fed → SFollows self.new (turn_after index fed word) }
-        ensures turns { index ≡ true → SFollows self.new [] }
-        ensures begins { index ≡ true → SBegins self.new }
-        ensures gives { (fed : List ℕ) → SFollows self.old fed → GivesAll (with_word fed word) result }
-        ensures waits { (fed : List ℕ) (p size : ℕ) → SWaits self.old fed p size
-            → SWaitFed index (with_word fed word) p size self.new result }
-        ensures reads { (fed : List ℕ) (p q : ℕ) (deleted : Bool) (size taken : ℕ)
-            → SReads self.old fed p q deleted size taken
-            → SReadFed index (with_word fed word) p q deleted size taken self.new result }
-        ensures turn_ended { STurnEnded self.old → (result ≡ Seen.NoData) × ((fed : List ℕ) → SHunts self.new fed) }
-        ensures any { (fed : List ℕ) → SFed self.old fed → SFed self.new (turn_after index fed word) }
-        ensures told { (fed : List ℕ) → SFed self.old fed → IsTold (with_word fed word) result }
+        ensures { Feeds index word self.old self.new result }
     {
         if !index && self.is_usual() {
             return self.take(word);

@@ -2,6 +2,7 @@ use Rattle.std.proofs.Common.{refl, sym, ◌∙◌}
 use Rattle.std.proofs.lemmas.Bool.{false≢true}
 use Rattle.track_separator.specs.Parts.{with_word, turn_after}
 use Rattle.track_separator.specs.Turns.{WantsIn}
+use Rattle.track_separator.proofs.Taken.{inside_feeds}
 use Rattle.track_separator.proofs.Told.{fed_more}
 use Rattle.track_separator.proofs.Ended.{waits_unfinished, waits_over, reads_unfinished, reads_over}
 use Rattle.track_separator.proofs.Started.{stands_of, hunts_not_wants}
@@ -10,22 +11,7 @@ use Rattle.track_separator.proofs.state.Separator.feed_any.Goals as goal
 pub returns-then-not-index : goal.returns-then-not-index
 returns-then-not-index c =
     let took = c.take-seen.ensures in
-    let inside = c.if-not-index.true in
-    let more = fed_more c.args.self.now c.take-seen.new.self c.args.word c.take-seen.result took.hunts took.waits took.reads took.turn_ended in
-    record {
-      keeps = λ fed h. rw inside (took.hunts.keeps fed h);
-      stands = λ fed h. stands_of (with_word fed c.args.word) _ _ _ c.take-seen.result (took.hunts.tells fed h);
-      address = λ fed h e. took.hunts.tells fed h;
-      follows = λ fed h. rw inside (took.hunts.follows fed h);
-      turns = λ last. absurd (false≢true (sym inside ∙ last));
-      begins = λ last. absurd (false≢true (sym inside ∙ last));
-      gives = took.hunts.gives;
-      waits = λ fed p size waits. rw inside (took.waits fed p size waits);
-      reads = λ fed p q deleted size taken reads. rw inside (took.reads fed p q deleted size taken reads);
-      turn_ended = took.turn_ended;
-      any = λ fed h. rw inside (more fed h).0;
-      told = λ fed h. (more fed h).1;
-    }
+    inside_feeds c.args.index c.args.word c.args.self.now c.take-seen.new.self c.take-seen.result c.if-not-index.true took.hunts took.waits took.reads took.turn_ended
 
 pub returns-then-wanted : goal.returns-then-wanted
 returns-then-wanted c =
