@@ -1,4 +1,4 @@
-"""The book of scenes: what the program `scenes` is given, and what it must print.
+"""The book of scenes: what the program `test_scenes` is given, and what it must print.
 
 A part of the book is a module with a function `scenes(book)`. Lines of jobs and reports are separated by `;`.
 """

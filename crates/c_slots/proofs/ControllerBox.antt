@@ -6,15 +6,15 @@ use Rattle.std.proofs.BoxSteps.Form.{Bx}
 use Rattle.std.specs.contracts.alloc.Global as Heap
 use Rattle.std.specs.contracts.prelude.GlobalAllocator.TheImpl.{ghosts, dict}
 use Rattle.std.proofs.alloc.Global.TheLaws as heap
-use Rattle.bay_drive.specs.contracts.bay.BayDrive as drive_of
-use Rattle.fdc_chip.proofs.chip.Chip.TheLaws as chip_laws
-use Rattle.bay_drive.proofs.bay.BayDrive.TheLaws as drive_laws
+use Rattle.c_bay_drive.specs.contracts.bay.BayDrive as drive_of
+use Rattle.fdc_chip.proofs.chip.Chip.TheLaws as laws_chip
+use Rattle.c_bay_drive.proofs.bay.BayDrive.TheLaws as drive_laws
 use Rattle.c_slots.specs.contracts.loose.Loose as loose
 use Rattle.c_slots.specs.Controllers.{controller_row}
 use Rattle.c_slots.specs.contracts.controller.held.Held as held
 
 abbrev pub E : Bx
-E = record { row = controller_row; laws = chip_laws.the_row_laws drive_of.the_row drive_laws.the_row_laws; al = record { row = Heap.the_row; laws = heap.the_row_laws; g = ghosts; d = dict; drops = impl [] tnil dnil } }
+E = record { row = controller_row; laws = laws_chip.the_row_laws drive_of.the_row drive_laws.the_row_laws; al = record { row = Heap.the_row; laws = heap.the_row_laws; g = ghosts; d = dict; drops = impl [] tnil dnil } }
 
 abbrev pub FromLoose : Slot 0
 FromLoose = plain (λ _. loose.the_row controller_row Heap.the_row ghosts)

@@ -9,7 +9,7 @@ use Rattle.std.specs.Global.{Global, Box}
 use Rattle.std.specs.contracts.prelude.GlobalAllocator.TheImpl.{ghosts}
 use Rattle.std.specs.Coded.{coded_option}
 use Rattle.fdc_chip.specs.contracts.chip.Chip as chip_of
-use Rattle.bay_drive.specs.contracts.bay.BayDrive as drive_of
+use Rattle.c_bay_drive.specs.contracts.bay.BayDrive as drive_of
 
 abbrev pub controller_row : RattleType
 controller_row = chip_of.the_row drive_of.the_row

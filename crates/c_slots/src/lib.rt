@@ -9,7 +9,7 @@ mod machine;
 mod shelf;
 mod tray;
 
-use bay_drive::BayDrive;
+use c_bay_drive::BayDrive;
 pub use controller::ControllerSlot;
 pub use disk::DiskSlot;
 use drive_model::ScriptDrive;

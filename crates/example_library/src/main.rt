@@ -49,7 +49,7 @@ type TwoResults = ([u8; 7], [u8; 7]);
 ///
 /// From the last byte of the command to its results drive 0 is selected and its motor on, at one rate, and the medium is in
 /// and at speed, under heads that stay over one cylinder, and no word of it is lost or replaced. So this run meets the premise
-/// of the law by which what such a read gives stands on the medium (`sequencer_laws`): that the medium stays in.
+/// of the law by which what such a read gives stands on the medium (`laws_sequencer`): that the medium stays in.
 fn read_four(
     alloc: Global,
     controller: &mut Controller,

@@ -9,14 +9,14 @@ use Rattle.fdc_commands.specs.Table.{answer}
 use Rattle.fdc_commands.specs.declared.bytes.Accepted.{Accepted}
 use Rattle.fdc_phases.specs.Rates.{rate_chosen}
 use Rattle.irq_events.specs.Holds.{AreShort, IsShort}
-use Rattle.machine_laws.specs.OnAwaits.Goes.{StandsReady}
-use Rattle.machine_laws.specs.OnOrders.Orders.{CanBegin, IsLast, IsSetFor}
-use Rattle.machine_laws.specs.OnReads.Begins.{IsDriveOf}
-use Rattle.machine_laws.specs.OnReads.Scenes.{IsScene}
-use Rattle.machine_laws.specs.OnReads.Underway.{IsSet}
-use Rattle.machine_laws.specs.OnWrites.Underway.{IsReadSet}
-use Rattle.machine_laws.proofs.OnAwaits.Courses.{goes_begins}
-use Rattle.machine_laws.proofs.OnReads.Beginnings.{is_set}
+use Rattle.laws_machine.specs.OnAwaits.Goes.{StandsReady}
+use Rattle.laws_machine.specs.OnOrders.Orders.{CanBegin, IsLast, IsSetFor}
+use Rattle.laws_machine.specs.OnReads.Begins.{IsDriveOf}
+use Rattle.laws_machine.specs.OnReads.Scenes.{IsScene}
+use Rattle.laws_machine.specs.OnReads.Underway.{IsSet}
+use Rattle.laws_machine.specs.OnWrites.Underway.{IsReadSet}
+use Rattle.laws_machine.proofs.OnAwaits.Courses.{goes_begins}
+use Rattle.laws_machine.proofs.OnReads.Beginnings.{is_set}
 use Rattle.machine_commands.specs.Awaited.{AreCounts}
 use Rattle.machine_commands.proofs.Idling.{IsResting, StaysIdle, Idles}
 use Rattle.machine_commands.proofs.Bytes.{AreMore, IsListening, byte_more, first_bytes, listens_with, sends_parts, with_bytes}

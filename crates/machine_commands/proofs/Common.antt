@@ -44,21 +44,21 @@ pub use Rattle.machine_commands.specs.Shown.{counters_of, is_spun, number_of, ri
 pub use Rattle.machine_commands.specs.WriteSent.{SendsFormatBytes, keys_at, told_of}
 pub use Rattle.machine_commands.specs.declared.motors.Motors.{Motors}
 pub use Rattle.machine_commands.specs.declared.results.Done.{Done}
-pub use Rattle.machine_laws.proofs.OnOrders.Ends.{only}
-pub use Rattle.machine_laws.proofs.OnReads.TrackMet.{met_is}
-pub use Rattle.machine_laws.proofs.OnSteps.Runs.{gap, march_wait}
-pub use Rattle.machine_laws.proofs.OnSteps.Words.{controller}
-pub use Rattle.machine_laws.specs.OnAwaits.Awaits.{is_unread}
-pub use Rattle.machine_laws.specs.OnAwaits.Goes.{with_one}
+pub use Rattle.laws_machine.proofs.OnOrders.Ends.{only}
+pub use Rattle.laws_machine.proofs.OnReads.TrackMet.{met_is}
+pub use Rattle.laws_machine.proofs.OnSteps.Runs.{gap, march_wait}
+pub use Rattle.laws_machine.proofs.OnSteps.Words.{controller}
+pub use Rattle.laws_machine.specs.OnAwaits.Awaits.{is_unread}
+pub use Rattle.laws_machine.specs.OnAwaits.Goes.{with_one}
 pub use Rattle.pc_bus.specs.Counts.{counts_of}
-pub use Rattle.machine_laws.specs.OnOrders.Orders.{Order, Track, Window, Write}
-pub use Rattle.machine_laws.specs.OnReads.Begins.{scene_of}
-pub use Rattle.machine_laws.specs.OnReads.Scenes.{Scene, data_rate, head_sent, track_met}
-pub use Rattle.machine_laws.specs.OnReads.Underway.{HasBytes}
+pub use Rattle.laws_machine.specs.OnOrders.Orders.{Order, Track, Window, Write}
+pub use Rattle.laws_machine.specs.OnReads.Begins.{scene_of}
+pub use Rattle.laws_machine.specs.OnReads.Scenes.{Scene, data_rate, head_sent, track_met}
+pub use Rattle.laws_machine.specs.OnReads.Underway.{HasBytes}
 pub use Rattle.fdc_drives.specs.Hearing.{IsCalm}
-pub use Rattle.machine_laws.specs.OnSteps.Stalls.{Stalled}
-pub use Rattle.machine_laws.specs.OnSteps.Steady.{Marching, Steady, regapped}
-pub use Rattle.machine_laws.specs.OnWrites.Results.{IsUnchanged}
+pub use Rattle.laws_machine.specs.OnSteps.Stalls.{Stalled}
+pub use Rattle.laws_machine.specs.OnSteps.Steady.{Marching, Steady, regapped}
+pub use Rattle.laws_machine.specs.OnWrites.Results.{IsUnchanged}
 pub use Rattle.irq_events.specs.Entries.{next_entry}
 pub use Rattle.irq_events.specs.Holds.{Holds, counted, shown}
 pub use Rattle.irq_events.specs.declared.holding.Request.TheVariants.{Low}

@@ -8,11 +8,11 @@ use Rattle.fdc_registers.specs.declared.drive_lines.Dor.{Dor}
 use Rattle.fdc_commands.specs.Table.{is_begun}
 use Rattle.fdc_core.specs.Ports.{main_status, phase_bits}
 use Rattle.fdc_core.specs.Steps.{steps_left, EndsIn}
-use Rattle.machine_laws.specs.OnAwaits.Awaits.{IsAwaited}
-use Rattle.machine_laws.specs.OnAwaits.Goes.{GoesOn}
-use Rattle.machine_laws.proofs.OnAwaits.Courses.{goes_status, goes_stray, goes_wait, goes_waits}
-use Rattle.machine_laws.proofs.OnSteps.DataEnds.{step_ends}
-use Rattle.machine_laws.proofs.OnSteps.Runs.{inputs, wait, waits}
+use Rattle.laws_machine.specs.OnAwaits.Awaits.{IsAwaited}
+use Rattle.laws_machine.specs.OnAwaits.Goes.{GoesOn}
+use Rattle.laws_machine.proofs.OnAwaits.Courses.{goes_status, goes_stray, goes_wait, goes_waits}
+use Rattle.laws_machine.proofs.OnSteps.DataEnds.{step_ends}
+use Rattle.laws_machine.proofs.OnSteps.Runs.{inputs, wait, waits}
 use Rattle.machine_commands.proofs.Idling.{Idles, IsResting}
 use Rattle.machine_commands.proofs.Settling.{runs_one}
 use Rattle.machine_commands.proofs.Steps.{idles_none, idling}

@@ -5,7 +5,7 @@ use Rattle.std.proofs.lemmas.Bool.Decides.{nat_tests}
 use Rattle.machine_commands.proofs.Common.{Chrn, Code, InRange, Results, Ending, is_executing, given, result_byte, interrupt_after, is_held, dor_of, polled, Long, Fdc, Phase, Command, Execute, Result, is_unread, with_one, Order, Scene, Low, Board, controller_of, holds_of, Inputs, Finishes, outcome_of, dor_with, IsReady, AreSeeksOver, IsIdle, is_up, latch_taken, Motors, Done}
 use Rattle.fdc_core.specs.Ports.{phase_after}
 use Rattle.fdc_phases.specs.declared.answers.Answer.TheVariants.{Short}
-use Rattle.machine_laws.specs.OnAwaits.Goes.{GoesOn}
+use Rattle.laws_machine.specs.OnAwaits.Goes.{GoesOn}
 use Rattle.machine_commands.specs.Awaited.{TakesResults}
 use Rattle.machine_commands.proofs.Idling.{IsResting, KeepsSpeed, KeepsAll, Idles}
 use Rattle.machine_commands.proofs.Accesses.{input_idles}

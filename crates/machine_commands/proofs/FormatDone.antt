@@ -7,9 +7,9 @@ use Rattle.dma_8237.specs.Channel.{after_write}
 use Rattle.fdc_commands.specs.declared.command.Command.TheVariants.{FormatTrack}
 use Rattle.fdc_commands.proofs.WriteSpellings.{spells_format}
 use Rattle.fdc_phases.specs.declared.phases.Phase.TheVariants as phase
-use Rattle.machine_laws.specs.OnFormats.Results.{AreKeysOf, EndedIn}
-use Rattle.machine_laws.proofs.OnFormats.Results.{lays_disk}
-use Rattle.machine_laws.proofs.OnOrders.Ends.{ended}
+use Rattle.laws_machine.specs.OnFormats.Results.{AreKeysOf, EndedIn}
+use Rattle.laws_machine.proofs.OnFormats.Results.{lays_disk}
+use Rattle.laws_machine.proofs.OnOrders.Ends.{ended}
 use Rattle.machine_commands.proofs.Beginning.{IsRun, head_of_sent, is_run, set_from_memory, small_drive}
 use Rattle.machine_commands.proofs.FormatRigs.{IsFormatOn, format_shown}
 use Rattle.machine_commands.proofs.Outcomes.{outcome_is, told_as}

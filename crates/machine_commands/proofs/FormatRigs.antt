@@ -8,8 +8,8 @@ use Rattle.sector_map.specs.Layings.{IsLaying}
 use Rattle.sector_map.proofs.MetTracks.{same_rates}
 use Rattle.track_model.specs.Layouts.{Fits}
 use Rattle.fdc_stages.specs.declared.ending.Ending.TheVariants as ending
-use Rattle.machine_laws.specs.OnFormats.Results.{EndsAs, FitsOn, HasLaying, LaysTo, LaysTurn}
-use Rattle.machine_laws.specs.OnWrites.Drives.{IsThere}
+use Rattle.laws_machine.specs.OnFormats.Results.{EndsAs, FitsOn, HasLaying, LaysTo, LaysTurn}
+use Rattle.laws_machine.specs.OnWrites.Drives.{IsThere}
 use Rattle.machine_commands.proofs.Beginning.{HasRun}
 use Rattle.machine_commands.proofs.Outcomes.{told_as}
 use Rattle.machine_commands.proofs.Seeing.{calm_drive, cylinder_before, faultless, medium_after, medium_before, stall_counts, unstalled, write_sends}

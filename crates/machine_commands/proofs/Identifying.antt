@@ -5,9 +5,9 @@ use Rattle.fdc_commands.specs.declared.command.Command.TheVariants.{ReadId}
 use Rattle.fdc_commands.proofs.ReadSpellings.{spells_id}
 use Rattle.fdc_stages.specs.declared.ending.Ending.TheVariants.{Done as Finished}
 use Rattle.fdc_phases.specs.Heard.{key_met}
-use Rattle.machine_laws.specs.OnOrders.Orders.{Identify}
-use Rattle.machine_laws.specs.OnReads.Ids.{IdEndedIn, IdEndsAs, sent_id}
-use Rattle.machine_laws.proofs.OnOrders.Ends.{id_ended, id_memory}
+use Rattle.laws_machine.specs.OnOrders.Orders.{Identify}
+use Rattle.laws_machine.specs.OnReads.Ids.{IdEndedIn, IdEndsAs, sent_id}
+use Rattle.laws_machine.proofs.OnOrders.Ends.{id_ended, id_memory}
 use Rattle.single_commands.specs.Reading.{ReadsId}
 use Rattle.machine_commands.specs.Awaited.{SendsReadId, key_told}
 use Rattle.machine_commands.specs.Shown.{user_part, page_part}

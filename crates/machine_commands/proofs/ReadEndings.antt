@@ -12,12 +12,12 @@ use Rattle.fdc_commands.specs.declared.command.Command.TheVariants.{ReadData}
 use Rattle.fdc_commands.specs.Reads.{SpellsRead}
 use Rattle.fdc_commands.proofs.ReadSpellings.{spells_read}
 use Rattle.fdc_stages.specs.declared.ending.Ending.TheVariants.{Done as Finished}
-use Rattle.machine_laws.specs.OnOrders.Orders.{Read}
-use Rattle.machine_laws.specs.OnReads.Ends.{ends_late, is_late}
-use Rattle.machine_laws.specs.OnReads.Results as heard
-use Rattle.machine_laws.specs.OnReads.Scenes.{IsRecorded}
-use Rattle.machine_laws.proofs.OnOrders.Ends.{read_ended, read_outside}
-use Rattle.machine_laws.proofs.OnReads.TrackMet.{rate_is, recorded}
+use Rattle.laws_machine.specs.OnOrders.Orders.{Read}
+use Rattle.laws_machine.specs.OnReads.Ends.{ends_late, is_late}
+use Rattle.laws_machine.specs.OnReads.Results as heard
+use Rattle.laws_machine.specs.OnReads.Scenes.{IsRecorded}
+use Rattle.laws_machine.proofs.OnOrders.Ends.{read_ended, read_outside}
+use Rattle.laws_machine.proofs.OnReads.TrackMet.{rate_is, recorded}
 use Rattle.single_commands.specs.Reading.{FindsField, IsReadReason, IsReadCode, IsReadMiss, ReadsData, ReadsBack}
 use Rattle.machine_commands.specs.Awaited.{SendsRead, mark_told}
 use Rattle.machine_commands.specs.Shown.{user_part, page_part}

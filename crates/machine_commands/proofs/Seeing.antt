@@ -2,9 +2,9 @@
 use Rattle.std.proofs.Common.{◌≡◌, ℕ, zero, suc, ◌+◌, ◌-◌, ◌≤◌, ◌==◌, true, List, [], ◌∷◌, Some, is_some, min, nat_lt, if◌then◌else◌, slice_index, Result as result, refl, sym, ◌∙◌, ap, arith}
 use Rattle.std.proofs.lemmas.List.Sums.{sum_by-cons}
 use Rattle.machine_commands.proofs.Common.{last_count, RoseBy, Spends, Code, Rate, Two, in_bay, GoesOn, IsDriven, IsFaultless, IsUndisturbed, faults_of, spends_twice, DriveState, InRange, data_commands_of, Order, Scene, head_sent, track_met, IsCalm, Stalled, met_is, counted, Board, controller_of, drive_in, holds_of, memory_of, met_in, track_under, IsIdle, latch_taken, counters_of, is_spun, rig_of, stalls_left, Motors, Done}
-use Rattle.machine_laws.specs.OnAwaits.Awaits.{TurnsOn}
+use Rattle.laws_machine.specs.OnAwaits.Awaits.{TurnsOn}
 use Rattle.pc_bus.specs.Counts.{long_holds}
-use Rattle.machine_laws.specs.OnQuiet.Quiet.{HaveTurned}
+use Rattle.laws_machine.specs.OnQuiet.Quiet.{HaveTurned}
 use Rattle.single_commands.specs.Reading.{SendsRead}
 use Rattle.single_commands.specs.Rigs.{HeadsStay}
 use Rattle.single_commands.specs.Writing.{SendsWrite}

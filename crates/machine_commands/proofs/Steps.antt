@@ -8,8 +8,8 @@ use Rattle.flop_base.proofs.Counted.{spends_itself}
 use Rattle.fdc_seek.specs.declared.motion.Seek.{Seek}
 use Rattle.fdc_core.specs.State.{is_gated}
 use Rattle.fdc_core.specs.Steps.{let_pass}
-use Rattle.machine_laws.proofs.OnQuiet.Turning.{turned_let}
-use Rattle.machine_laws.proofs.OnSteps.Words.{drives}
+use Rattle.laws_machine.proofs.OnQuiet.Turning.{turned_let}
+use Rattle.laws_machine.proofs.OnSteps.Words.{drives}
 use Rattle.pc_bus.specs.Steps.{Runs}
 use Rattle.pc_bus.specs.Transfers.{dma_stepped}
 use Rattle.machine_commands.proofs.Idling.{IsResting, KeepsDrive, KeepsSpeed, KeepsAll, StaysIdle, Idles}

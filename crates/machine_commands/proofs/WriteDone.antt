@@ -6,9 +6,9 @@ use Rattle.dma_8237.specs.Channel.{after_write}
 use Rattle.fdc_commands.specs.Writes.{write_code, write_command}
 use Rattle.fdc_commands.proofs.WriteSpellings.{spells_write}
 use Rattle.fdc_phases.specs.declared.phases.Phase.TheVariants as phase
-use Rattle.machine_laws.specs.OnWrites.Begins.{write_of}
-use Rattle.machine_laws.specs.OnWrites.Results.{EndedIn}
-use Rattle.machine_laws.proofs.OnOrders.Ends.{ended}
+use Rattle.laws_machine.specs.OnWrites.Begins.{write_of}
+use Rattle.laws_machine.specs.OnWrites.Results.{EndedIn}
+use Rattle.laws_machine.proofs.OnOrders.Ends.{ended}
 use Rattle.machine_commands.specs.WriteSent.{SendsWriteBytes}
 use Rattle.machine_commands.proofs.Beginning.{IsRun, head_of_sent, is_run, set_from_memory, small_drive}
 use Rattle.machine_commands.proofs.Outcomes.{outcome_is, told_as}

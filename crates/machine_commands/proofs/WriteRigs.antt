@@ -13,10 +13,10 @@ use Rattle.track_model.specs.Looks.{HasAddressMark}
 use Rattle.fdc_phases.specs.declared.phases.Phase.TheVariants as phase
 use Rattle.fdc_stages.specs.Searches.{HasNoClear}
 use Rattle.fdc_stages.specs.declared.ending.Ending.TheVariants as ending
-use Rattle.machine_laws.specs.OnOrders.Orders.{Laid}
-use Rattle.machine_laws.specs.OnWrites.Results.{EndsAs, HasChanged, IsInsideTrack, IsWholeWindow, written_in}
-use Rattle.machine_laws.specs.OnWrites.Results as write
-use Rattle.machine_laws.proofs.OnWrites.Results.{changes_disk}
+use Rattle.laws_machine.specs.OnOrders.Orders.{Laid}
+use Rattle.laws_machine.specs.OnWrites.Results.{EndsAs, HasChanged, IsInsideTrack, IsWholeWindow, written_in}
+use Rattle.laws_machine.specs.OnWrites.Results as write
+use Rattle.laws_machine.proofs.OnWrites.Results.{changes_disk}
 use Rattle.single_commands.specs.Writing.{ChangesMedium, HasWindowOut, IsWriteMiss}
 use Rattle.machine_commands.specs.Shown.{user_part}
 use Rattle.machine_commands.proofs.Showing.{two_same}

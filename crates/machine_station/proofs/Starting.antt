@@ -15,7 +15,7 @@ use Rattle.pc_bus.specs.Boards.{AreSetIfEmpty, Board, holds_of}
 use Rattle.pc_bus.specs.Calls.{AreCalled}
 use Rattle.single_commands.specs.Rigs.{Rig, IsReset}
 use Rattle.sector_model.specs.Stations.{Bay, IsFresh, fresh_bay}
-use Rattle.machine_laws.proofs.OnLines.Showing.{calls_lines, new_lines}
+use Rattle.laws_machine.proofs.OnLines.Showing.{calls_lines, new_lines}
 use Rattle.machine_commands.specs.Shown.{user_part, stalls_left, rig_of}
 use Rattle.floppy_driver.specs.declared.driver.Notes.{Notes}
 use Rattle.floppy_driver.specs.declared.driver.Driver.{Driver}

@@ -1,6 +1,6 @@
 -- Calls on the controller.
 use Rattle.std.specs.Prelude.{◌≤◌, ◌≡◌, ◌↔◌, ◌+◌, ◌-◌, ◌==◌, ℕ, Bool, true, false, Option, Some, None, is_some, IsTrue, IsBitSet, if◌then◌else◌}
-use Rattle.bay_drive.specs.Bays.{bay_state}
+use Rattle.c_bay_drive.specs.Bays.{bay_state}
 use Rattle.c_slots.specs.Controllers.{ControllerValue}
 use Rattle.c_slots.specs.Trays.{TrayValue}
 use Rattle.drive_model.specs.Drive.{DriveState, forgotten}

@@ -1,9 +1,9 @@
 -- The drives of bays: their cables, their plans, and the tracks that were written.
 use Rattle.std.specs.Prelude.{◌≡◌, ◌-◌, ◌==◌, ◌&&◌, ℕ, Bool, not, List, is_some, Ok, Err, MatchBool, if◌then◌else◌}
-use Rattle.bay_drive.specs.Bays.{bay_state, drive_in_bay, faults_in_bay, is_attached, state_with_cable, tracks_in_bay}
-use Rattle.bay_drive.specs.Maps.{no_tracks}
-use Rattle.bay_drive.specs.declared.bay.BayDrive.{BayDrive}
-use Rattle.bay_drive.specs.Tracked.{tracked_state}
+use Rattle.c_bay_drive.specs.Bays.{bay_state, drive_in_bay, faults_in_bay, is_attached, state_with_cable, tracks_in_bay}
+use Rattle.c_bay_drive.specs.Maps.{no_tracks}
+use Rattle.c_bay_drive.specs.declared.bay.BayDrive.{BayDrive}
+use Rattle.c_bay_drive.specs.Tracked.{tracked_state}
 use Rattle.c_slots.specs.Controllers.{ControllerValue}
 use Rattle.drive_model.specs.Drive.{DriveState}
 use Rattle.drive_model.specs.Fault.{total_left}

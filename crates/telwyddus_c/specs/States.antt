@@ -1,7 +1,7 @@
 -- Saved states in buffers of C.
 use Rattle.std.specs.Prelude.{◌≡◌, ℕ, ◌==◌, List, [], ◌∷◌, ◌++◌, Option, Some, Result, Ok, Err, MatchBool, ⊤}
 use Rattle.std.specs.Global.{Box}
-use Rattle.bay_drive.specs.Saving.{spelled_bay, BayFits}
+use Rattle.c_bay_drive.specs.Saving.{spelled_bay, BayFits}
 use Rattle.c_slots.specs.Controllers.{ControllerValue}
 use Rattle.c_slots.specs.Machines.{MachineValue}
 use Rattle.drive_model.specs.Saving.{spelled_script_drive}

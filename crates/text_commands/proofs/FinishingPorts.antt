@@ -5,11 +5,11 @@ use Rattle.flop_base.specs.Counts.{RoseBy}
 use Rattle.floppy_jobs.specs.declared.ports.PortLine.{PortLine}
 use Rattle.floppy_jobs.specs.declared.ports.PortLine.TheVariants as line
 use Rattle.irq_events.specs.Entries.{next_entry}
-use Rattle.machine_laws.specs.OnSteps.Moves.{Acts, Goes}
-use Rattle.machine_laws.proofs.OnSteps.Counted.{goes_counted}
-use Rattle.machine_laws.proofs.OnSteps.DataEnds.{data_over}
-use Rattle.machine_laws.proofs.OnSteps.Moves.{input_goes, output_goes, wait_goes, goes_on}
-use Rattle.machine_laws.proofs.OnSteps.SeekEnds.{seek_ends_in_time}
+use Rattle.laws_machine.specs.OnSteps.Moves.{Acts, Goes}
+use Rattle.laws_machine.proofs.OnSteps.Counted.{goes_counted}
+use Rattle.laws_machine.proofs.OnSteps.DataEnds.{data_over}
+use Rattle.laws_machine.proofs.OnSteps.Moves.{input_goes, output_goes, wait_goes, goes_on}
+use Rattle.laws_machine.proofs.OnSteps.SeekEnds.{seek_ends_in_time}
 use Rattle.pc_bus.specs.Boards.{Board, IsInRange}
 use Rattle.pc_bus.specs.Handling.{Touches, irq_taken}
 use Rattle.sector_model.specs.declared.reply.Reason.{Reason}

@@ -11,10 +11,10 @@ use Rattle.floppy_jobs.specs.Texts.{ports_of}
 use Rattle.floppy_jobs.specs.declared.ports.PortLine.{PortLine}
 use Rattle.floppy_jobs.specs.declared.ports.PortLine.TheVariants as line
 use Rattle.irq_events.specs.Entries.{next_entry}
-use Rattle.machine_laws.specs.OnSteps.Steady.{regapped, Marching, Steady}
-use Rattle.machine_laws.specs.OnWrites.Guards.{GuardsMedia}
-use Rattle.machine_laws.proofs.OnSteps.Runs.{inputs, outputs, march_gap, march_wait, march_waits, read_from, wait}
-use Rattle.machine_laws.proofs.OnWrites.Guards.{guarding, step_guards}
+use Rattle.laws_machine.specs.OnSteps.Steady.{regapped, Marching, Steady}
+use Rattle.laws_machine.specs.OnWrites.Guards.{GuardsMedia}
+use Rattle.laws_machine.proofs.OnSteps.Runs.{inputs, outputs, march_gap, march_wait, march_waits, read_from, wait}
+use Rattle.laws_machine.proofs.OnWrites.Guards.{guarding, step_guards}
 use Rattle.pc_bus.specs.Boards.{Board, IsInRange, drive_in}
 use Rattle.pc_bus.specs.Handling.{Touches}
 use Rattle.pc_bus.specs.Ports.{Inputs, Outputs}

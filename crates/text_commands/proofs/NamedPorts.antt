@@ -1,10 +1,10 @@
 -- A bay keeps its name exactly as long as its medium.
 use Rattle.std.proofs.Common.{◌≡◌, ℕ, Option, is_some, sym, ap, ◌∙◌, inl, inr}
 use Rattle.raw_image.specs.Disk.{Disk}
-use Rattle.machine_laws.specs.OnSteps.Steady.{Steady}
-use Rattle.machine_laws.specs.OnWrites.Guards.{IsGuarded}
-use Rattle.machine_laws.proofs.OnSteps.Runs.{inputs, outputs, wait}
-use Rattle.machine_laws.proofs.OnWrites.Guards.{step_guards}
+use Rattle.laws_machine.specs.OnSteps.Steady.{Steady}
+use Rattle.laws_machine.specs.OnWrites.Guards.{IsGuarded}
+use Rattle.laws_machine.proofs.OnSteps.Runs.{inputs, outputs, wait}
+use Rattle.laws_machine.proofs.OnWrites.Guards.{step_guards}
 use Rattle.pc_bus.specs.Boards.{Board}
 use Rattle.pc_bus.specs.Ports.{WritesPort, Inputs, Outputs}
 use Rattle.pc_bus.specs.Steps.{Runs, stirred}

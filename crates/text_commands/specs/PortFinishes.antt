@@ -1,7 +1,7 @@
 -- How long commands last in a run of port accesses.
 use Rattle.std.specs.Prelude.{◌≡◌, ◌≤◌, ℕ, false, List, [], ◌∷◌}
 use Rattle.fdc_core.specs.Listening.{is_executing}
-use Rattle.machine_laws.specs.OnSteps.Ends.{HasNoSeek, IsOver, Meets, seeks}
+use Rattle.laws_machine.specs.OnSteps.Ends.{HasNoSeek, IsOver, Meets, seeks}
 use Rattle.pc_bus.specs.Boards.{Board, controller_of}
 use Rattle.text_commands.specs.Benches.{Bench}
 use Rattle.text_commands.specs.PortCourses.{Taken, waits_of}

@@ -4,7 +4,7 @@ use Rattle.flop_base.specs.Counts.{RoseBy}
 use Rattle.flop_base.specs.declared.answers.Status.{Status}
 use Rattle.drive_model.specs.Drive.{is_protected}
 use Rattle.pc_bus.specs.Boards.{Board, drive_in}
-use Rattle.machine_laws.specs.OnWrites.Guards.{GuardsMedia}
+use Rattle.laws_machine.specs.OnWrites.Guards.{GuardsMedia}
 use Rattle.text_commands.specs.Benches.{Bench, Names}
 use Rattle.text_commands.specs.PortCourses.{Taken, waits_of}
 use Rattle.text_commands.specs.PortFinishes.{EndInTime}

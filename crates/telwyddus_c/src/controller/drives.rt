@@ -5,7 +5,7 @@ ghost use Rattle.telwyddus_c.specs.Drives.{faults_for as faults_of_bay, keeps_ca
 ghost use Rattle.telwyddus_c.specs.Slots.{Serves, InBay};
 
 use crate::code::{BAD_PLAN, DONE, EMPTY, HAS_MEDIUM, NO_MEMORY, OUT_OF_RANGE};
-use bay_drive::BayDrive;
+use c_bay_drive::BayDrive;
 use c_slots::{ControllerSlot, WholeController};
 use drive_model::Fault;
 use fault_plan::{FaultPlan, PlanError, plan_of};

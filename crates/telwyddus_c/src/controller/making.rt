@@ -4,7 +4,7 @@ ghost use Rattle.telwyddus_c.specs.Plans.{FillsPlanned};
 ghost use Rattle.telwyddus_c.specs.Slots.{Fills, Frees};
 
 use crate::code::{BAD_PLAN, DONE, EMPTY, FULL, NO_MEMORY};
-use bay_drive::BayDrive;
+use c_bay_drive::BayDrive;
 use c_slots::ControllerSlot;
 use fault_plan::{PlanError, plan_of};
 use fdc_chip::Chip;

@@ -1,7 +1,7 @@
 use Rattle.std.proofs.Common.{◌∙◌, ap}
-use Rattle.bay_drive.specs.Bays.{drive_in_bay, faults_in_bay, is_attached, tracks_in_bay}
-use Rattle.bay_drive.specs.Tracked.{tracked_state}
-use Rattle.bay_drive.specs.declared.bay.BayDrive.{BayDrive}
+use Rattle.c_bay_drive.specs.Bays.{drive_in_bay, faults_in_bay, is_attached, tracks_in_bay}
+use Rattle.c_bay_drive.specs.Tracked.{tracked_state}
+use Rattle.c_bay_drive.specs.declared.bay.BayDrive.{BayDrive}
 use Rattle.telwyddus_c.specs.Drives.{replanned}
 use Rattle.telwyddus_c.proofs.Kept.{keeps_twice}
 use Rattle.telwyddus_c.proofs.controller.drives.replan.Goals as goal

@@ -1,5 +1,5 @@
 use Rattle.std.proofs.Common.{◌∙◌, ap}
-use Rattle.bay_drive.specs.Bays.{bay_state, faults_in_bay, is_attached, tracks_in_bay}
+use Rattle.c_bay_drive.specs.Bays.{bay_state, faults_in_bay, is_attached, tracks_in_bay}
 use Rattle.telwyddus_c.proofs.Kept.{keeps_twice}
 use Rattle.telwyddus_c.proofs.controller.drives.take_tracks.Goals as goal
 

@@ -10,8 +10,8 @@ use Rattle.std.proofs.Crossing as heap
 use Rattle.std.proofs.alloc.Global.TheSendSync as handle
 use Rattle.std.specs.Global.{Global}
 use Rattle.fdc_chip.proofs.chip.Chip.TheSendSync.{the_send as whole_send}
-use Rattle.bay_drive.proofs.bay.BayDrive.TheSendSync.{the_send as drive_send}
-use Rattle.bay_drive.specs.contracts.bay.BayDrive.{the_row as drive_row}
+use Rattle.c_bay_drive.proofs.bay.BayDrive.TheSendSync.{the_send as drive_send}
+use Rattle.c_bay_drive.specs.contracts.bay.BayDrive.{the_row as drive_row}
 use Rattle.c_slots.proofs.Crossing.{quiet, lies}
 use Rattle.c_slots.specs.Controllers.{ControllerValue, controller_row, held_owns}
 use Rattle.c_slots.specs.contracts.controller.held.Held.{the_row, the_type}

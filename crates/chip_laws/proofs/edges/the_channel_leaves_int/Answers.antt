@@ -1,8 +1,0 @@
-use Rattle.chip_laws.proofs.Edging.{channel_leaves, count_leaves}
-use Rattle.chip_laws.proofs.edges.the_channel_leaves_int.Goals as goal
-
-pub returns-clause-bytes : goal.returns-clause-bytes
-returns-clause-bytes c = channel_leaves
-
-pub returns-clause-count : goal.returns-clause-count
-returns-clause-count c = count_leaves

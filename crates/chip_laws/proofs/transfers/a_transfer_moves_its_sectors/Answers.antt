@@ -1,5 +1,0 @@
-use Rattle.chip_laws.proofs.CommandsBegun.{transfer_served}
-use Rattle.chip_laws.proofs.transfers.a_transfer_moves_its_sectors.Goals as goal
-
-pub returns : goal.returns
-returns c = transfer_served

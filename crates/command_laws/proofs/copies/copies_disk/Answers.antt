@@ -1,7 +1,0 @@
-use Rattle.command_laws.proofs.CopiedDisk.{copies_disk}
-use Rattle.command_laws.proofs.copies.copies_disk.Goals as goal
-use Rattle.track_format.proofs.Laid.{laid_tidy}
-
-pub returns : goal.returns
-returns c old new files disk course after =
-    copies_disk laid_tidy c.args._from.now c.args._to.now disk files old new after course

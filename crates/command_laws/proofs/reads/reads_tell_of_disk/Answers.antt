@@ -1,5 +1,0 @@
-use Rattle.command_laws.proofs.Verified.{disk_tells}
-use Rattle.command_laws.proofs.reads.reads_tell_of_disk.Goals as goal
-
-pub returns : goal.returns
-returns c old new files disk course after failed = disk_tells old new files c.args._name.now disk course after failed

@@ -1,5 +1,0 @@
-use Rattle.command_laws.proofs.RescueEnds.{new_rescue_complete}
-use Rattle.command_laws.proofs.rescue_ends.new_rescue_ends_well.Goals as goal
-
-pub returns : goal.returns
-returns c old new ended files disk = new_rescue_complete c.args._from.now c.args._to.now c.args._log.now old new ended files disk

@@ -1,5 +1,0 @@
-use Rattle.command_laws.proofs.RescueTargets.{formatted_target}
-use Rattle.command_laws.proofs.targets.formatted_disk_is_a_target.Goals as goal
-
-pub returns : goal.returns
-returns c = formatted_target c.args._rate c.args._name.now c.args._cylinders

@@ -1,5 +1,0 @@
-use Rattle.command_laws.proofs.RescueTargets.{imported_target}
-use Rattle.command_laws.proofs.targets.imported_disk_is_a_target.Goals as goal
-
-pub returns : goal.returns
-returns c bytes at told after stores = imported_target bytes c.args._name.now at told after stores

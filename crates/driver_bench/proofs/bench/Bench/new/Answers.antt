@@ -1,4 +1,0 @@
-use Rattle.driver_bench.proofs.bench.Bench.new.Goals as goal
-
-pub returns : goal.returns
-returns c = record { first = λ _. c.empty.ensures.changed; second = λ _. c.empty-2.ensures.changed }

@@ -1,7 +1,0 @@
-use Rattle.std.proofs.Common.{◌≡◌, take}
-use Rattle.track_model.specs.Bytes.{bytes_at}
-use Rattle.driver_bench.proofs.drive.copy_content.Given as goal
-
--- the bytes so far
-abbrev pub invariant-loop-i : goal.invariant-loop-i
-invariant-loop-i l = take l.i l.content ≡ bytes_at l.track l.place l.i

@@ -1,0 +1,373 @@
+-- What is executed behind, through the channel, the terminal count, ports and media.
+use Rattle.std.proofs.Common.{◌≡◌, ◌⊎◌, inl, inr, ℕ, ◌-◌, Bool, true, false, ◌==◌, if◌then◌else◌, Option, Some, None, [], refl, sym, ◌∙◌, ap, subst}
+use Rattle.std.proofs.lemmas.Bool.{eqb-true, false≢true}
+use Rattle.fdc_seek.specs.Seeking.{seek_bits}
+use Rattle.fdc_phases.specs.Dma.{phase_told}
+use Rattle.fdc_phases.specs.Rates.{rate_chosen}
+use Rattle.fdc_phases.specs.declared.phases.Phase.{Phase}
+use Rattle.fdc_phases.specs.declared.phases.Phase.TheVariants.{Command as Taking, Execute, Result}
+use Rattle.fdc_phases.specs.declared.phases.Task.{Task}
+use Rattle.fdc_phases.specs.declared.phases.Task.TheVariants as task
+use Rattle.fdc_core.specs.Dma.{taken_in, taken_out, told_count}
+use Rattle.fdc_core.specs.Ports.{Writes, dor_resets, dsr_resets, resets}
+use Rattle.fdc_core.specs.State.{is_held, reset}
+use Rattle.fdc_core.specs.Steps.{IsCounted}
+use Rattle.fdc_core.specs.declared.controller.Fdc.{Fdc}
+use Rattle.fdc_core.specs.declared.controller.Lines.{Lines}
+use Rattle.fdc_board.specs.Boards.{Gives, Takes, lines_at}
+use Rattle.fdc_sequencer.specs.Fronts.{Front, GivesAt, GivesFront, KeepsFront, TakesAt, TakesFront, WritesFront, count_told, passed_one, told_front, told_if}
+use Rattle.fdc_sequencer.specs.declared.stage.Moving.{Moving as MovingSector}
+use Rattle.fdc_sequencer.specs.declared.stage.Stage.{Stage}
+use Rattle.fdc_sequencer.specs.declared.stage.Stage.TheVariants.{Through, Collecting, Seeking, Moving, Telling}
+use Rattle.laws_sequencer.specs.Lasting.{is_under_way}
+use Rattle.laws_sequencer.specs.Serving.{KeepsServing, ServesUnless, history_counted, history_given, history_taken}
+use Rattle.laws_sequencer.proofs.Called.{media_serve}
+use Rattle.laws_sequencer.proofs.Served.{counts_serve, gives_serve, takes_serve, writes_serve}
+use Rattle.fdc_chip.specs.declared.stage.Place.{Place}
+use Rattle.fdc_chip.specs.declared.stage.Place.TheVariants.{Index, Address, Data}
+use Rattle.fdc_chip.specs.declared.stage.Task.{Task as ChipTask}
+use Rattle.fdc_chip.specs.declared.stage.Task.TheVariants as chip
+use Rattle.laws_chip.specs.Sound.{ExecutesBehind, IsBusyAt, IsBusyWith, ServesBehind, WaitsForHeads, executes_single, is_single}
+use Rattle.laws_chip.proofs.FirstSectors.{IsBase}
+use Rattle.laws_chip.proofs.ServedSteps.{TellsBehind}
+use Rattle.laws_chip.proofs.Singles.{WaitsBehind}
+use Rattle.laws_chip.proofs.UnderWay.{clash, counts_under, either_way, gives_under, port_stage, takes_under, writes_under}
+
+-- the results of what was executed are there
+abbrev pub IsOverBehind : Front → Type 0
+IsOverBehind front = TellsBehind front ⊎ WaitsBehind front
+
+-- what is executed for a task stays so, where both kinds of it do
+keep_at : (place : Place) (old new : Front) → (ServesBehind old → ServesBehind new) → (ExecutesBehind old → ExecutesBehind new) → IsBusyAt place old → IsBusyAt place new
+keep_at Index old new serves executes busy = serves busy
+keep_at Address old new serves executes busy = executes busy
+keep_at Data old new serves executes busy = serves busy
+
+pub keep_with : (what : ChipTask) (old new : Front) → (ServesBehind old → ServesBehind new) → (ExecutesBehind old → ExecutesBehind new) → IsBusyWith what old → IsBusyWith what new
+keep_with chip.Sent old new serves executes (inl busy) = inl (serves busy)
+keep_with chip.Sent old new serves executes (inr busy) = inr (executes busy)
+keep_with (chip.Sought first) old new serves executes busy = executes busy
+keep_with (chip.Refused unit key mfm) old new serves executes busy = executes busy
+keep_with (chip.Verify left) old new serves executes busy = serves busy
+keep_with (chip.Track track) old new serves executes busy = keep_at track.place old new serves executes busy
+
+-- ---- the controller
+
+-- it is as it was, as far as what is executed is known by it
+pub record IsAlike (old new : Fdc) : Type 0 where
+  pub phase : new.phase ≡ old.phase
+  pub seeks : new.seeks ≡ old.seeks
+  pub dor : new.dor ≡ old.dor
+  pub non_dma : new.non_dma ≡ old.non_dma
+  pub command : new.command ≡ old.command
+
+alike_same : (fdc : Fdc) → IsAlike fdc fdc
+alike_same fdc = record { phase = refl; seeks = refl; dor = refl; non_dma = refl; command = refl }
+
+alike_as : (old set new : Fdc) → IsAlike old set → new ≡ set → IsAlike old new
+alike_as old set new alike is = subst (IsAlike old) (sym is) alike
+
+alike_base : (old new : Fdc) → old.command ≡ [] → IsAlike old new → IsBase old new
+alike_base old new none alike = record { dor = alike.dor; non_dma = alike.non_dma; command = alike.command ∙ none }
+
+board_takes : (old : Fdc) (byte : Option ℕ) (new : Fdc) → Takes old byte new → IsAlike old new
+board_takes old (Some byte) new (up, byte_is, is) = alike_as old (taken_out old) new (record { phase = refl; seeks = refl; dor = refl; non_dma = refl; command = refl }) is
+board_takes old None new (quiet, is) = alike_as old old new (alike_same old) is
+
+board_gives : (byte : ℕ) (old : Fdc) (was : Bool) (new : Fdc) → Gives byte old was new → IsAlike old new
+board_gives byte old true new (up, is) = alike_as old (taken_in byte old) new (record { phase = refl; seeks = refl; dor = refl; non_dma = refl; command = refl }) is
+board_gives byte old false new (quiet, is) = alike_as old old new (alike_same old) is
+
+told_base : (old : Fdc) → old.command ≡ [] → IsBase old (told_count old)
+told_base old none = record { dor = refl; non_dma = refl; command = none }
+
+-- ---- where each access is the controller's
+
+-- a command of its own goes on
+executes_alike : (old new : Front) → new.stage ≡ old.stage → IsAlike old.board.controller new.board.controller → ExecutesBehind old → ExecutesBehind new
+executes_alike old new stage alike was =
+    record {
+      through = stage ∙ was.through;
+      executes = ap executes_single alike.phase ∙ was.executes;
+      counted = subst IsCounted (sym alike.phase) was.counted;
+      rests = ap seek_bits alike.seeks ∙ was.rests;
+    }
+
+-- and its results wait on
+waits_alike : (old new : Front) → new.stage ≡ old.stage → IsAlike old.board.controller new.board.controller → WaitsBehind old → WaitsBehind new
+waits_alike old new stage alike was =
+    record { through = stage ∙ was.through; ending = was.ending; results = was.results; at = alike.phase ∙ was.at; rests = ap seek_bits alike.seeks ∙ was.rests }
+
+single_told : (begins : Task) → is_single begins ≡ true → executes_single (phase_told (Execute (record { head_drive = 0; steps = 0; task = begins }))) ≡ true
+single_told (task.ReadId search) single = refl
+single_told (task.Format formatting) single = refl
+single_told (task.Read reading) single = absurd (false≢true single)
+single_told (task.Write writing) single = absurd (false≢true single)
+
+phase_single : (phase : Phase) → executes_single phase ≡ true → executes_single (phase_told phase) ≡ true
+phase_single Taking single = absurd (false≢true single)
+phase_single (Result ended) single = absurd (false≢true single)
+phase_single (Execute execution) single = single_told execution.task single
+
+told_counted : (phase : Phase) → IsCounted phase → IsCounted (phase_told phase)
+told_counted Taking counted = tt
+told_counted (Result ended) counted = tt
+told_counted (Execute execution) counted = counted
+
+executes_told : (old : Front) → ExecutesBehind old → ExecutesBehind (record old { board = told_if true old.board })
+executes_told old was = record {
+  through = was.through;
+  executes = phase_single old.board.controller.phase was.executes;
+  counted = told_counted old.board.controller.phase was.counted;
+  rests = was.rests;
+}
+
+waits_told : (old : Front) → WaitsBehind old → WaitsBehind (record old { board = told_if true old.board })
+waits_told old was = record { through = was.through; ending = was.ending; results = was.results; at = ap phase_told was.at; rests = was.rests }
+
+-- ---- bytes
+
+pub front_takes : (old : Front) (byte : Option ℕ) (new : Front) → old.stage ≡ Through → TakesFront old byte new → (new.stage ≡ old.stage) × IsAlike old.board.controller new.board.controller
+front_takes old byte new through takes =
+    let (board, is) = subst (λ stage. TakesAt stage old byte new) through takes in
+    (ap (λ front. front.stage) is, board_takes old.board.controller byte new.board.controller board)
+
+pub front_gives : (byte : ℕ) (old : Front) (was : Bool) (new : Front) → old.stage ≡ Through → GivesFront byte old was new → (new.stage ≡ old.stage) × IsAlike old.board.controller new.board.controller
+front_gives byte old was new through gives =
+    let (board, is) = subst (λ stage. GivesAt stage byte old was new) through gives in
+    (ap (λ front. front.stage) is, board_gives byte old.board.controller was new.board.controller board)
+
+passed_base : (moving : MovingSector) (fdc : Fdc) (old : Front) → IsBase old.board.controller fdc → IsBase old.board.controller (passed_one moving fdc old).board.controller
+passed_base moving fdc old base = by_last (moving.left - 1 == 0)
+  where
+    by_last : (b : Bool) → IsBase old.board.controller (if b then told_count fdc else fdc)
+    by_last true = record { dor = base.dor; non_dma = base.non_dma; command = base.command }
+    by_last false = base
+
+same_base : (old new : Front) → new ≡ old → old.board.controller.command ≡ [] → IsBase old.board.controller new.board.controller
+same_base old new is none = subst (λ (front : Front). IsBase old.board.controller front.board.controller) (sym is) (record { dor = refl; non_dma = refl; command = none })
+
+takes_base : (stage : Stage) (byte : Option ℕ) (old new : Front) → old.board.controller.command ≡ [] → TakesAt stage old byte new → IsBase old.board.controller new.board.controller
+takes_base Through byte old new none (board, is) = alike_base old.board.controller new.board.controller none (board_takes old.board.controller byte new.board.controller board)
+takes_base (Collecting opcode) byte old new none (nothing, is) = same_base old new is none
+takes_base (Seeking transfer counted) byte old new none (nothing, is) = same_base old new is none
+takes_base (Telling results read) byte old new none (nothing, is) = same_base old new is none
+takes_base (Moving moving) None old new none (quiet, is) = same_base old new is none
+takes_base (Moving moving) (Some byte) old new none (up, byte_is, is) =
+    subst (λ (front : Front). IsBase old.board.controller front.board.controller) (sym is)
+    (passed_base moving (taken_out old.board.controller) old (record { dor = refl; non_dma = refl; command = none }))
+
+gives_base : (stage : Stage) (byte : ℕ) (was : Bool) (old new : Front) → old.board.controller.command ≡ [] → GivesAt stage byte old was new → IsBase old.board.controller new.board.controller
+gives_base Through byte was old new none (board, is) = alike_base old.board.controller new.board.controller none (board_gives byte old.board.controller was new.board.controller board)
+gives_base (Collecting opcode) byte was old new none (nothing, is) = same_base old new is none
+gives_base (Seeking transfer counted) byte was old new none (nothing, is) = same_base old new is none
+gives_base (Telling results read) byte was old new none (nothing, is) = same_base old new is none
+gives_base (Moving moving) byte false old new none (quiet, is) = same_base old new is none
+gives_base (Moving moving) byte true old new none (up, is) =
+    subst (λ (front : Front). IsBase old.board.controller front.board.controller) (sym is)
+    (passed_base moving (taken_in byte old.board.controller) old (record { dor = refl; non_dma = refl; command = none }))
+
+counts_base : (stage : Stage) (old new : Front) → old.board.controller.command ≡ [] → new ≡ count_told stage old → IsBase old.board.controller new.board.controller
+counts_base Through old new none is = subst (λ (front : Front). IsBase old.board.controller front.board.controller) (sym is) (told_base old.board.controller none)
+counts_base (Collecting opcode) old new none is = same_base old new is none
+counts_base (Seeking transfer counted) old new none is =
+    subst (λ (front : Front). IsBase old.board.controller front.board.controller) (sym is) (record { dor = refl; non_dma = refl; command = none })
+counts_base (Moving moving) old new none is = subst (λ (front : Front). IsBase old.board.controller front.board.controller) (sym is) (told_base old.board.controller none)
+counts_base (Telling results read) old new none is = same_base old new is none
+
+-- while the heads seek first, the controller goes on waiting
+waits_same : (old new : Front) → new ≡ old → WaitsForHeads old.stage old.board.controller.phase → WaitsForHeads new.stage new.board.controller.phase
+waits_same old new is waits = subst (λ (front : Front). WaitsForHeads front.stage front.board.controller.phase) (sym is) waits
+
+moving_waits : (moving : MovingSector) (new : Front) → new.stage ≡ Moving moving → WaitsForHeads new.stage new.board.controller.phase
+moving_waits moving new is = subst (λ stage. WaitsForHeads stage new.board.controller.phase) (sym is) tt
+
+takes_waits : (stage : Stage) (byte : Option ℕ) (old new : Front) → old.stage ≡ stage → WaitsForHeads old.stage old.board.controller.phase → TakesAt stage old byte new → WaitsForHeads new.stage new.board.controller.phase
+takes_waits Through byte old new at waits (board, is) = subst (λ stage. WaitsForHeads stage new.board.controller.phase) (sym (ap (λ (front : Front). front.stage) is ∙ at)) tt
+takes_waits (Collecting opcode) byte old new at waits (nothing, is) = waits_same old new is waits
+takes_waits (Seeking transfer counted) byte old new at waits (nothing, is) = waits_same old new is waits
+takes_waits (Telling results read) byte old new at waits (nothing, is) = waits_same old new is waits
+takes_waits (Moving moving) None old new at waits (quiet, is) = waits_same old new is waits
+takes_waits (Moving moving) (Some byte) old new at waits (up, byte_is, is) = moving_waits (record moving { left = moving.left - 1 }) new (ap (λ (front : Front). front.stage) is)
+
+gives_waits : (stage : Stage) (byte : ℕ) (was : Bool) (old new : Front) → old.stage ≡ stage → WaitsForHeads old.stage old.board.controller.phase → GivesAt stage byte old was new → WaitsForHeads new.stage new.board.controller.phase
+gives_waits Through byte was old new at waits (board, is) = subst (λ stage. WaitsForHeads stage new.board.controller.phase) (sym (ap (λ (front : Front). front.stage) is ∙ at)) tt
+gives_waits (Collecting opcode) byte was old new at waits (nothing, is) = waits_same old new is waits
+gives_waits (Seeking transfer counted) byte was old new at waits (nothing, is) = waits_same old new is waits
+gives_waits (Telling results read) byte was old new at waits (nothing, is) = waits_same old new is waits
+gives_waits (Moving moving) byte false old new at waits (quiet, is) = waits_same old new is waits
+gives_waits (Moving moving) byte true old new at waits (up, is) = moving_waits (record moving { left = moving.left - 1 }) new (ap (λ (front : Front). front.stage) is)
+
+counts_waits : (stage : Stage) (old new : Front) → old.stage ≡ stage → WaitsForHeads old.stage old.board.controller.phase → new ≡ count_told stage old → WaitsForHeads new.stage new.board.controller.phase
+counts_waits Through old new at waits is = subst (λ stage. WaitsForHeads stage new.board.controller.phase) (sym (ap (λ (front : Front). front.stage) is ∙ at)) tt
+counts_waits (Collecting opcode) old new at waits is = waits_same old new is waits
+counts_waits (Seeking transfer counted) old new at waits is =
+    let held : old.board.controller.phase ≡ Taking = subst (λ stage. WaitsForHeads stage old.board.controller.phase) at waits in
+    subst (λ (front : Front). WaitsForHeads front.stage front.board.controller.phase) (sym is) held
+counts_waits (Moving moving) old new at waits is = moving_waits (record moving { counted = true }) new (ap (λ (front : Front). front.stage) is)
+counts_waits (Telling results read) old new at waits is = waits_same old new is waits
+
+-- ---- what is executed goes on
+
+takes_serves : (old : Front) (byte : Option ℕ) (new : Front) → TakesFront old byte new → ServesBehind old → ServesBehind new
+takes_serves old byte new takes was = record {
+  under_way = takes_under old.stage byte old new refl was.under_way takes;
+  first = was.first;
+  history = history_taken old.stage byte was.history;
+  serves = (takes_serve old byte new takes was.first was.history was.serves).2;
+  waits = takes_waits old.stage byte old new refl was.waits takes;
+}
+
+pub takes_executes : (old : Front) (byte : Option ℕ) (new : Front) → TakesFront old byte new → ExecutesBehind old → ExecutesBehind new
+takes_executes old byte new takes was = let (stage, alike) = front_takes old byte new was.through takes in executes_alike old new stage alike was
+
+pub takes_busy : (what : ChipTask) (old : Front) (byte : Option ℕ) (new : Front) → TakesFront old byte new → IsBusyWith what old → IsBusyWith what new
+takes_busy what old byte new takes busy = keep_with what old new (takes_serves old byte new takes) (takes_executes old byte new takes) busy
+
+gives_serves : (byte : ℕ) (old : Front) (given : Bool) (new : Front) → GivesFront byte old given new → ServesBehind old → ServesBehind new
+gives_serves byte old given new gives was = record {
+  under_way = gives_under old.stage byte given old new refl was.under_way gives;
+  first = was.first;
+  history = history_given old.stage byte given was.history;
+  serves = (gives_serve byte old given new gives was.first was.history was.serves).2;
+  waits = gives_waits old.stage byte given old new refl was.waits gives;
+}
+
+pub gives_executes : (byte : ℕ) (old : Front) (given : Bool) (new : Front) → GivesFront byte old given new → ExecutesBehind old → ExecutesBehind new
+gives_executes byte old given new gives was = let (stage, alike) = front_gives byte old given new was.through gives in executes_alike old new stage alike was
+
+pub gives_busy : (what : ChipTask) (byte : ℕ) (old : Front) (given : Bool) (new : Front) → GivesFront byte old given new → IsBusyWith what old → IsBusyWith what new
+gives_busy what byte old given new gives busy = keep_with what old new (gives_serves byte old given new gives) (gives_executes byte old given new gives) busy
+
+counts_serves : (old new : Front) → new ≡ told_front old → ServesBehind old → ServesBehind new
+counts_serves old new is was = record {
+  under_way = counts_under old new was.under_way is;
+  first = was.first;
+  history = history_counted old.stage was.history;
+  serves = (counts_serve old new is was.first was.history was.serves).2;
+  waits = counts_waits old.stage old new refl was.waits is;
+}
+
+pub counts_executes : (old new : Front) → new ≡ told_front old → ExecutesBehind old → ExecutesBehind new
+counts_executes old new is was =
+    let at : new ≡ record old { board = told_if true old.board } = subst (λ stage. new ≡ count_told stage old) was.through is in
+    subst ExecutesBehind (sym at) (executes_told old was)
+
+pub counts_busy : (what : ChipTask) (old new : Front) → new ≡ told_front old → IsBusyWith what old → IsBusyWith what new
+counts_busy what old new is busy = keep_with what old new (counts_serves old new is) (counts_executes old new is) busy
+
+pub takes_front_base : (old : Front) (byte : Option ℕ) (new : Front) → old.board.controller.command ≡ [] → TakesFront old byte new → IsBase old.board.controller new.board.controller
+takes_front_base old byte new none takes = takes_base old.stage byte old new none takes
+
+pub gives_front_base : (byte : ℕ) (old : Front) (was : Bool) (new : Front) → old.board.controller.command ≡ [] → GivesFront byte old was new → IsBase old.board.controller new.board.controller
+gives_front_base byte old was new none gives = gives_base old.stage byte was old new none gives
+
+pub counts_front_base : (old new : Front) → old.board.controller.command ≡ [] → new ≡ told_front old → IsBase old.board.controller new.board.controller
+counts_front_base old new none is = counts_base old.stage old new none is
+
+-- ---- and results are as they were
+
+tells_same : (old new : Front) → new ≡ old → TellsBehind old → TellsBehind new
+tells_same old new is was = subst TellsBehind (sym is) was
+
+pub takes_over : (old : Front) (byte : Option ℕ) (new : Front) → TakesFront old byte new → IsOverBehind old → IsOverBehind new
+takes_over old byte new takes (inl was) = inl (tells_same old new (subst (λ stage. TakesAt stage old byte new) was.told takes).1 was)
+takes_over old byte new takes (inr was) = let (stage, alike) = front_takes old byte new was.through takes in inr (waits_alike old new stage alike was)
+
+pub counts_over : (old new : Front) → new ≡ told_front old → IsOverBehind old → IsOverBehind new
+counts_over old new is (inl was) = inl (tells_same old new (subst (λ stage. new ≡ count_told stage old) was.told is) was)
+counts_over old new is (inr was) =
+    let at : new ≡ record old { board = told_if true old.board } = subst (λ stage. new ≡ count_told stage old) was.through is in
+    inr (subst WaitsBehind (sym at) (waits_told old was))
+
+-- ---- ports
+
+-- a write that doesn't reset leaves this of the controller, and doesn't hold it in reset
+pub record IsLeft (old new : Fdc) : Type 0 where
+  pub phase : new.phase ≡ old.phase
+  pub seeks : new.seeks ≡ old.seeks
+  pub non_dma : new.non_dma ≡ old.non_dma
+  pub command : new.command ≡ old.command
+  pub free : is_held new ≡ true → is_held old ≡ true
+
+left_as : (old set new : Fdc) → IsLeft old set → new ≡ set → IsLeft old new
+left_as old set new left is = subst (IsLeft old) (sym is) left
+
+unreset : (b : Bool) (old set : Fdc) → b ≡ false → IsLeft old set → IsLeft old (if b then reset set else set)
+unreset true old set is left = absurd (false≢true (sym is))
+unreset false old set is left = left
+
+-- DOR without a reset lets the controller go
+dor_free : (value : ℕ) (old : Fdc) → dor_resets value ≡ false → is_held (record old { dor = record { 0 = value } }) ≡ true → is_held old ≡ true
+dor_free value old no_reset held = clash (dor_resets value) no_reset held
+
+pub port_left : (port value : ℕ) (lines : Lines) (old new : Fdc) → Writes port value lines old new → (port == 0x3F5) ≡ false → resets port value ≡ false → IsLeft old new
+port_left port value lines old new writes no_byte no_reset = either_way (port == 0x3F2)
+    (λ output.
+    let quiet : dor_resets value ≡ false = sym (ap (λ b. if b then dor_resets value else (if port == 0x3F4 then dsr_resets value else false)) output) ∙ no_reset in
+    left_as old _ new (unreset (dor_resets value) old (record old { dor = record { 0 = value } }) quiet (record { phase = refl; seeks = refl; non_dma = refl; command = refl; free = dor_free value old quiet }))
+    (writes.output (eqb-true port 0x3F2 output)))
+    (λ no_output. either_way (port == 0x3F4)
+    (λ select.
+    let quiet : dsr_resets value ≡ false =
+    sym (ap (λ b. if b then dsr_resets value else false) select)
+    ∙ (sym (ap (λ b. if b then dor_resets value else (if port == 0x3F4 then dsr_resets value else false)) no_output) ∙ no_reset) in
+    left_as old _ new (unreset (dsr_resets value) old (record old { rate = rate_chosen value }) quiet (record { phase = refl; seeks = refl; non_dma = refl; command = refl; free = λ held. held }))
+    (writes.select (eqb-true port 0x3F4 select)))
+    (λ no_select. either_way (port == 0x3F7)
+    (λ control. left_as old _ new (record { phase = refl; seeks = refl; non_dma = refl; command = refl; free = λ held. held }) (writes.control (eqb-true port 0x3F7 control)))
+    (λ no_control. left_as old _ new (record { phase = refl; seeks = refl; non_dma = refl; command = refl; free = λ held. held }) (writes.others no_output no_select no_byte no_control))))
+
+pub front_left : (port value : ℕ) (old new : Front) → WritesFront port value old new → (port == 0x3F5) ≡ false → resets port value ≡ false → IsLeft old.board.controller new.board.controller
+front_left port value old new writes no_byte no_reset =
+    port_left port value (lines_at old.board) old.board.controller new.board.controller (writes.others no_byte).0.writes no_byte no_reset
+
+port_serves : (port value : ℕ) (old new : Front) → WritesFront port value old new → (port == 0x3F5) ≡ false → resets port value ≡ false → ServesBehind old → ServesBehind new
+port_serves port value old new writes no_byte no_reset was =
+    let keeps : KeepsServing [] (λ history. history) old new = subst (λ b. ServesUnless b old new) no_reset (writes_serve port value old new writes) in
+    let left = front_left port value old new writes no_byte no_reset in
+    record {
+      under_way = writes_under port value old new was.under_way writes no_reset;
+      first = was.first;
+      history = was.history;
+      serves = (keeps was.first was.history was.serves).2;
+      waits = subst (λ stage. WaitsForHeads stage new.board.controller.phase) (sym (port_stage port value old new writes no_byte no_reset))
+          (subst (λ phase. WaitsForHeads old.stage phase) (sym left.phase) was.waits);
+    }
+
+pub port_executes : (port value : ℕ) (old new : Front) → WritesFront port value old new → (port == 0x3F5) ≡ false → resets port value ≡ false → ExecutesBehind old → ExecutesBehind new
+port_executes port value old new writes no_byte no_reset was =
+    let left = front_left port value old new writes no_byte no_reset in
+    record {
+      through = port_stage port value old new writes no_byte no_reset ∙ was.through;
+      executes = ap executes_single left.phase ∙ was.executes;
+      counted = subst IsCounted (sym left.phase) was.counted;
+      rests = ap seek_bits left.seeks ∙ was.rests;
+    }
+
+pub port_busy : (what : ChipTask) (port value : ℕ) (old new : Front) → WritesFront port value old new → (port == 0x3F5) ≡ false → resets port value ≡ false → IsBusyWith what old → IsBusyWith what new
+port_busy what port value old new writes no_byte no_reset busy =
+    keep_with what old new (port_serves port value old new writes no_byte no_reset) (port_executes port value old new writes no_byte no_reset) busy
+
+-- ---- media
+
+keeps_serves : (old new : Front) → KeepsFront old new → ServesBehind old → ServesBehind new
+keeps_serves old new keeps was = record {
+  under_way = ap is_under_way keeps.stage ∙ was.under_way;
+  first = was.first;
+  history = was.history;
+  serves = (media_serve old new keeps was.first was.history was.serves).2;
+  waits = subst (λ stage. WaitsForHeads stage new.board.controller.phase) (sym keeps.stage)
+      (subst (λ (fdc : Fdc). WaitsForHeads old.stage fdc.phase) (sym keeps.controller) was.waits);
+}
+
+pub keeps_executes : (old new : Front) → KeepsFront old new → ExecutesBehind old → ExecutesBehind new
+keeps_executes old new keeps was = record {
+  through = keeps.stage ∙ was.through;
+  executes = ap (λ (fdc : Fdc). executes_single fdc.phase) keeps.controller ∙ was.executes;
+  counted = subst (λ (fdc : Fdc). IsCounted fdc.phase) (sym keeps.controller) was.counted;
+  rests = ap (λ (fdc : Fdc). seek_bits fdc.seeks) keeps.controller ∙ was.rests;
+}
+
+pub keeps_busy : (what : ChipTask) (old new : Front) → KeepsFront old new → IsBusyWith what old → IsBusyWith what new
+keeps_busy what old new keeps busy = keep_with what old new (keeps_serves old new keeps) (keeps_executes old new keeps) busy

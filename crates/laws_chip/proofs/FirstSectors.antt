@@ -1,0 +1,127 @@
+-- A sector of a command of several sectors begins behind, or the seek before it: what that leaves of the controller.
+use Rattle.std.proofs.Common.{◌≡◌, ℕ, nat_le, Bool, true, false, not, ◌&&◌, if◌then◌else◌, [], refl, sym, ◌∙◌, ap, subst}
+use Rattle.std.proofs.lemmas.Bool.{and_from, and_parts, le-leb}
+use Rattle.flop_base.specs.declared.key.Chrn.{Chrn}
+use Rattle.track_model.specs.Fields.{IsSizeCode}
+use Rattle.fdc_registers.specs.declared.drive_lines.Dor.{Dor}
+use Rattle.fdc_seek.specs.Seeking.{seek_bits}
+use Rattle.fdc_commands.specs.Table.{is_begun}
+use Rattle.fdc_commands.specs.declared.bytes.Accepted.TheVariants.{Invalid, Ready}
+use Rattle.fdc_commands.specs.declared.command.Command.{Command}
+use Rattle.fdc_commands.specs.declared.command.Command.TheVariants.{ReadData, WriteData, WriteDeleted}
+use Rattle.fdc_phases.specs.declared.phases.Phase.TheVariants.{Command as Taking}
+use Rattle.fdc_core.specs.Commands.{BeginsData, Obeys, TakesAs, seeking}
+use Rattle.fdc_core.specs.Ports.{is_taking}
+use Rattle.fdc_core.specs.State.{is_held}
+use Rattle.fdc_core.specs.Whole.{TakesWhole, is_idle}
+use Rattle.fdc_core.specs.declared.controller.Fdc.{Fdc}
+use Rattle.fdc_core.specs.declared.controller.Lines.{Lines}
+use Rattle.fdc_board.specs.Boards.{BoardState, lines_at}
+use Rattle.fdc_sequencer.specs.Fronts.{BeginsSector, Front, SeeksFirst, StartsIf, begun_if, moving_of, told_if}
+use Rattle.fdc_sequencer.specs.Transfers.{command_for}
+use Rattle.fdc_sequencer.specs.declared.opcode.Operation.{Operation}
+use Rattle.fdc_sequencer.specs.declared.opcode.Operation.TheVariants.{Read, Write}
+use Rattle.fdc_sequencer.specs.declared.stage.Stage.{Stage}
+use Rattle.fdc_sequencer.specs.declared.stage.Stage.TheVariants.{Through, Moving, Seeking}
+use Rattle.fdc_sequencer.specs.declared.transfer.Transfer.{Transfer}
+use Rattle.laws_sequencer.specs.Lasting.{is_under_way}
+use Rattle.laws_sequencer.specs.Serving.{IsFree}
+use Rattle.laws_sequencer.proofs.Free.{free_executes}
+use Rattle.laws_chip.specs.Sound.{WaitsForHeads}
+
+-- ---- what every command leaves
+
+-- DOR and what SPECIFY set, and no byte of a command waits
+pub record IsBase (old new : Fdc) : Type 0 where
+  pub dor : new.dor ≡ old.dor
+  pub non_dma : new.non_dma ≡ old.non_dma
+  pub command : new.command ≡ []
+
+pub base_held : (old new : Fdc) → IsBase old new → is_held new ≡ is_held old
+base_held old new base = ap (λ (dor : Dor). is_held (record old { dor = dor })) base.dor
+
+base_as : (old set new : Fdc) → IsBase old set → new ≡ set → IsBase old new
+base_as old set new base is = subst (IsBase old) (sym is) base
+
+base_told : (counted : Bool) (old : Fdc) (between : BoardState) → IsBase old between.controller → IsBase old (told_if counted between).controller
+base_told true old between base = record { dor = base.dor; non_dma = base.non_dma; command = base.command }
+base_told false old between base = base
+
+-- ---- a sector
+
+is_in : (n : ℕ) → IsSizeCode n → (nat_le 1 n && nat_le n 6) ≡ true
+is_in n (some, few) = and_from (nat_le 1 n) (nat_le n 6) (le-leb 1 n some) (le-leb n 6 few)
+
+module _ (head_drive : ℕ) (key : Chrn) (last_sector gap length_code : ℕ) (lines : Lines) (old new : Fdc) (sized : IsSizeCode key.n) (free : IsFree old) where
+  abbrev without : Fdc
+  without = record old { command = [] }
+
+  obeyed : (command : Command) → TakesAs (if nat_le 1 key.n && nat_le key.n 6 then Ready command else Invalid) lines without new → Obeys command lines without new
+  obeyed command takes = subst (λ b. TakesAs (if b then Ready command else Invalid) lines without new) (is_in key.n sized) takes
+
+  read_base : Obeys (ReadData head_drive key last_sector gap length_code) lines without new → IsBase old new
+  read_base obeys =
+      let begins : BeginsData (ReadData head_drive key last_sector gap length_code) without new = (obeys.0 free.rests).1 free.by_dma in
+      base_as old _ new (record { dor = refl; non_dma = refl; command = refl }) begins.3
+
+  write_base : Obeys (WriteData head_drive key last_sector gap length_code) lines without new → IsBase old new
+  write_base obeys =
+      let begins : BeginsData (WriteData head_drive key last_sector gap length_code) without new = (obeys.0 free.rests).1 free.by_dma in
+      base_as old _ new (record { dor = refl; non_dma = refl; command = refl }) begins.3
+
+  deleted_base : Obeys (WriteDeleted head_drive key last_sector gap length_code) lines without new → IsBase old new
+  deleted_base obeys =
+      let begins : BeginsData (WriteDeleted head_drive key last_sector gap length_code) without new = (obeys.0 free.rests).1 free.by_dma in
+      base_as old _ new (record { dor = refl; non_dma = refl; command = refl }) begins.3
+
+  base_by : (operation : Operation) → TakesWhole (Ready (command_for operation head_drive key last_sector gap length_code)) lines old new → IsBase old new
+  base_by (Read wanted skip) takes = read_base (obeyed (ReadData head_drive key last_sector gap length_code) takes)
+  base_by (Write false) takes = write_base (obeyed (WriteData head_drive key last_sector gap length_code) takes)
+  base_by (Write true) takes = deleted_base (obeyed (WriteDeleted head_drive key last_sector gap length_code) takes)
+
+-- ---- it is then under way
+
+pub record IsCarried (old new : Front) : Type 0 where
+  pub under_way : is_under_way new.stage ≡ true
+  pub waits : WaitsForHeads new.stage new.board.controller.phase
+  pub base : IsBase old.board.controller new.board.controller
+
+carried_at : (stage : Stage) (old new : Front) → new.stage ≡ stage → is_under_way stage ≡ true → WaitsForHeads stage new.board.controller.phase → IsBase old.board.controller new.board.controller
+    → IsCarried old new
+carried_at stage old new is under waits base = record {
+  under_way = ap is_under_way is ∙ under;
+  waits = subst (λ s. WaitsForHeads s new.board.controller.phase) (sym is) waits;
+  base = base;
+}
+
+pub sector_carried : (at : Transfer) (counted passed_over : Bool) (old new : Front) → IsSizeCode at.key.n → IsFree old.board.controller → BeginsSector at counted passed_over old new → IsCarried old new
+sector_carried at counted passed_over old new sized free begins =
+    let fdc = old.board.controller in
+    let lines = lines_at old.board in
+    let between = begins.between in
+    let busy = free_executes at lines fdc between.controller sized free begins.takes.takes in
+    let is : new ≡ record old { board = told_if counted between; stage = Moving (moving_of at counted passed_over) } =
+    subst (λ b. new ≡ begun_if b at counted passed_over between old) busy begins.begun in
+    let base = base_by at.head_drive at.key at.last_sector at.gap at.length lines fdc between.controller sized free at.opcode.operation begins.takes.takes in
+    carried_at (Moving (moving_of at counted passed_over)) old new (ap (λ front. front.stage) is) refl tt
+    (subst (λ (front : Front). IsBase fdc front.board.controller) (sym is) (base_told counted fdc between base))
+
+-- ---- or the heads go to its cylinder
+
+seeks_carried : (first : Transfer) (old new : Front) → old.board.controller.phase ≡ Taking → is_idle old.board.controller ≡ true → seek_bits old.board.controller.seeks ≡ 0 → SeeksFirst first old new → IsCarried old new
+seeks_carried first old new takes idle rests seeks =
+    let fdc = old.board.controller in
+    let between = seeks.between in
+    let is : between.controller ≡ seeking first.head_drive first.key.c (record fdc { command = [] }) = seeks.takes.takes.0 rests in
+    let (taking, none) = and_parts (is_taking fdc) (not (is_begun fdc.command)) idle in
+    let again : is_idle between.controller ≡ true = ap is_idle is ∙ and_from (is_taking fdc) true taking refl in
+    let same : new ≡ record old { board = between; stage = Seeking first false } =
+    seeks.begun ∙ ap (λ b. record old { board = between; stage = if b then Seeking first false else Through }) again in
+    carried_at (Seeking first false) old new (ap (λ front. front.stage) same) refl
+    (ap (λ (front : Front). front.board.controller.phase) same ∙ (ap (λ (fdc : Fdc). fdc.phase) is ∙ takes))
+    (subst (λ (front : Front). IsBase fdc front.board.controller) (sym same) (base_as fdc _ between.controller (record { dor = refl; non_dma = refl; command = refl }) is))
+
+pub starts_carried : (b : Bool) (first : Transfer) (old new : Front) → IsSizeCode first.key.n → old.board.controller.phase ≡ Taking → is_idle old.board.controller ≡ true → IsFree old.board.controller
+    → StartsIf b first old new → IsCarried old new
+starts_carried true first old new sized takes idle free seeks = seeks_carried first old new takes idle free.rests seeks
+starts_carried false first old new sized takes idle free begins = sector_carried first false false old new sized free begins

@@ -1,0 +1,204 @@
+-- A controller that does nothing, through device steps, and once the results of seeks and polls were taken over.
+use Rattle.std.proofs.Common.{◌≡◌, inl, inr, ℕ, zero, suc, ◌-◌, ◌<◌, ◌^◌, Bool, true, false, not, ◌&&◌, ◌||◌, ◌==◌, if◌then◌else◌, Option, Some, None, [], refl, sym, ◌∙◌, ap, subst, arith, pow_pos}
+use Rattle.std.specs.Option.{option_map_or}
+use Rattle.fdc_seek.specs.Seeking.{Seeking, ended, first_pending, has_ended, is_seeking, neighbour, recalibrated, released, seek_bits, sought, stepped, stepped_seek, with_motion, with_polls, after_sense}
+use Rattle.fdc_seek.specs.Seeking as seek_words
+use Rattle.fdc_seek.specs.declared.motion.Motion.{Motion}
+use Rattle.fdc_seek.specs.declared.motion.Motion.TheVariants as motion
+use Rattle.fdc_seek.specs.declared.motion.Seek.{Seek}
+use Rattle.fdc_phases.specs.declared.phases.Phase.TheVariants.{Command as Taking}
+use Rattle.fdc_core.specs.State.{is_held}
+use Rattle.fdc_core.specs.Steps.{Rests, RestsIn, Stays, polled, seek_stepped}
+use Rattle.fdc_core.specs.Whole.{is_idle}
+use Rattle.fdc_core.specs.declared.controller.Fdc.{Fdc}
+use Rattle.fdc_board.specs.Boards.{BoardState, StepsBoard, selected_at}
+use Rattle.fdc_board.specs.Senses.{after_result, without_result}
+use Rattle.fdc_sequencer.specs.Fronts.{Front, with_controller}
+use Rattle.fdc_sequencer.specs.Moves.{FollowsStep, StepsFront}
+use Rattle.fdc_sequencer.specs.Senses.{pending_outside, sensed_at, sensed_outside}
+use Rattle.fdc_sequencer.specs.declared.stage.Stage.TheVariants.{Through}
+use Rattle.laws_sequencer.proofs.Known.{which_drive}
+use Rattle.laws_sequencer.proofs.Resting.{polled_phase}
+use Rattle.fdc_chip.specs.Chips.{ChipState, with_front}
+use Rattle.fdc_chip.specs.Doing.{drained_by, drained_one, kept}
+use Rattle.laws_chip.specs.Beginning.{IsOfFour}
+use Rattle.laws_chip.specs.Sound.{RestsBehind}
+use Rattle.laws_chip.proofs.FirstSectors.{IsBase}
+use Rattle.laws_chip.proofs.Standing.{Stands}
+
+-- ---- what each device step leaves
+
+pub board_stays : (old new : BoardState) → StepsBoard old new → Stays old.controller new.controller
+board_stays old new steps = elim (which_drive (selected_at old)) [
+  | inl at ↦ (steps.at_first at).0.stays
+  | inr (inl at) ↦ (steps.at_second at).0.stays
+  | inr (inr at) ↦ (steps.at_none at).0.stays
+]
+
+pub board_base : (old new : BoardState) → StepsBoard old new → old.controller.command ≡ [] → IsBase old.controller new.controller
+board_base old new steps none =
+    let stays = board_stays old new steps in
+    record { dor = stays.dor; non_dma = stays.non_dma; command = stays.command ∙ none }
+
+pub base_on : (old between new : Fdc) → IsBase old between → IsBase between new → IsBase old new
+base_on old between new first second = record { dor = second.dor ∙ first.dor; non_dma = second.non_dma ∙ first.non_dma; command = second.command }
+
+pub base_same : (fdc : Fdc) → fdc.command ≡ [] → IsBase fdc fdc
+base_same fdc none = record { dor = refl; non_dma = refl; command = none }
+
+-- ---- one of four drives
+
+motion_four : (old : Seeking) (drive : ℕ) (was : Motion) (track0 : Bool) → drive < 4 → IsOfFour old.seek → IsOfFour (stepped_seek old drive was track0).seek
+motion_four old drive (motion.Outward pulses) track0 few same = by_last (track0 || (pulses == 0))
+  where
+    by_last : (b : Bool) → IsOfFour (if b then ended old drive 0 (recalibrated drive track0) else with_motion old drive (motion.Outward (pulses - 1))).seek
+    by_last true = few
+    by_last false = few
+motion_four old drive (motion.Toward cylinder target) track0 few same = by_there (cylinder == target)
+  where
+    by_there : (b : Bool) → IsOfFour (if b then ended old drive target (sought drive) else with_motion old drive (motion.Toward (neighbour cylinder target) target)).seek
+    by_there true = few
+    by_there false = few
+motion_four old drive motion.Ended track0 few same = same
+
+stepped_four : (old : Seeking) (track0 : Bool) → IsOfFour old.seek → IsOfFour (stepped old track0).seek
+stepped_four old track0 few = by_seek old.seek few
+  where
+    by_seek : (seek : Option Seek) → IsOfFour seek → IsOfFour (stepped (record old { seek = seek }) track0).seek
+    by_seek None few = tt
+    by_seek (Some seek) few = motion_four (record old { seek = Some seek }) seek.drive seek.motion track0 few few
+
+polled_four : (old : Fdc) → IsOfFour old.seeks.seek → IsOfFour (polled old).seeks.seek
+polled_four old few = by_poll (old.poll_due && not (is_held old))
+  where
+    by_poll : (b : Bool) → IsOfFour (if b then record old { poll_due = false; interrupt = true; seeks = with_polls old.seeks } else old).seeks.seek
+    by_poll true = few
+    by_poll false = few
+
+released_four : (drive : ℕ) (seek : Option Seek) → IsOfFour seek → IsOfFour (released drive seek)
+released_four drive None few = tt
+released_four drive (Some seek) few = by_drive ((seek.drive == drive) && has_ended seek.motion)
+  where
+    by_drive : (b : Bool) → IsOfFour (if b then None else Some seek)
+    by_drive true = tt
+    by_drive false = few
+
+sensed_four : (old : Seeking) → IsOfFour old.seek → IsOfFour (after_sense old).seek
+sensed_four old few = by_first (first_pending old)
+  where
+    by_first : (first : Option ℕ) → IsOfFour (option_map_or (seek_words.without_result old) first old).seek
+    by_first None = few
+    by_first (Some drive) = released_four drive old.seek few
+
+some_pow : (drive : ℕ) → 2 ^ drive ≡ 0 → ⊥
+some_pow drive none = let some = pow_pos drive in absurd (omega arith)
+
+-- where no seek bit is set none is
+pub none_four : (seek : Option Seek) → option_map_or (λ (s : Seek). 2 ^ s.drive) seek 0 ≡ 0 → IsOfFour seek
+none_four None none = tt
+none_four (Some seek) none = absurd (some_pow seek.drive none)
+
+pub stands_rests : (front : Front) → Stands front → RestsBehind front
+stands_rests front stands = record { through = stands.through; takes = stands.takes; seek = none_four front.board.controller.seeks.seek stands.rests }
+
+-- ---- a device step
+
+-- it goes on doing nothing
+record GoesResting (new : Fdc) : Type 0 where
+  takes : new.phase ≡ Taking
+  seek : IsOfFour new.seeks.seek
+
+pub taking_stays : (track0 : Bool) (old new : Fdc) → old.phase ≡ Taking → Rests track0 (polled old) new → new ≡ seek_stepped track0 (polled old)
+taking_stays track0 old new takes rests = subst (λ phase. RestsIn phase track0 (polled old) new) (polled_phase old ∙ takes) rests
+
+rests_on : (track0 : Bool) (old new : Fdc) → old.phase ≡ Taking → IsOfFour old.seeks.seek → Rests track0 (polled old) new → GoesResting new
+rests_on track0 old new takes few rests =
+    let is = taking_stays track0 old new takes rests in
+    record {
+      takes = ap (λ (fdc : Fdc). fdc.phase) is ∙ (polled_phase old ∙ takes);
+      seek = subst (λ (fdc : Fdc). IsOfFour fdc.seeks.seek) (sym is) (stepped_four (polled old).seeks track0 (polled_four old few));
+    }
+
+board_rests : (old new : BoardState) → StepsBoard old new → old.controller.phase ≡ Taking → IsOfFour old.controller.seeks.seek → GoesResting new.controller
+board_rests old new steps takes few = elim (which_drive (selected_at old)) [
+  | inl at ↦ rests_on (old.first.cylinder == 0) old.controller new.controller takes few (steps.at_first at).0.rests
+  | inr (inl at) ↦ rests_on (old.second.cylinder == 0) old.controller new.controller takes few (steps.at_second at).0.rests
+  | inr (inr at) ↦ rests_on false old.controller new.controller takes few (steps.at_none at).0.rests
+]
+
+-- whatever seek runs
+pub board_takes : (old new : BoardState) → StepsBoard old new → old.controller.phase ≡ Taking → new.controller.phase ≡ Taking
+board_takes old new steps takes =
+    let phase = polled_phase old.controller ∙ takes in
+    elim (which_drive (selected_at old)) [
+      | inl at ↦ ap (λ (fdc : Fdc). fdc.phase) (taking_stays (old.first.cylinder == 0) old.controller new.controller takes (steps.at_first at).0.rests) ∙ phase
+      | inr (inl at) ↦ ap (λ (fdc : Fdc). fdc.phase) (taking_stays (old.second.cylinder == 0) old.controller new.controller takes (steps.at_second at).0.rests) ∙ phase
+      | inr (inr at) ↦ ap (λ (fdc : Fdc). fdc.phase) (taking_stays false old.controller new.controller takes (steps.at_none at).0.rests) ∙ phase
+    ]
+
+-- where each access is the controller's a step is the board's
+pub through_step : (old new : Front) (step : StepsFront old new) → old.stage ≡ Through → new ≡ record old { board = step.between }
+through_step old new step through = subst (λ stage. FollowsStep stage (record old { board = step.between }) new) through step.follows
+
+pub front_rests : (old new : Front) → StepsFront old new → old.board.controller.command ≡ [] → RestsBehind old → RestsBehind new × IsBase old.board.controller new.board.controller
+front_rests old new step none rests =
+    let is = through_step old new step rests.through in
+    let goes = board_rests old.board step.between step.steps rests.takes rests.seek in
+    subst (λ (front : Front). RestsBehind front × IsBase old.board.controller front.board.controller) (sym is) (
+      record { through = rests.through; takes = goes.takes; seek = goes.seek },
+      board_base old.board step.between step.steps none,
+    )
+
+-- ---- results that are taken over
+
+-- nothing is done behind, and the chip's stage and the bytes that came are as they were
+pub record IsResting (old new : ChipState) : Type 0 where
+  pub rests : RestsBehind new.front
+  pub base : IsBase old.front.board.controller new.front.board.controller
+  pub stage : new.stage ≡ old.stage
+  pub count : new.count ≡ old.count
+  pub order : new.order ≡ old.order
+
+-- the controller once a result was taken
+record IsSensed (old new : Fdc) : Type 0 where
+  base : IsBase old new
+  takes : new.phase ≡ Taking
+  seek : IsOfFour new.seeks.seek
+
+result_taken : (old : Fdc) → old.phase ≡ Taking → old.command ≡ [] → IsOfFour old.seeks.seek → IsSensed old (after_result old)
+result_taken old takes none few = by_idle (is_idle old)
+  where
+    by_result : (result : Option (ℕ × ℕ)) → IsSensed old (without_result result old)
+    by_result None = record { base = record { dor = refl; non_dma = refl; command = refl }; takes = refl; seek = few }
+    by_result (Some result) = record { base = record { dor = refl; non_dma = refl; command = refl }; takes = refl; seek = sensed_four old.seeks few }
+
+    by_idle : (b : Bool) → IsSensed old (if b then without_result (seek_words.sensed old.seeks) old else old)
+    by_idle true = by_result (seek_words.sensed old.seeks)
+    by_idle false = record { base = base_same old none; takes = takes; seek = few }
+
+pub front_sensed : (front : Front) → front.board.controller.command ≡ [] → RestsBehind front
+    → RestsBehind (sensed_outside front) × IsBase front.board.controller (sensed_outside front).board.controller
+front_sensed front none rests =
+    let fdc = front.board.controller in
+    let taken = result_taken fdc rests.takes none rests.seek in
+    let is : sensed_outside front ≡ record front { board = with_controller (after_result fdc) front.board } = ap (λ stage. sensed_at stage front) rests.through in
+    subst (λ (f : Front). RestsBehind f × IsBase fdc f.board.controller) (sym is) (
+      record { through = rests.through; takes = taken.takes; seek = taken.seek },
+      taken.base,
+    )
+
+one_rests : (result : Option (ℕ × ℕ)) (old new : ChipState) → IsResting old new → IsResting old (kept result new)
+one_rests None old new rests = rests
+one_rests (Some (status, cylinder)) old new rests =
+    record { rests = rests.rests; base = rests.base; stage = rests.stage; count = rests.count; order = rests.order }
+
+drains_one : (old new : ChipState) → IsResting old new → IsResting old (drained_one new)
+drains_one old new was =
+    let (rests, base) = front_sensed new.front was.base.command was.rests in
+    one_rests (pending_outside new.front) old (with_front (sensed_outside new.front) new)
+    (record { rests = rests; base = base_on old.front.board.controller new.front.board.controller (sensed_outside new.front).board.controller was.base base; stage = was.stage; count = was.count; order = was.order })
+
+pub drained_rests : (n : ℕ) (old : ChipState) → old.front.board.controller.command ≡ [] → RestsBehind old.front → IsResting old (drained_by n old)
+unfolding drained_by
+drained_rests zero old none rests = record { rests = rests; base = base_same old.front.board.controller none; stage = refl; count = refl; order = refl }
+drained_rests (suc n) old none rests = drains_one old (drained_by n old) (drained_rests n old none rests)

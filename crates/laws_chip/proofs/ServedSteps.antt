@@ -1,0 +1,186 @@
+-- A command of several sectors that is served behind: it begins, goes on through device steps, and its results are told.
+use Rattle.std.proofs.Common.{◌≡◌, ◌⊎◌, inl, inr, Bool, true, false, if◌then◌else◌, Option, Some, None, [], refl, sym, ◌∙◌, ap, subst}
+use Rattle.std.proofs.lemmas.Bool.{false≢true}
+use Rattle.track_model.specs.Fields.{IsSizeCode}
+use Rattle.fdc_seek.specs.Seeking.{has_ended_seek, seek_bits, without_ended}
+use Rattle.fdc_stages.specs.declared.ending.Ending.{Ending}
+use Rattle.fdc_stages.specs.declared.ending.Ending.TheVariants.{Done, NoMark, NoSector, NoField, BadCheck, Overrun, NoCount, Protected, Late}
+use Rattle.fdc_commands.specs.declared.results.Results.{Results}
+use Rattle.fdc_phases.specs.declared.phases.Phase.TheVariants.{Command as Taking}
+use Rattle.fdc_core.specs.State.{is_held}
+use Rattle.fdc_core.specs.Whole.{ending_told, given_up, given_up_if, mark_of, without_seek}
+use Rattle.fdc_core.specs.declared.controller.Fdc.{Fdc}
+use Rattle.fdc_board.specs.Boards.{BoardState, StepsBoard}
+use Rattle.fdc_sequencer.specs.Fronts.{BeginsSector, Front, with_controller}
+use Rattle.fdc_sequencer.specs.Moves.{EndsIf, EndsSector, FollowsStep, MovesOn, SeeksOn, StepsFront, goes_on, has_met_other, is_unwanted, judged, judged_if, passed_over_if, results_behind, results_failed}
+use Rattle.fdc_sequencer.specs.Opcodes.{opcode_of}
+use Rattle.fdc_sequencer.specs.Transfers.{next_of}
+use Rattle.fdc_sequencer.specs.declared.opcode.Opcode.{Opcode}
+use Rattle.fdc_sequencer.specs.declared.stage.Moving.{Moving as MovingSector}
+use Rattle.fdc_sequencer.specs.declared.stage.Stage.{Stage}
+use Rattle.fdc_sequencer.specs.declared.stage.Stage.TheVariants.{Through, Collecting, Seeking, Moving, Telling}
+use Rattle.fdc_sequencer.specs.declared.transfer.Transfer.{Transfer}
+use Rattle.laws_sequencer.specs.Lasting.{is_under_way}
+use Rattle.laws_sequencer.specs.Serving.{History, IsFree, ServesAt, history_stepped, nothing_moved, sent_of}
+use Rattle.laws_sequencer.proofs.Free.{given_free, next_size, sought_free, step_free}
+use Rattle.laws_sequencer.proofs.Served.{steps_serve}
+use Rattle.fdc_chip.specs.Doing.{Sends, is_size}
+use Rattle.fdc_chip.specs.Ending.{has_results, results_taken}
+use Rattle.fdc_chip.specs.Orders.{order_bytes}
+use Rattle.fdc_chip.specs.declared.order.Order.{Order}
+use Rattle.laws_chip.specs.Beginning.{transfer_sent}
+use Rattle.laws_chip.specs.Sound.{ServesBehind, WaitsForHeads}
+use Rattle.laws_chip.proofs.FirstSectors.{IsBase, IsCarried, sector_carried}
+use Rattle.laws_chip.proofs.NineBytes.{order_begins}
+use Rattle.laws_chip.proofs.Rests.{base_on, board_base, board_takes}
+use Rattle.laws_chip.proofs.Standing.{Stands}
+use Rattle.laws_chip.proofs.Tellings.{results_wait, taken_is}
+use Rattle.laws_chip.proofs.UnderWay.{not_through}
+
+-- ---- it begins
+
+pub order_serves : (opcode : Opcode) (order : Order) (start new : Front) → Stands start → opcode_of order.code ≡ Some opcode → is_size order.key.n ≡ true → Sends (order_bytes order) start new
+    → ServesBehind new × IsBase start.board.controller new.board.controller
+order_serves opcode order start new stands is size sends =
+    let (begins, carried) = order_begins opcode order start new stands is size sends in (
+      record {
+        under_way = carried.under_way;
+        first = transfer_sent opcode order;
+        history = nothing_moved false;
+        serves = begins.serves;
+        waits = carried.waits;
+      },
+      carried.base,
+    )
+
+-- ---- a device step
+
+-- its results are told, and the controller takes commands
+pub record TellsBehind (front : Front) : Type 0 where
+  pub results : Results
+  pub told : front.stage ≡ Telling results 0
+  pub takes : front.board.controller.phase ≡ Taking
+  pub rests : seek_bits front.board.controller.seeks ≡ 0
+
+-- it goes on with what it may be under way, or its results are told
+data Goes (old : Fdc) (new : Front) : Type 0 where
+  on : is_under_way new.stage ≡ true → WaitsForHeads new.stage new.board.controller.phase → IsBase old new.board.controller → Goes old new
+  over : TellsBehind new → IsBase old new.board.controller → Goes old new
+
+-- where it is served still, so it is
+goes_served : (old new : Front) (step : StepsFront old new) → ServesBehind old → Goes old.board.controller new → (ServesBehind new ⊎ TellsBehind new) × IsBase old.board.controller new.board.controller
+goes_served old new step was (over tells base) = (inr tells, base)
+goes_served old new step was (on under waits base) = elim (steps_serve old new step was.first was.history was.serves) [
+  | inl goes ↦ (inl (record { under_way = under; first = was.first; history = history_stepped old.stage goes.time step.between.controller was.history; serves = goes.goes.2; waits = waits }), base)
+  | inr refuses ↦ absurd (not_through new under refuses.refused.through)
+]
+
+goes_carried : (old between : Fdc) (front new : Front) → IsBase old between → front.board.controller ≡ between → IsCarried front new → Goes old new
+goes_carried old between front new base is carried =
+    on carried.under_way carried.waits (base_on old between new.board.controller base (subst (λ fdc. IsBase fdc new.board.controller) is carried.base))
+
+-- ---- the heads seek first
+
+sought_base : (old between : Fdc) → IsBase old between → IsBase old (without_seek between)
+sought_base old between base = by_end (has_ended_seek between.seeks)
+  where
+    by_end : (b : Bool) → IsBase old (if b then record between { seeks = without_ended between.seeks; interrupt = false } else between)
+    by_end true = record { dor = base.dor; non_dma = base.non_dma; command = base.command }
+    by_end false = base
+
+seeks_go : (b : Bool) (at : Transfer) (counted : Bool) (old : Fdc) (front new : Front) → front.stage ≡ Seeking at counted → front.board.controller.phase ≡ Taking → has_ended_seek front.board.controller.seeks ≡ b
+    → IsSizeCode at.key.n → front.board.controller.non_dma ≡ false → IsBase old front.board.controller → SeeksOn b at counted front new → Goes old new
+seeks_go true at counted old front new stage_is takes ended sized clear base begins =
+    let fdc = front.board.controller in
+    let sought : Front = record front { board = with_controller (without_seek fdc) front.board } in
+    goes_carried old (without_seek fdc) sought new (sought_base old fdc base) refl (sector_carried at counted false sought new sized (sought_free fdc ended clear) begins)
+seeks_go false at counted old front new stage_is takes ended sized clear base is =
+    let stage = ap (λ (f : Front). f.stage) is ∙ stage_is in
+    on (ap is_under_way stage) (subst (λ s. WaitsForHeads s new.board.controller.phase) (sym stage) (ap (λ (f : Front). f.board.controller.phase) is ∙ takes))
+    (subst (λ (f : Front). IsBase old f.board.controller) (sym is) base)
+
+-- ---- a sector is moved
+
+-- another sector begins, or results are told
+next_or : (ending : Ending) (moving : MovingSector) (old new : Front) → EndsSector moving ending old new
+    → ((results : Results) × (new ≡ record old { stage = Telling results 0 })) ⊎ ((met : Bool) × BeginsSector (next_of moving.transfer) false met old new)
+next_or (Done marked) moving old new ends = by_next (goes_on moving marked) ends
+  where
+    by_next : (b : Bool) → EndsIf b moving marked old new → ((results : Results) × (new ≡ record old { stage = Telling results 0 })) ⊎ ((met : Bool) × BeginsSector (next_of moving.transfer) false met old new)
+    by_next true begins = inr (has_met_other moving marked, begins)
+    by_next false is = inl (results_behind moving marked, is)
+next_or NoMark moving old new is = inl (results_failed moving NoMark, is)
+next_or NoSector moving old new is = inl (results_failed moving NoSector, is)
+next_or NoField moving old new is = inl (results_failed moving NoField, is)
+next_or BadCheck moving old new is = inl (results_failed moving BadCheck, is)
+next_or Overrun moving old new is = inl (results_failed moving Overrun, is)
+next_or NoCount moving old new is = inl (results_failed moving NoCount, is)
+next_or Protected moving old new is = inl (results_failed moving Protected, is)
+next_or Late moving old new is = inl (results_failed moving Late, is)
+
+given_base : (ending : Option Ending) (old between : Fdc) → IsBase old between → IsBase old (given_up_if ending between)
+given_base None old between base = base
+given_base (Some ending) old between base = record { dor = base.dor; non_dma = base.non_dma; command = base.command }
+
+passed_go : (b : Bool) (moving : MovingSector) (old : Fdc) (front new : Front) → front.stage ≡ Moving moving → IsBase old front.board.controller → new ≡ passed_over_if b moving front → Goes old new
+passed_go true moving old front new stage_is base is =
+    let stage : new.stage ≡ Moving (record moving { left = 0; passed_over = true; skipped = true }) = ap (λ (f : Front). f.stage) is in
+    on (ap is_under_way stage) (subst (λ s. WaitsForHeads s new.board.controller.phase) (sym stage) tt)
+    (subst (λ (f : Front). IsBase old f.board.controller) (sym is) (record { dor = base.dor; non_dma = base.non_dma; command = base.command }))
+passed_go false moving old front new stage_is base is =
+    let stage : new.stage ≡ Moving moving = ap (λ (f : Front). f.stage) is ∙ stage_is in
+    on (ap is_under_way stage) (subst (λ s. WaitsForHeads s new.board.controller.phase) (sym stage) tt) (subst (λ (f : Front). IsBase old f.board.controller) (sym is) base)
+
+moves_go : (ending : Option Ending) (moving : MovingSector) (old : Fdc) (front new : Front) → front.stage ≡ Moving moving → ending_told front.board.controller ≡ ending → IsSizeCode moving.transfer.key.n
+    → IsFree front.board.controller → IsBase old front.board.controller → MovesOn (judged_if moving ending) moving front new → Goes old new
+moves_go None moving old front new stage_is none sized free base is = passed_go (is_unwanted moving (mark_of front.board.controller)) moving old front new stage_is base is
+moves_go (Some ending) moving old front new stage_is some sized free base ends =
+    let fdc = front.board.controller in
+    let given : Front = record front { board = with_controller (given_up fdc) front.board } in
+    let after : IsBase old (given_up fdc) = given_base (ending_told fdc) old fdc base in
+    let freed = given_free fdc free in
+    elim (next_or (judged moving ending) moving given new ends) [
+      | inr (met, begins) ↦ goes_carried old (given_up fdc) given new after refl
+          (sector_carried (next_of moving.transfer) false met given new (subst IsSizeCode (sym (next_size moving.transfer)) sized) freed begins)
+      | inl (results, is) ↦ over (record {
+        results = results;
+        told = ap (λ (f : Front). f.stage) is;
+        takes = ap (λ (f : Front). f.board.controller.phase) is ∙ ap (λ found. (given_up_if found fdc).phase) some;
+        rests = ap (λ (f : Front). seek_bits f.board.controller.seeks) is ∙ freed.rests;
+      }) (subst (λ (f : Front). IsBase old f.board.controller) (sym is) after)
+    ]
+
+-- ---- all stages
+
+step_goes : (stage : Stage) (first : Transfer) (history : History) (old : Front) (between : BoardState) (new : Front) → old.stage ≡ stage → is_under_way stage ≡ true → IsSizeCode first.key.n
+    → ServesAt stage first history old.board.controller → WaitsForHeads stage old.board.controller.phase → old.board.controller.command ≡ [] → old.board.controller.non_dma ≡ false
+    → StepsBoard old.board between → FollowsStep stage (record old { board = between }) new → Goes old.board.controller new
+step_goes Through first history old between new stage_is under sized now waits none clear steps follows = absurd (false≢true under)
+step_goes (Collecting opcode) first history old between new stage_is under sized now waits none clear steps follows = absurd (false≢true under)
+step_goes (Telling results read) first history old between new stage_is under sized now waits none clear steps follows = absurd (false≢true under)
+step_goes (Seeking at counted) first history old between new stage_is under sized (here, nothing) waits none clear steps follows =
+    let base = board_base old.board between steps none in
+    seeks_go (has_ended_seek between.controller.seeks) at counted old.board.controller (record old { board = between }) new stage_is (board_takes old.board between steps waits) refl
+    (subst (λ (transfer : Transfer). IsSizeCode transfer.key.n) (sym here) sized) (base.non_dma ∙ clear) base follows
+step_goes (Moving moving) first history old between new stage_is under sized (here, counts, carries) waits none clear steps follows =
+    let free = step_free first.opcode.operation history.past (sent_of moving.transfer) old.board between steps carries.busy carries.moves carries.free in
+    moves_go (ending_told between.controller) moving old.board.controller (record old { board = between }) new stage_is refl carries.accounts.sized free
+    (board_base old.board between steps none) follows
+
+pub serves_step : (old new : Front) → StepsFront old new → old.board.controller.command ≡ [] → old.board.controller.non_dma ≡ false → ServesBehind old
+    → (ServesBehind new ⊎ TellsBehind new) × IsBase old.board.controller new.board.controller
+serves_step old new step none clear was =
+    goes_served old new step was (step_goes old.stage was.first was.history old step.between new refl was.under_way was.serves.sized was.serves.now was.waits none clear step.steps step.follows)
+
+-- ---- its results are taken
+
+pub tells_shown : (front : Front) → TellsBehind front → has_results front ≡ true
+tells_shown front tells = results_wait front tells.results tells.told
+
+pub tells_taken : (front : Front) → is_held front.board.controller ≡ false → front.board.controller.command ≡ [] → front.board.controller.non_dma ≡ false → TellsBehind front
+    → Stands (results_taken front) × IsBase front.board.controller (results_taken front).board.controller
+tells_taken front free none by_dma tells =
+    subst (λ (f : Front). Stands f × IsBase front.board.controller f.board.controller) (sym (taken_is front tells.results tells.told)) (
+      record { through = refl; takes = tells.takes; none = none; free = free; rests = tells.rests; by_dma = by_dma },
+      record { dor = refl; non_dma = refl; command = none },
+    )

@@ -1,0 +1,258 @@
+-- A READ ID or a FORMAT TRACK behind: it begins, goes on through device steps, and its results wait.
+use Rattle.std.proofs.Common.{◌≡◌, ◌⊎◌, inl, inr, ℕ, ◌+◌, ◌<◌, ◌==◌, Bool, true, false, not, ◌&&◌, if◌then◌else◌, [], bit_and, bit_or, refl, sym, ◌∙◌, ap, subst, arith}
+use Rattle.std.proofs.lemmas.Bool.{false≢true}
+use Rattle.flop_base.specs.declared.key.Chrn.{Chrn}
+use Rattle.drive_model.specs.Drive.{DriveState, at_index}
+use Rattle.fdc_fifo.specs.Fifo.{Fifo, emptied}
+use Rattle.fdc_seek.specs.Seeking.{seek_bits, with_polls}
+use Rattle.fdc_commands.specs.Table.{is_begun}
+use Rattle.fdc_commands.specs.declared.command.Command.TheVariants.{FormatTrack, ReadId}
+use Rattle.fdc_commands.specs.declared.results.Results.{Results}
+use Rattle.fdc_stages.specs.declared.ending.Ending.{Ending}
+use Rattle.fdc_stages.specs.declared.ending.Ending.TheVariants.{Done, Late}
+use Rattle.fdc_stages.specs.declared.formatting.FormatNext.{FormatNext}
+use Rattle.fdc_stages.specs.declared.formatting.FormatNext.TheVariants as laid
+use Rattle.fdc_stages.specs.declared.searching.Search.{Search}
+use Rattle.fdc_stages.specs.Formats.{Numbers}
+use Rattle.fdc_stages.specs.Searches.{SearchOutcome}
+use Rattle.fdc_stages.specs.Searches as searched
+use Rattle.fdc_phases.specs.Answers.{no_key, results_of}
+use Rattle.fdc_phases.specs.Commands.{IsFormattingTrack, IsReadingId}
+use Rattle.fdc_phases.specs.Phases.{is_listening}
+use Rattle.fdc_phases.specs.declared.answers.Answer.TheVariants.{Long}
+use Rattle.fdc_phases.specs.declared.phases.Phase.{Phase}
+use Rattle.fdc_phases.specs.declared.phases.Phase.TheVariants.{Command as Taking, Execute, Result}
+use Rattle.fdc_phases.specs.declared.phases.Task.{Task}
+use Rattle.fdc_phases.specs.declared.phases.Task.TheVariants as task
+use Rattle.fdc_phases.specs.declared.transfers.Formatting.{Formatting}
+use Rattle.fdc_core.specs.Commands.{BeginsData}
+use Rattle.fdc_core.specs.Formatting.{FormatDoes, after_laid}
+use Rattle.fdc_core.specs.Listening.{ExecutesIn, ExecutesTask, StepsOn}
+use Rattle.fdc_core.specs.Ports.{main_status, phase_bits}
+use Rattle.fdc_core.specs.Reading.{after_searched}
+use Rattle.fdc_core.specs.State.{finished, is_held}
+use Rattle.fdc_core.specs.Steps.{EndsIn, IsCounted, polled, steps_left}
+use Rattle.fdc_core.specs.Tasks.{FormatsNowhere, StepsNowhere, TaskStepsNowhere}
+use Rattle.fdc_core.specs.Times.{WordTime, Saw, KeptOut, Wrote, Stopped}
+use Rattle.fdc_core.specs.Writes.{WritesIn, WritesTask}
+use Rattle.fdc_core.specs.Writing.{without_byte}
+use Rattle.fdc_core.specs.declared.controller.Fdc.{Fdc}
+use Rattle.fdc_board.specs.Boards.{BoardState, StepsBoard, selected_at}
+use Rattle.fdc_sequencer.specs.Fronts.{Front, status_at, with_controller}
+use Rattle.fdc_sequencer.specs.Moves.{StepsFront}
+use Rattle.fdc_sequencer.specs.declared.stage.Stage.TheVariants.{Through}
+use Rattle.laws_sequencer.proofs.Known.{which_drive}
+use Rattle.fdc_chip.specs.Ending.{has_results, results_taken}
+use Rattle.laws_chip.specs.Sound.{ExecutesBehind, executes_single, is_single}
+use Rattle.laws_chip.proofs.FirstSectors.{IsBase}
+use Rattle.laws_chip.proofs.Rests.{board_base, through_step}
+use Rattle.laws_chip.proofs.Sending.{IsObeyed}
+use Rattle.laws_chip.proofs.Standing.{Stands}
+
+-- ---- it begins
+
+id_single : (unit : ℕ) (begins : Task) → IsReadingId unit begins → is_single begins ≡ true
+id_single unit (task.ReadId search) is = refl
+id_single unit _ is = absurd is
+
+none_counted : 0 < 65536
+none_counted = omega arith
+
+pub id_executes : (unit : ℕ) (start new : Front) → Stands start → IsObeyed (ReadId unit) start new → ExecutesBehind new × IsBase start.board.controller new.board.controller
+id_executes unit start new stands obeyed =
+    let begins : BeginsData (ReadId unit) (record start.board.controller { command = [] }) new.board.controller = (obeyed.obeys.0 stands.rests).1 stands.by_dma in
+    let is = begins.3 in (
+      record {
+        through = obeyed.through;
+        executes = ap (λ (fdc : Fdc). executes_single fdc.phase) is ∙ id_single unit begins.0 begins.1;
+        counted = subst (λ (fdc : Fdc). IsCounted fdc.phase) (sym is) none_counted;
+        rests = ap (λ (fdc : Fdc). seek_bits fdc.seeks) is ∙ stands.rests;
+      },
+      record { dor = ap (λ (fdc : Fdc). fdc.dor) is; non_dma = ap (λ (fdc : Fdc). fdc.non_dma) is; command = ap (λ (fdc : Fdc). fdc.command) is },
+    )
+
+format_single : (unit : ℕ) (numbers : Numbers) (begins : Task) → IsFormattingTrack unit numbers begins → is_single begins ≡ true
+format_single unit numbers (task.Format formatting) is = refl
+format_single unit numbers _ is = absurd (is (emptied false 1) false refl)
+
+pub format_executes : (unit n sectors gap fill : ℕ) (start new : Front) → Stands start → IsObeyed (FormatTrack unit n sectors gap fill) start new → ExecutesBehind new × IsBase start.board.controller new.board.controller
+format_executes unit n sectors gap fill start new stands obeyed =
+    let begins : BeginsData (FormatTrack unit n sectors gap fill) (record start.board.controller { command = [] }) new.board.controller = (obeyed.obeys.0 stands.rests).1 stands.by_dma in
+    let is = begins.3 in (
+      record {
+        through = obeyed.through;
+        executes = ap (λ (fdc : Fdc). executes_single fdc.phase) is ∙ format_single unit (record { n = n; sectors = sectors; gap3 = gap; fill = fill }) begins.0 begins.1;
+        counted = subst (λ (fdc : Fdc). IsCounted fdc.phase) (sym is) none_counted;
+        rests = ap (λ (fdc : Fdc). seek_bits fdc.seeks) is ∙ stands.rests;
+      },
+      record { dor = ap (λ (fdc : Fdc). fdc.dor) is; non_dma = ap (λ (fdc : Fdc). fdc.non_dma) is; command = ap (λ (fdc : Fdc). fdc.command) is },
+    )
+
+-- ---- a device step
+
+-- results of which none was read
+abbrev HasLong : Phase → Type 0
+HasLong phase = (ending : Ending) × (results : Results) × (phase ≡ Result (Long ending results 0))
+
+-- no seek changes, and it goes on or has ended
+record GoesSingly (polls new : Fdc) : Type 0 where
+  seeks : new.seeks ≡ polls.seeks
+  now : (executes_single new.phase ≡ true) ⊎ HasLong new.phase
+
+singly_as : (polls set new : Fdc) → GoesSingly polls set → new ≡ set → GoesSingly polls new
+singly_as polls set new goes is = subst (GoesSingly polls) (sym is) goes
+
+ends_singly : (ending : Ending) (head_drive : ℕ) (key : Chrn) (old mid : Fdc) → mid.seeks ≡ old.seeks → GoesSingly old (finished ending head_drive key mid)
+ends_singly ending head_drive key old mid same = record { seeks = same; now = inr (ending, results_of ending head_drive key, refl) }
+
+searched_singly : (head_drive steps : ℕ) (after : SearchOutcome) (old : Fdc) → GoesSingly old (after_searched head_drive steps after old)
+searched_singly head_drive steps (searched.On search) old = record { seeks = refl; now = inl refl }
+searched_singly head_drive steps (searched.Met key separator) old = ends_singly (Done false) head_drive key old old refl
+searched_singly head_drive steps (searched.Missed ending) old = ends_singly ending head_drive no_key old old refl
+
+id_singly : (head_drive steps : ℕ) (search : Search) (index : Bool) (word : ℕ) (old new : Fdc) → StepsOn head_drive steps (task.ReadId search) index word old new → GoesSingly old new
+id_singly head_drive steps search index word old new (inl (last, is)) = singly_as old _ new (ends_singly Late head_drive no_key old old refl) is
+id_singly head_drive steps search index word old new (inr (few, (after, hears, is))) = singly_as old _ new (searched_singly head_drive (steps + 1) after old) is
+
+without_seeks : (needs : Bool) (old : Fdc) → (without_byte needs old).seeks ≡ old.seeks
+without_seeks true old = refl
+without_seeks false old = refl
+
+laid_singly : (head_drive steps : ℕ) (formatting : Formatting) (next : FormatNext) (old mid : Fdc) → mid.seeks ≡ old.seeks → GoesSingly old (after_laid head_drive steps formatting next mid)
+laid_singly head_drive steps formatting (laid.On stage) old mid same = record { seeks = same; now = inl refl }
+laid_singly head_drive steps formatting (laid.Ended ending key) old mid same = ends_singly ending head_drive key old mid same
+
+format_singly : (time : WordTime) (head_drive steps : ℕ) (formatting : Formatting) (old : Fdc) (before : DriveState) (new : Fdc) → FormatDoes time head_drive steps formatting old before new → GoesSingly old new
+format_singly (Saw index word) head_drive steps formatting old before new (due, does) =
+    singly_as old _ new (laid_singly head_drive (steps + 1) formatting does.next old old refl) does.after_is
+format_singly (KeptOut index word) head_drive steps formatting old before new (due, does) =
+    singly_as old _ new (laid_singly head_drive (steps + 1) formatting does.next old old refl) does.after_is
+format_singly (Wrote opened closed index word) head_drive steps formatting old before new does =
+    singly_as old _ new (laid_singly head_drive (steps + 1) formatting does.next old (without_byte does.needs old) (without_seeks does.needs old)) does.after_is
+format_singly Stopped head_drive steps formatting old before new does = singly_as old _ new (ends_singly does.ending head_drive no_key old old refl) does.after_is
+
+nowhere_singly : (head_drive steps : ℕ) (formatting : Formatting) (old new : Fdc) → FormatsNowhere head_drive steps formatting old new → GoesSingly old new
+nowhere_singly head_drive steps formatting old new (inl (last, is)) = singly_as old _ new (ends_singly Late head_drive no_key old old refl) is
+nowhere_singly head_drive steps formatting old new (inr (few, (next, hears, is))) = singly_as old _ new (laid_singly head_drive (steps + 1) formatting next old old refl) is
+
+module _ (polls new : Fdc) where
+  task_singly : (begins : Task) (head_drive steps : ℕ) (index : Bool) (word : ℕ) (asking : Bool) (fifo : Fifo) (before after : DriveState) → is_single begins ≡ true
+      → ExecutesTask (is_listening begins) head_drive steps begins index word polls new → WritesTask begins head_drive steps asking fifo polls before after new → GoesSingly polls new
+  task_singly (task.ReadId search) head_drive steps index word asking fifo before after single executes writes = id_singly head_drive steps search index word polls new executes
+  task_singly (task.Format formatting) head_drive steps index word asking fifo before after single executes writes =
+      format_singly writes.step.does.time head_drive steps formatting polls before new writes.step.does.does
+  task_singly (task.Read reading) head_drive steps index word asking fifo before after single executes writes = absurd (false≢true single)
+  task_singly (task.Write writing) head_drive steps index word asking fifo before after single executes writes = absurd (false≢true single)
+
+  phase_singly : (phase : Phase) (index : Bool) (word : ℕ) (asking : Bool) (fifo : Fifo) (before after : DriveState) → executes_single phase ≡ true → ExecutesIn phase index word polls new
+      → WritesIn phase asking fifo polls before after new → GoesSingly polls new
+  phase_singly Taking index word asking fifo before after single executes writes = absurd (false≢true single)
+  phase_singly (Result ended) index word asking fifo before after single executes writes = absurd (false≢true single)
+  phase_singly (Execute execution) index word asking fifo before after single executes writes =
+      task_singly execution.task execution.head_drive execution.steps index word asking fifo before after single executes writes
+
+  task_alone : (begins : Task) (head_drive steps : ℕ) → is_single begins ≡ true → TaskStepsNowhere begins head_drive steps polls new → GoesSingly polls new
+  task_alone (task.ReadId search) head_drive steps single does = id_singly head_drive steps search false 0 polls new does
+  task_alone (task.Format formatting) head_drive steps single does = nowhere_singly head_drive steps formatting polls new does
+  task_alone (task.Read reading) head_drive steps single does = absurd (false≢true single)
+  task_alone (task.Write writing) head_drive steps single does = absurd (false≢true single)
+
+  phase_alone : (phase : Phase) → executes_single phase ≡ true → StepsNowhere phase polls new → GoesSingly polls new
+  phase_alone Taking single does = absurd (false≢true single)
+  phase_alone (Result ended) single does = absurd (false≢true single)
+  phase_alone (Execute execution) single does = task_alone execution.task execution.head_drive execution.steps single does
+
+board_singly : (old new : BoardState) → StepsBoard old new → executes_single old.controller.phase ≡ true → GoesSingly (polled old.controller) new.controller
+board_singly old new steps single =
+    let fdc = old.controller in
+    elim (which_drive (selected_at old)) [
+      | inl at ↦ let works = (steps.at_first at).0 in
+          phase_singly (polled fdc) new.controller fdc.phase (at_index old.first) works.reads.word fdc.asking fdc.fifo old.first new.first single works.reads.follows.executes works.writes
+      | inr (inl at) ↦ let works = (steps.at_second at).0 in
+          phase_singly (polled fdc) new.controller fdc.phase (at_index old.second) works.reads.word fdc.asking fdc.fifo old.second new.second single works.reads.follows.executes works.writes
+      | inr (inr at) ↦ phase_alone (polled fdc) new.controller fdc.phase single (steps.at_none at).0.nowhere
+    ]
+
+polled_bits : (old : Fdc) → seek_bits (polled old).seeks ≡ seek_bits old.seeks
+polled_bits old = by_poll (old.poll_due && not (is_held old))
+  where
+    by_poll : (b : Bool) → seek_bits (if b then record old { poll_due = false; interrupt = true; seeks = with_polls old.seeks } else old).seeks ≡ seek_bits old.seeks
+    by_poll true = refl
+    by_poll false = refl
+
+-- each device step leaves fewer
+pub board_ends : (old new : BoardState) → StepsBoard old new → EndsIn old.controller.phase new.controller.phase
+board_ends old new steps = elim (which_drive (selected_at old)) [
+  | inl at ↦ (steps.at_first at).0.ends
+  | inr (inl at) ↦ (steps.at_second at).0.ends
+  | inr (inr at) ↦ (steps.at_none at).0.ends
+]
+
+pub single_fewer : (old new : Phase) → executes_single old ≡ true → EndsIn old new → (steps_left new < steps_left old) × IsCounted new
+single_fewer Taking new single ends = absurd (false≢true single)
+single_fewer (Result ended) new single ends = absurd (false≢true single)
+single_fewer (Execute execution) new single ends = ends
+
+-- its results wait to be read
+pub record WaitsBehind (front : Front) : Type 0 where
+  pub through : front.stage ≡ Through
+  pub ending : Ending
+  pub results : Results
+  pub at : front.board.controller.phase ≡ Result (Long ending results 0)
+  pub rests : seek_bits front.board.controller.seeks ≡ 0
+
+pub executes_step : (old new : Front) → StepsFront old new → old.board.controller.command ≡ [] → ExecutesBehind old
+    → (ExecutesBehind new ⊎ WaitsBehind new) × IsBase old.board.controller new.board.controller
+executes_step old new step none was =
+    let fdc = old.board.controller in
+    let goes = board_singly old.board step.between step.steps was.executes in
+    let ends = single_fewer fdc.phase step.between.controller.phase was.executes (board_ends old.board step.between step.steps) in
+    let rests = ap seek_bits goes.seeks ∙ (polled_bits fdc ∙ was.rests) in
+    let is = through_step old new step was.through in
+    subst (λ (front : Front). (ExecutesBehind front ⊎ WaitsBehind front) × IsBase fdc front.board.controller) (sym is) (
+      elim goes.now [
+        | inl single ↦ inl (record { through = was.through; executes = single; counted = ends.1; rests = rests })
+        | inr (ending, results, at) ↦ inr (record { through = was.through; ending = ending; results = results; at = at; rests = rests })
+      ],
+      board_base old.board step.between step.steps none,
+    )
+
+-- ---- what MSR shows of it
+
+free_status : (fdc : Fdc) (bits : ℕ) → is_held fdc ≡ false → phase_bits (is_begun fdc.command) fdc.phase ≡ bits → seek_bits fdc.seeks ≡ 0 → main_status fdc ≡ bit_or bits 0
+free_status fdc bits free phase rests =
+    ap (λ held. if held then 0 else bit_or (phase_bits (is_begun fdc.command) fdc.phase) (seek_bits fdc.seeks)) free
+    ∙ (ap (λ shown. bit_or shown (seek_bits fdc.seeks)) phase ∙ ap (λ seeks. bit_or bits seeks) rests)
+
+single_bits : (begun : Bool) (phase : Phase) → executes_single phase ≡ true → phase_bits begun phase ≡ 0x10
+single_bits begun Taking single = absurd (false≢true single)
+single_bits begun (Result ended) single = absurd (false≢true single)
+single_bits begun (Execute execution) single = refl
+
+shown_by : (front : Front) (value : ℕ) → front.stage ≡ Through → main_status front.board.controller ≡ value → has_results front ≡ (bit_and value 0xC0 == 0xC0)
+shown_by front value through status =
+    ap (λ stage. bit_and (status_at stage front.board.controller) 0xC0 == 0xC0) through ∙ ap (λ shown. bit_and shown 0xC0 == 0xC0) status
+
+pub executes_none : (front : Front) → is_held front.board.controller ≡ false → ExecutesBehind front → has_results front ≡ false
+executes_none front free was =
+    let fdc = front.board.controller in
+    shown_by front 0x10 was.through (free_status fdc 0x10 free (single_bits (is_begun fdc.command) fdc.phase was.executes) was.rests)
+
+pub waits_shown : (front : Front) → is_held front.board.controller ≡ false → WaitsBehind front → has_results front ≡ true
+waits_shown front free waits =
+    let fdc = front.board.controller in
+    shown_by front 0xD0 waits.through (free_status fdc 0xD0 free (ap (phase_bits (is_begun fdc.command)) waits.at) waits.rests)
+
+-- once all seven were read the controller takes commands
+pub waits_taken : (front : Front) → is_held front.board.controller ≡ false → front.board.controller.command ≡ [] → front.board.controller.non_dma ≡ false → WaitsBehind front
+    → Stands (results_taken front) × IsBase front.board.controller (results_taken front).board.controller
+waits_taken front free none by_dma waits =
+    let fdc = front.board.controller in
+    let over : Front = record front { board = with_controller (record fdc { phase = Taking; interrupt = false }) front.board } in
+    let at_stage = ap (λ stage. results_taken (record front { stage = stage })) waits.through in
+    let at_phase = ap (λ phase. results_taken (record front { board = with_controller (record fdc { phase = phase }) front.board; stage = Through })) waits.at in
+    let is : results_taken front ≡ record over { stage = Through } = at_stage ∙ at_phase in
+    subst (λ (f : Front). Stands f × IsBase fdc f.board.controller) (sym is) (
+      record { through = refl; takes = refl; none = none; free = free; rests = waits.rests; by_dma = by_dma },
+      record { dor = refl; non_dma = refl; command = none },
+    )

@@ -1,0 +1,131 @@
+-- What makes a chip sound, from what it was.
+use Rattle.std.proofs.Common.{◌≡◌, ◌<◌, Bool, true, false, not, ◌&&◌, ◌==◌, [], refl, sym, ◌∙◌, ap, subst}
+use Rattle.std.proofs.lemmas.Bool.{and_parts, eqb-true, false≢true}
+use Rattle.fdc_core.specs.State.{is_held}
+use Rattle.fdc_sequencer.specs.Fronts.{Front}
+use Rattle.fdc_chip.specs.Chips.{ChipState, passes, passes_at, with_front}
+use Rattle.fdc_chip.specs.Orders.{is_format}
+use Rattle.fdc_chip.specs.declared.order.Order.{Order}
+use Rattle.fdc_chip.specs.declared.stage.Stage.{Stage}
+use Rattle.fdc_chip.specs.declared.stage.Stage.TheVariants.{Ready, Held, Busy, Telling}
+use Rattle.fdc_chip.specs.declared.stage.Task.{Task}
+use Rattle.laws_chip.specs.Sound.{IsBusyWith, IsSound, IsSoundAt, RestsBehind}
+use Rattle.laws_chip.proofs.FirstSectors.{IsBase, base_held}
+use Rattle.laws_chip.proofs.Rests.{stands_rests}
+use Rattle.laws_chip.proofs.Standing.{Stands}
+use Rattle.laws_chip.proofs.UnderWay.{clash, either_way}
+
+-- ---- stages
+
+abbrev pub is_busy : Stage → Bool
+is_busy (Busy task) = true
+is_busy _ = false
+
+abbrev pub is_ready : Stage → Bool
+is_ready Ready = true
+is_ready _ = false
+
+pub not_ready : (stage : Stage) → is_ready stage ≡ false → stage ≡ Ready → ⊥
+not_ready stage other is = false≢true (sym other ∙ ap is_ready is)
+
+-- bytes pass only where something is executed
+passing_at : (stage : Stage) → passes_at stage ≡ true → (task : Task) × (stage ≡ Busy task)
+passing_at Ready passes = absurd (false≢true passes)
+passing_at Held passes = absurd (false≢true passes)
+passing_at (Busy task) passes = (task, refl)
+passing_at (Telling answer read) passes = absurd (false≢true passes)
+
+pub passing_of : (chip : ChipState) → passes chip ≡ true → (task : Task) × (chip.stage ≡ Busy task)
+passing_of chip is = passing_at chip.stage (and_parts (passes_at chip.stage) (not (is_format chip.order && (chip.keys == 0))) is).0
+
+-- ---- what stands behind at a stage
+
+pub rests_at : (stage : Stage) (front : Front) → is_busy stage ≡ false → RestsBehind front → IsSoundAt stage front
+rests_at Ready front idle rests = rests
+rests_at Held front idle rests = rests
+rests_at (Busy task) front idle rests = absurd (false≢true (sym idle))
+rests_at (Telling answer read) front idle rests = rests
+
+pub at_rest : (stage : Stage) (front : Front) → is_busy stage ≡ false → IsSoundAt stage front → RestsBehind front
+at_rest Ready front idle now = now
+at_rest Held front idle now = now
+at_rest (Busy task) front idle now = absurd (false≢true (sym idle))
+at_rest (Telling answer read) front idle now = now
+
+pub busy_at : (chip : ChipState) (task : Task) → chip.stage ≡ Busy task → IsSound chip → IsBusyWith task chip.front
+busy_at chip task is sound = subst (λ stage. IsSoundAt stage chip.front) is sound.now
+
+-- ---- a chip that isn't held in reset, and that has no byte of a command
+
+pub record IsBasis (chip : ChipState) : Type 0 where
+  pub by_dma : chip.front.board.controller.non_dma ≡ false
+  pub whole : chip.front.board.controller.command ≡ []
+  pub free : is_held chip.front.board.controller ≡ false
+  pub none : chip.count ≡ 0
+  pub code : chip.order.code < 256
+
+-- so it is where something is under way
+pub sound_basis : (chip : ChipState) → is_ready chip.stage ≡ false → IsSound chip → IsBasis chip
+sound_basis chip other sound = record {
+  by_dma = sound.by_dma;
+  whole = sound.whole;
+  free = either_way (is_held chip.front.board.controller) (λ held. absurd (not_ready chip.stage other (sound.held held).0)) (λ free. free);
+  none = either_way (chip.count == 0) (λ none. eqb-true chip.count 0 none) (λ some. absurd (not_ready chip.stage other (sound.comes some)));
+  code = sound.code;
+}
+
+-- with another front
+pub basis_front : (front : Front) (old : ChipState) → IsBasis old → IsBase old.front.board.controller front.board.controller → IsBasis (with_front front old)
+basis_front front old basis base = record {
+  by_dma = base.non_dma ∙ basis.by_dma;
+  whole = base.command;
+  free = base_held old.front.board.controller front.board.controller base ∙ basis.free;
+  none = basis.none;
+  code = basis.code;
+}
+
+pub basis_same : (old new : ChipState) → IsBasis old → IsBase old.front.board.controller new.front.board.controller → new.count ≡ old.count → new.order ≡ old.order → IsBasis new
+basis_same old new basis base count order = record {
+  by_dma = base.non_dma ∙ basis.by_dma;
+  whole = base.command;
+  free = base_held old.front.board.controller new.front.board.controller base ∙ basis.free;
+  none = count ∙ basis.none;
+  code = subst (λ (o : Order). o.code < 256) (sym order) basis.code;
+}
+
+-- a chip of such a kind is sound where its parts agree
+pub basis_sound : (chip : ChipState) → IsBasis chip → IsSoundAt chip.stage chip.front → IsSound chip
+basis_sound chip basis now = record {
+  by_dma = basis.by_dma;
+  whole = basis.whole;
+  held = λ held. clash (is_held chip.front.board.controller) basis.free held;
+  comes = λ some. clash (chip.count == 0) some (ap (λ n. n == 0) basis.none);
+  code = basis.code;
+  now = now;
+}
+
+pub basis_rests : (chip : ChipState) (stage : Stage) → IsBasis chip → RestsBehind chip.front → chip.stage ≡ stage → is_busy stage ≡ false → IsSound chip
+basis_rests chip stage basis rests is idle = basis_sound chip basis (rests_at chip.stage chip.front (ap is_busy is ∙ idle) rests)
+
+pub basis_busy : (chip : ChipState) (task : Task) → IsBasis chip → IsBusyWith task chip.front → chip.stage ≡ Busy task → IsSound chip
+basis_busy chip task basis busy is = basis_sound chip basis (subst (λ stage. IsSoundAt stage chip.front) (sym is) busy)
+
+-- ---- a chip whose stage and whose bytes stay
+
+pub stays_sound : (old new : ChipState) → IsSound old → IsBase old.front.board.controller new.front.board.controller → new.stage ≡ old.stage → new.count ≡ old.count → new.order ≡ old.order
+    → IsSoundAt old.stage new.front → IsSound new
+stays_sound old new sound base stage count order now = record {
+  by_dma = base.non_dma ∙ sound.by_dma;
+  whole = base.command;
+  held = λ held. let was = sound.held (sym (base_held old.front.board.controller new.front.board.controller base) ∙ held) in (stage ∙ was.0, count ∙ was.1);
+  comes = λ some. stage ∙ sound.comes (sym (ap (λ n. n == 0) count) ∙ some);
+  code = subst (λ (o : Order). o.code < 256) (sym order) sound.code;
+  now = subst (λ s. IsSoundAt s new.front) (sym stage) now;
+}
+
+pub same_sound : (old new : ChipState) → new ≡ old → IsSound old → IsSound new
+same_sound old new is sound = subst IsSound (sym is) sound
+
+-- what stands is free for the next command
+pub basis_stands : (chip : ChipState) → IsBasis chip → Stands chip.front → RestsBehind chip.front
+basis_stands chip basis stands = stands_rests chip.front stands

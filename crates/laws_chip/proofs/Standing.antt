@@ -1,0 +1,106 @@
+-- A front whose controller takes a command and executes it.
+use Rattle.std.proofs.Common.{◌≡◌, ℕ, zero, suc, ◌<◌, ◌^◌, Bool, true, false, not, ◌==◌, if◌then◌else◌, List, [], ◌∷◌, Option, Some, None, bit_and, bit_or, refl, sym, ◌∙◌, ap, arith}
+use Rattle.std.specs.Option.{option_map_or}
+use Rattle.std.proofs.lemmas.Bool.{and_parts, and_from, false≢true, not-false, not-true}
+use Rattle.fdc_seek.specs.Seeking.{seek_bits}
+use Rattle.fdc_seek.specs.declared.motion.Seek.{Seek}
+use Rattle.fdc_commands.specs.Table.{is_begun}
+use Rattle.fdc_phases.specs.declared.phases.Phase.{Phase}
+use Rattle.fdc_phases.specs.declared.phases.Phase.TheVariants.{Command as Taking, Execute, Result}
+use Rattle.fdc_core.specs.Ports.{is_taking, main_status, phase_bits, takes_in}
+use Rattle.fdc_core.specs.State.{is_held}
+use Rattle.fdc_core.specs.Whole.{is_idle}
+use Rattle.fdc_core.specs.declared.controller.Fdc.{Fdc}
+use Rattle.fdc_sequencer.specs.Fronts.{Front, status_at}
+use Rattle.fdc_sequencer.specs.Senses.{is_ready, is_ready_at}
+use Rattle.fdc_sequencer.specs.declared.stage.Stage.{Stage}
+use Rattle.fdc_sequencer.specs.declared.stage.Stage.TheVariants.{Through, Collecting, Seeking, Moving, Telling}
+use Rattle.fdc_chip.specs.Doing.{moves_heads}
+use Rattle.laws_chip.specs.Beginning.{IsFreeBehind, IsOfFour}
+
+-- it takes the first byte of a command, and executes what comes: no seek bit is set, and SPECIFY's ND isn't
+pub record Stands (front : Front) : Type 0 where
+  pub through : front.stage ≡ Through
+  pub takes : front.board.controller.phase ≡ Taking
+  pub none : front.board.controller.command ≡ []
+  pub free : is_held front.board.controller ≡ false
+  pub rests : seek_bits front.board.controller.seeks ≡ 0
+  pub by_dma : front.board.controller.non_dma ≡ false
+
+-- ---- what it is seen by
+
+taking_phase : (phase : Phase) (held : Bool) → takes_in phase held ≡ true → (phase ≡ Taking) × (held ≡ false)
+taking_phase Taking held is = (refl, not-true held is)
+taking_phase (Execute execution) held is = absurd (false≢true is)
+taking_phase (Result ended) held is = absurd (false≢true is)
+
+begun_none : (command : List ℕ) → is_begun command ≡ false → command ≡ []
+begun_none [] is = refl
+begun_none (byte ∷ rest) is = absurd (false≢true (sym is))
+
+ready_through : (stage : Stage) (fdc : Fdc) → is_ready_at stage fdc ≡ true → (stage ≡ Through) × (is_idle fdc ≡ true)
+ready_through Through fdc is = (refl, is)
+ready_through (Collecting opcode) fdc is = absurd (false≢true is)
+ready_through (Seeking transfer counted) fdc is = absurd (false≢true is)
+ready_through (Moving moving) fdc is = absurd (false≢true is)
+ready_through (Telling results read) fdc is = absurd (false≢true is)
+
+-- MSR shows that no seek bit is set
+no_drive : (drive : ℕ) → drive < 4 → (bit_and (bit_or 0x80 (2 ^ drive)) 0x0F == 0) ≡ true → ⊥
+no_drive zero few none = false≢true none
+no_drive (suc zero) few none = false≢true none
+no_drive (suc (suc zero)) few none = false≢true none
+no_drive (suc (suc (suc zero))) few none = false≢true none
+no_drive (suc (suc (suc (suc drive)))) few none = absurd (omega arith)
+
+no_seek : (seek : Option Seek) → IsOfFour seek → (bit_and (bit_or 0x80 (option_map_or (λ (s : Seek). 2 ^ s.drive) seek 0)) 0x0F == 0) ≡ true → option_map_or (λ (s : Seek). 2 ^ s.drive) seek 0 ≡ 0
+no_seek None few none = refl
+no_seek (Some seek) few none = absurd (no_drive seek.drive few none)
+
+status_free : (fdc : Fdc) → is_held fdc ≡ false → fdc.phase ≡ Taking → fdc.command ≡ [] → main_status fdc ≡ bit_or 0x80 (seek_bits fdc.seeks)
+status_free fdc free takes none =
+    ap (λ held. if held then 0 else bit_or (phase_bits (is_begun fdc.command) fdc.phase) (seek_bits fdc.seeks)) free
+    ∙ (ap (λ phase. bit_or (phase_bits (is_begun fdc.command) phase) (seek_bits fdc.seeks)) takes
+    ∙ ap (λ command. bit_or (phase_bits (is_begun command) Taking) (seek_bits fdc.seeks)) none)
+
+pub heads_stand : (front : Front) → front.stage ≡ Through → is_held front.board.controller ≡ false → front.board.controller.phase ≡ Taking → front.board.controller.command ≡ []
+    → IsOfFour front.board.controller.seeks.seek → moves_heads front ≡ false → seek_bits front.board.controller.seeks ≡ 0
+heads_stand front through free takes none few stands =
+    let fdc = front.board.controller in
+    let status = ap (λ stage. status_at stage fdc) through ∙ status_free fdc free takes none in
+    no_seek fdc.seeks.seek few (sym (ap (λ value. bit_and value 0x0F == 0) status) ∙ not-false (bit_and (status_at front.stage fdc) 0x0F == 0) stands)
+
+pub stands_free : (front : Front) → IsFreeBehind front → Stands front
+stands_free front free =
+    let fdc = front.board.controller in
+    let (through, idle) = ready_through front.stage fdc free.ready in
+    let (taking, first) = and_parts (is_taking fdc) (not (is_begun fdc.command)) idle in
+    let (takes, unheld) = taking_phase fdc.phase (is_held fdc) taking in
+    let none = begun_none fdc.command (not-true (is_begun fdc.command) first) in
+    record {
+      through = through;
+      takes = takes;
+      none = none;
+      free = unheld;
+      rests = heads_stand front through unheld takes none free.seek free.stands;
+      by_dma = free.by_dma;
+    }
+
+-- it isn't held in reset
+pub ready_free : (front : Front) → is_ready front ≡ true → is_held front.board.controller ≡ false
+ready_free front ready =
+    let fdc = front.board.controller in
+    let (through, idle) = ready_through front.stage fdc ready in
+    (taking_phase fdc.phase (is_held fdc) (and_parts (is_taking fdc) (not (is_begun fdc.command)) idle).0).1
+
+-- ---- what follows
+
+pub stands_taking : (front : Front) → Stands front → is_taking front.board.controller ≡ true
+stands_taking front stands =
+    let fdc = front.board.controller in
+    ap (λ phase. takes_in phase (is_held fdc)) stands.takes ∙ ap not stands.free
+
+pub stands_idle : (front : Front) → Stands front → is_idle front.board.controller ≡ true
+stands_idle front stands =
+    let fdc = front.board.controller in
+    and_from (is_taking fdc) (not (is_begun fdc.command)) (stands_taking front stands) (ap (λ command. not (is_begun command)) stands.none)

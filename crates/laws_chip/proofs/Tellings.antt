@@ -1,0 +1,105 @@
+-- What the sequencer tells, read by the chip in the step in which it comes.
+use Rattle.std.proofs.Common.{◌≡◌, inl, inr, ℕ, Bool, true, false, not, ◌&&◌, ◌||◌, ◌==◌, if◌then◌else◌, bit_and, bit_or, refl, sym, ◌∙◌, ap, subst}
+use Rattle.std.proofs.lemmas.Bool.{and_left, and_right}
+use Rattle.std.proofs.lemmas.Nat.{or_comm}
+use Rattle.fdc_registers.specs.St2.{wrong_cylinder, bad_cylinder}
+use Rattle.fdc_commands.specs.declared.results.Results.{Results}
+use Rattle.fdc_sequencer.specs.Fronts.{Front, asks_outside, status_at}
+use Rattle.fdc_sequencer.specs.declared.stage.Stage.TheVariants as behind
+use Rattle.fdc_chip.specs.Chips.{ChipState, asks_chip, interrupts_chip, passes, passes_at, shows_behind, with_front}
+use Rattle.fdc_chip.specs.Ending.{EndsIf, EndsSent, MayEnd, cylinder_bits, has_results, looks_for_cylinder, results_behind, results_taken, with_cylinder_passed}
+use Rattle.fdc_chip.specs.Orders.{is_format}
+use Rattle.fdc_chip.specs.Settings.{is_by_port}
+use Rattle.fdc_chip.specs.Steps.{Follows, StepsChip}
+use Rattle.fdc_chip.specs.declared.stage.Stage.TheVariants.{Busy}
+use Rattle.fdc_chip.specs.declared.stage.Task.TheVariants.{Sent, Sought}
+use Rattle.laws_chip.specs.Told.{AddsCylinder, AreOfCylinder, LooksFor, LooksOrTells, Tells}
+
+-- ---- the results of a front that tells them
+
+pub results_wait : (front : Front) (results : Results) → front.stage ≡ behind.Telling results 0 → has_results front ≡ true
+results_wait front results is = ap (λ stage. bit_and (status_at stage front.board.controller) 0xC0 == 0xC0) is
+
+pub results_are : (front : Front) (results : Results) → front.stage ≡ behind.Telling results 0 → results_behind front ≡ results
+results_are front results is = ap (λ stage. results_behind (record front { stage = stage })) is
+
+-- once all seven were read each access is the controller's again
+pub taken_is : (front : Front) (results : Results) → front.stage ≡ behind.Telling results 0 → results_taken front ≡ record front { stage = behind.Through }
+taken_is front results is = ap (λ stage. results_taken (record front { stage = stage })) is
+
+-- ---- the command that was sent
+
+ends_so : (results : Results) (old new : ChipState) (step : StepsChip old new) → old.stage ≡ Busy Sent → step.between.stage ≡ behind.Telling results 0
+    → EndsSent (looks_for_cylinder old.order results) results (with_front (results_taken step.between) old) new
+ends_so results old new step sent told =
+    let follows : MayEnd Sent (with_front step.between old) new = subst (λ stage. Follows stage (with_front step.between old) new) sent step.follows in
+    let ends : EndsIf true Sent (with_front step.between old) new = subst (λ b. EndsIf b Sent (with_front step.between old) new) (results_wait step.between results told) follows in
+    subst (λ r. EndsSent (looks_for_cylinder old.order r) r (with_front (results_taken step.between) old) new) (results_are step.between results told) ends
+
+told_by : (results : Results) (old new : ChipState) → EndsSent false results old new → Tells results new
+told_by results old new is = record { stage = ap (λ chip. chip.stage) is; line = ap (λ chip. chip.interrupts.line) is }
+
+pub sent_told : (results : Results) (old new : ChipState) (step : StepsChip old new) → old.stage ≡ Busy Sent → step.between.stage ≡ behind.Telling results 0 → looks_for_cylinder old.order results ≡ false
+    → Tells results new
+sent_told results old new step sent told found =
+    told_by results (with_front (results_taken step.between) old) new
+    (subst (λ b. EndsSent b results (with_front (results_taken step.between) old) new) found (ends_so results old new step sent told))
+
+looks_by : (results : Results) (told : Front) (old new : ChipState) → EndsSent true results (with_front (results_taken told) old) new → LooksFor results told new
+looks_by results told old new (sends, rest) = record { stage = ap (λ chip. chip.stage) rest; sends = sends }
+
+pub sent_looks : (results : Results) (old new : ChipState) (step : StepsChip old new) → old.stage ≡ Busy Sent → step.between.stage ≡ behind.Telling results 0 → looks_for_cylinder old.order results ≡ true
+    → LooksFor results step.between new
+sent_looks results old new step sent told missed =
+    looks_by results step.between old new
+    (subst (λ b. EndsSent b results (with_front (results_taken step.between) old) new) missed (ends_so results old new step sent told))
+
+-- ---- which cylinder passes
+
+bits_among : (wanted passed : ℕ) → AreOfCylinder (cylinder_bits wanted passed)
+bits_among wanted passed = by_key (wanted == passed) (passed == 0xFF)
+  where
+    by_key : (same bad : Bool) → AreOfCylinder (if same then 0 else (if bad then bit_or wrong_cylinder bad_cylinder else wrong_cylinder))
+    by_key true bad = inl refl
+    by_key false true = inr (inr refl)
+    by_key false false = inr (inl refl)
+
+adds : (first passed : Results) → AddsCylinder first (with_cylinder_passed first passed)
+adds first passed = by_found (passed.st1.0 == 0)
+  where
+    by_found : (b : Bool) → AddsCylinder first (if b then record first { st2 = record { 0 = bit_or first.st2.0 (cylinder_bits first.key.c passed.key.c) } } else first)
+    by_found true = record { bits = cylinder_bits first.key.c passed.key.c; among = bits_among first.key.c passed.key.c; told_is = refl }
+    by_found false = record { bits = 0; among = inl refl; told_is = ap (λ (n : ℕ). record first { st2 = record { 0 = n } }) (sym (or_comm first.st2.0 0)) }
+
+pub cylinder_told : (first : Results) (old new : ChipState) → StepsChip old new → old.stage ≡ Busy (Sought first) → LooksOrTells first new
+cylinder_told first old new step sought =
+    by_end (has_results step.between) (subst (λ stage. Follows stage (with_front step.between old) new) sought step.follows)
+  where
+    by_end : (b : Bool) → EndsIf b (Sought first) (with_front step.between old) new → LooksOrTells first new
+    by_end true is = inr (
+      with_cylinder_passed first (results_behind step.between),
+      adds first (results_behind step.between),
+      record { stage = ap (λ chip. chip.stage) is; line = ap (λ chip. chip.interrupts.line) is },
+    )
+    by_end false is = inl (ap (λ chip. chip.stage) is ∙ sought)
+
+-- ---- the lines
+
+and_all : (b : Bool) → (b && true) ≡ b
+and_all true = refl
+and_all false = refl
+
+-- no byte passes
+no_bytes : (results : Results) (chip : ChipState) → Tells results chip → passes chip ≡ false
+no_bytes results chip tells = and_left (passes_at chip.stage) (not (is_format chip.order && (chip.keys == 0))) (ap passes_at tells.stage)
+
+pub told_interrupts : (results : Results) (chip : ChipState) → Tells results chip → interrupts_chip chip ≡ chip.gated
+told_interrupts results chip tells =
+    let asks = asks_outside chip.front in
+    ap (λ b. chip.gated && (if b then asks else (chip.interrupts.line || shows_behind chip.stage chip.front)))
+    (and_right (is_by_port chip.settings) (passes chip) (no_bytes results chip tells))
+    ∙ (ap (λ line. chip.gated && (line || shows_behind chip.stage chip.front)) tells.line ∙ and_all chip.gated)
+
+pub told_asks : (results : Results) (chip : ChipState) → Tells results chip → asks_chip chip ≡ false
+told_asks results chip tells =
+    ap (λ b. b && asks_outside chip.front) (and_right (chip.gated && not (is_by_port chip.settings)) (passes chip) (no_bytes results chip tells))

@@ -1,0 +1,236 @@
+-- A VERIFY is a READ DATA behind whose bytes go nowhere, and ends as that does; so does a transfer.
+use Rattle.std.proofs.Common.{◌≡◌, ℕ, zero, suc, ◌+◌, ◌*◌, ◌<◌, Bool, true, false, not, ◌&&◌, ◌==◌, if◌then◌else◌, Option, Some, None, List, [], ◌∷◌, ◌++◌, refl, sym, ◌∙◌, ap, subst}
+use Rattle.std.proofs.lemmas.Bool.{and_left, and_right, eqb-true, false≢true}
+use Rattle.fdc_commands.specs.declared.results.Results.{Results}
+use Rattle.fdc_core.specs.Ranges.{IsInRange}
+use Rattle.fdc_sequencer.specs.Fronts.{Front, TakesAt, count_told as front_told, told_front}
+use Rattle.fdc_sequencer.specs.Opcodes.{opcode_of}
+use Rattle.fdc_sequencer.specs.Transfers.{size_of}
+use Rattle.fdc_sequencer.specs.declared.opcode.Opcode.{Opcode}
+use Rattle.fdc_sequencer.specs.declared.stage.Stage.{Stage as FrontStage}
+use Rattle.fdc_sequencer.specs.declared.stage.Stage.TheVariants.{Through, Collecting, Seeking, Moving, Telling}
+use Rattle.fdc_sequencer.specs.declared.transfer.Transfer.{Transfer}
+use Rattle.laws_sequencer.specs.Calls as behind
+use Rattle.laws_sequencer.specs.Lasting as lasting
+use Rattle.laws_sequencer.specs.Lasting.{HasByteRecords, is_under_way, most_steps}
+use Rattle.laws_sequencer.proofs.Called.{both_within}
+use Rattle.laws_sequencer.proofs.Lasted.{command_within}
+use Rattle.laws_sequencer.proofs.Sectors.{steps_both}
+use Rattle.fdc_chip.specs.Chips.{ChipState, passes, passes_at, passes_by_channel, passes_by_port, with_front}
+use Rattle.fdc_chip.specs.Doing.{Obeys, TransfersIf, implies, is_size, sectors_verified, verifying, with_last}
+use Rattle.fdc_chip.specs.Ending.{EndsIf, EndsSent, has_results, looks_for_cylinder, results_behind, results_taken, verified}
+use Rattle.fdc_chip.specs.Orders.{is_format, order_bytes}
+use Rattle.fdc_chip.specs.Ports.{GivesChipIf, GivesIf, ReadsAt, ReadsChip, ReadsIf, TakesByte, TakesIf, count_told, value_behind}
+use Rattle.fdc_chip.specs.Settings.{is_by_port}
+use Rattle.fdc_chip.specs.Steps.{Follows, StepsChip, Swallows, SwallowsAs, SwallowsBy}
+use Rattle.fdc_chip.specs.declared.code.Code.TheVariants.{Verify as VerifyCode}
+use Rattle.fdc_chip.specs.declared.stage.Stage.{Stage}
+use Rattle.fdc_chip.specs.declared.stage.Stage.TheVariants.{Busy}
+use Rattle.fdc_chip.specs.declared.stage.Task.TheVariants.{Verify}
+use Rattle.laws_chip.specs.Beginning.{BeginsBehind, IsBegun, IsFreeBehind, transfer_sent}
+use Rattle.laws_chip.specs.Calls as made
+use Rattle.laws_chip.specs.Calls.{AreServed, Call, Does, steps_in, steps_of}
+use Rattle.laws_chip.specs.Lasting.{AreVerified, IsVerifying}
+use Rattle.laws_chip.proofs.CommandsBegun.{sought_sent}
+use Rattle.laws_chip.proofs.NineBytes.{order_begins}
+use Rattle.laws_chip.proofs.PassedOn.{all_passed}
+use Rattle.laws_chip.proofs.Standing.{stands_free}
+use Rattle.laws_chip.proofs.UnderWay.{either_way, not_through}
+
+-- ---- a transfer
+
+pub transfer_last : (first : Transfer) (calls : List Call) (begun new : ChipState) → IsBegun first begun → HasByteRecords first → IsInRange begun.front.board.controller → AreServed calls begun new → steps_in calls < most_steps first
+transfer_last first calls begun new is bytes range served =
+    let passed = all_passed calls begun new served is.serving in
+    let begins = is.begins in
+    subst (λ n. n < most_steps first) passed.steps
+    (command_within begins.byte first begins.start begun.front new.front passed.all begins.last bytes begins.writes begins.stays range passed.within (still calls begun new served is.serving.under_way))
+  where
+    still : (calls : List Call) (old new : ChipState) → AreServed calls old new → is_under_way old.front.stage ≡ true → is_under_way new.front.stage ≡ true
+    still [] old new same under = ap (λ (chip : ChipState). is_under_way chip.front.stage) same ∙ under
+    still (call ∷ calls) old new (between, does, serving, rest) under = still calls between new rest serving.under_way
+
+-- ---- a VERIFY begins
+
+verify_sent : (opcode : Opcode) (old new : ChipState) → opcode_of (verifying old.order).code ≡ Some opcode → is_size old.order.key.n ≡ true → IsFreeBehind old.front → Obeys (VerifyCode true) old new
+    → BeginsBehind (transfer_sent opcode (verifying old.order)) new.front × IsVerifying new
+verify_sent opcode old new is size free obeys =
+    let noted = with_last old.order.last_sector old in
+    let order = verifying old.order in
+    let left = sectors_verified old.order * size_of old.order.key.n in
+    let begins : TransfersIf true true (Verify left) (order_bytes order) noted new = subst (λ b. TransfersIf b true (Verify left) (order_bytes order) noted new) size obeys in
+    let sent = sought_sent (implies noted) (Verify left) (implies noted) (order_bytes order) noted new (stands_free old.front free) begins in
+    let (serves, carried) = order_begins opcode order sent.set new.front sent.stands is size sent.sends in
+    (serves, record { left = left; verifies = sent.stage; under_way = carried.under_way })
+
+pub verify_begins : (opcode : Opcode) (old new : ChipState) → opcode_of (verifying old.order).code ≡ Some opcode → is_size old.order.key.n ≡ true → IsFreeBehind old.front → Obeys (VerifyCode true) old new
+    → BeginsBehind (transfer_sent opcode (verifying old.order)) new.front
+verify_begins opcode old new is size free obeys = (verify_sent opcode old new is size free obeys).0
+
+pub verify_verifies : (opcode : Opcode) (old new : ChipState) → opcode_of (verifying old.order).code ≡ Some opcode → is_size old.order.key.n ≡ true → IsFreeBehind old.front → Obeys (VerifyCode true) old new
+    → IsVerifying new
+verify_verifies opcode old new is size free obeys = (verify_sent opcode old new is size free obeys).1
+
+-- ---- each call is the sequencer's, or none
+
+-- in so many device steps
+pub record IsWithin (steps : ℕ) (old new : Front) : Type 0 where
+  pub calls : List behind.Call
+  pub within : behind.AreWithin calls old new
+  pub steps_are : lasting.steps_in calls ≡ steps
+
+pub none_within : (old new : Front) → new ≡ old → IsWithin 0 old new
+none_within old new is = record { calls = []; within = is; steps_are = refl }
+
+pub one_within : (call : behind.Call) (old new : Front) → behind.Does call old new → is_under_way new.stage ≡ true → IsWithin (lasting.steps_of call + 0) old new
+one_within call old new does under = record { calls = call ∷ []; within = (new, does, not_through new under, refl); steps_are = refl }
+
+then_within : (first second : ℕ) (old between new : Front) → IsWithin first old between → IsWithin second between new → IsWithin (first + second) old new
+then_within first second old between new one two = record {
+  calls = one.calls ++ two.calls;
+  within = both_within one.calls two.calls old between new one.within two.within;
+  steps_are = steps_both one.calls two.calls ∙ (ap (λ n. n + lasting.steps_in two.calls) one.steps_are ∙ ap (λ n. first + n) two.steps_are);
+}
+
+-- ---- its bytes
+
+-- where a command is under way behind a byte it was before
+takes_back : (stage : FrontStage) (byte : Option ℕ) (old new : Front) → old.stage ≡ stage → is_under_way new.stage ≡ true → TakesAt stage old byte new → is_under_way stage ≡ true
+takes_back Through byte old new at under (board, is) = sym (ap is_under_way (ap (λ (front : Front). front.stage) is ∙ at)) ∙ under
+takes_back (Collecting opcode) byte old new at under (none, is) = sym (ap is_under_way (ap (λ (front : Front). front.stage) is ∙ at)) ∙ under
+takes_back (Telling results read) byte old new at under (none, is) = sym (ap is_under_way (ap (λ (front : Front). front.stage) is ∙ at)) ∙ under
+takes_back (Seeking transfer counted) byte old new at under takes = refl
+takes_back (Moving moving) byte old new at under takes = refl
+
+counts_back : (stage : FrontStage) (old new : Front) → old.stage ≡ stage → is_under_way new.stage ≡ true → new ≡ front_told stage old → is_under_way stage ≡ true
+counts_back Through old new at under is = sym (ap is_under_way (ap (λ (front : Front). front.stage) is ∙ at)) ∙ under
+counts_back (Collecting opcode) old new at under is = sym (ap is_under_way (ap (λ (front : Front). front.stage) is ∙ at)) ∙ under
+counts_back (Telling results read) old new at under is = sym (ap is_under_way (ap (λ (front : Front). front.stage) is ∙ at)) ∙ under
+counts_back (Seeking transfer counted) old new at under is = refl
+counts_back (Moving moving) old new at under is = refl
+
+-- a byte goes nowhere, and behind the last the count is told
+record SwallowsWithin (old new : Front) : Type 0 where
+  before : is_under_way old.stage ≡ true
+  within : IsWithin 0 old new
+
+told_within : (b : Bool) (between new : Front) → is_under_way new.stage ≡ true → new ≡ (if b then told_front between else between) → SwallowsWithin between new
+told_within true between new under is = record { before = counts_back between.stage between new refl under is; within = one_within behind.Counts between new is under }
+told_within false between new under is = record { before = sym (ap (λ (front : Front). is_under_way front.stage) is) ∙ under; within = none_within between new is }
+
+after_within : (byte : Option ℕ) (left now : ℕ) (between new : Front) → is_under_way new.stage ≡ true → SwallowsAs byte left between now new → SwallowsWithin between new
+after_within None left now between new under (now_is, is) = told_within false between new under is
+after_within (Some byte) left now between new under (now_is, is) = told_within (left == 1) between new under is
+
+swallow_within : (left now : ℕ) (old new : Front) → is_under_way new.stage ≡ true → Swallows left old now new → SwallowsWithin old new
+swallow_within left now old new under one =
+    let after = after_within one.byte left now one.between new under one.after in
+    record {
+      before = takes_back old.stage one.byte old one.between refl after.before one.takes;
+      within = then_within 0 0 old one.between new (one_within (behind.Takes one.byte) old one.between one.takes after.before) after.within;
+    }
+
+swallows_within : (n left now : ℕ) (old new : Front) → is_under_way new.stage ≡ true → SwallowsBy n left old now new → SwallowsWithin old new
+unfolding SwallowsBy
+swallows_within zero left now old new under (now_is, is) = record { before = sym (ap (λ (front : Front). is_under_way front.stage) is) ∙ under; within = none_within old new is }
+swallows_within (suc n) left now old new under (some, between, many, one) =
+    let last = swallow_within some now between new under one in
+    let first = swallows_within n left some old between last.before many in
+    record { before = first.before; within = then_within 0 0 old between new first.within last.within }
+
+-- ---- device steps
+
+abbrev is_verify : Stage → Bool
+is_verify (Busy (Verify left)) = true
+is_verify _ = false
+
+-- a VERIFY that is over isn't under way any more
+verify_over : (b : Bool) (results : Results) (old new : ChipState) → EndsSent b results old new → is_verify new.stage ≡ false
+verify_over true results old new (sends, rest) = ap (λ (chip : ChipState). is_verify chip.stage) rest
+verify_over false results old new is = ap (λ (chip : ChipState). is_verify chip.stage) is
+
+verify_same : (b : Bool) (left : ℕ) (old new : ChipState) → is_verify new.stage ≡ true → EndsIf b (Verify left) old new → new ≡ old
+verify_same true left old new still ends =
+    let results = verified old.order (results_behind old.front) in
+    absurd (false≢true (sym (verify_over (looks_for_cylinder old.order results) results (with_front (results_taken old.front) old) new ends) ∙ still))
+verify_same false left old new still is = is
+
+step_within : (left : ℕ) (old new : ChipState) → old.stage ≡ Busy (Verify left) → StepsChip old new → IsVerifying new → IsWithin 1 old.front new.front
+step_within left old new at step still =
+    let (set, all, may) = subst (λ stage. Follows stage (with_front step.between old) new) at step.follows in
+    let same = verify_same (has_results set.front) left set new (ap is_verify still.verifies) may in
+    let front : new.front ≡ all.front = ap (λ (chip : ChipState). chip.front) same ∙ ap (λ (chip : ChipState). chip.front) all.after in
+    let under : is_under_way all.front.stage ≡ true = sym (ap (λ (f : Front). is_under_way f.stage) front) ∙ still.under_way in
+    let swallows = swallows_within 16 left all.now step.between all.front under all.swallows in
+    let one = one_within behind.Steps old.front step.between step.steps swallows.before in
+    subst (IsWithin 1 old.front) (sym front) (then_within 1 0 old.front step.between all.front one swallows.within)
+
+-- ---- other calls: no byte of it is the host's
+
+none_passes : (left : ℕ) (old : ChipState) → old.stage ≡ Busy (Verify left) → passes old ≡ false
+none_passes left old at = and_left (passes_at old.stage) (not (is_format old.order && (old.keys == 0))) (ap passes_at at)
+
+none_by_channel : (left : ℕ) (old : ChipState) → old.stage ≡ Busy (Verify left) → passes_by_channel old ≡ false
+none_by_channel left old at = and_right (old.gated && not (is_by_port old.settings)) (passes old) (none_passes left old at)
+
+none_by_port : (left : ℕ) (old : ChipState) → old.stage ≡ Busy (Verify left) → passes_by_port old ≡ false
+none_by_port left old at = and_right (is_by_port old.settings) (passes old) (none_passes left old at)
+
+takes_within : (b : Bool) (byte : Option ℕ) (old new : ChipState) → b ≡ false → TakesIf b old byte new → IsWithin 0 old.front new.front
+takes_within true byte old new passes takes = absurd (false≢true (sym passes))
+takes_within false byte old new passes (none, is) = none_within old.front new.front (ap (λ (chip : ChipState). chip.front) is)
+
+gives_within : (b : Bool) (byte : ℕ) (given : Bool) (old new : ChipState) → b ≡ false → GivesChipIf b byte old given new → IsWithin 0 old.front new.front
+gives_within true byte given old new passes gives = absurd (false≢true (sym passes))
+gives_within false byte given old new passes (none, is) = none_within old.front new.front (ap (λ (chip : ChipState). chip.front) is)
+
+read_within : (b : Bool) (value : ℕ) (old new : ChipState) → b ≡ false → ReadsIf b old value new → IsWithin 0 old.front new.front
+read_within true value old new passes reads = absurd (false≢true (sym passes))
+read_within false value old new passes (none, is) = none_within old.front new.front (ap (λ (chip : ChipState). chip.front) is)
+
+write_within : (b : Bool) (value : ℕ) (old new : ChipState) → b ≡ false → GivesIf b value old new → IsWithin 0 old.front new.front
+write_within true value old new passes gives = absurd (false≢true (sym passes))
+write_within false value old new passes is = none_within old.front new.front (ap (λ (chip : ChipState). chip.front) is)
+
+other_read : (port value : ℕ) (old new : ChipState) → (port == 0x3F5) ≡ false → ReadsChip port old value new → new ≡ old
+other_read port value old new no_data reads = either_way (port == 0x3F4)
+    (λ status. (reads.status (eqb-true port 0x3F4 status)).1)
+    (λ no_status. (reads.others no_status no_data).1)
+
+call_within : (call : Call) (left : ℕ) (old new : ChipState) → old.stage ≡ Busy (Verify left) → Does call old new → IsVerifying new → IsWithin (steps_of call) old.front new.front
+call_within made.Steps left old new at does still = step_within left old new at does still
+call_within (made.Takes byte) left old new at does still = takes_within (passes_by_channel old) byte old new (none_by_channel left old at) does
+call_within (made.Gives byte given) left old new at does still = gives_within (passes_by_channel old) byte given old new (none_by_channel left old at) does
+call_within made.Counts left old new at does still = none_within old.front new.front (ap (λ (chip : ChipState). chip.front) (subst (λ stage. new ≡ count_told stage old) at does))
+call_within (made.Reads port value) left old new at does still = either_way (port == 0x3F5)
+    (λ here. read_within (passes_by_port old) value old new (none_by_port left old at)
+    (subst (λ stage. ReadsAt stage old value new) at (does.byte (eqb-true port 0x3F5 here))))
+    (λ no_data. none_within old.front new.front (ap (λ (chip : ChipState). chip.front) (other_read port value old new no_data does)))
+call_within (made.Writes port value) left old new at does still = either_way (port == 0x3F5)
+    (λ here. write_within (passes_by_port old) value old new (none_by_port left old at)
+    (subst (λ stage. TakesByte stage value old new) at (does.bytes (eqb-true port 0x3F5 here))))
+    (λ no_data. one_within (behind.Writes port (value_behind port value)) old.front new.front (does.others no_data).0 still.under_way)
+call_within made.Changes left old new at does still = one_within behind.Changes old.front new.front does.front still.under_way
+call_within (made.Straps on) left old new at does still = none_within old.front new.front (ap (λ (chip : ChipState). chip.front) does)
+call_within (made.StrapsSteps on) left old new at does still = none_within old.front new.front (ap (λ (chip : ChipState). chip.front) does)
+
+-- ---- calls one behind the other
+
+record AreWithin (calls : List Call) (old new : Front) : Type 0 where
+  under_way : is_under_way new.stage ≡ true
+  within : IsWithin (steps_in calls) old new
+
+all_within : (calls : List Call) (old new : ChipState) → IsVerifying old → AreVerified calls old new → AreWithin calls old.front new.front
+all_within [] old new was same =
+    let front = ap (λ (chip : ChipState). chip.front) same in
+    record { under_way = ap (λ (f : Front). is_under_way f.stage) front ∙ was.under_way; within = none_within old.front new.front front }
+all_within (call ∷ calls) old new was (between, does, still, rest) =
+    let more = all_within calls between new still rest in
+    record { under_way = more.under_way; within = then_within (steps_of call) (steps_in calls) old.front between.front new.front (call_within call was.left old between was.verifies does still) more.within }
+
+pub verify_last : (first : Transfer) (calls : List Call) (begun new : ChipState) → BeginsBehind first begun.front → IsVerifying begun → HasByteRecords first → IsInRange begun.front.board.controller
+    → AreVerified calls begun new → steps_in calls < most_steps first
+verify_last first calls begun new begins was bytes range verified =
+    let are = all_within calls begun new was verified in
+    subst (λ n. n < most_steps first) are.within.steps_are
+    (command_within begins.byte first begins.start begun.front new.front are.within.calls begins.last bytes begins.writes begins.stays range are.within.within are.under_way)

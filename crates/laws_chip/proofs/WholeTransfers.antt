@@ -1,0 +1,250 @@
+-- The last byte of a command: what stands behind is free for it, and it begins; or it is held until heads stand.
+use Rattle.std.proofs.Common.{◌≡◌, ℕ, zero, suc, ◌+◌, ◌%◌, ◌<◌, nat_le, Bool, true, false, not, ◌||◌, ◌==◌, Option, Some, None, is_some, refl, sym, ◌∙◌, ap, subst}
+use Rattle.std.proofs.lemmas.Bool.{and_from, and_right, eqb-true, false≢true, or_parts}
+use Rattle.fdc_sequencer.specs.Fronts.{Front}
+use Rattle.fdc_sequencer.specs.Opcodes.{opcode_of}
+use Rattle.fdc_sequencer.specs.Senses.{is_ready, is_ready_at, pending_outside, sensed_outside}
+use Rattle.fdc_sequencer.specs.declared.opcode.Opcode.{Opcode}
+use Rattle.fdc_chip.specs.Chips.{ChipState, passes_by_channel, passes_by_port, with_front}
+use Rattle.fdc_chip.specs.Codes.{code_of, parameters}
+use Rattle.fdc_chip.specs.Doing.{Attends, AttendsIf, AttendsTo, drained, drained_by, is_moving, is_size, kept, moves_heads, needs_heads}
+use Rattle.fdc_chip.specs.Paces.{Paces}
+use Rattle.fdc_chip.specs.Ports.{CollectsIf, ComesIf, GivesChipIf, GivesIf, ReadsAt, ReadsIf, TakesByte, TakesIf, WritesChip, count_told, gated_by, given_one, is_whole, may_come, reset_if, with_next}
+use Rattle.fdc_chip.specs.Steps.{Follows, StepsChip}
+use Rattle.fdc_chip.specs.declared.code.Code.{Code}
+use Rattle.fdc_chip.specs.declared.code.Code.TheVariants.{ReadTrack, Specify, SenseDrive, Transfer, Recalibrate, SenseInterrupt, ReadId, FormatTrack, DumpRegisters, Seek, RelativeSeek, Version, Perpendicular, Configure, Lock, Verify}
+use Rattle.fdc_chip.specs.declared.order.Order.{Order}
+use Rattle.fdc_chip.specs.declared.stage.Stage.TheVariants.{Ready, Held}
+use Rattle.laws_chip.specs.Beginning.{BeginsUnless, Completes, CompletesTransfer, IsBegun, IsDoneFree, IsFreeBehind, IsHeldFor, IsTransferOf, completed, still_moves, transfer_sent}
+use Rattle.laws_chip.specs.Calls as made
+use Rattle.laws_chip.specs.Calls.{Call, Does, is_reset, is_step}
+use Rattle.laws_chip.specs.Sound.{IsSound, RestsBehind}
+use Rattle.laws_chip.proofs.Attended.{free_stands}
+use Rattle.laws_chip.proofs.CommandsBegun.{transfer_begun}
+use Rattle.laws_chip.proofs.PassedOn.{other_read}
+use Rattle.laws_chip.proofs.Rests.{IsResting, drained_rests}
+use Rattle.laws_chip.proofs.SoundCalls.{code_few, comes_free}
+use Rattle.laws_chip.proofs.SoundParts as parts
+use Rattle.laws_chip.proofs.SoundParts.{IsBasis, at_rest, basis_same, is_busy, sound_basis}
+use Rattle.laws_chip.proofs.SoundSteps.{stepped_rests}
+use Rattle.laws_chip.proofs.Standing.{Stands, stands_idle}
+use Rattle.laws_chip.proofs.UnderWay.{either_way}
+
+-- ---- results that are taken over leave what stands behind by what it was
+
+kept_front : (result : Option (ℕ × ℕ)) (old : ChipState) → (kept result old).front ≡ old.front
+kept_front None old = refl
+kept_front (Some (status, cylinder)) old = refl
+
+drained_front : (n : ℕ) (one other : ChipState) → one.front ≡ other.front → (drained_by n one).front ≡ (drained_by n other).front
+unfolding drained_by
+drained_front zero one other same = same
+drained_front (suc n) one other same =
+    let first = drained_by n one in
+    let second = drained_by n other in
+    kept_front (pending_outside first.front) (with_front (sensed_outside first.front) first)
+    ∙ (ap sensed_outside (drained_front n one other same)
+    ∙ sym (kept_front (pending_outside second.front) (with_front (sensed_outside second.front) second)))
+
+kept_pace : (result : Option (ℕ × ℕ)) (old : ChipState) → (kept result old).pace ≡ old.pace
+kept_pace None old = refl
+kept_pace (Some (status, cylinder)) old = refl
+
+drained_pace : (n : ℕ) (chip : ChipState) → (drained_by n chip).pace ≡ chip.pace
+unfolding drained_by
+drained_pace zero chip = refl
+drained_pace (suc n) chip =
+    let before = drained_by n chip in
+    kept_pace (pending_outside before.front) (with_front (sensed_outside before.front) before) ∙ drained_pace n chip
+
+same_moves : (one other : ChipState) → one.front ≡ other.front → one.pace ≡ other.pace → still_moves one ≡ still_moves other
+same_moves one other same paced =
+    ap (λ b. b || moves_heads (drained one).front) (ap is_some (drained_pace 4 one ∙ (paced ∙ sym (drained_pace 4 other))))
+    ∙ ap (λ (front : Front). is_some (drained other).pace || moves_heads front) (drained_front 4 one other same)
+
+-- ---- a whole command
+
+-- it is attended to by a chip where nothing is under way
+record IsAttended (code : Code) (set new : ChipState) : Type 0 where
+  basis : IsBasis set
+  rests : RestsBehind set.front
+  attends : Attends code set new
+
+free_of : (front : Front) → Stands front → RestsBehind front → moves_heads front ≡ false → IsFreeBehind front
+free_of front stands rests still = record {
+  ready = ap (λ stage. is_ready_at stage front.board.controller) stands.through ∙ stands_idle front stands;
+  stands = still;
+  seek = rests.seek;
+  by_dma = stands.by_dma;
+}
+
+attended_free : (code : Code) (old new : ChipState) → IsAttended code old new → still_moves old ≡ false → IsDoneFree code old.order new
+attended_free code old new attended still =
+    let set = drained old in
+    let resting : IsResting old set = drained_rests 4 old attended.basis.whole attended.rests in
+    let stands = free_stands set (basis_same old set attended.basis resting.base resting.count resting.order) resting.rests still in
+    record {
+      set = set;
+      order_is = resting.order;
+      free = free_of set.front stands resting.rests (or_parts (is_some set.pace) (moves_heads set.front) still).1;
+      obeys = subst (λ b. AttendsIf b code set new) (and_right (needs_heads code) (is_moving set) still) attended.attends;
+    }
+
+attended_held : (code : Code) (old new : ChipState) → IsAttended code old new → needs_heads code ≡ true → still_moves old ≡ true → IsHeldFor old.order new
+attended_held code old new attended heads moves =
+    let set = drained old in
+    let resting : IsResting old set = drained_rests 4 old attended.basis.whole attended.rests in
+    let is : new ≡ record set { stage = Held } = subst (λ b. AttendsIf b code set new) (and_from (needs_heads code) (is_moving set) heads moves) attended.attends in
+    record { held = ap (λ (chip : ChipState). chip.stage) is; order_is = ap (λ (chip : ChipState). chip.order) is ∙ resting.order }
+
+attended_begins : (b : Bool) (opcode : Opcode) (old new : ChipState) → still_moves old ≡ b → IsTransferOf opcode old.order → IsAttended (Transfer true) old new → BeginsUnless b opcode old.order new
+attended_begins true opcode old new moves whole attended = attended_held (Transfer true) old new attended refl moves
+attended_begins false opcode old new still whole attended =
+    let done = attended_free (Transfer true) old new attended still in
+    let served : opcode_of done.set.order.code ≡ Some opcode = ap (λ (order : Order). opcode_of order.code) done.order_is ∙ whole.served in
+    let size : is_size done.set.order.key.n ≡ true = ap (λ (order : Order). is_size order.key.n) done.order_is ∙ whole.size in
+    subst (λ order. IsBegun (transfer_sent opcode order) new) done.order_is (transfer_begun opcode done.set new served size done.free done.obeys)
+
+-- ---- its last byte
+
+-- the chip that attends to it: none of its bytes waits
+abbrev attending : ℕ → ChipState → ChipState
+attending byte old = record (with_next byte old) { count = 0 }
+
+-- it isn't the first byte, and no more are wanted
+last_bytes : (code : Code) → needs_heads code ≡ true → ((parameters code == 0) ≡ false) × (nat_le (parameters code + 1) ((parameters code + 1) % 256) ≡ true)
+last_bytes Specify heads = absurd (false≢true heads)
+last_bytes SenseInterrupt heads = absurd (false≢true heads)
+last_bytes Version heads = absurd (false≢true heads)
+last_bytes Perpendicular heads = absurd (false≢true heads)
+last_bytes DumpRegisters heads = absurd (false≢true heads)
+last_bytes (Lock on) heads = absurd (false≢true heads)
+last_bytes SenseDrive heads = (refl, refl)
+last_bytes Recalibrate heads = (refl, refl)
+last_bytes Seek heads = (refl, refl)
+last_bytes (RelativeSeek inward) heads = (refl, refl)
+last_bytes Configure heads = (refl, refl)
+last_bytes (ReadId mfm) heads = (refl, refl)
+last_bytes (FormatTrack mfm) heads = (refl, refl)
+last_bytes (Transfer mfm) heads = (refl, refl)
+last_bytes (Verify mfm) heads = (refl, refl)
+last_bytes (ReadTrack mfm) heads = (refl, refl)
+
+byte_attends : (code : Code) (byte : ℕ) (old new : ChipState) → IsSound old → byte < 256 → needs_heads code ≡ true → Completes code byte old → WritesChip 0x3F5 byte old new → IsAttended code (attending byte old) new
+byte_attends code byte old new sound few heads completes writes =
+    let (some, enough) = last_bytes code heads in
+    let begun : (old.count == 0) ≡ false = ap (λ n. n == 0) completes.others ∙ some in
+    let at : old.stage ≡ Ready = sound.comes begun in
+    let comes : may_come old ≡ true = ap (λ b. not b || is_ready old.front) begun in
+    let taken : ComesIf (may_come old) byte old new = subst (λ stage. TakesByte stage byte old new) at (writes.bytes refl) in
+    let found = code_of (completed byte old).code in
+    let collects : CollectsIf (is_whole ((old.count + 1) % 256) found) found (with_next byte old) new = subst (λ b. ComesIf b byte old new) comes taken in
+    let named : CollectsIf (is_whole ((old.count + 1) % 256) (Some code)) (Some code) (with_next byte old) new =
+    subst (λ (is : Option Code). CollectsIf (is_whole ((old.count + 1) % 256) is) is (with_next byte old) new) completes.whole collects in
+    let whole : is_whole ((old.count + 1) % 256) (Some code) ≡ true = ap (λ n. nat_le (parameters code + 1) ((n + 1) % 256)) completes.others ∙ enough in
+    record {
+      basis = record {
+        by_dma = sound.by_dma;
+        whole = sound.whole;
+        free = comes_free old sound comes;
+        none = refl;
+        code = code_few old.count byte old.order few sound.code;
+      };
+      rests = at_rest old.stage old.front (ap is_busy at) sound.now;
+      attends = subst (λ b. CollectsIf b (Some code) (with_next byte old) new) whole named;
+    }
+
+pub byte_free : (code : Code) (byte : ℕ) (old new : ChipState) → IsSound old → byte < 256 → needs_heads code ≡ true → Completes code byte old → WritesChip 0x3F5 byte old new → still_moves old ≡ false
+    → IsDoneFree code (completed byte old) new
+byte_free code byte old new sound few heads completes writes still =
+    attended_free code (attending byte old) new (byte_attends code byte old new sound few heads completes writes) (same_moves (attending byte old) old refl refl ∙ still)
+
+pub byte_begins : (opcode : Opcode) (byte : ℕ) (old new : ChipState) → IsSound old → byte < 256 → CompletesTransfer opcode byte old → WritesChip 0x3F5 byte old new
+    → BeginsUnless (still_moves old) opcode (completed byte old) new
+byte_begins opcode byte old new sound few completes writes =
+    let last : Completes (Transfer true) byte old = record { others = completes.eight; whole = completes.whole.code } in
+    attended_begins (still_moves old) opcode (attending byte old) new (same_moves (attending byte old) old refl refl) completes.whole (byte_attends (Transfer true) byte old new sound few refl last writes)
+
+-- ---- a device step of one that is held
+
+step_attends : (code : Code) (old paced new : ChipState) → IsSound old → old.stage ≡ Held → code_of old.order.code ≡ Some code → IsResting old paced → AttendsTo (code_of paced.order.code) paced new → IsAttended code paced new
+step_attends code old paced new sound at is was attends = record {
+  basis = basis_same old paced (sound_basis old (ap parts.is_ready at) sound) was.base was.count was.order;
+  rests = was.rests;
+  attends = subst (λ (found : Option Code). AttendsTo found paced new) (ap (λ (order : Order). code_of order.code) was.order ∙ is) attends;
+}
+
+-- what follows it
+follows_held : (old new : ChipState) (step : StepsChip old new) → old.stage ≡ Held → Follows Held (with_front step.between old) new
+follows_held old new step at = subst (λ stage. Follows stage (with_front step.between old) new) at step.follows
+
+step_rests : (old paced new : ChipState) (step : StepsChip old new) → IsSound old → old.stage ≡ Held → Paces old.pace (with_front step.between old) paced → IsResting old paced
+step_rests old paced new step sound at paces = stepped_rests old step.between paced sound (ap is_busy at) step.steps paces
+
+of_order : (code : Code) (one other : Order) (new : ChipState) → one ≡ other → IsDoneFree code one new → IsDoneFree code other new
+of_order code one other new is done = record { set = done.set; order_is = done.order_is ∙ is; free = done.free; obeys = done.obeys }
+
+pub step_free : (code : Code) (old new : ChipState) (step : StepsChip old new) → IsSound old → old.stage ≡ Held → code_of old.order.code ≡ Some code
+    → (paced : ChipState) × Paces old.pace (with_front step.between old) paced × (still_moves paced ≡ false → IsDoneFree code old.order new)
+step_free code old new step sound at is =
+    let (paced, paces, attends) = follows_held old new step at in
+    let was = step_rests old paced new step sound at paces in
+    let attended = step_attends code old paced new sound at is was attends in
+    (paced, paces, λ still. of_order code paced.order old.order new was.order (attended_free code paced new attended still))
+
+pub step_begins : (opcode : Opcode) (order : Order) (old new : ChipState) (step : StepsChip old new) → IsSound old → IsHeldFor order old → IsTransferOf opcode order
+    → (paced : ChipState) × Paces old.pace (with_front step.between old) paced × BeginsUnless (still_moves paced) opcode order new
+step_begins opcode order old new step sound held whole =
+    let (paced, paces, attends) = follows_held old new step held.held in
+    let was = step_rests old paced new step sound held.held paces in
+    let same : paced.order ≡ order = was.order ∙ held.order_is in
+    let is : code_of old.order.code ≡ Some (Transfer true) = ap (λ (o : Order). code_of o.code) held.order_is ∙ whole.code in
+    let attended = step_attends (Transfer true) old paced new sound held.held is was attends in (
+      paced,
+      paces,
+      subst (λ o. BeginsUnless (still_moves paced) opcode o new) same
+          (attended_begins (still_moves paced) opcode paced new refl (subst (IsTransferOf opcode) (sym same) whole) attended),
+    )
+
+-- ---- it is held through each other call
+
+front_held : (order : Order) (old new : ChipState) → new ≡ with_front new.front old → IsHeldFor order old → IsHeldFor order new
+front_held order old new rest was =
+    record { held = ap (λ (chip : ChipState). chip.stage) rest ∙ was.held; order_is = ap (λ (chip : ChipState). chip.order) rest ∙ was.order_is }
+
+same_held : (order : Order) (old new : ChipState) → new ≡ old → IsHeldFor order old → IsHeldFor order new
+same_held order old new is was = subst (IsHeldFor order) (sym is) was
+
+takes_held : (b : Bool) (order : Order) (byte : Option ℕ) (old new : ChipState) → IsHeldFor order old → TakesIf b old byte new → IsHeldFor order new
+takes_held true order byte old new was (takes, rest) = front_held order old new rest was
+takes_held false order byte old new was (none, is) = same_held order old new is was
+
+gives_held : (b : Bool) (order : Order) (byte : ℕ) (given : Bool) (old new : ChipState) → IsHeldFor order old → GivesChipIf b byte old given new → IsHeldFor order new
+gives_held true order byte given old new was (gives, rest) = front_held order (given_one given old) new rest (record { held = was.held; order_is = was.order_is })
+gives_held false order byte given old new was (none, is) = same_held order old new is was
+
+read_held : (b : Bool) (order : Order) (value : ℕ) (old new : ChipState) → IsHeldFor order old → ReadsIf b old value new → IsHeldFor order new
+read_held true order value old new was reads = front_held order old new reads.rest was
+read_held false order value old new was (none, is) = same_held order old new is was
+
+write_held : (b : Bool) (order : Order) (value : ℕ) (old new : ChipState) → IsHeldFor order old → GivesIf b value old new → IsHeldFor order new
+write_held true order value old new was gives = front_held order (given_one gives.was old) new gives.rest (record { held = was.held; order_is = was.order_is })
+write_held false order value old new was is = same_held order old new is was
+
+pub call_held : (order : Order) (call : Call) (old new : ChipState) → IsHeldFor order old → Does call old new → is_step call ≡ false → is_reset call ≡ false → IsHeldFor order new
+call_held order made.Steps old new was does no_step no_reset = absurd (false≢true (sym no_step))
+call_held order (made.Takes byte) old new was does no_step no_reset = takes_held (passes_by_channel old) order byte old new was does
+call_held order (made.Gives byte given) old new was does no_step no_reset = gives_held (passes_by_channel old) order byte given old new was does
+call_held order made.Counts old new was does no_step no_reset = same_held order old new (subst (λ stage. new ≡ count_told stage old) was.held does) was
+call_held order (made.Reads port value) old new was does no_step no_reset = either_way (port == 0x3F5)
+    (λ here. read_held (passes_by_port old) order value old new was (subst (λ stage. ReadsAt stage old value new) was.held (does.byte (eqb-true port 0x3F5 here))))
+    (λ no_data. same_held order old new (other_read port value old new no_data does) was)
+call_held order (made.Writes port value) old new was does no_step no_reset = either_way (port == 0x3F5)
+    (λ here. write_held (passes_by_port old) order value old new was (subst (λ stage. TakesByte stage value old new) was.held (does.bytes (eqb-true port 0x3F5 here))))
+    (λ no_data. front_held order (gated_by port value old) new (subst (λ b. new ≡ with_front new.front (reset_if b (gated_by port value old))) no_reset (does.others no_data).1)
+    (record { held = was.held; order_is = was.order_is }))
+call_held order made.Changes old new was does no_step no_reset = front_held order old new does.rest was
+call_held order (made.Straps on) old new was does no_step no_reset =
+    record { held = ap (λ (chip : ChipState). chip.stage) does ∙ was.held; order_is = ap (λ (chip : ChipState). chip.order) does ∙ was.order_is }
+call_held order (made.StrapsSteps on) old new was does no_step no_reset =
+    record { held = ap (λ (chip : ChipState). chip.stage) does ∙ was.held; order_is = ap (λ (chip : ChipState). chip.order) does ∙ was.order_is }

@@ -1,0 +1,22 @@
+-- INT between calls.
+use Rattle.std.specs.Prelude.{◌≡◌, ℕ, Bool, true, false}
+use Rattle.fdc_sequencer.specs.Fronts.{interrupts_outside}
+use Rattle.fdc_chip.specs.Chips.{ChipState}
+use Rattle.fdc_chip.specs.declared.answer.Answer.{Answer}
+use Rattle.fdc_chip.specs.declared.stage.Stage.TheVariants.{Ready, Telling}
+use Rattle.laws_chip.specs.Calls as call
+use Rattle.laws_chip.specs.Calls.{Call}
+
+-- the channel takes a byte, or gives one
+abbrev pub is_of_channel : Call → Bool
+is_of_channel (call.Takes _) = true
+is_of_channel (call.Gives _ _) = true
+is_of_channel _ = false
+
+-- the last byte of an answer was read, and behind stands INT of a seek or poll that ended meanwhile
+pub record EndsAnswer (old new : ChipState) : Type 0 where
+  pub answer : Answer
+  pub read : ℕ
+  pub told : old.stage ≡ Telling answer read
+  pub ready : new.stage ≡ Ready
+  pub ended : interrupts_outside new.front ≡ true

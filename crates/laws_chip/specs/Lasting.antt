@@ -1,0 +1,57 @@
+-- How long a command lasts, in device steps.
+use Rattle.std.specs.Prelude.{◌≡◌, ℕ, ◌+◌, ◌*◌, true, List, [], ◌∷◌}
+use Rattle.fdc_core.specs.Ranges.{IsInRange}
+use Rattle.fdc_sequencer.specs.declared.stage.Stage.{Stage as FrontStage}
+use Rattle.fdc_sequencer.specs.declared.stage.Stage.TheVariants.{Seeking, Moving}
+use Rattle.laws_sequencer.specs.Lasting.{HasByteRecords, is_under_way}
+use Rattle.fdc_chip.specs.Chips.{ChipState}
+use Rattle.fdc_chip.specs.Doing.{track_begun}
+use Rattle.fdc_chip.specs.declared.order.Order.{Order}
+use Rattle.fdc_chip.specs.declared.stage.Stage.{Stage}
+use Rattle.fdc_chip.specs.declared.stage.Stage.TheVariants.{Busy}
+use Rattle.fdc_chip.specs.declared.stage.Task.TheVariants as task
+use Rattle.fdc_chip.specs.declared.stage.Task.TheVariants.{Verify}
+use Rattle.fdc_chip.specs.declared.stage.Track.{Track}
+use Rattle.laws_chip.specs.Calls.{Call, Does, WritesByte}
+
+-- these calls, behind each of which the chip is at this stage
+abbrev pub AreAt : Stage → List Call → ChipState → ChipState → Type 0
+AreAt stage [] old new = new ≡ old
+AreAt stage (made ∷ calls) old new =
+    (between : ChipState) × Does made old between × WritesByte made × (between.stage ≡ stage) × AreAt stage calls between new
+
+-- a VERIFY is under way
+pub record IsVerifying (chip : ChipState) : Type 0 where
+  pub left : ℕ
+  pub verifies : chip.stage ≡ Busy (Verify left)
+  pub under_way : is_under_way chip.front.stage ≡ true
+
+-- these calls, behind each of which it is
+abbrev pub AreVerified : List Call → ChipState → ChipState → Type 0
+AreVerified [] old new = new ≡ old
+AreVerified (made ∷ calls) old new = (between : ChipState) × Does made old between × IsVerifying between × AreVerified calls between new
+
+-- ---- READ TRACK
+
+-- the numbers of the record and of the last one are bytes, of a command of several sectors that is under way behind
+abbrev pub HasByteNumbers : FrontStage → Type 0
+HasByteNumbers (Seeking transfer _) = HasByteRecords transfer
+HasByteNumbers (Moving moving) = HasByteRecords moving.transfer
+HasByteNumbers _ = Unit {0}
+
+-- it is under way, and the numbers behind are those that bytes and registers hold
+pub record IsTracking (chip : ChipState) : Type 0 where
+  pub track : Track
+  pub reads : chip.stage ≡ Busy (task.Track track)
+  pub bytes : HasByteNumbers chip.front.stage
+  pub range : IsInRange chip.front.board.controller
+
+-- these calls, behind each of which it is
+abbrev pub AreTracked : List Call → ChipState → ChipState → Type 0
+AreTracked [] old new = new ≡ old
+AreTracked (made ∷ calls) old new =
+    (between : ChipState) × Does made old between × WritesByte made × IsTracking between × AreTracked calls between new
+
+-- the search for the index takes as many as a command of one sector; and so does each sector, and READ ID before it 65,536
+abbrev pub most_track_steps : Order → ℕ
+most_track_steps order = 65792 + 131328 * (track_begun order).left

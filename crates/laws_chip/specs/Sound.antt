@@ -1,0 +1,94 @@
+-- A chip whose parts agree.
+use Rattle.std.specs.Prelude.{◌≡◌, ◌<◌, ◌⊎◌, Bool, true, false, ◌==◌, []}
+use Rattle.fdc_seek.specs.Seeking.{seek_bits}
+use Rattle.fdc_phases.specs.declared.phases.Phase.{Phase}
+use Rattle.fdc_phases.specs.declared.phases.Phase.TheVariants.{Command as Taking, Execute}
+use Rattle.fdc_phases.specs.declared.phases.Task.{Task}
+use Rattle.fdc_phases.specs.declared.phases.Task.TheVariants.{ReadId, Format}
+use Rattle.fdc_core.specs.State.{is_held}
+use Rattle.fdc_core.specs.Steps.{IsCounted}
+use Rattle.fdc_sequencer.specs.Fronts.{Front}
+use Rattle.fdc_sequencer.specs.declared.stage.Stage.{Stage}
+use Rattle.fdc_sequencer.specs.declared.stage.Stage.TheVariants.{Through, Seeking}
+use Rattle.fdc_sequencer.specs.declared.transfer.Transfer.{Transfer}
+use Rattle.laws_sequencer.specs.Lasting.{is_under_way}
+use Rattle.laws_sequencer.specs.Serving.{History, Serves}
+use Rattle.fdc_chip.specs.Chips.{ChipState}
+use Rattle.fdc_chip.specs.declared.stage.Place.{Place}
+use Rattle.fdc_chip.specs.declared.stage.Place.TheVariants.{Address}
+use Rattle.fdc_chip.specs.declared.stage.Stage.{Stage as ChipStage}
+use Rattle.fdc_chip.specs.declared.stage.Stage.TheVariants.{Ready, Busy}
+use Rattle.fdc_chip.specs.declared.stage.Task.{Task as ChipTask}
+use Rattle.fdc_chip.specs.declared.stage.Task.TheVariants as task
+use Rattle.laws_chip.specs.Beginning.{IsOfFour}
+
+-- ---- what stands behind
+
+-- nothing is done there: the controller takes commands, or is held in reset
+pub record RestsBehind (front : Front) : Type 0 where
+  pub through : front.stage ≡ Through
+  pub takes : front.board.controller.phase ≡ Taking
+  pub seek : IsOfFour front.board.controller.seeks.seek
+
+-- a command of the controller's own that isn't of a sector
+abbrev pub is_single : Task → Bool
+is_single (ReadId _) = true
+is_single (Format _) = true
+is_single _ = false
+
+abbrev pub executes_single : Phase → Bool
+executes_single (Execute execution) = is_single execution.task
+executes_single _ = false
+
+-- the controller executes a READ ID or a FORMAT TRACK, of which fewer than 65,536 device steps were made, and no seek bit is set
+pub record ExecutesBehind (front : Front) : Type 0 where
+  pub through : front.stage ≡ Through
+  pub executes : executes_single front.board.controller.phase ≡ true
+  pub counted : IsCounted front.board.controller.phase
+  pub rests : seek_bits front.board.controller.seeks ≡ 0
+
+-- while the heads seek first the controller executes nothing
+abbrev pub WaitsForHeads : Stage → Phase → Type 0
+WaitsForHeads (Seeking _ _) phase = phase ≡ Taking
+WaitsForHeads _ phase = Unit {0}
+
+-- a command of several sectors is served, and under way
+pub record ServesBehind (front : Front) : Type 0 where
+  pub under_way : is_under_way front.stage ≡ true
+  pub first : Transfer
+  pub history : History
+  pub serves : Serves first history front
+  pub waits : WaitsForHeads front.stage front.board.controller.phase
+
+-- ---- the chip
+
+-- a READ TRACK looks for an address field by READ ID, and reads sectors
+abbrev pub IsBusyAt : Place → Front → Type 0
+IsBusyAt Address front = ExecutesBehind front
+IsBusyAt _ front = ServesBehind front
+
+-- what is executed behind for a task
+abbrev pub IsBusyWith : ChipTask → Front → Type 0
+IsBusyWith task.Sent front = ServesBehind front ⊎ ExecutesBehind front
+IsBusyWith (task.Sought _) front = ExecutesBehind front
+IsBusyWith (task.Refused _ _ _) front = ExecutesBehind front
+IsBusyWith (task.Verify _) front = ServesBehind front
+IsBusyWith (task.Track track) front = IsBusyAt track.place front
+
+-- where it is busy that is executed, and else nothing is
+abbrev pub IsSoundAt : ChipStage → Front → Type 0
+IsSoundAt (Busy what) front = IsBusyWith what front
+IsSoundAt _ front = RestsBehind front
+
+pub record IsSound (chip : ChipState) : Type 0 where
+  -- SPECIFY's ND is never set behind
+  pub by_dma : chip.front.board.controller.non_dma ≡ false
+  -- no byte of a command waits there
+  pub whole : chip.front.board.controller.command ≡ []
+  -- held in reset nothing is under way, and no byte of a command came
+  pub held : is_held chip.front.board.controller ≡ true → (chip.stage ≡ Ready) × (chip.count ≡ 0)
+  -- bytes of a command come while nothing is under way
+  pub comes : (chip.count == 0) ≡ false → chip.stage ≡ Ready
+  -- its code is a byte
+  pub code : chip.order.code < 256
+  pub now : IsSoundAt chip.stage chip.front

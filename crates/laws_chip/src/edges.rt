@@ -1,0 +1,33 @@
+// INT from call to call: whoever looks at it behind each one sees each edge. A run of device steps stops at the first. The bodies
+// are empty: the contracts say what follows from what each call does.
+ghost use Rattle.std.specs.Prelude.{◌≡◌, ℕ, Bool, true, false, Some, List};
+ghost use Rattle.fdc_commands.specs.declared.results.Results.{Results};
+ghost use Rattle.fdc_chip.specs.Chips.{ChipState, interrupts_chip};
+ghost use Rattle.fdc_chip.specs.Doing.{Begins, sensing};
+ghost use Rattle.fdc_chip.specs.Interrupts.{sensed};
+ghost use Rattle.fdc_chip.specs.Ports.{ReadsChip, byte_told, told_chip};
+ghost use Rattle.fdc_chip.specs.Settings.{is_by_port};
+ghost use Rattle.fdc_chip.specs.declared.answer.Answer.TheVariants as answer;
+ghost use Rattle.fdc_chip.specs.declared.stage.Task.{Task};
+ghost use Rattle.laws_chip.specs.Calls.{Call, Does};
+ghost use Rattle.laws_chip.specs.Edges.{EndsAnswer, is_of_channel};
+
+/// A byte that passes by the channel leaves INT as it is, and with DMA so does the terminal count.
+pub fn the_channel_leaves_int()
+    ensures bytes { (made : Call) (old new : ChipState) → is_of_channel made ≡ true → Does made old new → interrupts_chip new ≡ interrupts_chip old }
+    ensures count { (chip : ChipState) → is_by_port chip.settings ≡ false → interrupts_chip (told_chip chip) ≡ interrupts_chip chip }
+{}
+
+/// A read of a port lets INT rise with the last byte of an answer alone, where a seek or a poll has ended behind meanwhile.
+pub fn a_read_raises_int_with_an_answer()
+    ensures { (port value : ℕ) (old new : ChipState) → ReadsChip port old value new → interrupts_chip old ≡ false → interrupts_chip new ≡ true → EndsAnswer old new }
+{}
+
+/// Behind each call that takes an interrupt INT is down: a data command's first result byte is read; SENSE INTERRUPT finds a result;
+/// with DMA, a data command begins. So it can't have risen again unseen.
+pub fn a_taken_interrupt_is_seen()
+    ensures results { (results : Results) (old : ChipState) → interrupts_chip (byte_told (answer.Results results) 0 old) ≡ false }
+    ensures sense { (status cylinder : ℕ) (old : ChipState) → sensed old.interrupts ≡ Some (status, cylinder) → interrupts_chip (sensing old) ≡ false }
+    ensures begins { (task : Task) (seeks : Bool) (bytes : List ℕ) (old new : ChipState) → is_by_port old.settings ≡ false → Begins task seeks bytes old new
+        → interrupts_chip new ≡ false }
+{}

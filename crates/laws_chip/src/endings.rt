@@ -1,0 +1,44 @@
+// How long a command lasts. The bodies are empty: the contracts say what follows from what each call does.
+ghost use Rattle.std.specs.Prelude.{◌≡◌, ◌<◌, ℕ, true, Some, List};
+ghost use Rattle.fdc_core.specs.Ranges.{IsInRange};
+ghost use Rattle.fdc_sequencer.specs.Opcodes.{opcode_of};
+ghost use Rattle.fdc_sequencer.specs.declared.opcode.Opcode.{Opcode};
+ghost use Rattle.fdc_sequencer.specs.declared.transfer.Transfer.{Transfer};
+ghost use Rattle.laws_sequencer.specs.Lasting.{HasByteRecords, most_steps};
+ghost use Rattle.fdc_chip.specs.Chips.{ChipState};
+ghost use Rattle.fdc_chip.specs.Doing.{Obeys, is_size, verifying};
+ghost use Rattle.fdc_chip.specs.declared.code.Code.TheVariants.{ReadTrack, Verify as VerifyCode};
+ghost use Rattle.fdc_chip.specs.declared.stage.Stage.TheVariants.{Busy};
+ghost use Rattle.fdc_chip.specs.declared.stage.Task.{Task};
+ghost use Rattle.laws_chip.specs.Beginning.{BeginsBehind, IsBegun, IsFreeBehind, transfer_sent};
+ghost use Rattle.laws_chip.specs.Calls.{AreServed, Call, steps_in};
+ghost use Rattle.laws_chip.specs.Lasting.{AreAt, AreTracked, AreVerified, IsTracking, IsVerifying, most_track_steps};
+ghost use Rattle.laws_chip.specs.Sound.{ExecutesBehind, IsSound};
+
+/// A READ ID or a FORMAT TRACK that is executed behind, also to look which cylinder passes or in place of a command that this medium
+/// can't have, ends in 65,536 device steps, whatever calls come between. A command of several sectors ends in 256 for an implied seek
+/// and 65,536 for each of its sectors.
+pub fn each_command_ends()
+    ensures single { (task : Task) (calls : List Call) (old new : ChipState) → IsSound old → old.stage ≡ Busy task → ExecutesBehind old.front → AreAt (Busy task) calls old new
+        → steps_in calls < 65536 }
+    ensures transfer { (first : Transfer) (calls : List Call) (begun new : ChipState) → IsBegun first begun → HasByteRecords first → IsInRange begun.front.board.controller
+        → AreServed calls begun new → steps_in calls < most_steps first }
+{}
+
+/// A VERIFY that this medium can have begins behind as the READ DATA of its sectors, where what stands behind is free, and ends as soon
+/// as such a one.
+pub fn a_verify_ends()
+    ensures begins { (opcode : Opcode) (old new : ChipState) → opcode_of (verifying old.order).code ≡ Some opcode → is_size old.order.key.n ≡ true → IsFreeBehind old.front
+        → Obeys (VerifyCode true) old new → BeginsBehind (transfer_sent opcode (verifying old.order)) new.front }
+    ensures verifies { (opcode : Opcode) (old new : ChipState) → opcode_of (verifying old.order).code ≡ Some opcode → is_size old.order.key.n ≡ true → IsFreeBehind old.front
+        → Obeys (VerifyCode true) old new → IsVerifying new }
+    ensures within { (first : Transfer) (calls : List Call) (begun new : ChipState) → BeginsBehind first begun.front → IsVerifying begun → HasByteRecords first
+        → IsInRange begun.front.board.controller → AreVerified calls begun new → steps_in calls < most_steps first }
+{}
+
+/// A READ TRACK ends in 65,792 device steps for the index, and 131,328 for each of its sectors, READ ID before it among them, whatever
+/// calls come between.
+pub fn a_read_track_ends()
+    ensures { (calls : List Call) (old begun new : ChipState) → is_size old.order.key.n ≡ true → IsFreeBehind old.front → Obeys (ReadTrack true) old begun → IsSound begun → IsTracking begun
+        → AreTracked calls begun new → steps_in calls < most_track_steps old.order }
+{}

@@ -1,0 +1,55 @@
+// What is true of a chip at each time. The bodies are empty: the contracts say what follows from what each call does.
+ghost use Rattle.std.specs.Prelude.{◌≡◌, ◌<◌, ℕ, true, false, Some, List};
+ghost use Rattle.drive_model.specs.Drive.{DriveState};
+ghost use Rattle.fdc_sequencer.specs.declared.opcode.Opcode.{Opcode};
+ghost use Rattle.fdc_chip.specs.Chips.{ChipState, IsNewChip, with_front};
+ghost use Rattle.fdc_chip.specs.Codes.{code_of};
+ghost use Rattle.fdc_chip.specs.Doing.{needs_heads};
+ghost use Rattle.fdc_chip.specs.Paces.{Paces};
+ghost use Rattle.fdc_chip.specs.Pins.{ResetsByPin};
+ghost use Rattle.fdc_chip.specs.Ports.{WritesChip};
+ghost use Rattle.fdc_chip.specs.Steps.{RunsChip, StepsChip};
+ghost use Rattle.fdc_chip.specs.declared.code.Code.{Code};
+ghost use Rattle.fdc_chip.specs.declared.order.Order.{Order};
+ghost use Rattle.fdc_chip.specs.declared.stage.Stage.TheVariants.{Busy, Held};
+ghost use Rattle.fdc_chip.specs.declared.stage.Task.{Task};
+ghost use Rattle.laws_chip.specs.Beginning.{BeginsUnless, Completes, CompletesTransfer, IsDoneFree, IsHeldFor, IsTransferOf, completed, still_moves};
+ghost use Rattle.laws_chip.specs.Calls.{AreMade, Call, Does, WritesByte, is_reset, is_step};
+ghost use Rattle.laws_chip.specs.Sound.{IsSound};
+ghost use Rattle.laws_chip.specs.Told.{IsBusyOrTells};
+
+/// The parts of a chip agree, from the beginning on: where it is busy something is executed behind, which no results wait of, and
+/// else nothing is. A run is as many device steps. So it is with a chip that was made new and used by any calls, and behind the reset
+/// pin.
+pub fn a_chip_stays_sound()
+    ensures begins { (bay0 bay1 : DriveState) (new : ChipState) → IsNewChip bay0 bay1 new → IsSound new }
+    ensures calls { (made : Call) (old new : ChipState) → Does made old new → WritesByte made → IsSound old → IsSound new }
+    ensures runs { (most n : ℕ) (old new : ChipState) → RunsChip most old n new → IsSound old → IsSound new }
+    ensures used { (bay0 bay1 : DriveState) (calls : List Call) (made new : ChipState) → IsNewChip bay0 bay1 made → AreMade calls made new → IsSound new }
+    ensures pin { (old new : ChipState) → ResetsByPin old new → IsSound old → IsSound new }
+{}
+
+/// With the last byte of a command that needs what stands behind, or in the device step in which heads stand for one that was held,
+/// what stands behind is free, and the command is done. What a step does to pulses that come in time comes first.
+pub fn what_stands_behind_is_free()
+    ensures comes { (code : Code) (byte : ℕ) (old new : ChipState) → IsSound old → byte < 256 → needs_heads code ≡ true → Completes code byte old
+        → WritesChip 0x3F5 byte old new → still_moves old ≡ false → IsDoneFree code (completed byte old) new }
+    ensures released { (code : Code) (old new : ChipState) (step : StepsChip old new) → IsSound old → old.stage ≡ Held → code_of old.order.code ≡ Some code
+        → (paced : ChipState) × Paces old.pace (with_front step.between old) paced × (still_moves paced ≡ false → IsDoneFree code old.order new) }
+{}
+
+/// A command of sectors that this medium can have begins with its ninth byte; where heads move then it is held, through all calls but a
+/// reset, up to the device step in which they stand, and begins in that.
+pub fn a_whole_transfer_begins()
+    ensures comes { (opcode : Opcode) (byte : ℕ) (old new : ChipState) → IsSound old → byte < 256 → CompletesTransfer opcode byte old
+        → WritesChip 0x3F5 byte old new → BeginsUnless (still_moves old) opcode (completed byte old) new }
+    ensures held { (order : Order) (made : Call) (old new : ChipState) → IsHeldFor order old → Does made old new → is_step made ≡ false → is_reset made ≡ false
+        → IsHeldFor order new }
+    ensures released { (opcode : Opcode) (order : Order) (old new : ChipState) (step : StepsChip old new) → IsSound old → IsHeldFor order old → IsTransferOf opcode order
+        → (paced : ChipState) × Paces old.pace (with_front step.between old) paced × BeginsUnless (still_moves paced) opcode order new }
+{}
+
+/// A chip that is busy is so until it tells results, and INT with them; or until it is reset.
+pub fn no_command_is_silent()
+    ensures { (made : Call) (task : Task) (old new : ChipState) → Does made old new → old.stage ≡ Busy task → is_reset made ≡ false → IsBusyOrTells new }
+{}

@@ -1,0 +1,60 @@
+// A command of several sectors, from its last byte to what the host reads. The bodies are empty: the contracts say what follows
+// from what each call does.
+ghost use Rattle.std.specs.Prelude.{◌≡◌, ◌<◌, ℕ, true, false, IsSome, Some, List};
+ghost use Rattle.fdc_commands.specs.declared.results.Results.{Results};
+ghost use Rattle.fdc_sequencer.specs.Opcodes.{opcode_of};
+ghost use Rattle.fdc_sequencer.specs.declared.opcode.Opcode.{Opcode};
+ghost use Rattle.fdc_sequencer.specs.declared.stage.Stage.TheVariants as behind;
+ghost use Rattle.fdc_sequencer.specs.declared.transfer.Transfer.{Transfer};
+ghost use Rattle.laws_sequencer.specs.Lasting.{is_under_way};
+ghost use Rattle.fdc_chip.specs.Chips.{ChipState, with_front, interrupts_chip, asks_chip};
+ghost use Rattle.fdc_chip.specs.Codes.{code_of};
+ghost use Rattle.fdc_chip.specs.Doing.{Obeys, is_size};
+ghost use Rattle.fdc_chip.specs.Ending.{looks_for_cylinder};
+ghost use Rattle.fdc_chip.specs.Steps.{StepsChip};
+ghost use Rattle.fdc_chip.specs.declared.code.Code.TheVariants.{Transfer as TransferCode};
+ghost use Rattle.fdc_chip.specs.declared.stage.Stage.TheVariants.{Busy};
+ghost use Rattle.fdc_chip.specs.declared.stage.Task.TheVariants.{Sent, Sought};
+ghost use Rattle.laws_chip.specs.Beginning.{IsBegun, IsFreeBehind, IsServed, transfer_sent};
+ghost use Rattle.laws_chip.specs.Calls.{AreServed, ArePassedOn, Call, Does, IsPassedOn, IsServing, is_reset, is_step};
+ghost use Rattle.laws_chip.specs.Told.{LooksFor, LooksOrTells, Tells};
+
+/// A command of sectors that this medium can have begins behind with its nine bytes, where what stands behind is free: it is served
+/// from then on, and nothing has passed of it. The code of each such command is one that the sequencer serves.
+pub fn a_transfer_is_begun()
+    ensures codes { (code : ℕ) → code < 256 → code_of code ≡ Some (TransferCode true) → IsSome (opcode_of code) }
+    ensures begins { (opcode : Opcode) (old new : ChipState) → opcode_of old.order.code ≡ Some opcode → is_size old.order.key.n ≡ true
+        → IsFreeBehind old.front → Obeys (TransferCode true) old new → IsBegun (transfer_sent opcode old.order) new }
+{}
+
+/// While it is under way each call of the chip is the sequencer's: a device step, each byte, by the channel or by the data port, and the
+/// terminal count. So are calls one behind the other, in as many device steps.
+pub fn calls_are_passed_on()
+    ensures one { (made : Call) (old new : ChipState) → IsServing old → Does made old new → IsServing new → IsPassedOn made old new }
+    ensures all { (calls : List Call) (old new : ChipState) (served : AreServed calls old new) → IsServing old → ArePassedOn calls old new served }
+{}
+
+/// It goes on through each call but a reset, and through each device step behind which it is under way.
+pub fn a_served_chip_goes_on()
+    ensures steps { (old new : ChipState) (step : StepsChip old new) → IsServing old → is_under_way step.between.stage ≡ true → new ≡ with_front step.between old }
+    ensures calls { (made : Call) (old new : ChipState) → IsServing old → Does made old new → is_step made ≡ false → is_reset made ≡ false → IsServing new }
+{}
+
+/// In the step in which the sequencer has results these are told; or READ ID looks which cylinder passes, where they are ND alone and
+/// the command has a key, and they are told once that ended, with nothing but WC and BC added.
+pub fn what_the_sequencer_tells_is_told()
+    ensures told { (results : Results) (old new : ChipState) (step : StepsChip old new) → old.stage ≡ Busy Sent → step.between.stage ≡ behind.Telling results 0
+        → looks_for_cylinder old.order results ≡ false → Tells results new }
+    ensures looks { (results : Results) (old new : ChipState) (step : StepsChip old new) → old.stage ≡ Busy Sent → step.between.stage ≡ behind.Telling results 0
+        → looks_for_cylinder old.order results ≡ true → LooksFor results step.between new }
+    ensures cylinder { (first : Results) (old new : ChipState) → StepsChip old new → old.stage ≡ Busy (Sought first) → LooksOrTells first new }
+    ensures interrupt { (results : Results) (chip : ChipState) → Tells results chip → interrupts_chip chip ≡ chip.gated }
+    ensures request { (results : Results) (chip : ChipState) → Tells results chip → asks_chip chip ≡ false }
+{}
+
+/// From its last byte to the sequencer's results the bytes that pass are those of its sectors, in order, and the results say of them
+/// how it ended.
+pub fn a_transfer_moves_its_sectors()
+    ensures { (first : Transfer) (calls : List Call) (begun last new : ChipState) (served : AreServed calls begun last) (step : StepsChip last new) (results : Results)
+        → IsBegun first begun → step.between.stage ≡ behind.Telling results 0 → IsServed first calls begun last new served step results }
+{}

@@ -1,0 +1,233 @@
+-- The commands go to their end where nothing disturbs them, or the outside failed.
+use Rattle.std.proofs.Common.{sym, ◌≡◌, ◌≤◌, ℕ, List, [], length, refl, ap, ◌∙◌, subst, inl, Option, Some, arith, false, ◌-◌, Bool, get_or, true≢false}
+use Rattle.std.proofs.lemmas.List.{length-replicate}
+use Rattle.flop_base.specs.Shelf.{Files}
+use Rattle.flop_base.specs.declared.answers.Rate.{Rate}
+use Rattle.flop_base.specs.declared.answers.Status.{Status}
+use Rattle.flop_base.specs.declared.answers.Status.TheVariants as status
+use Rattle.flop_base.specs.declared.key.Chrn.{Chrn}
+use Rattle.raw_image.specs.Disk.{Disk, HasTrack}
+use Rattle.flop_base.specs.Bays.{Two, in_bay}
+use Rattle.flop_base.specs.Counters.{Counters}
+use Rattle.flop_base.specs.Memory.{user_bytes, zeroes}
+use Rattle.sector_map.specs.Standard.{key_of}
+use Rattle.sector_model.specs.Stations.{StationState, Bay, IsFresh, bay_of}
+use Rattle.sector_model.specs.Steps.{IsImageOf, blank_of}
+use Rattle.sector_model.specs.Runs.{Taken}
+use Rattle.sector_model.specs.Plays.{World, whole_status}
+use Rattle.commands.specs.Scripts.{Script, RunsScript}
+use Rattle.commands.specs.Leading.{Runs}
+use Rattle.commands.proofs.Running.{script_ties}
+use Rattle.disk_commands.specs.Format.{format_script, formats_disk}
+use Rattle.disk_commands.specs.Verify.{verify_script, no_reads, one_more, tells_failure, verifies_record, verifies_track, reads_disk}
+use Rattle.disk_commands.specs.Copy.{copy_script, write_request, no_marks, reads_record, writes_record, copies_track, makes_copy, copies_disk}
+use Rattle.laws_commands.specs.Formatted.{StoresFormatted}
+use Rattle.laws_commands.specs.Copied.{IsSure, StoresCopy}
+use Rattle.laws_commands.specs.VerifyRuns.{TellsFailing}
+use Rattle.laws_commands.proofs.FormatRun.{format_stores}
+use Rattle.laws_commands.proofs.CopyRun.{copy_stores}
+use Rattle.laws_commands.proofs.VerifyRun.{Tally, verify_tells}
+use Rattle.laws_commands.specs.EndsComplete.{BeginsSound, EndsWellOrOutside, IsReadable, HaveSameSector, StoresSameSectors}
+use Rattle.laws_commands.proofs.SectorRequests.{readable_unmistaken, none_failing, ReadsAlone, read_done, IsMaking, AnyDisk, HasRecords, MakesAlone, any_made, blank_made, made_still, format_done, write_done}
+use Rattle.flop_base.specs.Standard.{sectors_at}
+use Rattle.floppy_requests.specs.declared.request.Request.TheVariants as request
+use Rattle.floppy_session.specs.Blanks.{blank_request}
+use Rattle.commands.specs.Parts.{formats}
+use Rattle.laws_commands.proofs.Prepared.{IsBlank}
+use Rattle.commands.specs.Records.{record_address, track_address}
+use Rattle.laws_commands.proofs.Reading.{key_is}
+use Rattle.laws_commands.proofs.Sectors.{few_sectors}
+use Rattle.laws_commands.proofs.Verified.{image_ranges}
+use Rattle.std.specs.Prelude.{◌||◌}
+use Rattle.sector_model.specs.declared.reply.Reply.{Reply}
+use Rattle.sector_model.specs.declared.reply.Reply.TheVariants as reply
+use Rattle.sector_model.specs.Texts.{is_refusal}
+use Rattle.laws_commands.proofs.Bays.{IsReadyFor, ready_still, fresh_empty, blank_done, acknowledges_goes, eject_goes, opens_goes}
+use Rattle.laws_commands.proofs.Going.{Stage, at, GoesWell, PartGoes, goes_asks, goes_needs, goes_carries, goes_each, goes_tracks, completes}
+
+-- ---- Format.
+
+-- where nothing is left to go wrong, a format goes to its end, or the outside failed
+pub format_complete : (rate : Rate) (name : List ℕ) (count : ℕ) (old new : World) (ended : Status) → 1 ≤ count → count ≤ 80 → BeginsSound old
+    → Runs (RunsScript (format_script name count rate)) old new ended → EndsWellOrOutside (StoresFormatted rate name count old.files new.files) ended
+unfolding format_script formats_disk
+format_complete rate name count old new ended least most begins runs =
+    let Making : Unit {0} → Stage → Type 0 = λ none stage. IsMaking 0 rate count AnyDisk stage.state.station in
+    let begun = at old.state old.files in
+    completes (format_script name count rate) _ old new runs.course ended old.files refl begins
+    (goes_carries (λ new. IsBlank 0 rate name count old.state old.files new.state new.files) (blank_request 0 name count rate) _ begun
+    (blank_done 0 rate name count begun refl least most (fresh_empty old.state 0 begins.fresh)) (λ one is.
+    acknowledges_goes 0 1 (blank_of count rate) refl (λ station value. refl) _ one is.medium (λ two alone.
+    goes_tracks Making count 2 (formats 0) tt two (λ c h cylinder head none mid made. λ rest behind.
+    goes_carries (λ new. MakesAlone 0 1 rate count (HasRecords (sectors_at rate) c h) mid new) (request.Format 0 c h) rest mid
+    (format_done 0 1 rate count c h refl (λ station value. refl) cylinder head AnyDisk mid made)
+    (λ new done. behind tt new (any_made 0 rate count _ new.state.station done.made)))
+    (blank_made 0 rate count two.state.station is.valid alone.ready) _
+    (λ none three made. eject_goes 0 made.disk _ three refl made.medium (λ new. refl)))))
+    ((script_ties (format_script name count rate) old runs.course new ended runs.does).undisturbed begins.sound) runs.does (λ done faultless.
+    format_stores rate name count old new runs.course done faultless.first)
+
+-- ---- Copy.
+
+-- bay 0 has the source, and in bay 1 a disk of its cylinders and rate is made, of which this holds
+pub record IsCopying (source : Disk) (Also : Disk → Type 0) (stage : Stage) : Type 0 where
+  pub first : IsReadyFor 0 source stage.state.station
+  pub second : IsMaking 1 source.rate source.cylinders Also stage.state.station
+
+module _ (source : Disk) (readable : IsReadable source) (few_cylinders : source.cylinders ≤ 80) (few_heads : source.heads ≤ 2) (c h : ℕ) (has : HasTrack source c h) where
+  abbrev sectors : ℕ
+  sectors = sectors_at source.rate
+
+  -- the track is formatted in bay 1
+  abbrev IsOnTrack : Stage → Type 0
+  IsOnTrack stage = IsCopying source (HasRecords sectors c h) stage
+
+  -- something was done in bay 1
+  made_on : (old new : Stage) → IsReadyFor 0 source old.state.station → MakesAlone 1 0 source.rate source.cylinders (HasRecords sectors c h) old new
+      → IsOnTrack new
+  made_on old new ready alone = record { first = ready_still 0 source old.state.station new.state.station alone.same ready; second = alone.made }
+
+  copy_read_goes : (r : ℕ) (marks : List Bool) (old : Stage) → 1 ≤ r → r ≤ sectors → IsOnTrack old
+      → PartGoes (λ now new. IsOnTrack new) (reads_record c h r marks) old
+  unfolding reads_record
+  copy_read_goes r marks old least most copying rest behind =
+      goes_needs (λ new. ReadsAlone source old new) (request.Read 0 (key_of c h r) (record_address r)) _ old
+      (read_done source c h r r old readable few_cylinders few_heads has least most least (omega (arith, most, few_sectors source.rate)) copying.first)
+      (λ answer new alone. behind _ new (record {
+        first = alone.ready;
+        second = made_still 1 source.rate source.cylinders (HasRecords sectors c h) (HasRecords sectors c h) old.state.station new.state.station
+            (λ disk has. has) (ap (λ (bays : Two Bay). in_bay bays 1) alone.same) copying.second;
+      }))
+
+  -- whatever its mark is
+  write_goes : (marks : List Bool) (r : ℕ) (old : Stage) → 1 ≤ r → r ≤ sectors → IsOnTrack old
+      → PartGoes (λ none new. IsOnTrack new) (writes_record marks c h r tt) old
+  unfolding writes_record
+  write_goes marks r old least most copying rest behind =
+      let deleted = get_or marks (r - 1) false in
+      goes_carries (λ new. MakesAlone 1 0 source.rate source.cylinders (HasRecords sectors c h) old new)
+      (write_request deleted (key_of c h r) (record_address r)) rest old
+      (write_done 1 0 source.rate source.cylinders c h r deleted refl (λ station value. refl) has.0
+      (omega (arith, has.1, few_heads)) least most old copying.second)
+      (λ new alone. behind tt new (made_on old new copying.first alone))
+
+  copied_goes : (old : Stage) → IsCopying source AnyDisk old → PartGoes (λ none new. IsCopying source AnyDisk new) (copies_track sectors c h tt) old
+  unfolding copies_track
+  copied_goes old copying rest behind =
+      goes_carries (λ new. MakesAlone 1 0 source.rate source.cylinders (HasRecords sectors c h) old new) (request.Format 1 c h) _ old
+      (format_done 1 0 source.rate source.cylinders c h refl (λ station value. refl) has.0 (omega (arith, has.1, few_heads)) AnyDisk old copying.second)
+      (λ one alone.
+      goes_each (λ marks new. IsOnTrack new) (reads_record c h) 1 sectors no_marks one
+      (λ r least below marks mid there. copy_read_goes r marks mid least (omega arith) there)
+      (made_on old one copying.first alone) _ (λ marks two there.
+      goes_each (λ none new. IsOnTrack new) (writes_record marks c h) 1 sectors tt two
+      (λ r least below none mid is. write_goes marks r mid least (omega arith) is) there rest
+      (λ none three is. behind tt three (record { first = is.first; second = any_made 1 source.rate source.cylinders _ three.state.station is.second }))))
+
+length-zeroes : (count : ℕ) → length (zeroes count) ≡ count
+unfolding zeroes
+length-zeroes count = length-replicate count 0
+
+pub fresh_memory : (station : StationState) → IsFresh station → length station.memory ≡ user_bytes
+fresh_memory station fresh = ap (λ (m : List ℕ). length m) fresh.memory ∙ length-zeroes user_bytes
+
+-- the sectors that the reads gave are those of the disk
+same_sectors : (disk : Disk) (to : List ℕ) (old new : Counters) (course : List Taken) (told after : Option Files) → IsSure disk old new
+    → StoresCopy disk to old told course new after → StoresSameSectors disk to told after
+same_sectors disk to old new course told after sure stores = record {
+  copied = stores.copied;
+  valid = stores.valid;
+  protected = stores.protected;
+  regular = stores.regular;
+  laid = stores.laid_fields;
+  cylinders = stores.cylinders;
+  heads = stores.heads;
+  rate = stores.rate;
+  sectors = λ key standard.
+      let given = stores.sectors key.c key.h key.r standard.track standard.sector.0 standard.sector.1 in
+      let on = given.4 in
+      let found = on.content in
+      let same : HaveSameSector disk stores.copied (key_of key.c key.h key.r) = (given.1, given.2, given.5 sure, (given.0, found.0, on.address, found.1, found.2)) in
+      subst (λ (k : Chrn). HaveSameSector disk stores.copied k) (sym (key_is key standard.size)) same;
+  files = stores.files;
+}
+
+-- so does a copy of a readable disk
+pub copy_complete : (from to : List ℕ) (old new : World) (ended : Status) (files : Files) (disk : Disk) → BeginsSound old → old.files ≡ Some files
+    → IsImageOf (Some files) from disk → IsReadable disk → Runs (RunsScript (copy_script from to)) old new ended
+    → EndsWellOrOutside (StoresSameSectors disk to (Some files) new.files) ended
+unfolding copy_script makes_copy copies_disk
+copy_complete from to old new ended files disk begins told image readable runs =
+    let rate = disk.rate in
+    let count = disk.cylinders in
+    let blank = blank_of count rate in
+    let ranges = image_ranges files from disk image in
+    completes (copy_script from to) _ old new runs.course ended (Some files) told begins
+    (opens_goes from files disk _ old.state image begins.fresh (λ one put.
+    goes_carries (λ new. IsBlank 1 rate to count one.state one.files new.state new.files) (blank_request 1 to count rate) _ one
+    (blank_done 1 rate to count one refl ranges.2 ranges.0 put.empty) (λ two is.
+    let medium = ap (λ (s : StationState). (bay_of s 0).medium) is.becomes ∙ put.medium in
+    acknowledges_goes 0 1 disk refl (λ station value. refl) _ two medium (λ three first.
+    let second = ap (λ (b : Bay). b.medium) first.same ∙ is.medium in
+    acknowledges_goes 1 0 blank refl (λ station value. refl) _ three second (λ four ready.
+    let copying : IsCopying disk AnyDisk four = record {
+      first = ready_still 0 disk three.state.station four.state.station ready.same first.ready;
+      second = blank_made 1 rate count four.state.station is.valid ready.ready;
+    } in
+    goes_tracks (λ none new. IsCopying disk AnyDisk new) count disk.heads (copies_track (sectors_at rate)) tt four
+    (λ c h cylinder head none mid there. copied_goes disk readable ranges.0 ranges.1 c h (cylinder, head) mid there) copying _
+    (λ none five there. eject_goes 1 there.second.disk _ five refl there.second.medium (λ new. refl)))))))
+    ((script_ties (copy_script from to) old runs.course new ended runs.does).undisturbed begins.sound) runs.does (λ done faultless.
+    same_sectors disk to old.state.station.counters new.state.station.counters runs.course (Some files) new.files (readable.regular, inl faultless.first)
+    (copy_stores from to old new runs.course files disk done told image (fresh_memory old.state.station begins.fresh) faultless.second))
+
+-- ---- Verify.
+
+module _ (disk : Disk) (readable : IsReadable disk) (few_cylinders : disk.cylinders ≤ 80) (few_heads : disk.heads ≤ 2) where
+  -- no read was refused so far
+  record IsReading (refused : Bool) (stage : Stage) : Type 0 where
+    pub ready : IsReadyFor 0 disk stage.state.station
+    pub fine : refused ≡ false
+
+  tells_none : (key : Chrn) (answer : Reply) (rest : Unit {0} → Script) (old : Stage) → is_refusal answer ≡ false → GoesWell (rest tt) old
+      → GoesWell (tells_failure key answer rest) old
+  unfolding tells_failure
+  tells_none key (reply.Refused cause) rest old fine goes = absurd (true≢false fine)
+  tells_none key reply.Done rest old fine goes = goes
+  tells_none key reply.DoneDeleted rest old fine goes = goes
+  tells_none key (reply.Bytes address content) rest old fine goes = goes
+
+  none_more : (before now : Bool) → before ≡ false → now ≡ false → (before || now) ≡ false
+  none_more before now e f = rw (e, f) refl
+
+  verified_goes : (c h r : ℕ) (tally : Tally) (old : Stage) → HasTrack disk c h → 1 ≤ r → r ≤ sectors_at disk.rate → IsReading tally.refused old
+      → PartGoes (λ now new. IsReading now.refused new) (verifies_record c h r tally) old
+  unfolding verifies_record
+  verified_goes c h r tally old has least most reading rest behind =
+      goes_asks (λ new. ReadsAlone disk old new) (request.Read 0 (key_of c h r) track_address) _ old
+      (read_done disk c h r 1 old readable few_cylinders few_heads has least most (omega arith) (omega arith) reading.ready)
+      (λ answer new fine alone.
+      tells_none (key_of c h r) answer _ new fine
+      (behind (one_more tally (is_refusal answer)) new (record { ready = alone.ready; fine = none_more tally.refused (is_refusal answer) reading.fine fine })))
+
+-- so does a verify of a readable disk, which finds each key
+pub verify_complete : (name : List ℕ) (old new : World) (ended : Status) (files : Files) (disk : Disk) → BeginsSound old → old.files ≡ Some files
+    → IsImageOf (Some files) name disk → IsReadable disk → Runs (RunsScript (verify_script name)) old new ended
+    → EndsWellOrOutside (TellsFailing disk [] old new status.AllOk) ended
+unfolding verify_script reads_disk verifies_track
+verify_complete name old new ended files disk begins told image readable runs =
+    let ranges = image_ranges files name disk image in
+    let empty = ap (λ (bays : Two Bay). (in_bay bays 0).medium) begins.fresh.bays in
+    completes (verify_script name) _ old new runs.course ended (Some files) told begins
+    (opens_goes name files disk _ old.state image begins.fresh (λ one put.
+    acknowledges_goes 0 1 disk refl (λ station value. refl) _ one put.medium (λ two alone.
+    goes_tracks (λ now new. IsReading disk readable ranges.0 ranges.1 now.refused new) disk.cylinders disk.heads
+    (verifies_track (sectors_at disk.rate)) no_reads two (λ c h cylinder head tally mid there.
+    goes_each (λ now new. IsReading disk readable ranges.0 ranges.1 now.refused new) (verifies_record c h) 1 (sectors_at disk.rate) tally mid
+    (λ r least below now one is.
+    verified_goes disk readable ranges.0 ranges.1 c h r now one (cylinder, head) least (omega (arith, below)) is) there)
+    (record { ready = alone.ready; fine = refl }) _
+    (λ tally three there. ap whole_status there.fine))))
+    ((script_ties (verify_script name) old runs.course new ended runs.does).undisturbed begins.sound) runs.does (λ done faultless.
+    verify_tells name old new runs.course status.AllOk files disk [] done tt told image empty faultless.calm (readable_unmistaken disk readable)
+    (none_failing disk readable))

@@ -1,0 +1,208 @@
+-- One track of a copy: formatted, its records read, and written.
+use Rattle.std.proofs.Common.{arith, ◌≡◌, ◌∙◌, ◌+◌, ◌<◌, ◌≤◌, ℕ, Bool, false, List, [], ◌∷◌, ◌++◌, take, length, refl, sym, ap, subst, inl, inr, Option, Some}
+use Rattle.std.proofs.lemmas.Bool.{cases_eq}
+use Rattle.std.proofs.lemmas.List.{append-nil, take_at}
+use Rattle.flop_base.specs.Shelf.{Files}
+use Rattle.flop_base.specs.Standard.{words_at, gap_at, standard_fill, sectors_at}
+use Rattle.flop_base.specs.declared.key.Chrn.{Chrn}
+use Rattle.flop_base.specs.declared.answers.Rate.{Rate}
+use Rattle.raw_image.specs.Disk.{Disk, IsDisk, HasTrack, track_of}
+use Rattle.flop_base.specs.Memory.{user_bytes}
+use Rattle.flop_base.specs.Counters.{Counters, IsFaultless}
+use Rattle.flop_base.specs.Bays.{Two, in_bay}
+use Rattle.track_model.specs.Laid.{IsLaid}
+use Rattle.track_model.specs.Regular.{IsRegular}
+use Rattle.floppy_requests.specs.declared.request.Request.TheVariants as request
+use Rattle.sector_map.specs.Layings.{formatted}
+use Rattle.sector_map.specs.LaidDisks.{format_at}
+use Rattle.sector_map.specs.Disks.{IsRegularDisk}
+use Rattle.sector_map.specs.KeptDisks.{KeepsTracks}
+use Rattle.sector_map.specs.Standard.{key_of, track_keys}
+use Rattle.sector_map.proofs.KeptTracks.{alike_tracks, stays_regular, keeps_both}
+use Rattle.sector_model.specs.Formats.{FormatsDrive}
+use Rattle.sector_model.specs.Orders.{format_refusal}
+use Rattle.sector_model.specs.Stations.{StationState, Bay, bay_of}
+use Rattle.sector_model.specs.States.{State}
+use Rattle.sector_model.specs.Runs.{Taken}
+use Rattle.laws_commands.specs.Done.{DoesAll}
+use Rattle.laws_commands.specs.Requests.{read_records, write_records, copy_track, marks_read}
+use Rattle.laws_commands.specs.Formatted.{standard_track, standard_content}
+use Rattle.laws_commands.specs.Copied.{SomeStep, Gave, HasAsGiven, IsSure}
+use Rattle.laws_commands.proofs.Formatting.{drive_formats}
+use Rattle.laws_commands.proofs.Marks.{marks-append, no_marks, writes_are_none, some_first, some_second}
+use Rattle.laws_commands.proofs.DiskRecords.{AreGiven, all_records, keys_from, reads_keep, sure_parts}
+use Rattle.laws_commands.proofs.Sectors.{few_sectors, track_regular, track_laid, track_sector, HasContent}
+use Rattle.laws_commands.proofs.Steps.{NeverFell, splits, begins, ends_there, never_fell, ok_called, reached}
+use Rattle.laws_commands.proofs.Written.{AllTidy, AreCopied, HasSome, all_writes, writes_keep}
+
+-- bay 0 has the source, bay 1 a disk of this rate that can be written, and memory has its size
+pub record IsReady (at : Rate) (source disk : Disk) (state : State) : Type 0 where
+  pub first : (bay_of state.station 0).medium ≡ Some source
+  pub medium : (bay_of state.station 1).medium ≡ Some disk
+  pub bay_rate : (bay_of state.station 1).rate ≡ at
+  pub valid : IsDisk disk
+  pub regular : IsRegularDisk disk
+  pub rate : disk.rate ≡ at
+  pub words : disk.words_per_track ≡ words_at at
+  pub size : length state.station.memory ≡ user_bytes
+
+-- what the copy of a track made of the disk in bay 1
+pub record CopiesTrack (sure : Type 0) (source : Disk) (at : Rate) (c h : ℕ) (disk : Disk) (old : State) (told : Option Files) (course : List Taken) (new : State) (after : Option Files) : Type 0 where
+  pub final : Disk
+  pub ready : IsReady at source final new
+  pub keeps : KeepsTracks disk c h final
+  pub laid : IsLaid (track_of final c h)
+  pub sectors : (r : ℕ) → 1 ≤ r → r ≤ sectors_at at → HasAsGiven sure course source final c h r
+  pub count : length (marks_read course) ≡ sectors_at at
+  pub names : new.names ≡ old.names
+  pub files : after ≡ told
+
+-- ---- the format
+
+pub record FormatsIt (at : Rate) (source : Disk) (c h : ℕ) (disk : Disk) (old : State) (told : Option Files) (new : State) (after : Option Files) : Type 0 where
+  pub next : Disk
+  pub ready : IsReady at source next new
+  pub keeps : KeepsTracks disk c h next
+  pub track : track_of next c h ≡ standard_track at c h
+  pub names : new.names ≡ old.names
+  pub files : after ≡ told
+
+pub small : (disk : Disk) (c h : ℕ) → IsDisk disk → HasTrack disk c h → (c < 256) × (h < 256)
+small disk c h valid has = (omega (arith, has.0, valid.cylinders.1), omega (arith, has.1, valid.heads.1))
+
+pub formats_it : (rate : Rate) (source : Disk) (c h : ℕ) (disk : Disk) (old new : State) (told after : Option Files) (course : List Taken)
+    → DoesAll (request.Format 1 c h ∷ []) old told course new after → IsReady rate source disk old → HasTrack disk c h
+    → IsFaultless 1 old.station.counters new.station.counters → FormatsIt rate source c h disk old told new after
+formats_it rate source c h disk old new told after course all ready has faultless =
+    let first = begins old new told after (request.Format 1 c h) [] course all in
+    let end = ends_there first.mid new first.files after first.later first.behind in
+    let does = first.does in
+    let called = does.1.0 in
+    let ok = ok_called called first.answer does.1.1 first.done in
+    let drive = reached (format_refusal old.station 1 c h (gap_at (bay_of old.station 1).rate)) called old.station first.mid.station does.1.2 ok in
+    let at = subst (λ (r : Rate). FormatsDrive (format_at c h r (gap_at r) standard_fill) 1 old.station called first.mid.station) ready.bay_rate drive in
+    let calm = subst (λ (s : State). IsFaultless 1 old.station.counters s.station.counters) end.0 faultless in
+    let formats = drive_formats 1 rate c h disk old.station first.mid.station called at ok calm ready.medium ready.valid in
+    let keeps = formats.2 in
+    let track : track_of formats.0 c h ≡ standard_track rate c h = formats.3 ∙ ap (λ (n : ℕ). formatted (format_at c h rate (gap_at rate) standard_fill) n) ready.words in
+    let tiny = small disk c h ready.valid has in
+    let regular = stays_regular disk c h formats.0 keeps ready.regular (subst (λ (t : List ℕ). IsRegular t c h) (sym track) (track_regular rate c h tiny.0 tiny.1)) in
+    let at_mid : IsReady rate source formats.0 first.mid = record {
+      first = ap (λ (s : StationState). (bay_of s 0).medium) drive.becomes ∙ ready.first;
+      medium = formats.1;
+      bay_rate = ap (λ (s : StationState). (bay_of s 1).rate) drive.becomes ∙ ready.bay_rate;
+      valid = keeps.alike.valid;
+      regular = regular;
+      rate = keeps.alike.rate ∙ ready.rate;
+      words = keeps.alike.words_per_track ∙ ready.words;
+      size = ap (λ (s : StationState). length s.memory) drive.becomes ∙ ready.size;
+    } in
+    record {
+      next = formats.0;
+      ready = subst (λ (s : State). IsReady rate source formats.0 s) (sym end.0) at_mid;
+      keeps = keeps;
+      track = track;
+      names = ap (λ (s : State). s.names) end.0 ∙ does.0.names;
+      files = end.1 ∙ does.0.files;
+    }
+
+-- ---- the records
+
+pub track_keys_from : (sectors c h : ℕ) → track_keys sectors c h ≡ keys_from c h 1 sectors
+unfolding track_keys
+track_keys_from sectors c h = refl
+
+-- a record that was read and written
+given_copied : (sure : Type 0) (source : Disk) (course : List Taken) (memory : List ℕ) (final : Disk) (c h a : ℕ) (marks : List Bool)
+    → AreGiven sure source course memory c h a marks → AreCopied final memory c h a marks → (r : ℕ) → a ≤ r → r < a + length marks
+    → HasAsGiven sure course source final c h r
+given_copied sure source course memory final c h a [] given copied r from below = absurd (omega arith)
+given_copied sure source course memory final c h a (deleted ∷ marks) given copied r from below = elim (cases_eq r a) [
+  | inl same ↦ subst (HasAsGiven sure course source final c h) (sym same) (copied.0.0, deleted, _, given.0.step, copied.0.1, given.0.sector, given.0.field)
+  | inr other ↦ given_copied sure source course memory final c h (a + 1) marks given.1 copied.1 r (omega arith) (omega arith)
+]
+
+-- in a longer course
+pub given_in : (sure : Type 0) (source : Disk) (course whole : List Taken) (copied : Disk) (c h r : ℕ)
+    → ((deleted : Bool) (content : List ℕ) → SomeStep (Gave (key_of c h r) deleted content) course → SomeStep (Gave (key_of c h r) deleted content) whole)
+    → HasAsGiven sure course source copied c h r → HasAsGiven sure whole source copied c h r
+given_in sure source course whole copied c h r more (place, deleted, content, step, on, sector, field) =
+    (place, deleted, content, more deleted content step, on, sector, field)
+
+-- ---- the track
+
+pub both_fell : (old mid new : Counters) → NeverFell old mid → NeverFell mid new → NeverFell old new
+both_fell old mid new one two = record {
+  first = omega (arith, one.first, two.first);
+  second = omega (arith, one.second, two.second);
+  stalls = omega (arith, one.stalls, two.stalls);
+}
+
+pub copies_track : (tidy : AllTidy) (sure : Type 0) (source : Disk) (rate : Rate) (c h : ℕ) (marks more : List Bool) (disk : Disk) (old new : State)
+    (told after : Option Files) (course : List Taken)
+    → DoesAll (copy_track rate (c, h) marks) old told course new after → marks ≡ take (sectors_at rate) (marks_read course ++ more)
+    → IsReady rate source disk old → HasTrack disk c h → IsFaultless 1 old.station.counters new.station.counters
+    → (sure → IsSure source old.station.counters new.station.counters) → CopiesTrack sure source rate c h disk old told course new after
+copies_track tidy sure source rate c h marks more disk old new told after course all asked ready has faultless calm =
+    let sectors = sectors_at rate in
+    let keys = track_keys sectors c h in
+    let few = few_sectors rate in
+    let one = splits old new told after (request.Format 1 c h ∷ []) (read_records 0 keys ++ write_records 1 keys marks) course all in
+    let two = splits one.mid new one.files after (read_records 0 keys) (write_records 1 keys marks) one.two one.behind in
+    let fell_format = never_fell old one.mid told one.files (request.Format 1 c h ∷ []) one.one one.before refl in
+    let fell_reads = never_fell one.mid two.mid one.files two.files (read_records 0 keys) two.one two.before (reads_keep keys) in
+    let fell_writes = never_fell two.mid new two.files after (write_records 1 keys marks) two.two two.behind (writes_keep 1 keys marks) in
+    let formats = formats_it rate source c h disk old one.mid told one.files one.one one.before ready has (omega (arith, fell_reads.second, fell_writes.second, faultless.0), omega (arith, fell_reads.second, fell_writes.second, faultless.1)) in
+    let from = track_keys_from sectors c h in
+    let asked_reads = subst (λ (row : List Chrn). DoesAll (read_records 0 row) one.mid one.files two.one two.mid two.files) from two.before in
+    let fell_behind = both_fell one.mid.station.counters two.mid.station.counters new.station.counters fell_reads fell_writes in
+    let calm_reads = λ (s : sure).
+    (sure_parts source one.mid.station.counters two.mid.station.counters new.station.counters fell_reads fell_writes
+    (sure_parts source old.station.counters one.mid.station.counters new.station.counters fell_format fell_behind (calm s)).1).0 in
+    let reads = all_records sure source c h 1 sectors one.mid two.mid one.files two.files two.one asked_reads formats.ready.size (omega arith) (omega (arith, few)) formats.ready.first calm_reads in
+    let no_format = no_marks one.one (rw one.before.all refl) in
+    let no_write = no_marks two.two (rw two.behind.all (writes_are_none keys marks)) in
+    let told_marks : marks_read course ≡ reads.marks =
+    ap marks_read one.is ∙ marks-append one.one one.two ∙ ap (λ (row : List Bool). row ++ marks_read one.two) no_format
+    ∙ ap marks_read two.is ∙ marks-append two.one two.two ∙ ap (λ (row : List Bool). marks_read two.one ++ row) no_write
+    ∙ append-nil (marks_read two.one) ∙ reads.marks_are in
+    let count : length (marks_read course) ≡ sectors = ap length told_marks ∙ reads.count in
+    let same_marks : marks ≡ reads.marks = asked ∙ take_at (marks_read course) more sectors count ∙ told_marks in
+    let asked_writes = subst (λ (row : List Chrn). DoesAll (write_records 1 row reads.marks) two.mid two.files two.two new after) from (subst (λ (row : List Bool). DoesAll (write_records 1 keys row) two.mid two.files two.two new after) same_marks two.behind) in
+    let tiny = small disk c h ready.valid has in
+    let has_next = (alike_tracks disk formats.next c h formats.keeps.alike).0 has in
+    let laid = subst IsLaid (sym formats.track) (track_laid rate c h tiny.0 tiny.1) in
+    let there = λ (r : ℕ) (from : 1 ≤ r) (below : r < 1 + sectors).
+    let it = track_sector rate c h r tiny.0 tiny.1 from (omega arith) in
+    let on = subst (λ (t : List ℕ). HasContent t it.0 (key_of c h r) standard_content) (sym formats.track) it.1 in
+    let some : HasSome formats.next c h r = (it.0, false, standard_content, record { track = has_next; address = on.address; content = on.found }) in
+    some in
+    let bay = ap (λ (bays : Two Bay). in_bay bays 1) reads.bays in
+    let medium : (bay_of two.mid.station 1).medium ≡ Some formats.next = ap (λ (b : Bay). b.medium) bay ∙ formats.ready.medium in
+    let bay_rate : (bay_of two.mid.station 1).rate ≡ rate = ap (λ (b : Bay). b.rate) bay ∙ formats.ready.bay_rate in
+    let writes = all_writes tidy 1 formats.next c h 1 sectors reads.marks two.mid new two.files after two.two asked_writes reads.count (omega arith) (omega (arith, few)) there formats.ready.valid formats.ready.regular has_next laid reads.size (omega (arith, fell_format.second, fell_reads.second, faultless.0), faultless.1) medium (bay_rate ∙ sym formats.ready.rate) in
+    record {
+      final = writes.final;
+      ready = record {
+        first = ap (λ (b : Bay). b.medium) (writes.first refl) ∙ ap (λ (bays : Two Bay). (in_bay bays 0).medium) reads.bays ∙ formats.ready.first;
+        medium = writes.medium;
+        bay_rate = writes.bay_rate ∙ bay_rate;
+        valid = writes.keeps.alike.valid;
+        regular = writes.regular;
+        rate = writes.keeps.alike.rate ∙ formats.ready.rate;
+        words = writes.keeps.alike.words_per_track ∙ formats.ready.words;
+        size = ap (λ (m : List ℕ). length m) writes.memory ∙ reads.size;
+      };
+      keeps = keeps_both disk formats.next writes.final c h formats.keeps writes.keeps;
+      laid = writes.laid;
+      sectors = λ r least most.
+          let given = given_copied sure source two.one two.mid.station.memory writes.final c h 1 reads.marks reads.given writes.copied r least (let n = reads.count in omega arith) in
+          given_in sure source two.one course writes.final c h r
+          (λ deleted content step.
+          subst (SomeStep (Gave (key_of c h r) deleted content)) (sym one.is)
+          (some_second _ one.one one.two (subst (SomeStep (Gave (key_of c h r) deleted content)) (sym two.is) (some_first _ two.one two.two step))))
+          given;
+      count = count;
+      names = writes.names ∙ reads.names ∙ formats.names;
+      files = writes.files ∙ reads.files ∙ formats.files;
+    }

@@ -1,0 +1,286 @@
+-- Scripts that go to their end where nothing disturbs them.
+use Rattle.std.proofs.Common.{arith, ◌≡◌, ◌+◌, ◌<◌, ◌≤◌, ℕ, zero, suc, true, false, true≢false, List, [], ◌∷◌, refl, sym, subst, inl, inr, Option}
+use Rattle.std.proofs.lemmas.Bool.{leb-true}
+use Rattle.flop_base.specs.Shelf.{Files}
+use Rattle.flop_base.specs.Sink.{grown}
+use Rattle.flop_base.specs.declared.answers.Status.{Status}
+use Rattle.flop_base.specs.declared.answers.Status.TheVariants as status
+use Rattle.flop_base.specs.Counters.{Counters, IsFaultless, IsUndisturbed}
+use Rattle.floppy_requests.specs.declared.request.Request.{Request}
+use Rattle.sector_model.specs.declared.reply.Reply.{Reply}
+use Rattle.sector_model.specs.declared.reply.Reply.TheVariants as reply
+use Rattle.sector_model.specs.declared.reply.Stop.{Stop}
+use Rattle.sector_model.specs.Orders.{is_bay}
+use Rattle.sector_model.specs.States.{State}
+use Rattle.sector_model.specs.Steps.{Step, StopsAt}
+use Rattle.sector_model.specs.Texts.{is_refusal, stop_status}
+use Rattle.sector_model.specs.Runs.{Taken, IsEndStop, has_refusal}
+use Rattle.sector_model.specs.Plays.{World, Prints, IsPutFault}
+use Rattle.sector_model.specs.Plays as plays
+use Rattle.sector_model.specs.Ties.{entered_by, AreUndisturbed}
+use Rattle.commands.specs.Scripts.{Script, Ends, Says, Asks, Stores, MayStarve, Fails, RunsScript, IsStored, NotStored, StoresLast, unless_refused, IsStoreFault}
+use Rattle.commands.specs.Parts.{Part, asks, needs, carries, through, each, by_track}
+use Rattle.commands.specs.Leading.{with_report}
+use Rattle.laws_commands.proofs.Steps.{keeps_drives, step_never_fell}
+use Rattle.laws_commands.specs.EndsComplete.{BeginsSound, EndsWellOrOutside}
+use Rattle.sector_model.specs.declared.reply.Stop.TheVariants as stop
+use Rattle.floppy_requests.specs.declared.request.Request.TheVariants as request
+
+-- ---- Steps that nothing disturbs.
+
+-- neither a fault nor a stall disturbed a step, in any bay
+pub record IsCalm (asked : Request) (answer : Reply) (old new : Counters) : Type 0 where
+  pub first : IsUndisturbed 0 (entered_by old asked answer) new
+  pub second : IsUndisturbed 1 (entered_by old asked answer) new
+
+-- a step that leaves the drives in their bays finds the counters as they were
+entered_same : (old : Counters) (asked : Request) (answer : Reply) → keeps_drives asked ≡ true → entered_by old asked answer ≡ old
+entered_same old (request.Unit bay) answer keeps = absurd (true≢false (sym keeps))
+entered_same old _ answer keeps = refl
+
+-- nothing disturbed the bay of a request that leaves the drives in their bays
+pub calm_in : (bay : ℕ) (asked : Request) (answer : Reply) (old new : Counters) → is_bay bay ≡ true → keeps_drives asked ≡ true → IsCalm asked answer old new
+    → IsUndisturbed bay old new
+calm_in bay asked answer old new is_one keeps calm =
+    let same = entered_same old asked answer keeps in
+    go bay is_one (subst (λ (c : Counters). IsUndisturbed 0 c new) same calm.first) (subst (λ (c : Counters). IsUndisturbed 1 c new) same calm.second)
+  where
+    go : (bay : ℕ) → is_bay bay ≡ true → IsUndisturbed 0 old new → IsUndisturbed 1 old new → IsUndisturbed bay old new
+    go zero is first second = first
+    go (suc zero) is first second = second
+    go (suc (suc n)) is first second = absurd (omega (arith, leb-true (suc (suc n)) 1 is))
+
+-- neither drive had a fault, and no stall came
+pub record IsStill (old new : Counters) : Type 0 where
+  pub first : new.drives.first.faults ≡ old.drives.first.faults
+  pub second : new.drives.second.faults ≡ old.drives.second.faults
+  pub stalls : new.stalls ≡ old.stalls
+
+pub step_still : (old new : State) (told after : Option Files) (asked : Request) (answer : Reply) → Step asked old told answer new after
+    → keeps_drives asked ≡ true → IsCalm asked answer old.station.counters new.station.counters → IsStill old.station.counters new.station.counters
+step_still old new told after asked answer step keeps calm =
+    let fell = step_never_fell old new told after asked answer step keeps in
+    let first = calm_in 0 asked answer old.station.counters new.station.counters refl keeps calm in
+    let second = calm_in 1 asked answer old.station.counters new.station.counters refl keeps calm in
+    record {
+      first = omega (arith, fell.first, fell.stalls, first.together);
+      second = omega (arith, fell.second, fell.stalls, second.together);
+      stalls = omega (arith, fell.first, fell.stalls, first.together);
+    }
+
+pub still_both : (one two three : Counters) → IsStill one two → IsStill two three → IsStill one three
+still_both one two three a b = record {
+  first = omega (arith, a.first, b.first);
+  second = omega (arith, a.second, b.second);
+  stalls = omega (arith, a.stalls, b.stalls);
+}
+
+-- ---- Scripts.
+
+-- what requests change: the state of the session, and the told files
+pub record Stage : Type 0 where
+  pub state : State
+  pub files : Option Files
+
+abbrev pub at : State → Option Files → Stage
+at state files = record { state = state; files = files }
+
+-- only the outside can stop the request, which leaves the drives in their bays
+pub record IsSafe (asked : Request) (old : Stage) : Type 0 where
+  pub keeps : keeps_drives asked ≡ true
+  pub stops : (cause : Stop) (new : Stage) → StopsAt asked old.state old.files cause new.state new.files → IsEndStop cause
+
+-- and where nothing disturbs it, it isn't refused, and then this holds
+pub record IsDone (Then : Stage → Type 0) (asked : Request) (old : Stage) : Type 0 where
+  pub safe : IsSafe asked old
+  pub answers : (answer : Reply) (new : Stage) → Step asked old.state old.files answer new.state new.files
+      → IsCalm asked answer old.state.station.counters new.state.station.counters → (is_refusal answer ≡ false) × Then new
+
+-- where nothing disturbs its requests, each is safe and none is refused, and the script ends well; where it fails, the outside did
+abbrev pub GoesWell : Script → Stage → Type 0
+GoesWell (Ends line wanted) old = wanted ≡ status.AllOk
+GoesWell (Says line rest) old = GoesWell rest old
+GoesWell (Asks asked rest) old =
+    IsSafe asked old × ((answer : Reply) (new : Stage) → Step asked old.state old.files answer new.state new.files
+    → IsCalm asked answer old.state.station.counters new.state.station.counters → (is_refusal answer ≡ false) × GoesWell (rest answer new.state) new)
+GoesWell (Stores name bytes line wanted) old = wanted ≡ status.AllOk
+GoesWell (MayStarve rest) old = GoesWell rest old
+GoesWell (Fails cause) old = EndsWellOrOutside (Unit {0}) cause
+
+-- ---- Parts.
+
+pub goes_asks : (P : Stage → Type 0) (asked : Request) (rest : Reply → State → Script) (old : Stage) → IsDone P asked old
+    → ((answer : Reply) (new : Stage) → is_refusal answer ≡ false → P new → GoesWell (rest answer new.state) new) → GoesWell (asks asked rest) old
+unfolding asks
+goes_asks P asked rest old done next = (
+  done.safe,
+  λ answer new step calm. let it = done.answers answer new step calm in (it.0, next answer new it.0 it.1),
+)
+
+unrefused : (asked : Request) (answer : Reply) (later : Script) (old : Stage) → is_refusal answer ≡ false → GoesWell later old
+    → GoesWell (unless_refused asked answer later) old
+unrefused asked (reply.Refused cause) later old fine goes = absurd (true≢false fine)
+unrefused asked reply.Done later old fine goes = goes
+unrefused asked reply.DoneDeleted later old fine goes = goes
+unrefused asked (reply.Bytes address content) later old fine goes = goes
+
+pub goes_needs : (P : Stage → Type 0) (asked : Request) (rest : Reply → State → Script) (old : Stage) → IsDone P asked old
+    → ((answer : Reply) (new : Stage) → P new → GoesWell (rest answer new.state) new) → GoesWell (needs asked rest) old
+unfolding needs
+goes_needs P asked rest old done next = (
+  done.safe,
+  λ answer new step calm.
+      let it = done.answers answer new step calm in
+      (it.0, unrefused asked answer (rest answer new.state) new it.0 (next answer new it.1)),
+)
+
+pub goes_carries : (P : Stage → Type 0) (asked : Request) (rest : Unit {0} → Script) (old : Stage) → IsDone P asked old
+    → ((new : Stage) → P new → GoesWell (rest tt) new) → GoesWell (carries asked rest) old
+unfolding carries
+goes_carries P asked rest old done next = goes_needs P asked (λ answer after. rest tt) old done (λ answer new holds. next new holds)
+
+-- a part goes well, to where this holds of what it found
+abbrev pub PartGoes : {Found : Type 0} → (Found → Stage → Type 0) → Part Found → Stage → Type 0
+PartGoes {Found = Found} Then part old =
+    (rest : Found → Script) → ((found : Found) (new : Stage) → Then found new → GoesWell (rest found) new) → GoesWell (part rest) old
+
+-- parts for numbers that each keep what holds
+pub goes_each : {Found : Type 0} (P : Found → Stage → Type 0) (part : ℕ → Found → Part Found) (a n : ℕ) (found : Found) (old : Stage)
+    → ((i : ℕ) → a ≤ i → i < a + n → (now : Found) (mid : Stage) → P now mid → PartGoes P (part i now) mid)
+    → P found old → PartGoes P (each a n part found) old
+unfolding each through
+goes_each P part a zero found old keeps holds = λ rest behind. behind found old holds
+goes_each P part a (suc n) found old keeps holds = λ rest behind.
+    keeps a (omega arith) (omega arith) found old holds (λ now. each (a + 1) n part now rest)
+    (λ now mid there. goes_each P part (a + 1) n now mid (λ i least below. keeps i (omega arith) (omega arith)) there rest behind)
+
+-- so each track, by cylinder, then head
+pub goes_tracks : {Found : Type 0} (P : Found → Stage → Type 0) (cylinders heads : ℕ) (part : ℕ → ℕ → Found → Part Found) (found : Found) (old : Stage)
+    → ((c h : ℕ) → c < cylinders → h < heads → (now : Found) (mid : Stage) → P now mid → PartGoes P (part c h now) mid) → P found old
+    → PartGoes P (by_track cylinders heads part found) old
+goes_tracks P cylinders heads part found old keeps holds =
+    goes_each P (λ c. each 0 heads (part c)) 0 cylinders found old (λ c least most now mid here.
+    goes_each P (part c) 0 heads now mid (λ h from below so end there. keeps c h (omega (arith, most)) (omega (arith, below)) so end there) here) holds
+
+-- ---- The outside.
+
+pub put_fault_outside : (Holds : Type 0) (ended : Status) → IsPutFault ended → EndsWellOrOutside Holds ended
+put_fault_outside Holds status.NoMemory fault = tt
+put_fault_outside Holds status.SinkFault fault = tt
+put_fault_outside Holds _ fault = absurd fault
+
+pub store_fault_outside : (Holds : Type 0) (ended : Status) → IsStoreFault ended → EndsWellOrOutside Holds ended
+store_fault_outside Holds status.FileFault fault = tt
+store_fault_outside Holds status.NoMemory fault = tt
+store_fault_outside Holds _ fault = absurd fault
+
+pub stop_outside : (Holds : Type 0) (cause : Stop) → IsEndStop cause → EndsWellOrOutside Holds (stop_status cause)
+stop_outside Holds stop.FileFault only = tt
+stop_outside Holds stop.NoMemory only = tt
+stop_outside Holds _ only = absurd only
+
+-- a last line whose status is such a one
+pub prints_outside : (Holds : Type 0) (report : Option (List (List ℕ))) (line : List (List ℕ)) (wanted ended : Status) (after : Option (List (List ℕ)))
+    → EndsWellOrOutside Holds wanted → Prints line wanted report after ended → EndsWellOrOutside Holds ended
+prints_outside Holds report line wanted ended after well (plays.Whole told same) = subst (λ (s : Status). EndsWellOrOutside Holds s) (sym same) well
+prints_outside Holds report line wanted ended after well (plays.Part grows fault) = put_fault_outside Holds ended fault
+
+-- and what holds where it ends well
+pub ends_with : (Here Holds : Type 0) (ended : Status) → EndsWellOrOutside Here ended → (ended ≡ status.AllOk → Here → Holds) → EndsWellOrOutside Holds ended
+ends_with Here Holds status.AllOk here holds = holds refl here
+ends_with Here Holds status.FileFault ends holds = tt
+ends_with Here Holds status.SinkFault ends holds = tt
+ends_with Here Holds status.NoMemory ends holds = tt
+ends_with Here Holds _ ends holds = absurd ends
+
+-- ---- The end.
+
+-- an undisturbed run of a script that goes well ends well, no request was refused, and no count of faults or stalls rose; or the outside failed
+module _ (start : Counters) where
+  abbrev EndsStill : List Taken → World → Status → Type 0
+  EndsStill course new ended = EndsWellOrOutside (IsStill start new.state.station.counters × (has_refusal course ≡ false)) ended
+
+  stored_ends : (name bytes line : List ℕ) (old new : World) (ended : Status) → IsStill start old.state.station.counters
+      → StoresLast name bytes line status.AllOk old new ended → EndsStill [] new ended
+  stored_ends name bytes line old new ended still (IsStored state files prints) =
+      prints_outside _ old.report (line ∷ []) status.AllOk ended new.report (subst (λ (s : State). IsStill start s.station.counters) (sym state) still, refl) prints
+  stored_ends name bytes line old new ended still (NotStored same fault) = store_fault_outside _ ended fault
+
+  -- behind an answer that is no refusal
+  answered_ends : (taken : Taken) (later : List Taken) (new : World) (ended : Status) → is_refusal taken.answer ≡ false → EndsStill later new ended
+      → EndsStill (taken ∷ later) new ended
+  answered_ends taken later new ended fine ends = ends_with _ _ ended ends (λ well both. (both.0, rw fine both.1))
+
+  goes_ends : (script : Script) (old new : World) (course : List Taken) (ended : Status) → GoesWell script (at old.state old.files)
+      → IsStill start old.state.station.counters → AreUndisturbed old.state.station.counters course → RunsScript script old course new ended
+      → EndsStill course new ended
+  goes_ends (Ends line wanted) old new [] ended well still calm runs =
+      let here = subst (λ (s : State). IsStill start s.station.counters) (sym runs.state) still in
+      prints_outside _ old.report line wanted ended new.report (subst (λ (s : Status). EndsStill [] new s) (sym well) (here, refl)) runs.report
+  goes_ends (Ends line wanted) old new (taken ∷ later) ended well still calm runs = absurd runs
+  goes_ends (Says line rest) old new course ended goes still calm (inl runs) =
+      goes_ends rest (record old { report = grown old.report (line ∷ []) }) new course ended goes still calm runs
+  goes_ends (Says line rest) old new course ended goes still calm (inr cut) = put_fault_outside _ ended cut.1.1
+  goes_ends (Asks asked rest) old new [] ended goes still calm runs =
+      let only = goes.0.stops runs.0 (at new.state new.files) runs.1 in
+      prints_outside _ old.report _ (stop_status runs.0) ended new.report (stop_outside _ runs.0 only) runs.2
+  goes_ends (Asks asked rest) old new (taken ∷ later) ended goes still calm runs =
+      let quiet = subst (λ (q : Request). IsCalm q taken.answer old.state.station.counters taken.after.station.counters) runs.0
+      (record { first = calm.0; second = calm.1 }) in
+      let here = step_still old.state taken.after old.files runs.1 asked taken.answer runs.2 goes.0.keeps quiet in
+      let next = goes.1 taken.answer (at taken.after runs.1) runs.2 quiet in
+      answered_ends taken later new ended next.0
+      (goes_ends (rest taken.answer taken.after) (with_report taken.after runs.1 old.report) new later ended next.1
+      (still_both start old.state.station.counters taken.after.station.counters still here) calm.2 runs.3)
+  goes_ends (Stores name bytes line wanted) old new [] ended well still calm runs =
+      stored_ends name bytes line old new ended still (subst (λ (s : Status). StoresLast name bytes line s old new ended) well runs)
+  goes_ends (Stores name bytes line wanted) old new (taken ∷ later) ended well still calm runs = absurd runs
+  goes_ends (MayStarve rest) old new course ended goes still calm (inl runs) = goes_ends rest old new course ended goes still calm runs
+  goes_ends (MayStarve rest) old new course ended goes still calm (inr none) = subst (λ (s : Status). EndsStill course new s) (sym none.2) tt
+  goes_ends (Fails cause) old new [] ended fails still calm runs =
+      let here = subst (λ (w : World). IsStill start w.state.station.counters) (sym runs.0) still in
+      subst (λ (s : Status). EndsStill [] new s) (sym runs.1) (ends_with _ _ cause fails (λ well none. (here, refl)))
+  goes_ends (Fails cause) old new (taken ∷ later) ended fails still calm runs = absurd runs
+
+-- the drives of both bays had no fault, and nothing disturbed that of bay 0
+pub record AreFaultless (old new : Counters) : Type 0 where
+  pub first : IsFaultless 0 old new
+  pub second : IsFaultless 1 old new
+  pub calm : IsUndisturbed 0 old new
+
+pub still_faultless : (old : World) (new : Counters) → BeginsSound old → IsStill old.state.station.counters new → AreFaultless old.state.station.counters new
+still_faultless old new begins still =
+    let first = begins.sound.drives.first.below in
+    let second = begins.sound.drives.second.below in
+    let few = begins.sound.stalls_below in
+    record {
+      first = (omega (arith, still.first), omega (arith, still.first, first));
+      second = (omega (arith, still.second), omega (arith, still.second, second));
+      calm = record {
+        faults = omega (arith, still.first, first);
+        stalls = omega (arith, still.stalls, few);
+        together = omega (arith, still.first, still.stalls);
+      };
+    }
+
+-- where nothing is left to go wrong, a script that goes well ends well and faultless, with no request refused, with what holds then; or the
+-- outside failed
+pub completes_unrefused : (script : Script) (Holds : Type 0) (old new : World) (course : List Taken) (ended : Status) (told : Option Files) → old.files ≡ told
+    → BeginsSound old → GoesWell script (at old.state told) → AreUndisturbed old.state.station.counters course → RunsScript script old course new ended
+    → (RunsScript script old course new status.AllOk → AreFaultless old.state.station.counters new.state.station.counters
+    → has_refusal course ≡ false → Holds)
+    → EndsWellOrOutside Holds ended
+completes_unrefused script Holds old new course ended told is begins goes calm runs gives =
+    let here = subst (λ (files : Option Files). GoesWell script (at old.state files)) (sym is) goes in
+    let counters = old.state.station.counters in
+    let still : IsStill counters counters = record { first = refl; second = refl; stalls = refl } in
+    ends_with _ Holds ended (goes_ends counters script old new course ended here still calm runs)
+    (λ well end.
+    gives (subst (λ (s : Status). RunsScript script old course new s) well runs) (still_faultless old new.state.station.counters begins end.0) end.1)
+
+pub completes : (script : Script) (Holds : Type 0) (old new : World) (course : List Taken) (ended : Status) (told : Option Files) → old.files ≡ told
+    → BeginsSound old → GoesWell script (at old.state told) → AreUndisturbed old.state.station.counters course → RunsScript script old course new ended
+    → (RunsScript script old course new status.AllOk → AreFaultless old.state.station.counters new.state.station.counters → Holds)
+    → EndsWellOrOutside Holds ended
+completes script Holds old new course ended told is begins goes calm runs gives =
+    completes_unrefused script Holds old new course ended told is begins goes calm runs (λ done faultless fine. gives done faultless)

@@ -1,0 +1,368 @@
+-- Parts of a rescue that went on to its end: requests that were done, and records that were read, and written where they were read.
+use Rattle.std.proofs.Common.{arith, ◌≡◌, ◌∙◌, Bool, true, false, true≢false, List, [], ◌∷◌, ◌++◌, refl, sym, ap, subst, inl, inr, append-nil, append_assoc, Option, Result, Ok, Err, ◌+◌, ℕ, length, ap₂}
+use Rattle.std.specs.List.{AllByRecursion}
+use Rattle.flop_base.specs.Shelf.{Files}
+use Rattle.flop_base.specs.declared.key.Chrn.{Chrn}
+use Rattle.flop_base.specs.declared.answers.Code.{Code}
+use Rattle.flop_base.specs.declared.answers.Code.TheVariants as code
+use Rattle.flop_base.specs.declared.answers.Status.{Status}
+use Rattle.flop_base.specs.declared.answers.Status.TheVariants as status
+use Rattle.raw_image.specs.Disk.{track_of}
+use Rattle.flop_base.specs.Memory.{user_bytes, bytes_from}
+use Rattle.track_model.specs.Fields.{content_size}
+use Rattle.track_model.proofs.Splices.{length-with_items}
+use Rattle.floppy_requests.specs.declared.request.Request.{Request}
+use Rattle.floppy_requests.specs.declared.request.Request.TheVariants as request
+use Rattle.sector_model.specs.declared.reply.Reply.{Reply}
+use Rattle.sector_model.specs.declared.reply.Reason.TheVariants as reason
+use Rattle.sector_model.specs.States.{State}
+use Rattle.sector_model.specs.Reads.{Reads, ReadsDrive}
+use Rattle.sector_model.specs.Steps.{Step, IsDriverCall, read_reply}
+use Rattle.sector_model.specs.Texts.{is_refusal}
+use Rattle.sector_model.specs.Runs.{Taken}
+use Rattle.sector_model.specs.Plays.{World}
+use Rattle.sector_model.specs.declared.reply.Reply.TheVariants as reply
+use Rattle.sector_model.specs.Orders.{read_refusal, IsDeviceRefusal}
+use Rattle.sector_model.specs.Stations.{StationState}
+use Rattle.commands.specs.Scripts.{Script, RunsScript}
+use Rattle.commands.specs.Parts.{carries, may_starve, through}
+use Rattle.commands.specs.Leading.{with_report}
+use Rattle.commands.proofs.Reading.{IsRefused, IsAnswered, last_run, ask_answered, need_taken, ask_run, carry_run}
+use Rattle.commands.proofs.Passed.{Known, Passed, at_once, Does, did_nothing, carries_passed, joined_did}
+use Rattle.laws_commands.specs.VerifyRuns.{IsEndStatus}
+use Rattle.laws_commands.proofs.CopiedTrack.{both_fell}
+use Rattle.laws_commands.proofs.Steps.{NeverFell, step_never_fell, either, keeps_drives}
+use Rattle.laws_commands.proofs.VerifyRun.{end_is_whole}
+use Rattle.laws_commands.specs.Copied.{Gave}
+use Rattle.laws_commands.specs.Requests.{mark_of}
+use Rattle.laws_commands.proofs.DiskRecords.{length-bytes_at}
+use Rattle.rescue.specs.Course.{read_of, write_of}
+use Rattle.rescue.specs.declared.line.LogLine.{LogLine}
+use Rattle.disk_commands.specs.Rescue.{gives_up, does_next, follows, rescues}
+use Rattle.laws_commands.specs.Rescued.{IsNotStopped, WasRefused, is_write, line_at, log_of}
+
+-- ---- what a read leaves
+
+-- the bays stay, and memory keeps its length
+pub record ReadKeeps (old new : StationState) : Type 0 where
+  pub bays : new.bays ≡ old.bays
+  pub size : length new.memory ≡ length old.memory
+
+drive_keeps : (key : Chrn) (old new : StationState) (called : Result Bool Code) → key.n ≡ 2 → length old.memory ≡ user_bytes
+    → ReadsDrive 0 key 0x10000 old called new → ReadKeeps old new
+drive_keeps key old new (Ok deleted) sized size drive =
+    let found = drive.found in
+    let long : length found.content ≡ 512 = ap length found.whole.content_is ∙ length-bytes_at (track_of found.disk found.cylinder key.h) (found.mark + 64) (content_size key.n) ∙ ap content_size sized in
+    record {
+      bays = ap (λ (s : StationState). s.bays) found.becomes;
+      size = ap (λ (s : StationState). length s.memory) found.becomes ∙ length-with_items old.memory 0x10000 found.content (omega arith);
+    }
+drive_keeps key old new (Err code) sized size drive = record {
+  bays = ap (λ (s : StationState). s.bays) drive.refused.becomes;
+  size = drive.refused.memory.length;
+}
+
+pub read_keeps : (key : Chrn) (old new : StationState) (called : Result Bool Code) → key.n ≡ 2 → length old.memory ≡ user_bytes
+    → Reads 0 key 0x10000 old called new → ReadKeeps old new
+read_keeps key old new called sized size reads =
+    either (read_refusal old 0 key 0x10000) reads (drive_keeps key old new called sized size)
+    (λ code refused. record {
+      bays = ap (λ (s : StationState). s.bays) refused.stays;
+      size = ap (λ (s : StationState). length s.memory) refused.stays;
+    })
+
+-- a call of the driver lets no count fall
+pub call_fell : (old new : State) (told after : Option Files) → IsDriverCall old told new after → NeverFell old.station.counters new.station.counters
+call_fell old new told after call = record {
+  first = call.counts.first.never_falls;
+  second = call.counts.second.never_falls;
+  stalls = call.counts.stalls;
+}
+
+-- ---- how it shows
+
+told_mark : (key : Chrn) (deleted : Bool) → mark_of (read_of key) (read_reply (Ok deleted)) ≡ deleted ∷ []
+told_mark key true = refl
+told_mark key false = refl
+
+-- it gave its mark, and what is in memory then
+pub gave : (key : Chrn) (deleted : Bool) (read : Taken) → read.asked ≡ read_of key → read.answer ≡ read_reply (Ok deleted)
+    → Gave key deleted (bytes_from read.after.station.memory 0x10000 (content_size key.n)) read
+gave key deleted read asked answered = record {
+  address = 0x10000;
+  asked = asked;
+  mark = ap₂ (λ (q : Request) (r : Reply). mark_of q r) asked answered ∙ told_mark key deleted;
+  content = refl;
+}
+
+pub gave_reads : (key : Chrn) (deleted : Bool) (content : List ℕ) (taken : Taken) → Gave key deleted content taken
+    → (address : ℕ) × (taken.asked ≡ request.Read 0 key address)
+gave_reads key deleted content taken given = (given.address, given.asked)
+
+-- or it was refused
+pub never_both : (key : Chrn) (code : Code) (deleted : Bool) (bytes : List ℕ) (read : Taken) → WasRefused key code read → Gave key deleted bytes read → ⊥
+never_both key code deleted bytes read refused given =
+    let none : mark_of read.asked read.answer ≡ [] = ap₂ (λ (q : Request) (r : Reply). mark_of q r) refused.0 refused.1 in
+    let some = given.mark in
+    cc (none, some)
+
+-- its line in the log
+pub line_of_refused : (key : Chrn) (cause : Code) (read : Taken) → read.asked ≡ read_of key → read.answer ≡ read_reply (Err cause)
+    → line_at read.asked read.answer ≡ (record { key = key; code = cause }) ∷ []
+line_of_refused key cause read asked answered = ap₂ (λ (q : Request) (r : Reply). line_at q r) asked answered
+
+-- what isn't refused has none
+pub line_of_done : (asked : Request) (answer : Reply) → is_refusal answer ≡ false → line_at asked answer ≡ []
+line_of_done asked reply.Done fine = refl
+line_of_done asked reply.DoneDeleted fine = refl
+line_of_done asked (reply.Bytes address content) fine = refl
+line_of_done asked (reply.Refused cause) fine = absurd (true≢false fine)
+
+pub read_done : (deleted : Bool) → is_refusal (read_reply (Ok deleted)) ≡ false
+read_done true = refl
+read_done false = refl
+
+-- the request of a write is no read
+pub write_no_read : (key other : Chrn) (deleted : Bool) (address : ℕ) → write_of key deleted ≡ request.Read 0 other address → ⊥
+write_no_read key other true address same = cc same
+write_no_read key other false address same = cc same
+
+pub write_writes : (key : Chrn) (deleted : Bool) → is_write (write_of key deleted) ≡ true
+write_writes key true = refl
+write_writes key false = refl
+
+pub write_keeps : (key : Chrn) (deleted : Bool) → keeps_drives (write_of key deleted) ≡ true
+write_keeps key true = refl
+write_keeps key false = refl
+
+-- ---- requests
+
+-- a run that no refusal stopped has none at the end of its later part
+pub later_fine : (one two course : List Taken) → course ≡ one ++ two → IsNotStopped course → IsNotStopped two
+later_fine one two course whole fine before last is =
+    fine (one ++ before) last (whole ∙ ap (λ (row : List Taken). one ++ row) is ∙ sym (append_assoc one before (last ∷ [])))
+
+-- nor was its last request refused
+pub not_refused : (asked : Request) (old : World) (course : List Taken) (new : World) (ended : Status) → IsNotStopped course
+    → IsRefused asked old course new ended → ⊥
+not_refused asked old course new ended fine run = true≢false (sym (ap is_refusal run.answered) ∙ fine [] run.taken run.course_is)
+
+-- requests that a script can't go on without, one after the other
+abbrev pub carries_all : List Request → Script → Script
+carries_all [] rest = rest
+carries_all (asked ∷ requests) rest = carries asked (λ none. carries_all requests rest)
+
+-- they were done, and then what follows was run
+pub carried : (requests : List Request) (rest : Script) (old : World) (course : List Taken) (new : World) (ended : Status)
+    → IsEndStatus ended → IsNotStopped course → RunsScript (carries_all requests rest) old course new ended
+    → Passed {Found = Unit {0}} (Does requests) (λ none. rest) old course new ended
+carried [] rest old course new ended whole fine runs = at_once tt runs (did_nothing old)
+carried (asked ∷ requests) rest old course new ended whole fine runs =
+    let a = carries_passed asked (λ none. carries_all requests rest) old course new ended (end_is_whole ended whole)
+    (not_refused asked old course new ended fine) runs in
+    joined_did (asked ∷ []) requests a (carried requests rest a.mid a.two new ended whole (later_fine a.one a.two course a.course_is fine) a.left)
+
+-- ---- what follows the read of a record
+
+-- it is written, or its line comes behind the log; or the rescue ends there, by the code, or for want of memory
+pub data FollowRun (key : Chrn) (called : Result Bool Code) (lines : List LogLine) (rest : List LogLine → Script) (old : World) (course : List Taken)
+    (new : World) (ended : Status) : Type 0 where
+  Writes : (deleted : Bool) → called ≡ Ok deleted → RunsScript (carries (write_of key deleted) (λ none. rest lines)) old course new ended
+      → FollowRun key called lines rest old course new ended
+  Logs : (cause : Code) → called ≡ Err cause → IsDeviceRefusal cause → RunsScript (rest (lines ++ (record { key = key; code = cause }) ∷ [])) old course new ended
+      → FollowRun key called lines rest old course new ended
+  GivesUp : (cause : Code) → called ≡ Err cause → course ≡ [] → new.files ≡ old.files → FollowRun key called lines rest old course new ended
+  Starves : new.files ≡ old.files → ended ≡ status.NoMemory → FollowRun key called lines rest old course new ended
+
+module _ (key : Chrn) (lines : List LogLine) (rest : List LogLine → Script) (old : World) (course : List Taken) (new : World) (ended : Status) where
+  logs : (cause : Code) → IsDeviceRefusal cause → RunsScript (may_starve (λ none. rest (lines ++ (record { key = key; code = cause }) ∷ []))) old course new ended
+      → FollowRun key (Err cause) lines rest old course new ended
+  unfolding may_starve
+  logs cause device (inl runs) = Logs cause refl device runs
+  logs cause device (inr none) = Starves (ap (λ (w : World). w.files) none.1) none.2
+
+  gives : (cause : Code) → RunsScript (gives_up key (reason.Driver cause)) old course new ended → FollowRun key (Err cause) lines rest old course new ended
+  gives cause runs = let last = last_run _ _ old course new ended runs in GivesUp cause refl last.0 last.1.files
+
+  pub follow_run : (called : Result Bool Code) → RunsScript (follows key (read_reply called) lines rest) old course new ended
+      → FollowRun key called lines rest old course new ended
+  unfolding follows does_next
+  follow_run (Ok true) runs = Writes true refl runs
+  follow_run (Ok false) runs = Writes false refl runs
+  follow_run (Err code.NoMark) runs = logs code.NoMark tt runs
+  follow_run (Err code.NotFound) runs = logs code.NotFound tt runs
+  follow_run (Err code.Overrun) runs = logs code.Overrun tt runs
+  follow_run (Err code.BadCrc) runs = logs code.BadCrc tt runs
+  follow_run (Err code.Seek) runs = logs code.Seek tt runs
+  follow_run (Err code.BadRequest) runs = gives code.BadRequest runs
+  follow_run (Err code.Protected) runs = gives code.Protected runs
+  follow_run (Err code.Changed) runs = gives code.Changed runs
+  follow_run (Err code.Page) runs = gives code.Page runs
+  follow_run (Err code.NotReady) runs = gives code.NotReady runs
+
+-- ---- records that were gone through
+
+-- a record was read, with this outcome
+pub record IsRead (key : Chrn) (called : Result Bool Code) (old : World) (read : Taken) (files : Option Files) : Type 0 where
+  pub asked : read.asked ≡ read_of key
+  pub answered : read.answer ≡ read_reply called
+  pub call : IsDriverCall old.state old.files read.after files
+  pub reads : Reads 0 key 0x10000 old.state.station called read.after.station
+
+-- it was written, with this mark
+pub record IsWrite (key : Chrn) (deleted : Bool) (old : World) (write : Taken) (files : Option Files) : Type 0 where
+  pub asked : write.asked ≡ write_of key deleted
+  pub done : is_refusal write.answer ≡ false
+  pub step : Step (write_of key deleted) old.state old.files write.answer write.after files
+
+-- a record that was read was written, and one that was refused wasn't; and then the course went on
+abbrev pub GoesAfter : Chrn → Result Bool Code → (World → List Taken → World → Type 0) → World → List Taken → World → Type 0
+GoesAfter key (Err cause) rest old course new = rest old course new
+GoesAfter key (Ok deleted) rest old [] new = ⊥
+GoesAfter key (Ok deleted) rest old (write ∷ later) new =
+    (files : Option Files) × IsWrite key deleted old write files × rest (with_report write.after files old.report) later new
+
+-- a course goes through the records of these keys
+abbrev pub GoesKeys : List Chrn → World → List Taken → World → Type 0
+GoesKeys [] old course new = (course ≡ []) × (new ≡ old)
+GoesKeys (key ∷ keys) old [] new = ⊥
+GoesKeys (key ∷ keys) old (read ∷ later) new =
+    (called : Result Bool Code) × (files : Option Files) × IsRead key called old read files
+    × GoesAfter key called (GoesKeys keys) (with_report read.after files old.report) later new
+
+-- no count falls between two worlds
+abbrev pub Fell : World → World → Type 0
+Fell old new = NeverFell old.state.station.counters new.state.station.counters
+
+pub fell_both : (old mid new : World) → Fell old mid → Fell mid new → Fell old new
+fell_both old mid new one two = both_fell old.state.station.counters mid.state.station.counters new.state.station.counters one two
+
+pub write_fell : (key : Chrn) (deleted : Bool) (old new : World) (write : Taken) (files : Option Files) → new.state ≡ write.after
+    → IsWrite key deleted old write files → Fell old new
+write_fell key deleted old new write files is wrote =
+    subst (λ (s : State). NeverFell old.state.station.counters s.station.counters) (sym is)
+    (step_never_fell old.state write.after old.files files (write_of key deleted) write.answer wrote.step (write_keeps key deleted))
+
+pub keys_fell : (keys : List Chrn) (old : World) (course : List Taken) (new : World) → GoesKeys keys old course new → Fell old new
+keys_fell [] old course new goes = subst (Fell old) (sym goes.1) (record { first = omega arith; second = omega arith; stalls = omega arith })
+keys_fell (key ∷ keys) old [] new goes = absurd goes
+keys_fell (key ∷ keys) old (read ∷ later) new (Err cause, files, is, goes) =
+    let mid = with_report read.after files old.report in
+    fell_both old mid new (call_fell old.state read.after old.files files is.call) (keys_fell keys mid later new goes)
+keys_fell (key ∷ keys) old (read ∷ []) new (Ok deleted, files, is, goes) = absurd goes
+keys_fell (key ∷ keys) old (read ∷ write ∷ later) new (Ok deleted, files, is, (more, wrote, goes)) =
+    let mid = with_report read.after files old.report in
+    let next = with_report write.after more old.report in
+    fell_both old mid new (call_fell old.state read.after old.files files is.call)
+    (fell_both mid next new (write_fell key deleted mid next write more refl wrote) (keys_fell keys next later new goes))
+
+-- ---- by a script that went on to its end
+
+-- the world behind a step
+abbrev pub behind_step : {asked : Request} {rest : Reply → State → Script} {old new : World} {course : List Taken} {ended : Status}
+    → IsAnswered asked rest old course new ended → World
+behind_step {old = old} run = with_report run.taken.after run.files old.report
+
+-- each line has a refusal of the drive
+abbrev pub AreRefusals : List LogLine → Type 0
+AreRefusals lines = AllByRecursion (λ (line : LogLine). IsDeviceRefusal line.code) lines
+
+-- the records were gone through, and the log is what it was, with their lines
+abbrev pub RescuesKeys : List Chrn → List LogLine → Known (List LogLine)
+RescuesKeys keys lines old course found mid =
+    GoesKeys keys old course mid × (found ≡ lines ++ log_of course) × (mid.report ≡ old.report) × AreRefusals (log_of course)
+
+module _ (rest : List LogLine → Script) (new : World) (ended : Status) (whole : IsEndStatus ended) where
+  -- how the keys behind the first one go on
+  abbrev Goes : List Chrn → Type 0
+  Goes keys = (lines : List LogLine) (old : World) (course : List Taken) → IsNotStopped course
+      → RunsScript (through rescues keys lines rest) old course new ended → Passed (RescuesKeys keys lines) rest old course new ended
+
+  module _ (key : Chrn) (keys : List Chrn) (next : Goes keys) (lines : List LogLine) (old : World) (course : List Taken) (fine : IsNotStopped course) where
+    abbrev Rest : List LogLine → Script
+    Rest now = through rescues keys now rest
+
+    abbrev Run : Type 0
+    Run = IsAnswered (read_of key) (λ answer after. follows key answer lines Rest) old course new ended
+
+    -- it was written
+    wrote : (run : Run) (deleted : Bool) → IsRead key (Ok deleted) old run.taken run.files → IsNotStopped run.later
+        → RunsScript (carries (write_of key deleted) (λ none. Rest lines)) (behind_step run) run.later new ended
+        → Passed (RescuesKeys (key ∷ keys) lines) rest old course new ended
+    wrote run deleted is later runs =
+        let asked = write_of key deleted in
+        let one = need_taken asked (λ answer after. Rest lines) (behind_step run) run.later new ended (end_is_whole ended whole)
+        (not_refused asked (behind_step run) run.later new ended later)
+        (carry_run asked (λ none. Rest lines) (behind_step run) run.later new ended runs) in
+        let write = one.run in
+        let all = next lines (behind_step write) write.later (later_fine (write.taken ∷ []) write.later run.later write.course_is later) write.left in
+        let none : line_at run.taken.asked run.taken.answer ≡ [] = line_of_done run.taken.asked run.taken.answer
+        (ap is_refusal is.answered ∙ read_done deleted) in
+        let also : line_at write.taken.asked write.taken.answer ≡ [] = line_of_done write.taken.asked write.taken.answer one.fine in
+        let same : log_of all.one ≡ log_of (run.taken ∷ write.taken ∷ all.one) = rw (none, also) refl in
+        record {
+          one = run.taken ∷ write.taken ∷ all.one;
+          two = all.two;
+          found = all.found;
+          mid = all.mid;
+          course_is = run.course_is ∙ ap (λ (row : List Taken). run.taken ∷ row) (write.course_is ∙ ap (λ (row : List Taken). write.taken ∷ row) all.course_is);
+          knows = (
+            (Ok deleted, run.files, is, (write.files, record { asked = write.asked_is; done = one.fine; step = write.step }, all.knows.0)),
+            all.knows.1 ∙ ap (λ (row : List LogLine). lines ++ row) same,
+            all.knows.2,
+            subst AreRefusals same all.knows.3,
+          );
+          left = all.left;
+        }
+
+    -- its line came behind the log
+    logged : (run : Run) (cause : Code) → IsDeviceRefusal cause → IsRead key (Err cause) old run.taken run.files → IsNotStopped run.later
+        → RunsScript (Rest (lines ++ (record { key = key; code = cause }) ∷ [])) (behind_step run) run.later new ended
+        → Passed (RescuesKeys (key ∷ keys) lines) rest old course new ended
+    logged run cause device is later runs =
+        let line : LogLine = record { key = key; code = cause } in
+        let all = next (lines ++ line ∷ []) (behind_step run) run.later later runs in
+        let here = line_of_refused key cause run.taken is.asked is.answered in
+        record {
+          one = run.taken ∷ all.one;
+          two = all.two;
+          found = all.found;
+          mid = all.mid;
+          course_is = run.course_is ∙ ap (λ (row : List Taken). run.taken ∷ row) all.course_is;
+          knows = (
+            (Err cause, run.files, is, all.knows.0),
+            all.knows.1 ∙ append_assoc lines (line ∷ []) (log_of all.one) ∙ ap (λ (row : List LogLine). lines ++ (row ++ log_of all.one)) (sym here),
+            all.knows.2,
+            subst (λ (row : List LogLine). AreRefusals (row ++ log_of all.one)) (sym here) (device, all.knows.3),
+          );
+          left = all.left;
+        }
+
+    by_next : (run : Run) (called : Result Bool Code) → IsRead key called old run.taken run.files
+        → FollowRun key called lines Rest (behind_step run) run.later new ended
+        → IsNotStopped run.later → Passed (RescuesKeys (key ∷ keys) lines) rest old course new ended
+    by_next run called is (Writes deleted same runs) later =
+        wrote run deleted (subst (λ (c : Result Bool Code). IsRead key c old run.taken run.files) same is) later runs
+    by_next run called is (Logs cause same device runs) later =
+        logged run cause device (subst (λ (c : Result Bool Code). IsRead key c old run.taken run.files) same is) later runs
+    by_next run called is (GivesUp cause same nothing stays) later =
+        absurd (true≢false (sym (ap is_refusal (is.answered ∙ ap read_reply same))
+        ∙ fine [] run.taken (run.course_is ∙ ap (λ (row : List Taken). run.taken ∷ row) nothing)))
+    by_next run called is (Starves stays starved) later = absurd (subst IsEndStatus starved whole)
+
+    by_read : Run → Passed (RescuesKeys (key ∷ keys) lines) rest old course new ended
+    by_read run =
+        let called = run.step.1.0 in
+        let runs = subst (λ (r : Reply). RunsScript (follows key r lines Rest) (behind_step run) run.later new ended) run.step.1.1 run.left in
+        by_next run called (record { asked = run.asked_is; answered = run.step.1.1; call = run.step.0; reads = run.step.1.2 })
+        (follow_run key lines Rest (behind_step run) run.later new ended called runs) (later_fine (run.taken ∷ []) run.later course run.course_is fine)
+
+pub keys_gone : (keys : List Chrn) (lines : List LogLine) (rest : List LogLine → Script) (old : World) (course : List Taken) (new : World) (ended : Status)
+    → IsEndStatus ended → IsNotStopped course → RunsScript (through rescues keys lines rest) old course new ended
+    → Passed (RescuesKeys keys lines) rest old course new ended
+unfolding through rescues
+keys_gone [] lines rest old course new ended whole fine runs = at_once lines runs ((refl, refl), sym (append-nil lines), refl, tt)
+keys_gone (key ∷ keys) lines rest old course new ended whole fine runs =
+    let follow = λ (answer : Reply) (after : State). follows key answer lines (λ now. through rescues keys now rest) in
+    by_read rest new ended whole key keys (λ more now later sound next. keys_gone keys more rest now later new ended whole sound next) lines old course fine
+    (ask_answered (read_of key) follow old course new ended (end_is_whole ended whole) (ask_run (read_of key) follow old course new ended runs))

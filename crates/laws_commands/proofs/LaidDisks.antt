@@ -1,0 +1,37 @@
+-- Address fields on Laid tracks: those of formatted disks, and those of a disk of which one track was replaced by a Laid one.
+use Rattle.std.proofs.Common.{arith, ◌≡◌, ℕ, List, sym, subst, inl, inr}
+use Rattle.std.proofs.lemmas.Bool.{cases_eq}
+use Rattle.flop_base.specs.declared.key.Chrn.{Chrn}
+use Rattle.flop_base.specs.declared.answers.Rate.{Rate}
+use Rattle.raw_image.specs.Disk.{Disk, HasTrack, track_of}
+use Rattle.track_model.specs.Fields.{IsAddressAt}
+use Rattle.track_model.specs.Laid.{IsLaid}
+use Rattle.sector_map.specs.KeptDisks.{KeepsTracks}
+use Rattle.sector_map.proofs.KeptTracks.{alike_tracks}
+use Rattle.laws_commands.specs.Formatted.{IsFormattedDisk}
+use Rattle.laws_commands.specs.LaidFields.{HasLaidFields}
+use Rattle.laws_commands.proofs.Sectors.{track_laid}
+
+-- where one track was replaced by a Laid one, each address field still is on a Laid track
+module _ (disk next : Disk) (c h : ℕ) (keeps : KeepsTracks disk c h next) where
+  elsewhere_laid : HasLaidFields disk → (b g p : ℕ) (key : Chrn) → HasTrack disk b g → (b ≡ c → g ≡ h → ⊥) → IsAddressAt (track_of next b g) p key
+      → IsLaid (track_of next b g)
+  elsewhere_laid laid b g p key had other address =
+      let same = keeps.others b g had other in
+      subst IsLaid (sym same) (laid b g p key had (subst (λ (t : List ℕ). IsAddressAt t p key) same address))
+
+  pub still_laid : HasLaidFields disk → IsLaid (track_of next c h) → HasLaidFields next
+  still_laid laid here b g p key has address =
+      let had = (alike_tracks disk next b g keeps.alike).1 has in
+      elim (cases_eq b c) [
+        | inl same_c ↦ elim (cases_eq g h) [
+          | inl same_h ↦ subst (λ k. IsLaid (track_of next k g)) (sym same_c) (subst (λ k. IsLaid (track_of next c k)) (sym same_h) here)
+          | inr other ↦ elsewhere_laid laid b g p key had (λ _ e. other e) address
+        ]
+        | inr other ↦ elsewhere_laid laid b g p key had (λ e _. other e) address
+      ]
+
+pub formatted_laid : (rate : Rate) (count : ℕ) (disk : Disk) → IsFormattedDisk rate count disk → HasLaidFields disk
+formatted_laid rate count disk is c h p key has address =
+    subst IsLaid (sym (is.tracks c h has))
+    (track_laid rate c h (omega (arith, has.0, is.valid.cylinders.1)) (omega (arith, has.1, is.valid.heads.1)))

@@ -1,0 +1,134 @@
+-- What the reads of a rescue gave: intact fields of the disk in bay 0, whatever faults there were, and sectors where the reads are sure.
+use Rattle.std.proofs.Common.{arith, ◌≡◌, ◌∙◌, ◌+◌, ◌≤◌, ℕ, Bool, List, [], ◌∷◌, length, refl, sym, ap, subst, inl, inr, Option, Some, Result, Ok, Err}
+use Rattle.std.specs.List.{AllByRecursion}
+use Rattle.flop_base.specs.Shelf.{Files}
+use Rattle.flop_base.specs.declared.key.Chrn.{Chrn}
+use Rattle.flop_base.specs.declared.answers.Code.{Code}
+use Rattle.raw_image.specs.Disk.{Disk, track_of}
+use Rattle.flop_base.specs.Bays.{Two, in_bay}
+use Rattle.flop_base.specs.Memory.{user_bytes, bytes_from}
+use Rattle.track_model.specs.Fields.{content_size}
+use Rattle.track_model.specs.Sectors.{IsSector}
+use Rattle.sector_model.specs.Stations.{StationState, Bay, bay_of}
+use Rattle.sector_model.specs.Orders.{read_refusal, write_refusal}
+use Rattle.sector_model.specs.Runs.{Taken}
+use Rattle.sector_model.specs.Plays.{World}
+use Rattle.commands.specs.Leading.{with_report}
+use Rattle.laws_commands.specs.Copied.{SomeStep, Gave, IsFieldOf, IsSure}
+use Rattle.laws_commands.proofs.DiskRecords.{length-bytes_at, read_sector, sure_parts}
+use Rattle.laws_commands.proofs.Steps.{ok_called, reached}
+use Rattle.laws_commands.proofs.UserMemory.{at_stands}
+use Rattle.laws_commands.proofs.Gone.{read_keeps, call_fell, gave, never_both, write_no_read, write_fell, fell_both, keys_fell, IsRead, IsWrite, GoesKeys}
+use Rattle.laws_commands.proofs.RescueRecords.{IsAsked, write_does}
+
+module _ (disk : Disk) where
+  -- bay 0 has the disk, and memory has its size
+  pub record IsAtHand (station : StationState) : Type 0 where
+    pub medium : (bay_of station 0).medium ≡ Some disk
+    pub size : length station.memory ≡ user_bytes
+
+  -- what a read gave is an intact field of its key, and its sector where the reads are sure
+  pub record IsGivenOf (sure : Type 0) (key : Chrn) (deleted : Bool) (content : List ℕ) : Type 0 where
+    pub field : IsFieldOf disk key deleted content
+    pub sector : sure → IsSector (track_of disk key.c key.h) key deleted content
+
+  -- so it is with a read that was done
+  done_gives : (sure : Type 0) (key : Chrn) (mark : Bool) (old : World) (read : Taken) (files : Option Files) → key.n ≡ 2
+      → IsRead key (Ok mark) old read files → IsAtHand old.state.station
+      → (sure → IsSure disk old.state.station.counters read.after.station.counters) → (deleted : Bool) (content : List ℕ)
+      → Gave key deleted content read → IsGivenOf sure key deleted content
+  done_gives sure key mark old read files sized is hand calm deleted content given =
+      let before = old.state.station.memory in
+      let after = read.after.station.memory in
+      let found = (reached (read_refusal old.state.station 0 key 0x10000) (Ok mark) old.state.station read.after.station is.reads refl).found in
+      let same : found.disk ≡ disk = cc (found.medium, hand.medium) in
+      let field = subst (λ (d : Disk). IsFieldOf d key mark found.content) same
+      (found.cylinder, found.track, (found.place, found.mark, found.address_field, found.data_mark, found.whole)) in
+      let gives : IsGivenOf sure key mark found.content = record {
+        field = field;
+        sector = λ s. read_sector key 0x10000 mark disk old.state.station read.after.station found hand.medium (calm s);
+      } in
+      let own = gave key mark read is.asked is.answered in
+      let one = own.mark in
+      let other = given.mark in
+      let same_mark : mark ≡ deleted = cc (one, other) in
+      let first = is.asked in
+      let second = given.asked in
+      let place : given.address ≡ 0x10000 = cc (first, second) in
+      let long : length found.content ≡ 512 =
+      ap length found.whole.content_is ∙ length-bytes_at (track_of found.disk found.cylinder key.h) (found.mark + 64) (content_size key.n)
+      ∙ ap content_size sized in
+      let size = hand.size in
+      let fits : 0x10000 + length found.content ≤ length before = omega (arith, size, long) in
+      let bytes : content ≡ found.content =
+      given.content ∙ ap (λ (a : ℕ). bytes_from after a (content_size key.n)) place ∙ ap (λ (n : ℕ). bytes_from after 0x10000 (content_size n)) sized
+      ∙ ap (λ (s : StationState). bytes_from s.memory 0x10000 512) found.becomes ∙ at_stands before 0x10000 found.content 512 long fits in
+      subst (λ (b : Bool). IsGivenOf sure key b content) same_mark (subst (λ (row : List ℕ). IsGivenOf sure key mark row) (sym bytes) gives)
+
+  read_gives : (sure : Type 0) (key other : Chrn) (called : Result Bool Code) (old : World) (read : Taken) (files : Option Files) → key.n ≡ 2
+      → IsRead key called old read files → IsAtHand old.state.station → (sure → IsSure disk old.state.station.counters read.after.station.counters)
+      → (deleted : Bool) (content : List ℕ) → Gave other deleted content read → IsGivenOf sure other deleted content
+  read_gives sure key other called old read files sized is hand calm deleted content given =
+      let first = is.asked in
+      let second = given.asked in
+      let same : other ≡ key = cc (first, second) in
+      subst (λ (k : Chrn). IsGivenOf sure k deleted content) (sym same)
+      (by_answer called is (subst (λ (k : Chrn). Gave k deleted content read) same given))
+    where
+      by_answer : (called : Result Bool Code) → IsRead key called old read files → Gave key deleted content read → IsGivenOf sure key deleted content
+      by_answer (Ok mark) is given = done_gives sure key mark old read files sized is hand calm deleted content given
+      by_answer (Err cause) is given = absurd (never_both key cause deleted content read (is.asked, is.answered) given)
+
+  -- it leaves the bays, and memory its size
+  read_at_hand : (key : Chrn) (called : Result Bool Code) (old : World) (read : Taken) (files : Option Files) → key.n ≡ 2
+      → IsRead key called old read files → IsAtHand old.state.station → IsAtHand read.after.station
+  read_at_hand key called old read files sized is hand =
+      let keeps = read_keeps key old.state.station read.after.station called sized hand.size is.reads in
+      record { medium = ap (λ (bays : Two Bay). (in_bay bays 0).medium) keeps.bays ∙ hand.medium; size = keeps.size ∙ hand.size }
+
+  -- so does a write, which goes to bay 1
+  write_at_hand : (key : Chrn) (deleted : Bool) (old : World) (write : Taken) (files : Option Files) → IsWrite key deleted old write files
+      → IsAtHand old.state.station → IsAtHand write.after.station
+  write_at_hand key deleted old write files wrote hand =
+      let does = write_does key deleted old.state write.after old.files files write.answer wrote.step in
+      let ok = ok_called does.1.0 write.answer does.1.1 wrote.done in
+      let drive = reached (write_refusal old.state.station 1 key 0x10000) does.1.0 old.state.station write.after.station does.1.2 ok in
+      record {
+        medium = ap (λ (s : StationState). (bay_of s 0).medium) drive.becomes ∙ hand.medium;
+        size = ap (λ (s : StationState). length s.memory) drive.becomes ∙ hand.size;
+      }
+
+  pub keys_give : (sure : Type 0) (keys : List Chrn) (old : World) (course : List Taken) (new : World) → GoesKeys keys old course new
+      → AllByRecursion (IsAsked disk) keys → IsAtHand old.state.station
+      → (sure → IsSure disk old.state.station.counters new.state.station.counters) → (other : Chrn) (deleted : Bool) (content : List ℕ)
+      → SomeStep (Gave other deleted content) course → IsGivenOf sure other deleted content
+  keys_give sure [] old course new goes asked hand calm other deleted content some =
+      absurd (subst (SomeStep (Gave other deleted content)) goes.0 some)
+  keys_give sure (key ∷ keys) old [] new goes asked hand calm other deleted content some = absurd some
+  keys_give sure (key ∷ keys) old (read ∷ later) new (Err cause, files, is, goes) asked hand calm other deleted content some =
+      let mid = with_report read.after files old.report in
+      let fell = call_fell old.state read.after old.files files is.call in
+      let calms = λ (s : sure). sure_parts disk old.state.station.counters read.after.station.counters new.state.station.counters fell
+      (keys_fell keys mid later new goes) (calm s) in
+      elim some [
+        | inl here ↦ read_gives sure key other (Err cause) old read files asked.0.size is hand (λ s. (calms s).0) deleted content here
+        | inr there ↦
+            keys_give sure keys mid later new goes asked.1 (read_at_hand key (Err cause) old read files asked.0.size is hand)
+            (λ s. (calms s).1) other deleted content there
+      ]
+  keys_give sure (key ∷ keys) old (read ∷ []) new (Ok mark, files, is, goes) asked hand calm other deleted content some = absurd goes
+  keys_give sure (key ∷ keys) old (read ∷ write ∷ later) new (Ok mark, files, is, (more, wrote, goes)) asked hand calm other deleted content some =
+      let mid = with_report read.after files old.report in
+      let next = with_report write.after more old.report in
+      let now = write_at_hand key mark mid write more wrote (read_at_hand key (Ok mark) old read files asked.0.size is hand) in
+      let fell_write = write_fell key mark mid next write more refl wrote in
+      let fell_later = keys_fell keys next later new goes in
+      let first = λ (s : sure). sure_parts disk old.state.station.counters read.after.station.counters new.state.station.counters
+      (call_fell old.state read.after old.files files is.call) (fell_both mid next new fell_write fell_later) (calm s) in
+      let second = λ (s : sure). sure_parts disk read.after.station.counters write.after.station.counters new.state.station.counters
+      fell_write fell_later (first s).1 in
+      elim some [
+        | inl here ↦ read_gives sure key other (Ok mark) old read files asked.0.size is hand (λ s. (first s).0) deleted content here
+        | inr (inl here) ↦ absurd (write_no_read key other mark here.address (sym wrote.asked ∙ here.asked))
+        | inr (inr there) ↦ keys_give sure keys next later new goes asked.1 now (λ s. (second s).1) other deleted content there
+      ]

@@ -1,0 +1,220 @@
+-- Writes of the records of a formatted track in a bay.
+use Rattle.std.proofs.Common.{arith, ◌≡◌, ◌≢◌, ◌↔◌, ◌∙◌, ◌+◌, ◌<◌, ◌≤◌, ℕ, zero, suc, Bool, true, false, List, [], ◌∷◌, length, refl, sym, ap, subst, Option, Some, Result, IsOk}
+use Rattle.std.specs.List.{list_all}
+use Rattle.std.specs.Prelude.{◌==◌, if◌then◌else◌}
+use Rattle.flop_base.specs.Shelf.{Files}
+use Rattle.flop_base.specs.declared.key.Chrn.{Chrn}
+use Rattle.flop_base.specs.declared.answers.Code.{Code}
+use Rattle.raw_image.specs.Disk.{Disk, IsDisk, HasTrack, track_of}
+use Rattle.flop_base.specs.Bays.{Two, with_bay, in_bay}
+use Rattle.flop_base.specs.Memory.{user_bytes, bytes_from}
+use Rattle.flop_base.specs.Counters.{Counters, IsFaultless, faults_of}
+use Rattle.track_model.specs.Fields.{IsAddressAt}
+use Rattle.track_model.specs.Laid.{IsLaid}
+use Rattle.track_model.specs.Windows.{HasFieldFor, IsTidy}
+use Rattle.track_model.proofs.Laid.{written_laid}
+use Rattle.sector_map.specs.Disks.{Entry, IsOnMap, IsRegularDisk}
+use Rattle.sector_map.specs.KeptDisks.{KeepsTracks}
+use Rattle.sector_map.specs.Standard.{key_of}
+use Rattle.sector_map.proofs.KeptTracks.{alike_tracks, keeps_itself, keeps_both}
+use Rattle.sector_model.specs.declared.reply.Reply.{Reply}
+use Rattle.sector_model.specs.Orders.{write_refusal}
+use Rattle.sector_model.specs.Stations.{StationState, Bay, bay_of}
+use Rattle.sector_model.specs.States.{State}
+use Rattle.sector_model.specs.Steps.{Does, IsDriverCall, reply_of}
+use Rattle.sector_model.specs.Texts.{is_refusal}
+use Rattle.sector_model.specs.Writes.{WritesDrive, WritesTo, written_from}
+use Rattle.sector_model.specs.Runs.{Taken}
+use Rattle.laws_commands.specs.Done.{DoesAll}
+use Rattle.commands.specs.Records.{record_address}
+use Rattle.laws_commands.specs.Requests.{write_record, write_records}
+use Rattle.laws_commands.specs.Copied.{copied_entry}
+use Rattle.laws_commands.proofs.Prepared.{in_with}
+use Rattle.laws_commands.proofs.DiskRecords.{keys_from}
+use Rattle.laws_commands.proofs.UserMemory.{length-bytes_from}
+use Rattle.laws_commands.proofs.Steps.{NeverFell, begins, ends_there, step_never_fell, never_fell, keeps_drives, ok_called, reached}
+use Rattle.laws_commands.proofs.WrittenHere.{WritesHere, writes_here}
+
+-- on Laid tracks no write brings up an address mark, however short it stops
+abbrev pub AllTidy : Type 0
+AllTidy = (track : List ℕ) (p : ℕ) (deleted : Bool) (content : List ℕ) → IsLaid track → HasFieldFor track p content → IsTidy track p deleted content
+
+-- ---- one bay of two
+
+-- bay 0 stays where the other gets a value
+pub first_stays : {T : Type 0} (two : Two T) (bay : ℕ) (value : T) → (bay == 0) ≡ false → in_bay (with_bay two bay value) 0 ≡ two.first
+first_stays {T} two bay value other = rw other refl
+
+-- no count of a bay's faults fell
+pub fell_at : (bay : ℕ) (old new : Counters) → NeverFell old new → faults_of old bay ≤ faults_of new bay
+fell_at bay old new fell = go (bay == 0)
+  where
+    go : (first : Bool) → (if first then old.drives.first else old.drives.second).faults ≤ (if first then new.drives.first else new.drives.second).faults
+    go true = fell.first
+    go false = fell.second
+
+-- ---- one write
+
+-- both writes are the driver's, with their marks
+write_does : (bay : ℕ) (key : Chrn) (deleted : Bool) (old new : State) (told after : Option Files) (answer : Reply)
+    → Does (write_record bay key deleted) old told answer new after
+    → IsDriverCall old told new after × ((called : Result (Unit {0}) Code) × (answer ≡ reply_of called) × WritesTo bay key (record_address key.r) deleted old.station called new.station)
+write_does bay key true old new told after answer does = does
+write_does bay key false old new told after answer does = does
+
+-- what the write of a record to a formatted track made of the disk in a bay
+pub record WritesOne (bay : ℕ) (disk : Disk) (c h r : ℕ) (deleted : Bool) (old : State) (told : Option Files) (new : State) (after : Option Files) : Type 0 where
+  pub next : Disk
+  pub medium : (bay_of new.station bay).medium ≡ Some next
+  pub bay_rate : (bay_of new.station bay).rate ≡ (bay_of old.station bay).rate
+  pub keeps : KeepsTracks disk c h next
+  pub regular : IsRegularDisk next
+  pub laid : IsLaid (track_of next c h)
+  pub others : (entry : Entry) → entry.key ≢ key_of c h r → IsOnMap disk entry ↔ IsOnMap next entry
+  pub place : ℕ
+  pub entry : IsOnMap next (copied_entry c h r place deleted (bytes_from old.station.memory (record_address r) 512))
+  pub first : (bay == 0) ≡ false → bay_of new.station 0 ≡ bay_of old.station 0
+  pub memory : new.station.memory ≡ old.station.memory
+  pub names : new.names ≡ old.names
+  pub files : after ≡ told
+
+-- such a write is Tidy, so its whole window stands
+module _ (tidy : AllTidy) (bay c h r : ℕ) (deleted : Bool) (disk : Disk) (regular : IsRegularDisk disk) (has : HasTrack disk c h) (laid : IsLaid (track_of disk c h)) (p : ℕ) (address : IsAddressAt (track_of disk c h) p (key_of c h r)) (old new : StationState) (size : length old.memory ≡ user_bytes) (few : record_address r + 512 ≤ user_bytes) (called : Result (Unit {0}) Code) (drive : WritesDrive (written_from old (key_of c h r) (record_address r) deleted) bay old called new) (ok : IsOk called) (faultless : IsFaultless bay old.counters new.counters) (medium : (bay_of old bay).medium ≡ Some disk) (rate : (bay_of old bay).rate ≡ disk.rate) where
+  abbrev content : List ℕ
+  content = bytes_from old.memory (record_address r) 512
+
+  field : HasFieldFor (track_of disk c h) p content
+  field = (key_of c h r, record { address = address; size = length-bytes_from old.memory (record_address r) 512 (omega (arith, size)) })
+
+  stands : WritesHere bay disk (key_of c h r) p (record_address r) deleted old new
+  stands =
+      writes_here bay (key_of c h r) (record_address r) deleted disk regular has p address old new
+      (tidy (track_of disk c h) p deleted content laid field) called drive ok faultless medium rate
+
+  still_laid : IsLaid (track_of stands.next c h)
+  still_laid = subst IsLaid (sym stands.window) (written_laid (track_of disk c h) p deleted content laid field)
+
+pub one_write : (tidy : AllTidy) (bay : ℕ) (disk : Disk) (c h r p : ℕ) (deleted : Bool) (old new : State) (told after : Option Files) (answer : Reply)
+    → IsRegularDisk disk → HasTrack disk c h → IsLaid (track_of disk c h) → IsAddressAt (track_of disk c h) p (key_of c h r)
+    → length old.station.memory ≡ user_bytes → record_address r + 512 ≤ user_bytes
+    → Does (write_record bay (key_of c h r) deleted) old told answer new after → is_refusal answer ≡ false
+    → IsFaultless bay old.station.counters new.station.counters → (bay_of old.station bay).medium ≡ Some disk
+    → (bay_of old.station bay).rate ≡ disk.rate → WritesOne bay disk c h r deleted old told new after
+one_write tidy bay disk c h r p deleted old new told after answer regular has laid address size few does done faultless medium rate =
+    let call = write_does bay (key_of c h r) deleted old new told after answer does in
+    let ok = ok_called call.1.0 answer call.1.1 done in
+    let drive = reached (write_refusal old.station bay (key_of c h r) (record_address r)) call.1.0 old.station new.station call.1.2 ok in
+    let kept : Bay = record (bay_of old.station bay) { medium = (bay_of new.station bay).medium } in
+    let it = stands tidy bay c h r deleted disk regular has laid p address old.station new.station size few call.1.0 drive ok faultless medium rate in
+    record {
+      next = it.next;
+      medium = it.medium;
+      bay_rate = ap (λ (s : StationState). (bay_of s bay).rate) drive.becomes ∙ ap (λ (b : Bay). b.rate) (in_with old.station.bays bay kept);
+      keeps = it.keeps;
+      regular = it.regular;
+      laid = still_laid tidy bay c h r deleted disk regular has laid p address old.station new.station size few call.1.0 drive ok faultless medium rate;
+      others = it.others;
+      place = p;
+      entry = it.entry;
+      first = λ other. ap (λ (s : StationState). bay_of s 0) drive.becomes ∙ first_stays old.station.bays bay kept other;
+      memory = ap (λ (s : StationState). s.memory) drive.becomes;
+      names = call.0.names;
+      files = call.0.files;
+    }
+
+-- ---- the records of a track
+
+-- the disk has each record from a on with its mark and what memory has at its place
+abbrev pub AreCopied : Disk → List ℕ → ℕ → ℕ → ℕ → List Bool → Type 0
+AreCopied disk memory c h a [] = Unit {0}
+AreCopied disk memory c h a (deleted ∷ marks) =
+    ((place : ℕ) × IsOnMap disk (copied_entry c h a place deleted (bytes_from memory (record_address a) 512)))
+    × AreCopied disk memory c h (a + 1) marks
+
+-- the disk has some sector under the key
+abbrev pub HasSome : Disk → ℕ → ℕ → ℕ → Type 0
+HasSome disk c h r = (place : ℕ) × (deleted : Bool) × (content : List ℕ) × IsOnMap disk (copied_entry c h r place deleted content)
+
+-- what the writes of records from a on, with these marks, made of the disk in a bay
+pub record WritesAll (bay : ℕ) (disk : Disk) (c h a : ℕ) (marks : List Bool) (old : State) (told : Option Files) (new : State) (after : Option Files) : Type 0 where
+  pub final : Disk
+  pub medium : (bay_of new.station bay).medium ≡ Some final
+  pub bay_rate : (bay_of new.station bay).rate ≡ (bay_of old.station bay).rate
+  pub keeps : KeepsTracks disk c h final
+  pub regular : IsRegularDisk final
+  pub laid : IsLaid (track_of final c h)
+  pub kept : (entry : Entry) → ((r : ℕ) → a ≤ r → entry.key ≢ key_of c h r) → IsOnMap disk entry → IsOnMap final entry
+  pub copied : AreCopied final old.station.memory c h a marks
+  pub first : (bay == 0) ≡ false → bay_of new.station 0 ≡ bay_of old.station 0
+  pub memory : new.station.memory ≡ old.station.memory
+  pub names : new.names ≡ old.names
+  pub files : after ≡ told
+
+write_keeps : (bay : ℕ) (key : Chrn) (deleted : Bool) → keeps_drives (write_record bay key deleted) ≡ true
+write_keeps bay key true = refl
+write_keeps bay key false = refl
+
+pub writes_keep : (bay : ℕ) (keys : List Chrn) (marks : List Bool) → list_all keeps_drives (write_records bay keys marks) ≡ true
+writes_keep bay [] marks = refl
+writes_keep bay (key ∷ keys) [] = refl
+writes_keep bay (key ∷ keys) (deleted ∷ marks) = let first = write_keeps bay key deleted in rw first (writes_keep bay keys marks)
+
+other_key : (c h r s : ℕ) → (r ≡ s → ⊥) → key_of c h r ≢ key_of c h s
+other_key c h r s differ e = differ (ap (λ (k : Chrn). k.r) e)
+
+pub all_writes : (tidy : AllTidy) (bay : ℕ) (disk : Disk) (c h a n : ℕ) (marks : List Bool) (old new : State) (told after : Option Files)
+    (course : List Taken)
+    → DoesAll (write_records bay (keys_from c h a n) marks) old told course new after → length marks ≡ n → 1 ≤ a → a + n ≤ 19
+    → ((r : ℕ) → a ≤ r → r < a + n → HasSome disk c h r) → IsDisk disk → IsRegularDisk disk → HasTrack disk c h → IsLaid (track_of disk c h)
+    → length old.station.memory ≡ user_bytes → IsFaultless bay old.station.counters new.station.counters → (bay_of old.station bay).medium ≡ Some disk
+    → (bay_of old.station bay).rate ≡ disk.rate → WritesAll bay disk c h a marks old told new after
+all_writes tidy bay disk c h a zero [] old new told after course all count least most there valid regular has laid size faultless medium rate =
+    let same = ends_there old new told after course all in
+    record {
+      final = disk;
+      medium = ap (λ (s : State). (bay_of s.station bay).medium) same.0 ∙ medium;
+      bay_rate = ap (λ (s : State). (bay_of s.station bay).rate) same.0;
+      keeps = keeps_itself disk c h valid;
+      regular = regular;
+      laid = laid;
+      kept = λ entry other on. on;
+      copied = tt;
+      first = λ other. ap (λ (s : State). bay_of s.station 0) same.0;
+      memory = ap (λ (s : State). s.station.memory) same.0;
+      names = ap (λ (s : State). s.names) same.0;
+      files = same.1;
+    }
+all_writes tidy bay disk c h a zero (deleted ∷ marks) old new told after course all count least most there valid regular has laid size faultless medium rate = absurd (omega (arith, count))
+all_writes tidy bay disk c h a (suc n) [] old new told after course all count least most there valid regular has laid size faultless medium rate = absurd (omega (arith, count))
+all_writes tidy bay disk c h a (suc n) (deleted ∷ marks) old new told after course all count least most there valid regular has laid size faultless medium rate =
+    let asked = write_record bay (key_of c h a) deleted in
+    let rest_asked = write_records bay (keys_from c h (a + 1) n) marks in
+    let first = begins old new told after asked rest_asked course all in
+    let here = step_never_fell old first.mid told first.files asked first.answer first.step (write_keeps bay (key_of c h a) deleted) in
+    let later = never_fell first.mid new first.files after rest_asked first.later first.behind (writes_keep bay (keys_from c h (a + 1) n) marks) in
+    let some = there a (omega arith) (omega arith) in
+    let fell = fell_at bay old.station.counters first.mid.station.counters here in
+    let fell_later = fell_at bay first.mid.station.counters new.station.counters later in
+    let one = one_write tidy bay disk c h a some.0 deleted old first.mid told first.files first.answer regular has laid some.3.address size (omega arith) first.does first.done (omega (arith, fell, fell_later, faultless.0), omega (arith, fell_later, faultless.1)) medium rate in
+    let has_next = (alike_tracks disk one.next c h one.keeps.alike).0 has in
+    let next_there = λ (r : ℕ) (from : a + 1 ≤ r) (below : r < a + 1 + n).
+    let had = there r (omega arith) (omega arith) in
+    let differ : r ≡ a → ⊥ = λ e. absurd (omega arith) in
+    let still : HasSome one.next c h r = (had.0, had.1, had.2, (one.others (copied_entry c h r had.0 had.1 had.2) (other_key c h r a differ)).0 had.3) in
+    still in
+    let rest = all_writes tidy bay one.next c h (a + 1) n marks first.mid new first.files after first.later first.behind (omega arith) (omega arith) (omega arith) next_there one.keeps.alike.valid one.regular has_next one.laid (ap length one.memory ∙ size) (omega (arith, fell, faultless.0), faultless.1) one.medium (one.bay_rate ∙ rate ∙ sym one.keeps.alike.rate) in
+    let copied = rest.kept (copied_entry c h a one.place deleted (bytes_from old.station.memory (record_address a) 512)) (λ r from e. other_key c h a r (λ same. absurd (omega arith)) e) one.entry in
+    record {
+      final = rest.final;
+      medium = rest.medium;
+      bay_rate = rest.bay_rate ∙ one.bay_rate;
+      keeps = keeps_both disk one.next rest.final c h one.keeps rest.keeps;
+      regular = rest.regular;
+      laid = rest.laid;
+      kept = λ entry other on. rest.kept entry (λ r from. other r (omega arith)) ((one.others entry (other a (omega arith))).0 on);
+      copied = ((one.place, copied), subst (λ (m : List ℕ). AreCopied rest.final m c h (a + 1) marks) one.memory rest.copied);
+      first = λ other. rest.first other ∙ one.first other;
+      memory = rest.memory ∙ one.memory;
+      names = rest.names ∙ one.names;
+      files = rest.files ∙ one.files;
+    }

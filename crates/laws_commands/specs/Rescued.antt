@@ -1,0 +1,239 @@
+-- Rescues that went through all their requests: what they stored.
+use Rattle.std.specs.Prelude.{◌≡◌, ◌↔◌, ◌⊎◌, ℕ, ◌+◌, Bool, true, false, List, [], ◌∷◌, ◌++◌, length, map, All, Contains, Option, Some, None, IfSome, if◌then◌else◌}
+use Rattle.flop_base.specs.Shelf.{Files, file_at, stored}
+use Rattle.flop_base.specs.Sink.{grown}
+use Rattle.flop_base.specs.Standard.{sectors_at}
+use Rattle.flop_base.specs.declared.key.Chrn.{Chrn}
+use Rattle.flop_base.specs.declared.answers.Code.{Code}
+use Rattle.flop_base.specs.declared.answers.Status.{Status}
+use Rattle.raw_image.specs.Disk.{Disk, IsDisk, HasTrack, track_of}
+use Rattle.raw_image.specs.Image.{file_of}
+use Rattle.flop_base.specs.Memory.{bytes_from}
+use Rattle.track_model.specs.declared.Look.{Look}
+use Rattle.track_model.specs.declared.Look.TheVariants.{Found}
+use Rattle.track_model.specs.Fields.{IsAddressAt, content_size}
+use Rattle.track_model.specs.Windows.{IsTidy}
+use Rattle.floppy_requests.specs.declared.request.Request.{Request}
+use Rattle.floppy_requests.specs.declared.request.Request.TheVariants as request
+use Rattle.sector_map.specs.Failing.{AreFailing}
+use Rattle.sector_map.specs.Disks.{Entry, IsOnMap, IsRegularDisk, LookOn}
+use Rattle.sector_model.specs.declared.reply.Reply.{Reply}
+use Rattle.sector_model.specs.declared.reply.Reply.TheVariants as reply
+use Rattle.sector_model.specs.declared.reply.Reason.TheVariants as reason
+use Rattle.sector_model.specs.States.{State}
+use Rattle.sector_model.specs.Steps.{IsImageOf, blank_of}
+use Rattle.sector_model.specs.Texts.{is_refusal}
+use Rattle.sector_model.specs.Runs.{Taken}
+use Rattle.sector_model.specs.Plays.{World}
+use Rattle.sector_model.specs.Stations.{StationState, bay_of}
+use Rattle.floppy_session.specs.Shapes.{shape_of}
+use Rattle.laws_commands.specs.Copied.{SomeStep, Gave, IsFieldOf}
+use Rattle.laws_commands.specs.LaidFields.{HasLaidFields}
+use Rattle.laws_commands.specs.Verified.{all_told_of}
+use Rattle.rescue.specs.Course.{read_of, logged_keys, outcome_status}
+use Rattle.rescue.specs.Log.{log_text}
+use Rattle.rescue.specs.declared.line.LogLine.{LogLine}
+use Rattle.rescue.specs.declared.outcome.Outcome.{Outcome}
+use Rattle.disk_commands.specs.Logs.{IsLogFound}
+use Rattle.disk_commands.specs.Rescue.{asked_keys, last_text}
+
+-- ---- The lines of a new log, by the course of a rescue.
+
+-- the line of a refused read
+abbrev pub line_for : Request → Code → List LogLine
+line_for (request.Read bay key address) code = (record { key = key; code = code }) ∷ []
+line_for _ code = []
+
+-- the line of a request, if its answer is a drive's refusal
+abbrev pub line_at : Request → Reply → List LogLine
+line_at asked (reply.Refused (reason.Driver code)) = line_for asked code
+line_at asked other = []
+
+-- those of a course: the reads that were refused
+abbrev pub log_of : List Taken → List LogLine
+log_of [] = []
+log_of (taken ∷ later) = line_at taken.asked taken.answer ++ log_of later
+
+-- ---- Runs whose writes can't bring up an address mark, however short they stop.
+
+-- each address field of the key on the disk in the bay is Tidy for what is written from memory
+abbrev pub IsTidyWrite : StationState → ℕ → Chrn → ℕ → Bool → Type 0
+IsTidyWrite station bay key address deleted =
+    (disk : Disk) (c p : ℕ) → (bay_of station bay).medium ≡ Some disk → HasTrack disk c key.h
+    → IsAddressAt (track_of disk c key.h) p key
+    → IsTidy (track_of disk c key.h) p deleted (bytes_from station.memory address (content_size key.n))
+
+-- so it is where the request is a write
+abbrev pub IsTidyFor : State → Request → Type 0
+IsTidyFor state (request.Write bay key address) = IsTidyWrite state.station bay key address false
+IsTidyFor state (request.WriteDeleted bay key address) = IsTidyWrite state.station bay key address true
+IsTidyFor state _ = Unit {0}
+
+-- at the beginning of each write of a course
+abbrev pub AreTidy : State → List Taken → Type 0
+AreTidy state [] = Unit {0}
+AreTidy state (taken ∷ later) = IsTidyFor state taken.asked × AreTidy taken.after later
+
+-- no refusal stopped the run: its last answer is none
+abbrev pub IsNotStopped : List Taken → Type 0
+IsNotStopped course = (before : List Taken) (last : Taken) → course ≡ before ++ last ∷ [] → is_refusal last.answer ≡ false
+
+-- no write of a course to the disk brings up an address mark: its address fields are on Laid tracks, or each write is Tidy
+abbrev pub BringsUpNoMark : Disk → State → List Taken → Type 0
+BringsUpNoMark disk old course = HasLaidFields disk ⊎ AreTidy old course
+
+-- the other diskette, as it is loaded where there is a log: the image of a regular disk, on which no write brings up an address mark
+pub record IsTarget (to : List ℕ) (target : Disk) (files : Files) (old : State) (course : List Taken) : Type 0 where
+  pub image : IsImageOf (Some files) to target
+  pub regular : IsRegularDisk target
+  pub unmarked : BringsUpNoMark target old course
+
+-- where there is a log, the other diskette is such a one
+abbrev pub HasTarget : Option (List LogLine) → List ℕ → Disk → Files → State → List Taken → Type 0
+HasTarget None to target files old course = Unit {0}
+HasTarget (Some lines) to target files old course = IsTarget to target files old course
+
+-- ---- What became of a record.
+
+-- its read was refused with this code
+abbrev pub WasRefused : Chrn → Code → Taken → Type 0
+WasRefused key code taken = (taken.asked ≡ read_of key) × (taken.answer ≡ reply.Refused (reason.Driver code))
+
+-- the log has it with the code that its read gave
+pub record IsLogged (course : List Taken) (lines : List LogLine) (key : Chrn) : Type 0 where
+  pub code : Code
+  pub read : SomeStep (WasRefused key code) course
+  pub line : Contains lines (record { key = key; code = code })
+
+-- an entry on the cylinder and the head of its key
+abbrev pub entry_at : Chrn → ℕ → Bool → List ℕ → Entry
+entry_at key place deleted content = record {
+  cylinder = key.c;
+  head = key.h;
+  place = place;
+  key = key;
+  deleted = deleted;
+  content = content;
+}
+
+-- the disk has it with the mark and the content that its read gave
+pub record IsSaved (course : List Taken) (saved : Disk) (key : Chrn) : Type 0 where
+  pub deleted : Bool
+  pub content : List ℕ
+  pub place : ℕ
+  pub read : SomeStep (Gave key deleted content) course
+  pub entry : IsOnMap saved (entry_at key place deleted content)
+
+-- exactly one of both
+pub record IsSettled (course : List Taken) (saved : Disk) (lines : List LogLine) (key : Chrn) : Type 0 where
+  pub either : IsLogged course lines key ⊎ IsSaved course saved key
+  pub never_both : IsLogged course lines key → IsSaved course saved key → ⊥
+
+-- no read of it gave anything
+abbrev pub WasNotRead : List Taken → Chrn → Type 0
+WasNotRead course key = (deleted : Bool) (content : List ℕ) → SomeStep (Gave key deleted content) course → ⊥
+
+-- where there was a log, all entries of the other diskette stay but those of the records that were read
+abbrev pub KeepsEntries : Option (List LogLine) → List Taken → Disk → Disk → Type 0
+KeepsEntries None course target saved = Unit {0}
+KeepsEntries (Some lines) course target saved =
+    (entry : Entry) → WasNotRead course entry.key → IsOnMap target entry ↔ IsOnMap saved entry
+
+-- ---- The diskette that is stored, by the one that it was.
+
+-- what is written to: a blank diskette of the first one's cylinders and rate where there was no log, and else the other one
+abbrev pub diskette_for : Option (List LogLine) → Disk → Disk → Disk
+diskette_for None disk target = blank_of disk.cylinders disk.rate
+diskette_for (Some lines) disk target = target
+
+-- a disk has the protection, the cylinders, the heads, the rate and the words per track of another
+pub record HasShapeOf (disk after : Disk) : Type 0 where
+  pub protected : after.protected ≡ disk.protected
+  pub cylinders : after.cylinders ≡ disk.cylinders
+  pub heads : after.heads ≡ disk.heads
+  pub rate : after.rate ≡ disk.rate
+  pub words_per_track : after.words_per_track ≡ disk.words_per_track
+
+-- it holds of the new diskette where there was no log, and else it still holds if it did
+abbrev pub StillHolds : (Disk → Type 0) → Option (List LogLine) → Disk → Disk → Type 0
+StillHolds Such None target saved = Such saved
+StillHolds Such (Some lines) target saved = Such target → Such saved
+
+-- ---- What is stored and told.
+
+-- the request writes a record
+abbrev pub is_write : Request → Bool
+is_write (request.Write bay key address) = true
+is_write (request.WriteDeleted bay key address) = true
+is_write _ = false
+
+-- how many requests of a course did
+abbrev pub count_writes : List Taken → ℕ
+count_writes [] = 0
+count_writes (taken ∷ later) = (if is_write taken.asked then 1 else 0) + count_writes later
+
+-- so many of the asked records were written as the course has writes
+abbrev pub outcome_in : List Taken → ℕ → Outcome
+outcome_in course asked = record { written = count_writes course; asked = asked }
+
+-- the last line tells how many of the asked records were written, and the status whether all were; the others are in the log
+pub record TellsRescue (asked : ℕ) (old : World) (course : List Taken) (new : World) (ended : Status) : Type 0 where
+  pub report : new.report ≡ grown old.report (last_text (outcome_in course asked) ∷ [])
+  pub status : ended ≡ outcome_status (outcome_in course asked)
+  pub others : count_writes course + length (log_of course) ≡ asked
+
+-- what a read of a course gave is an intact field of its key on the disk
+abbrev pub GivesFields : Disk → List Taken → Type 0
+GivesFields disk course =
+    (key : Chrn) (deleted : Bool) (content : List ℕ) → SomeStep (Gave key deleted content) course → IsFieldOf disk key deleted content
+
+-- the other diskette was stored under its name, then the new log under its own, and no other file changed; the next run finds both: a
+-- regular disk of the same shape, with Laid fields if it is new or had them, and a log
+pub record StoresRescue (disk target : Disk) (found : Option (List LogLine)) (to log : List ℕ) (files : Files) (course : List Taken) (new : World) : Type 0 where
+  pub saved : Disk
+  pub shape : HasShapeOf (diskette_for found disk target) saved
+  pub valid : StillHolds IsDisk found target saved
+  pub regular : IsRegularDisk saved
+  pub laid : StillHolds HasLaidFields found target saved
+  pub stores : new.files ≡ stored (stored (Some files) to (file_of saved)) log (log_text (log_of course))
+  pub disk_there : IfSome new.files (λ files. file_at files to ≡ Some (file_of saved))
+  pub image : IsDisk saved → IsImageOf new.files to saved
+  pub log_there : IfSome new.files (λ files. file_at files log ≡ Some (log_text (log_of course)))
+  pub log_found : IsLogFound new.files log (sectors_at disk.rate) (Some (log_of course))
+  pub settled : All (IsSettled course saved (log_of course)) (asked_keys (shape_of disk) found)
+  pub asked : All (Contains (asked_keys (shape_of disk) found)) (logged_keys (log_of course))
+  pub unasked : (key : Chrn) → (Contains (asked_keys (shape_of disk) found) key → ⊥) → WasNotRead course key
+  pub kept : KeepsEntries found course target saved
+  pub given : GivesFields disk course
+
+-- the lines of records that aren't found, each with the code of its look: 02 where the track has no address mark or the record
+-- no data, 04 where no address field has its key, and 10 where its data is damaged
+abbrev pub failing_lines : List (Chrn × Look) → List LogLine
+failing_lines failed = map (λ (told : Chrn × Code). record { key = told.0; code = told.1 }) (all_told_of failed)
+
+-- a rescue of the records that the log asks for, or of all where there was none, to its end
+pub record IsRescue (disk target : Disk) (to log : List ℕ) (files : Files) (old : World) (course : List Taken) (new : World) (ended : Status) : Type 0 where
+  pub found : Option (List LogLine)
+  pub there : IsLogFound (Some files) log (sectors_at disk.rate) found
+  pub stores : StoresRescue disk target found to log files course new
+  pub tells : TellsRescue (length (asked_keys (shape_of disk) found)) old course new ended
+
+-- no look for the record finds it on the disk
+abbrev pub IsNotFound : Disk → Chrn → Type 0
+IsNotFound disk key = (deleted : Bool) (place : ℕ) → LookOn disk key (Found deleted place) → ⊥
+
+-- the new log is the asked records that aren't found, in their order
+pub record LogsNotFound (disk : Disk) (log : List ℕ) (files : Files) (course : List Taken) (new : World) : Type 0 where
+  pub found : Option (List LogLine)
+  pub there : IsLogFound (Some files) log (sectors_at disk.rate) found
+  pub log_there : IfSome new.files (λ files. file_at files log ≡ Some (log_text (log_of course)))
+  pub exactly : (failed : List (Chrn × Look)) → AreFailing disk (asked_keys (shape_of disk) found) failed
+      → log_of course ≡ failing_lines failed
+  pub lost : All (IsNotFound disk) (logged_keys (log_of course))
+
+-- nothing was stored, or the other diskette alone, or that and then the new log
+pub data StoresInOrder (to log : List ℕ) (lines : List LogLine) (told after : Option Files) : Type 0 where
+  Nothing : after ≡ told → StoresInOrder to log lines told after
+  DiskAlone : (disk : Disk) → after ≡ stored told to (file_of disk) → StoresInOrder to log lines told after
+  DiskThenLog : (disk : Disk) → after ≡ stored (stored told to (file_of disk)) log (log_text lines)
+      → StoresInOrder to log lines told after

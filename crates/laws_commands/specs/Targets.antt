@@ -1,0 +1,21 @@
+-- Disks that a rescue may go on with.
+use Rattle.std.specs.Prelude.{◌≡◌, ℕ, false, List, Option}
+use Rattle.flop_base.specs.Shelf.{Files}
+use Rattle.flop_base.specs.declared.key.Chrn.{Chrn}
+use Rattle.raw_image.specs.Disk.{Disk, IsDisk}
+use Rattle.sector_map.specs.Disks.{IsRegularDisk}
+use Rattle.sector_model.specs.Steps.{IsImageOf}
+use Rattle.laws_commands.specs.EndsComplete.{HasKey}
+use Rattle.laws_commands.specs.LaidFields.{HasLaidFields}
+use Rattle.laws_commands.specs.Verified.{IsStandardKey}
+
+-- the name has the image of a disk that a rescue may go on with: a regular disk in its ranges, not protected, each of whose address fields
+-- is on a Laid track; it has the rate and each of the standard keys of another disk
+pub record HoldsTarget (name : List ℕ) (keyed disk : Disk) (files : Option Files) : Type 0 where
+  pub valid : IsDisk disk
+  pub image : IsImageOf files name disk
+  pub regular : IsRegularDisk disk
+  pub protected : disk.protected ≡ false
+  pub rate : disk.rate ≡ keyed.rate
+  pub laid : HasLaidFields disk
+  pub sectors : (key : Chrn) → IsStandardKey keyed key → HasKey disk key

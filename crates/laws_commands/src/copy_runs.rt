@@ -1,0 +1,27 @@
+// The command that copies a disk.
+ghost use Rattle.std.specs.Prelude.{◌≡◌, List, Some, length};
+ghost use Rattle.flop_base.specs.Shelf.{Files};
+ghost use Rattle.raw_image.specs.Disk.{Disk};
+ghost use Rattle.flop_base.specs.Counters.{IsFaultless};
+ghost use Rattle.flop_base.specs.Memory.{user_bytes};
+ghost use Rattle.sector_model.specs.Steps.{IsImageOf};
+ghost use Rattle.sector_model.specs.Runs.{Taken};
+ghost use Rattle.sector_model.specs.Plays.{World};
+ghost use Rattle.commands.specs.Scripts.{RunsScript};
+ghost use Rattle.disk_commands.specs.Copy.{copy_script};
+ghost use Rattle.laws_commands.specs.Copied.{StoresCopy};
+
+use flop_base::Status;
+
+/// A law: where the command that copies ends well, the first name has the image of a disk, and the drive of bay 1 had no fault
+/// meanwhile, a copy of the disk is stored under the second name, and no other file changed: it has each standard key with the
+/// mark and the content that the read of the key gave, which are those of an intact field of the key on that disk.
+pub fn copy_stores_a_copy(_from: &str, _to: &str)
+    ensures { (old new : World) (course : List Taken) (files : Files) (disk : Disk)
+        → RunsScript (copy_script _from.now _to.now) old course new Status.AllOk
+        → old.files ≡ Some files → IsImageOf (Some files) _from.now disk
+        → length old.state.station.memory ≡ user_bytes
+        → IsFaultless 1 old.state.station.counters new.state.station.counters
+        → StoresCopy disk _to.now old.state.station.counters (Some files) course
+        new.state.station.counters new.files }
+{}

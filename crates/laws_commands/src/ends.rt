@@ -1,0 +1,37 @@
+// The commands on flat files, where nothing can go wrong.
+ghost use Rattle.std.specs.Prelude.{◌≡◌, ℕ, List, Some};
+ghost use Rattle.flop_base.specs.Shelf.{Files};
+ghost use Rattle.flop_base.specs.declared.answers.Rate.{Rate};
+ghost use Rattle.flop_base.specs.declared.answers.Status.{Status};
+ghost use Rattle.raw_image.specs.Disk.{Disk};
+ghost use Rattle.sector_model.specs.Steps.{IsImageOf};
+ghost use Rattle.sector_model.specs.Plays.{World};
+ghost use Rattle.commands.specs.Scripts.{RunsScript};
+ghost use Rattle.commands.specs.Leading.{Runs};
+ghost use Rattle.laws_commands.specs.EndsComplete.{BeginsSound, EndsWellOrOutside};
+ghost use Rattle.disk_commands.specs.FlatFiles.{IsFlatFile};
+ghost use Rattle.disk_commands.specs.Import.{Imports};
+ghost use Rattle.disk_commands.specs.Export.{export_script};
+ghost use Rattle.laws_commands.specs.Imported.{StoresDisk};
+ghost use Rattle.laws_commands.specs.Exported.{StoresFlatOf};
+ghost use Rattle.laws_commands.specs.FlatComplete.{IsWholeDisk};
+
+/// A law: where no drive of a fresh station can have a fault any more and no DMA request can wait too long, the command that
+/// imports ends well, unless the shelf, the sink or memory fails, if the first name has a flat file: no request of it is refused.
+/// A disk with the sectors of the flat file is stored under the second name then, and no other file changed.
+pub fn import_ends_well(_flat: &str, _name: &str)
+    ensures { (old new : World) (ended : Status) (files : Files) (bytes : List ℕ) (at : Rate)
+        → BeginsSound old → old.files ≡ Some files → IsFlatFile (Some files) _flat.now bytes at
+        → Runs (Imports _flat.now _name.now) old new ended
+        → EndsWellOrOutside (StoresDisk bytes _name.now at (Some files) new.files) ended }
+{}
+
+/// A law: so does the command that exports, if the first name has the image of a regular disk of 80 cylinders and two heads that
+/// has each of its standard keys. A flat file with the contents of its sectors is stored under the second name then, and no
+/// other file changed.
+pub fn export_ends_well(_name: &str, _flat: &str)
+    ensures { (old new : World) (ended : Status) (files : Files) (disk : Disk)
+        → BeginsSound old → old.files ≡ Some files → IsImageOf (Some files) _name.now disk → IsWholeDisk disk
+        → Runs (RunsScript (export_script _name.now _flat.now)) old new ended
+        → EndsWellOrOutside (StoresFlatOf disk _flat.now (Some files) new.files) ended }
+{}

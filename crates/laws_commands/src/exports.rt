@@ -1,0 +1,22 @@
+// The command that exports.
+ghost use Rattle.std.specs.Prelude.{◌≡◌, List, length};
+ghost use Rattle.flop_base.specs.Memory.{user_bytes};
+ghost use Rattle.sector_model.specs.Runs.{Taken};
+ghost use Rattle.sector_model.specs.Plays.{World};
+ghost use Rattle.commands.specs.Scripts.{RunsScript};
+ghost use Rattle.disk_commands.specs.Export.{export_script};
+ghost use Rattle.laws_commands.specs.Exported.{StoresExported};
+
+use flop_base::Status;
+
+/// A law: where the command that exports ends well, a flat file of the disk is stored under the second name, and no other file
+/// changed: it has at the place of each sector what the read of its key gave, whatever faults there were. These are the bytes
+/// of an intact field of the key; and those of its sector, where the disk is regular, and bay 0's drive had no fault or no
+/// field of the disk has two data marks.
+pub fn export_stores_what_was_read(_name: &str, _flat: &str)
+    ensures { (old new : World) (course : List Taken)
+        → RunsScript (export_script _name.now _flat.now) old course new Status.AllOk
+        → length old.state.station.memory ≡ user_bytes
+        → StoresExported _name.now _flat.now old.state.station.counters old.files course
+        new.state.station.counters new.files }
+{}

@@ -1,0 +1,19 @@
+// The command that formats a disk.
+ghost use Rattle.std.specs.Prelude.{List};
+ghost use Rattle.flop_base.specs.Counters.{IsFaultless};
+ghost use Rattle.sector_model.specs.Runs.{Taken};
+ghost use Rattle.sector_model.specs.Plays.{World};
+ghost use Rattle.commands.specs.Scripts.{RunsScript};
+ghost use Rattle.disk_commands.specs.Format.{format_script};
+ghost use Rattle.laws_commands.specs.Formatted.{StoresFormatted};
+
+use flop_base::{Rate, Status};
+
+/// A law: where the command that formats ends well, and the drive of bay 0 had no fault meanwhile, a formatted disk is stored
+/// under the name, and no other file changed. It ends well only where nothing was refused and its last line was printed whole.
+pub fn format_stores_a_formatted_disk(_rate: Rate, _name: &str, _cylinders: u8)
+    ensures { (old new : World) (course : List Taken)
+        → RunsScript (format_script _name.now _cylinders _rate) old course new Status.AllOk
+        → IsFaultless 0 old.state.station.counters new.state.station.counters
+        → StoresFormatted _rate _name.now _cylinders old.files new.files }
+{}

@@ -1,0 +1,39 @@
+// Disks that were formatted.
+ghost use Rattle.std.specs.Prelude.{◌≡◌, ◌≤◌, ℕ, List, Option};
+ghost use Rattle.flop_base.specs.Shelf.{Files};
+ghost use Rattle.flop_base.specs.Standard.{sectors_at};
+ghost use Rattle.raw_image.specs.Disk.{Disk, HasTrack};
+ghost use Rattle.flop_base.specs.Counters.{IsFaultless};
+ghost use Rattle.sector_map.specs.Disks.{Entry, IsOnMap, IsRegularDisk};
+ghost use Rattle.sector_model.specs.States.{State};
+ghost use Rattle.sector_model.specs.Runs.{Taken};
+ghost use Rattle.laws_commands.specs.Done.{DoesAll};
+ghost use Rattle.laws_commands.specs.Requests.{formatting, format_requests};
+ghost use Rattle.laws_commands.specs.Formatted.{IsFormattedDisk, LeavesFormatted, StoresFormatted, formatted_entry, IsFormattedEntry};
+
+use flop_base::Rate;
+
+/// A law: where each request of the command that formats was done, and the drive of bay 0 had no fault meanwhile, the disk
+/// in bay 0 is a formatted one, whatever else the run met: DMA requests that waited, stray interrupts, what was in the
+/// other bay. It is what the command's last request stores.
+pub fn formats_disk(_rate: Rate, _name: &str, _cylinders: u8)
+    ensures leaves { (old new : State) (told after : Option Files) (course : List Taken)
+        → DoesAll (formatting _rate _name.now _cylinders) old told course new after
+        → IsFaultless 0 old.station.counters new.station.counters
+        → LeavesFormatted _rate _name.now _cylinders told new after }
+    ensures stores { (old new : State) (told after : Option Files) (course : List Taken)
+        → DoesAll (format_requests _rate _name.now _cylinders) old told course new after
+        → IsFaultless 0 old.station.counters new.station.counters
+        → StoresFormatted _rate _name.now _cylinders told after }
+{}
+
+/// A law: a formatted disk is regular, and has each sector of the standard format, not deleted and filled with F6, and no
+/// other.
+pub fn formatted_disk_has_sectors(_rate: Rate, _cylinders: u8)
+    ensures regular { (disk : Disk) → IsFormattedDisk _rate _cylinders disk → IsRegularDisk disk }
+    ensures sectors { (disk : Disk) (c h r : ℕ) → IsFormattedDisk _rate _cylinders disk
+        → HasTrack disk c h → 1 ≤ r → r ≤ sectors_at disk.rate
+        → (place : ℕ) × IsOnMap disk (formatted_entry c h r place) }
+    ensures only { (disk : Disk) (entry : Entry) → IsFormattedDisk _rate _cylinders disk
+        → IsOnMap disk entry → IsFormattedEntry disk entry }
+{}

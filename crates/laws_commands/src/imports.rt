@@ -1,0 +1,21 @@
+// The command that imports.
+ghost use Rattle.std.specs.Prelude.{◌≡◌, List, length};
+ghost use Rattle.flop_base.specs.Counters.{IsFaultless};
+ghost use Rattle.flop_base.specs.Memory.{user_bytes};
+ghost use Rattle.sector_model.specs.Runs.{Taken};
+ghost use Rattle.sector_model.specs.Plays.{World};
+ghost use Rattle.disk_commands.specs.Import.{Imports};
+ghost use Rattle.laws_commands.specs.Imported.{StoresImported};
+
+use flop_base::Status;
+
+/// A law: where the command that imports ends well, and the drive of bay 0 had no fault meanwhile, a disk is stored under the second
+/// name, and no other file changed: it has each sector of the flat file, not deleted, with the bytes at its place, also where
+/// DMA requests waited.
+pub fn import_stores_the_flat_file(_flat: &str, _name: &str)
+    ensures { (old new : World) (course : List Taken)
+        → Imports _flat.now _name.now old course new Status.AllOk
+        → length old.state.station.memory ≡ user_bytes
+        → IsFaultless 0 old.state.station.counters new.state.station.counters
+        → StoresImported _flat.now _name.now old.files new.files }
+{}

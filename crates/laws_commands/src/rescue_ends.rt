@@ -1,0 +1,39 @@
+// The command that rescues, where nothing can go wrong.
+ghost use Rattle.std.specs.Prelude.{◌≡◌, ◌≢◌, All, List, Some, None};
+ghost use Rattle.flop_base.specs.Shelf.{Files, file_at};
+ghost use Rattle.flop_base.specs.Standard.{sectors_at};
+ghost use Rattle.flop_base.specs.declared.answers.Status.{Status};
+ghost use Rattle.raw_image.specs.Disk.{Disk};
+ghost use Rattle.sector_map.specs.Disks.{IsRegularDisk};
+ghost use Rattle.sector_model.specs.Steps.{IsImageOf};
+ghost use Rattle.sector_model.specs.Plays.{World};
+ghost use Rattle.commands.specs.Leading.{Runs};
+ghost use Rattle.rescue.specs.Course.{logged_keys};
+ghost use Rattle.rescue.specs.declared.line.LogLine.{LogLine};
+ghost use Rattle.disk_commands.specs.Logs.{IsLogFound};
+ghost use Rattle.disk_commands.specs.Rescue.{Rescues};
+ghost use Rattle.laws_commands.specs.EndsComplete.{BeginsSound, EndsWellOrOutside, HasKey, IsReadable, StoresSameAndLog, StoresRestAndLog, TakesKeys};
+
+/// A law: where no drive of a fresh station can have a fault any more and no DMA request can wait too long, a rescue with no log yet
+/// ends well, unless the shelf, the sink or memory fails, if the first name has the image of a regular disk that has each of its
+/// standard keys: no request of it is refused. A disk with the same standard sectors, on Laid tracks, is stored under the second name
+/// then, and an empty log under the third, which is another name.
+pub fn new_rescue_ends_well(_from: &str, _to: &str, _log: &str)
+    ensures { (old new : World) (ended : Status) (files : Files) (disk : Disk)
+        → BeginsSound old → old.files ≡ Some files → IsImageOf (Some files) _from.now disk → IsReadable disk
+        → file_at files _log.now ≡ None → _to.now ≢ _log.now
+        → Runs (Rescues _from.now _to.now _log.now) old new ended
+        → EndsWellOrOutside (StoresSameAndLog disk _to.now _log.now (Some files) new.files) ended }
+{}
+
+/// A law: so does one that goes on by a log, whose records the image of the first name has, if it is regular, and the second name has the
+/// image of a disk that takes them at its rate. That disk is stored again, with these sectors as the first has them, and all others as
+/// they were, and then an empty log.
+pub fn further_rescue_ends_well(_from: &str, _to: &str, _log: &str)
+    ensures { (old new : World) (ended : Status) (files : Files) (disk target : Disk) (lines : List LogLine)
+        → BeginsSound old → old.files ≡ Some files → IsImageOf (Some files) _from.now disk → IsImageOf (Some files) _to.now target
+        → IsLogFound (Some files) _log.now (sectors_at disk.rate) (Some lines) → _to.now ≢ _log.now
+        → IsRegularDisk disk → All (HasKey disk) (logged_keys lines) → TakesKeys disk.rate (logged_keys lines) target
+        → Runs (Rescues _from.now _to.now _log.now) old new ended
+        → EndsWellOrOutside (StoresRestAndLog disk target (logged_keys lines) _to.now _log.now (Some files) new.files) ended }
+{}

@@ -1,0 +1,25 @@
+// What the log of a rescue has.
+ghost use Rattle.std.specs.Prelude.{◌≡◌, List, Some};
+ghost use Rattle.flop_base.specs.Shelf.{Files};
+ghost use Rattle.flop_base.specs.declared.answers.Status.{Status};
+ghost use Rattle.raw_image.specs.Disk.{Disk};
+ghost use Rattle.flop_base.specs.Counters.{IsUndisturbed};
+ghost use Rattle.sector_model.specs.Steps.{IsImageOf};
+ghost use Rattle.sector_model.specs.Runs.{Taken};
+ghost use Rattle.sector_model.specs.Plays.{World};
+ghost use Rattle.laws_commands.specs.Verified.{IsUnmistaken};
+ghost use Rattle.laws_commands.specs.VerifyRuns.{IsEndStatus};
+ghost use Rattle.disk_commands.specs.Rescue.{Rescues};
+ghost use Rattle.laws_commands.specs.Rescued.{IsNotStopped, LogsNotFound};
+
+/// A law: where a rescue ends with status 0 or 1, no refusal stopped it, and neither a fault of bay 0's drive nor a stall disturbed
+/// it, on a disk whose address fields can't be mistaken, the new log is exactly the records that were asked for and aren't
+/// found, in their order, each with the code of its look: 02 where the track has no address mark or the record no data, 04
+/// where no address field has its key, and 10 where its data is damaged.
+pub fn rescue_logs_what_is_not_found(_from: &str, _to: &str, _log: &str)
+    ensures { (old new : World) (course : List Taken) (ended : Status) (files : Files) (disk : Disk)
+        → Rescues _from.now _to.now _log.now old course new ended → IsEndStatus ended → IsNotStopped course
+        → old.files ≡ Some files → IsImageOf (Some files) _from.now disk
+        → IsUndisturbed 0 old.state.station.counters new.state.station.counters → IsUnmistaken disk
+        → LogsNotFound disk _log.now files course new }
+{}

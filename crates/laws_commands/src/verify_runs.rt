@@ -1,0 +1,33 @@
+// The command that verifies a disk.
+ghost use Rattle.std.specs.Prelude.{◌≡◌, List, Some, None};
+ghost use Rattle.flop_base.specs.Shelf.{Files};
+ghost use Rattle.flop_base.specs.declared.key.Chrn.{Chrn};
+ghost use Rattle.flop_base.specs.declared.answers.Status.{Status};
+ghost use Rattle.raw_image.specs.Disk.{Disk};
+ghost use Rattle.track_model.specs.declared.Look.{Look};
+ghost use Rattle.flop_base.specs.Counters.{IsUndisturbed};
+ghost use Rattle.sector_map.specs.Failing.{AreFailing};
+ghost use Rattle.sector_map.specs.Standard.{standard_keys};
+ghost use Rattle.sector_model.specs.Stations.{bay_of};
+ghost use Rattle.sector_model.specs.Steps.{IsImageOf};
+ghost use Rattle.sector_model.specs.Runs.{Taken};
+ghost use Rattle.sector_model.specs.Plays.{World};
+ghost use Rattle.commands.specs.Scripts.{RunsScript};
+ghost use Rattle.disk_commands.specs.Verify.{verify_script};
+ghost use Rattle.laws_commands.specs.Verified.{IsUnmistaken, all_told_of};
+ghost use Rattle.laws_commands.specs.VerifyRuns.{TellsFailing, IsEndStatus};
+
+/// A law: where the command that verifies goes on to its end in a bay that was empty, and neither a fault of its drive nor a
+/// stall disturbed it, on a disk whose address fields can't be mistaken, it prints a line for each standard key that isn't
+/// found, in their order, with the code of its look, and no other line but the last, which counts the others. It ends with
+/// status 1 exactly where there is such a key, and else with status 0.
+pub fn verify_tells_failing_keys(_name: &str)
+    ensures { (old new : World) (course : List Taken) (ended : Status) (files : Files) (disk : Disk)
+        (failed : List (Chrn × Look))
+        → RunsScript (verify_script _name.now) old course new ended → IsEndStatus ended
+        → old.files ≡ Some files → IsImageOf (Some files) _name.now disk
+        → (bay_of old.state.station 0).medium ≡ None
+        → IsUndisturbed 0 old.state.station.counters new.state.station.counters
+        → IsUnmistaken disk → AreFailing disk (standard_keys disk) failed
+        → TellsFailing disk (all_told_of failed) old new ended }
+{}

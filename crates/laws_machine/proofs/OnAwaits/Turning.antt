@@ -1,0 +1,81 @@
+-- Drives that turn on, while words are read and written.
+use Rattle.std.proofs.Common.{◌≡◌, inl, inr, ℕ, ◌≤◌, ◌&&◌, nat_lt, not, Bool, true, false, Option, Some, None, is_some, if◌then◌else◌, refl, sym, ◌∙◌, ap, subst, arith}
+use Rattle.laws_machine.proofs.Common.{Disk, spends_twice, DriveState, Becomes, Writes, can_write, has_track, rewritten, turns, with_gate, let_pass, WordTime, Saw, KeptOut, Wrote, Stopped, IsTime, Opens, Closes, DataRate, Turned, TurnsOn}
+use Rattle.laws_machine.proofs.Facts.{if_both, spin_on}
+use Rattle.raw_image.specs.Disk.{with_word}
+use Rattle.laws_machine.proofs.OnQuiet.Turning.{turned_let, turned_still}
+
+pub as_turned : (old new : DriveState) → Turned old new → TurnsOn old new
+as_turned old new turned = record { stays_in = ap is_some turned.medium; cylinder = turned.cylinder; change = turned.change; motor = turned.motor; spin = turned.spin; never_falls = turned.faults; spends = turned.spends }
+
+pub on_let : (old new : DriveState) → Becomes (let_pass old) old new → TurnsOn old new
+on_let old new is = as_turned old new (turned_let old new is)
+
+pub on_still : (old new : DriveState) → new ≡ old → TurnsOn old new
+on_still old new same = as_turned old new (turned_still old new same)
+
+pub on_further : (a b c : DriveState) → TurnsOn a b → TurnsOn b c → TurnsOn a c
+on_further a b c one two = record {
+  stays_in = two.stays_in ∙ one.stays_in;
+  cylinder = two.cylinder ∙ one.cylinder;
+  change = two.change ∙ one.change;
+  motor = two.motor ∙ one.motor;
+  spin = let first = one.spin in let second = two.spin in omega arith;
+  never_falls = let first = one.never_falls in let second = two.never_falls in omega arith;
+  spends = spends_twice a.faults b.faults c.faults a.left b.left c.left one.spends two.spends;
+}
+
+on_gate : (opened : Bool) (old new : DriveState) → Becomes (with_gate opened old) old new → TurnsOn old new
+on_gate opened old new is = record {
+  stays_in = ap (λ s. is_some s.medium) is.becomes;
+  cylinder = ap (λ s. s.cylinder) is.becomes;
+  change = ap (λ s. s.change) is.becomes;
+  motor = ap (λ s. s.motor) is.becomes;
+  spin = let same : new.spin ≡ old.spin = ap (λ s. s.spin) is.becomes in omega arith;
+  never_falls = is.never_falls;
+  spends = is.spends;
+}
+
+some_rewritten : (medium : Option Disk) (c h place word : ℕ) → is_some (rewritten medium c h place word) ≡ is_some medium
+some_rewritten None c h place word = refl
+some_rewritten (Some disk) c h place word = if_both (not disk.protected && has_track (Some disk) c h) (Some (with_word disk c h place word)) (Some disk) (λ z. is_some z ≡ true) refl refl
+
+some_if : (can : Bool) (medium : Option Disk) (c h place word : ℕ) → is_some (if can then rewritten medium c h place word else medium) ≡ is_some medium
+some_if true medium c h place word = some_rewritten medium c h place word
+some_if false medium c h place word = refl
+
+on_written : (head word : ℕ) (old new : DriveState) → Writes head word old new → TurnsOn old new
+on_written head word old new (inl wrote) = record {
+  stays_in = ap (λ s. is_some s.medium) wrote.becomes ∙ some_if (can_write old) old.medium old.cylinder head old.place word;
+  cylinder = ap (λ s. s.cylinder) wrote.becomes;
+  change = ap (λ s. s.change) wrote.becomes;
+  motor = ap (λ s. s.motor) wrote.becomes;
+  spin = subst (λ n. old.spin ≤ n) (sym (ap (λ s. s.spin) wrote.becomes)) (spin_on (turns old && nat_lt old.spin 6250) old.spin);
+  never_falls = wrote.never_falls;
+  spends = wrote.spends;
+}
+on_written head word old new (inr (can, becomes, rose)) = record {
+  stays_in = ap (λ s. is_some s.medium) becomes.becomes;
+  cylinder = ap (λ s. s.cylinder) becomes.becomes;
+  change = ap (λ s. s.change) becomes.becomes;
+  motor = ap (λ s. s.motor) becomes.becomes;
+  spin = subst (λ n. old.spin ≤ n) (sym (ap (λ s. s.spin) becomes.becomes)) (spin_on (turns old && nat_lt old.spin 6250) old.spin);
+  never_falls = becomes.never_falls;
+  spends = becomes.spends;
+}
+
+on_opened : (opened : Bool) (old new : DriveState) → Opens opened old new → TurnsOn old new
+on_opened true old new becomes = on_gate true old new becomes
+on_opened false old new same = on_still old new same
+
+on_closed : (closed : Bool) (old new : DriveState) → Closes closed old new → TurnsOn old new
+on_closed true old new becomes = on_gate false old new becomes
+on_closed false old new same = on_still old new same
+
+pub on_time : (time : WordTime) (rate : DataRate) (head : ℕ) (before after : DriveState) → IsTime time rate head before after → TurnsOn before after
+on_time (Saw index word) rate head before after is = on_let before after is.passes
+on_time (KeptOut index word) rate head before after (other, is) = on_let before after is.passes
+on_time (Wrote opened closed index word) rate head before after is =
+    on_further before is.from after (on_opened opened before is.from is.opens)
+    (on_further is.from is.mid after (on_written head word is.from is.mid is.writes) (on_closed closed is.mid after is.closes))
+on_time Stopped rate head before after is = on_let before after is

@@ -1,0 +1,143 @@
+-- Counts, step by step and access by access.
+use Rattle.std.proofs.Common.{◌≡◌, ℕ, ◌+◌, ◌≤◌, min, nat_lt, Bool, true, false, List, [], ◌∷◌, if◌then◌else◌, refl, sym, ◌∙◌, ap, subst, arith}
+use Rattle.laws_machine.proofs.Common.{last_count, drive_twice, asks, next_entry, rest_of, Holds, looked, waited, shown, counted, Request, Low, High, Board, controller_of, holds_of, is_controllers, port_read, WritesPort, Inputs, Outputs, Step, looked_at, shown_again, Chips, counts_of, CountsGoOn, regapped, Progress}
+use Rattle.flop_base.proofs.Counted.{drive_itself}
+use Rattle.dma_8237.specs.Channel.{after_read}
+use Rattle.fdc_core.specs.Ports.{after_read as controller_after}
+use Rattle.irq_events.specs.Holds.{stalls_with}
+use Rattle.pc_bus.specs.Transfers.{moved_up_to, dma_stepped}
+use Rattle.pc_bus.specs.Counts.{long_holds}
+use Rattle.laws_machine.proofs.OnSteps.Runs.{from_start, inputs, outputs}
+use Rattle.laws_machine.proofs.OnCounts.Spending.{DrivesGoOn, drives_step, drives_written, drives_same}
+use Rattle.laws_machine.proofs.OnSteps.Stalls.{up_to_holding}
+use Rattle.laws_machine.proofs.OnSteps.Transfers.{by_request}
+
+-- ---- the holds
+
+-- the stalls and the holds that are left
+pub record HoldsGoOn (old new : Holds) : Type 0 where
+  pub stalls : min old.stalls last_count ≤ new.stalls
+  pub spent : new.stalls + long_holds new.entries ≤ old.stalls + long_holds old.entries
+
+-- the same stalls and holds
+pub record SameHolds (old new : Holds) : Type 0 where
+  pub stalls : new.stalls ≡ old.stalls
+  pub entries : new.entries ≡ old.entries
+
+same_on : (old new : Holds) → SameHolds old new → HoldsGoOn old new
+same_on old new same =
+    let stalls = same.stalls in let left = ap long_holds same.entries in
+    record { stalls = omega arith; spent = omega arith }
+
+holds_on : (a b c : Holds) → HoldsGoOn a b → HoldsGoOn b c → HoldsGoOn a c
+holds_on a b c first second =
+    let one = first.stalls in let two = second.stalls in let three = first.spent in let four = second.spent in
+    record { stalls = omega arith; spent = omega arith }
+
+by_long : (stalls left : ℕ) (b : Bool) → (min stalls last_count ≤ (if b then counted stalls else stalls))
+    × ((if b then counted stalls else stalls) + left ≤ stalls + ((if b then 1 else 0) + left))
+by_long stalls left true = (omega arith, omega arith)
+by_long stalls left false = (omega arith, omega arith)
+
+taken_holds : (entries : List ℕ) (stalls : ℕ) (request then_request : Request)
+    → HoldsGoOn (record { entries = entries; request = request; stalls = stalls })
+    (record { entries = rest_of entries; request = then_request; stalls = stalls_with (next_entry entries) stalls })
+taken_holds [] stalls request then_request = record { stalls = omega arith; spent = omega arith }
+taken_holds (hold ∷ holds) stalls request then_request = let (grows, spends) = by_long stalls (long_holds holds) (nat_lt 8 hold) in record { stalls = grows; spent = spends }
+
+waited_holds : (request : Request) (old : Holds) → HoldsGoOn old (waited request old)
+waited_holds Low old = let goes = taken_holds old.entries old.stalls old.request (High (next_entry old.entries)) in record { stalls = goes.stalls; spent = goes.spent }
+waited_holds (High left) old = same_on old (waited (High left) old) (record { stalls = refl; entries = refl })
+
+looked_holds : (line : Bool) (old : Holds) → HoldsGoOn old (looked line old)
+looked_holds true old = waited_holds old.request old
+looked_holds false old = same_on old (looked false old) (record { stalls = refl; entries = refl })
+
+shown_same : (line : Bool) (old : Holds) → SameHolds old (shown line old)
+shown_same true old = record { stalls = refl; entries = refl }
+shown_same false old = record { stalls = refl; entries = refl }
+
+shown_after : (line : Bool) (now before : Holds) → now ≡ before → SameHolds before (shown line now)
+shown_after line now before is = let same = shown_same line now in
+    record { stalls = same.stalls ∙ ap (λ h. h.stalls) is; entries = same.entries ∙ ap (λ h. h.entries) is }
+
+dma_holds : (chips : Chips) → HoldsGoOn chips.holding (dma_stepped chips).holding
+dma_holds chips =
+    let look = looked_holds (asks chips.controller) chips.holding in
+    let then_chips : Chips = moved_up_to 16 (looked_at chips) in
+    by_request (λ c. HoldsGoOn chips.holding c.holding) chips (λ _. look) (λ _. look)
+    (λ _. holds_on chips.holding (looked_at chips).holding (shown_again then_chips).holding look
+    (same_on (looked_at chips).holding (shown_again then_chips).holding
+    (shown_after (asks then_chips.controller) then_chips.holding (looked_at chips).holding (up_to_holding 16 (looked_at chips)))))
+
+-- ---- device steps
+
+all_counts : (old new : Board) → DrivesGoOn old new → HoldsGoOn (holds_of old) (holds_of new) → new.bus.taken ≡ old.bus.taken → new.bus.direct ≡ old.bus.direct → CountsGoOn old new
+all_counts old new drives holds taken direct =
+    record { first = drives.first; second = drives.second; stalls = holds.stalls; spent = holds.spent; taken = taken; direct = direct }
+
+pub counts_on : (a b c : Board) → CountsGoOn a b → CountsGoOn b c → CountsGoOn a c
+counts_on a b c first second =
+    let one = first.stalls in let two = second.stalls in let three = first.spent in let four = second.spent in
+    record {
+      first = drive_twice (counts_of a.first) (counts_of b.first) (counts_of c.first) first.first second.first;
+      second = drive_twice (counts_of a.second) (counts_of b.second) (counts_of c.second) first.second second.second;
+      stalls = omega arith;
+      spent = omega arith;
+      taken = second.taken ∙ first.taken;
+      direct = second.direct ∙ first.direct;
+    }
+
+pub counts_same : (board : Board) → CountsGoOn board board
+counts_same board = record {
+  first = drive_itself (counts_of board.first);
+  second = drive_itself (counts_of board.second);
+  stalls = omega arith;
+  spent = omega arith;
+  taken = refl;
+  direct = refl;
+}
+
+pub step_counts : (old new : Board) → Step old new → CountsGoOn old new
+step_counts old new step =
+    all_counts old new (drives_step old new step)
+    (subst (λ holding. HoldsGoOn (holds_of old) holding) (sym (ap (λ bus. bus.chips.holding) step.bus)) (dma_holds (record old.bus.chips { controller = step.between })))
+    (ap (λ bus. bus.taken) step.bus) (ap (λ bus. bus.direct) step.bus)
+
+pub counting : Progress CountsGoOn
+counting = record {
+  same = counts_same;
+  twice = counts_on;
+  step = step_counts;
+  idle = λ old gaps fresh. all_counts old (regapped gaps fresh old) (drives_same old (regapped gaps fresh old) refl refl)
+      (same_on (holds_of old) (holds_of old) (record { stalls = refl; entries = refl })) refl refl;
+}
+
+-- ---- port accesses
+
+pub input_counts : (port value : ℕ) (old new : Board) → Inputs port old value new → CountsGoOn old new
+input_counts port value old new access =
+    let between : Board = record old { bus = record old.bus { chips = port_read port old.bus.chips; fresh = false } } in
+    inputs (CountsGoOn old) (from_start CountsGoOn counting old) port value old new
+    (all_counts old between (drives_same old between refl refl) (same_on (holds_of old) (holds_of between) (port_holds (is_controllers port))) refl refl) access
+  where
+    port_holds : (b : Bool) → SameHolds old.bus.chips.holding
+        (if b then shown_again (record old.bus.chips { controller = controller_after port (controller_of old) }) else record old.bus.chips { channel = after_read port old.bus.chips.channel }).holding
+    port_holds true = shown_same _ old.bus.chips.holding
+    port_holds false = record { stalls = refl; entries = refl }
+
+write_holds : (port value : ℕ) (old between : Board) → (writes : WritesPort port value old between) → (b : Bool) → is_controllers port ≡ b → SameHolds (holds_of old) writes.chips.holding
+write_holds port value old between writes true is =
+    let (controller, does, after) = writes.writes.controllers is in
+    subst (λ chips. SameHolds (holds_of old) chips.holding) (sym after) (shown_same (asks controller) (holds_of old))
+write_holds port value old between writes false is =
+    subst (λ chips. SameHolds (holds_of old) chips.holding) (sym (writes.writes.channels is)) (record { stalls = refl; entries = refl })
+
+pub output_counts : (port value : ℕ) (old new : Board) → Outputs port value old new → CountsGoOn old new
+output_counts port value old new access =
+    outputs (CountsGoOn old) (from_start CountsGoOn counting old) port value old new (λ between writes.
+    let holds = write_holds port value old between writes (is_controllers port) refl in
+    let same : SameHolds (holds_of old) (holds_of between) = subst (λ holding. SameHolds (holds_of old) holding)
+    (sym (ap (λ bus. bus.chips.holding) writes.bus)) holds in
+    all_counts old between (drives_written port value writes.chips.controller old between writes.lines) (same_on (holds_of old) (holds_of between) same)
+    (ap (λ bus. bus.taken) writes.bus) (ap (λ bus. bus.direct) writes.bus)) access

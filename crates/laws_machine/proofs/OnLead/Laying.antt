@@ -1,0 +1,224 @@
+-- Commands that write, whatever the drive's speed was when they began.
+use Rattle.std.proofs.Common.{◌≡◌, ◌⊎◌, inl, inr, ℕ, zero, suc, ◌+◌, ◌*◌, ◌≤◌, Bool, true, false, List, [], ◌∷◌, length, refl, sym, ◌∙◌, ap, subst, arith}
+use Rattle.std.proofs.lemmas.Bool.{false_from_ne_true, false≢true}
+use Rattle.laws_machine.proofs.Common.{Chrn, DriveState, Becomes, is_protected, Fifo, Past, heard, Numbers, is_first, is_next, IsAtPart, IsWriting, FormatPart, Await, Due, Lay, Barred, WriteStage, FormatDoes, stepped, is_executing, let_pass, WordTime, Saw, KeptOut, Wrote, Stopped, IsTime, after_time, WritesIn, WritesTask, WriteDoes, MayWriteTask, MayFormatTask, Fdc, Execution, Execute, Task, Formatting, Writing, turns_led, turn_led, led, IsSpinning, IsUnheard, IsLed, Laid, Window, Track, Write, MayLayIn, LaysOn, Scene, IsScene, head_sent, IsAtDrive}
+use Rattle.fdc_stages.specs.Writings.{is_due}
+use Rattle.fdc_phases.specs.declared.phases.Task.TheVariants as task
+use Rattle.fdc_drives.proofs.LateFields.{address_in}
+use Rattle.fdc_drives.proofs.Late.{few_led, time_led}
+use Rattle.fdc_drives.proofs.Spinning.{no_index, hears_none, turning_on}
+use Rattle.laws_machine.specs.OnReads.Scenes.{outset_of}
+use Rattle.laws_machine.proofs.OnLead.Listening.{led_over, spun}
+use Rattle.laws_machine.proofs.OnLead.Spinning.{nothing_heard}
+use Rattle.laws_machine.proofs.OnFormats.Covered as formats
+use Rattle.laws_machine.proofs.OnOrders.Behind.{IsTimed, Laying, laid_on}
+use Rattle.laws_machine.proofs.OnOrders.Words.{laying, timed_led}
+use Rattle.laws_machine.proofs.OnWrites.Covered as writes
+use Rattle.laws_machine.proofs.OnWrites.Steps.{is_stopped, due_now, opens_due, time_here}
+
+-- ---- a word time in which the medium spins up
+
+-- the step is counted that ends the command
+stepped_over : (scene : Scene) (late : Past) (drive : DriveState) → late.steps + 1 ≤ 2 * scene.disk.words_per_track → IsAtDrive scene late false drive
+    → IsAtDrive scene (stepped late) false drive
+stepped_over scene late drive early was = record {
+  hears = was.hears;
+  medium = was.medium;
+  unprotected = was.unprotected;
+  fits = was.fits;
+  barred = was.barred;
+  early = early;
+  inside = was.inside;
+  index = was.index;
+  works = λ no. absurd (false≢true no);
+}
+
+-- a word is heard, or the command is stopped
+abbrev pub WritesNothing : WordTime → Type 0
+WritesNothing (Saw index word) = Unit {0}
+WritesNothing Stopped = Unit {0}
+WritesNothing _ = ⊥
+
+module _ (laid : Laid) (scene : Scene) (lead : ℕ) (late : Past) (drive after : DriveState) (executes : Bool) (whole : IsScene scene) (guarded : 1 ≤ lead → scene.disk.protected ≡ false)
+    (none : IsUnheard late) (spins : IsSpinning scene lead drive) where
+  stops_spinning : Becomes (let_pass drive) drive after → IsLed (Write laid) scene (stepped (led lead late)) false after
+  stops_spinning becomes =
+      let turning = turning_on (outset_of scene) lead drive spins after becomes in
+      let steps = ap (λ (p : Past). p.steps) none in
+      let room = turning.inside in
+      let since = spins.since in
+      let slow = spins.slow in
+      record {
+        lead = lead;
+        late = stepped late;
+        past_is = time_led lead late Stopped;
+        short = omega arith;
+        guarded = guarded;
+        drive_is = inr (laid_on laid scene late (stepped late) false false after after (stepped_over scene late after (omega arith)) refl refl
+            (nothing_heard (Write laid) scene late false after whole none turning (λ busy. absurd (false≢true busy))));
+      }
+
+  -- nothing is written before the medium is at speed
+  by_time : (time : WordTime) → WritesNothing time → IsTime time scene.rate (head_sent scene.sent) drive after
+      → ((time ≡ Stopped → ⊥) → scene.disk.protected ≡ false) → (time ≡ Stopped → executes ≡ false)
+      → IsLed (Write laid) scene (after_time time (led lead late)) executes after
+  by_time (Saw index word) hears is unprotected over =
+      let calm : heard index word (stepped (led lead late)) ≡ heard false 0 (stepped (led lead late)) =
+      ap (λ i. heard i word (stepped (led lead late))) (is.index_is ∙ no_index (outset_of scene) lead drive spins)
+      ∙ ap (λ w. heard false w (stepped (led lead late))) (hears_none (outset_of scene) lead drive spins after word is.sees) in
+      subst (λ p. IsLed (Write laid) scene p executes after) (sym calm)
+      (spun (Write laid) scene lead late executes drive after whole none spins is.passes (λ _. unprotected (λ no. false≢true (ap is_stopped no))))
+  by_time (KeptOut index word) hears is unprotected over = absurd hears
+  by_time (Wrote opened closed index word) hears is unprotected over = absurd hears
+  by_time Stopped hears is unprotected over = subst (λ b. IsLed (Write laid) scene (stepped (led lead late)) b after) (sym (over refl)) (stops_spinning is)
+
+-- it isn't protected where the first step didn't stop
+unprotected_spun : (scene : Scene) (lead : ℕ) (late : Past) (drive : DriveState) (steps : ℕ) (time : WordTime) → IsUnheard late
+    → IsSpinning scene lead drive → (1 ≤ lead → scene.disk.protected ≡ false)
+    → late.steps + lead ≡ steps → (steps ≡ 0 → is_protected drive.medium ≡ true → time ≡ Stopped) → (time ≡ Stopped → ⊥) → scene.disk.protected ≡ false
+unprotected_spun scene (suc lead) late drive steps time none spins guarded steps_are guards goes = guarded (omega arith)
+unprotected_spun scene zero late drive steps time none spins guarded steps_are guards goes = false_from_ne_true scene.disk.protected (λ covered. let first = ap (λ (p : Past). p.steps) none in goes (guards (omega arith) (ap is_protected spins.turning.medium ∙ covered)))
+
+-- ---- of a window
+
+no_due : (lead : ℕ) (late : Past) (key : Chrn) (deleted : Bool) (handed : List ℕ) (now : WriteStage) → IsUnheard late
+    → IsWriting (led lead late) key deleted handed now → is_due now ≡ true → ⊥
+no_due lead late key deleted handed now none was due =
+    let is = due_now (led lead late) key deleted handed now was due in
+    let here = address_in lead late.turns late.seen is.place key is.address in
+    let inside = here.address.sound.inside in
+    let nothing = ap (λ (p : Past). length p.seen) none in
+    omega arith
+
+hears_window : (lead : ℕ) (late : Past) (head_drive steps : ℕ) (writing : Writing) (polls between : Fdc) (drive : DriveState) (handed : List ℕ) → IsUnheard late
+    → IsWriting (led lead late) writing.wanted.key writing.deleted handed writing.stage → (time : WordTime)
+    → WriteDoes time head_drive steps writing polls drive between → WritesNothing time
+hears_window lead late head_drive steps writing polls between drive handed none was (Saw index word) does = tt
+hears_window lead late head_drive steps writing polls between drive handed none was (KeptOut index word) (opening, does) =
+    no_due lead late writing.wanted.key writing.deleted handed writing.stage none was (opens_due writing.stage opening)
+hears_window lead late head_drive steps writing polls between drive handed none was (Wrote opened closed index word) does =
+    no_due lead late writing.wanted.key writing.deleted handed writing.stage none was does.due
+hears_window lead late head_drive steps writing polls between drive handed none was Stopped does = tt
+
+over_window : (head_drive steps : ℕ) (writing : Writing) (polls between : Fdc) (drive : DriveState) (time : WordTime)
+    → WriteDoes time head_drive steps writing polls drive between → time ≡ Stopped → is_executing between.phase ≡ false
+over_window head_drive steps writing polls between drive time does is = ap (λ fdc. is_executing fdc.phase) (subst (λ t. WriteDoes t head_drive steps writing polls drive between) is does).after_is
+
+-- ---- of a FORMAT
+
+no_turn : (lead : ℕ) (late : Past) (first : List ℕ) → IsUnheard late → turns_led lead late.turns ≡ first ∷ [] → ⊥
+no_turn lead late first none is =
+    let one = ap length is in
+    let same = few_led lead late.turns in
+    let nothing = ap (λ (p : Past). length p.turns) none in
+    omega arith
+
+no_next : (lead : ℕ) (late : Past) (seen : List ℕ) (place : ℕ) (words : List ℕ) (barred : Bool) (part : FormatPart) → IsUnheard late
+    → IsAtPart (turns_led lead late.turns) seen place words barred part → is_next part ≡ true → ⊥
+no_next lead late seen place words barred Await none was due = false≢true due
+no_next lead late seen place words barred Due none was due = no_turn lead late was.0.first none was.0.turns_are
+no_next lead late seen place words barred Lay none was due = no_turn lead late was.0.first none was.0.turns_are
+no_next lead late seen place words barred Barred none was due = false≢true due
+
+next_first : (part : FormatPart) → is_first part ≡ true → is_next part ≡ true
+next_first Due opening = refl
+next_first Await opening = opening
+next_first Lay opening = refl
+next_first Barred opening = opening
+
+hears_track : (lead : ℕ) (late : Past) (head_drive steps : ℕ) (formatting : Formatting) (polls between : Fdc) (drive : DriveState) → IsUnheard late
+    → IsAtPart (turns_led lead late.turns) (turn_led lead late.turns late.seen) late.place late.words late.barred formatting.stage.part → (time : WordTime)
+    → FormatDoes time head_drive steps formatting polls drive between → WritesNothing time
+hears_track lead late head_drive steps formatting polls between drive none was (Saw index word) does = tt
+hears_track lead late head_drive steps formatting polls between drive none was (KeptOut index word) (opening, does) =
+    no_next lead late (turn_led lead late.turns late.seen) late.place late.words late.barred formatting.stage.part none was (next_first formatting.stage.part opening)
+hears_track lead late head_drive steps formatting polls between drive none was (Wrote opened closed index word) does =
+    no_next lead late (turn_led lead late.turns late.seen) late.place late.words late.barred formatting.stage.part none was does.due
+hears_track lead late head_drive steps formatting polls between drive none was Stopped does = tt
+
+over_track : (head_drive steps : ℕ) (formatting : Formatting) (polls between : Fdc) (drive : DriveState) (time : WordTime)
+    → FormatDoes time head_drive steps formatting polls drive between → time ≡ Stopped → is_executing between.phase ≡ false
+over_track head_drive steps formatting polls between drive time does is = ap (λ fdc. is_executing fdc.phase) (subst (λ t. FormatDoes t head_drive steps formatting polls drive between) is does).after_is
+
+-- ---- in execution
+
+module _ (scene : Scene) (lead : ℕ) (late : Past) (drive after : DriveState) (polls between : Fdc) (asking : Bool) (fifo : Fifo) (whole : IsScene scene) (rate : polls.rate ≡ scene.rate)
+    (guarded : 1 ≤ lead → scene.disk.protected ≡ false) (none : IsUnheard late) (spins : IsSpinning scene lead drive) where
+  spun_window : (deleted : Bool) (now : Task) (head_drive steps : ℕ) → MayWriteTask (led lead late) scene.sent deleted head_drive steps now asking fifo
+      → WritesTask now head_drive steps asking fifo polls drive after between
+      → IsTimed (Window deleted) scene (λ past executes. IsLed (Write (Window deleted)) scene past executes after) (led lead late) between
+  spun_window deleted (task.Write writing) head_drive steps may writing_step =
+      let (asks, (handed, on)) = may in
+      let does = writing_step.step.does in
+      record {
+        time = does.time;
+        may = writing_step.writes (led lead late) scene.sent deleted may;
+        covered = λ is. let (first, covered) = writes.does_covered does.time head_drive steps writing polls drive between does.does is in sym (ap is_protected spins.turning.medium) ∙ covered;
+        at = by_time (Window deleted) scene lead late drive after (is_executing between.phase) whole guarded none spins does.time
+            (hears_window lead late head_drive steps writing polls between drive handed none on.writes does.time does.does)
+            (time_here scene does.time drive after polls head_drive (ap (λ s. s.head_drive) on.sent_is) rate does.is)
+            (unprotected_spun scene lead late drive steps does.time none spins guarded on.steps_are writing_step.step.guards)
+            (over_window head_drive steps writing polls between drive does.time does.does);
+      }
+  spun_window deleted _ head_drive steps may writing_step = absurd may
+
+  spun_track : (numbers : Numbers) (now : Task) (head_drive steps : ℕ)
+      → MayFormatTask (led lead late) scene.sent.head_drive numbers head_drive steps now asking fifo
+      → WritesTask now head_drive steps asking fifo polls drive after between
+      → IsTimed (Track numbers) scene (λ past executes. IsLed (Write (Track numbers)) scene past executes after) (led lead late) between
+  spun_track numbers (task.Format formatting) head_drive steps may writing_step =
+      let (asks, (handed, on)) = may in
+      let does = writing_step.step.does in
+      record {
+        time = does.time;
+        may = writing_step.formats (led lead late) scene.sent.head_drive numbers may;
+        covered = λ is. let (first, covered) = formats.does_covered does.time head_drive steps formatting polls drive between does.does is in sym (ap is_protected spins.turning.medium) ∙ covered;
+        at = by_time (Track numbers) scene lead late drive after (is_executing between.phase) whole guarded none spins does.time
+            (hears_track lead late head_drive steps formatting polls between drive none on.formats.0 does.time does.does)
+            (time_here scene does.time drive after polls head_drive on.sent_is rate does.is)
+            (unprotected_spun scene lead late drive steps does.time none spins guarded on.steps_are writing_step.step.guards)
+            (over_track head_drive steps formatting polls between drive does.time does.does);
+      }
+  spun_track numbers _ head_drive steps may writing_step = absurd may
+
+  spun_laid : (laid : Laid) (execution : Execution) → MayLayIn laid scene (led lead late) (Execute execution) asking fifo
+      → WritesIn (Execute execution) asking fifo polls drive after between
+      → IsTimed laid scene (λ past executes. IsLed (Write laid) scene past executes after) (led lead late) between
+  spun_laid (Window deleted) execution may does = spun_window deleted execution.task execution.head_drive execution.steps may does
+  spun_laid (Track numbers) execution may does = spun_track numbers execution.task execution.head_drive execution.steps may does
+
+works_led : (laid : Laid) (scene : Scene) (lead : ℕ) (late : Past) (drive after : DriveState) (polls between : Fdc) (asking : Bool) (fifo : Fifo)
+    → IsScene scene → polls.rate ≡ scene.rate → lead ≤ 6250
+    → (1 ≤ lead → scene.disk.protected ≡ false) → (IsUnheard late × IsSpinning scene lead drive) ⊎ LaysOn laid scene late true drive → (execution : Execution)
+    → MayLayIn laid scene (led lead late) (Execute execution) asking fifo → WritesIn (Execute execution) asking fifo polls drive after between
+    → IsTimed laid scene (λ past executes. IsLed (Write laid) scene past executes after) (led lead late) between
+works_led laid scene lead late drive after polls between asking fifo whole rate short guarded (inl (none, spins)) execution may does =
+    spun_laid scene lead late drive after polls between asking fifo whole rate guarded none spins laid execution may does
+works_led laid scene lead late drive after polls between asking fifo whole rate short guarded (inr at) execution may does =
+    let made = timed_led laid scene lead late drive after polls between asking fifo whole rate guarded at execution may does in
+    record {
+      time = made.time;
+      may = made.may;
+      covered = made.covered;
+      at = record { lead = lead; late = after_time made.time late; past_is = time_led lead late made.time; short = short; guarded = guarded; drive_is = inr made.at };
+    }
+
+rests_led : (laid : Laid) (scene : Scene) (past : Past) (drive after : DriveState) → IsScene scene → IsLed (Write laid) scene past false drive
+    → after.medium ≡ drive.medium → drive.faults ≤ after.faults → IsLed (Write laid) scene past false after
+rests_led laid scene past drive after whole was same falls = record {
+  lead = was.lead;
+  late = was.late;
+  past_is = was.past_is;
+  short = was.short;
+  guarded = was.guarded;
+  drive_is = inr ((laying laid scene whole).rests was.late drive after (led_over (Write laid) scene past false drive whole was) same falls);
+}
+
+pub laying_led : (laid : Laid) (scene : Scene) → IsScene scene → Laying laid scene (IsLed (Write laid) scene)
+laying_led laid scene whole = record {
+  works = λ past drive after polls between asking fifo rate was execution may does.
+      subst (λ p. IsTimed laid scene (λ now executes. IsLed (Write laid) scene now executes after) p between) (sym was.past_is)
+      (works_led laid scene was.lead was.late drive after polls between asking fifo whole rate was.short was.guarded was.drive_is execution
+      (subst (λ p. MayLayIn laid scene p (Execute execution) asking fifo) was.past_is may) does);
+  rests = λ past drive after was same falls. rests_led laid scene past drive after whole was same falls;
+}

@@ -1,0 +1,166 @@
+-- Port accesses of a data command: the write that begins it, and reads.
+use Rattle.std.proofs.Common.{◌≡◌, ◌⊎◌, inl, inr, ℕ, ◌+◌, ◌==◌, ◌||◌, nat_le, Bool, true, false, not, Option, List, if◌then◌else◌, refl, sym, ◌∙◌, subst}
+use Rattle.laws_machine.proofs.Common.{DriveState, Channel, Fifo, Past, Ending, Results, is_executing, given, phase_after, Short, Long, Fdc, Phase, Board, controller_of, drive_in, is_controllers, port_read, WritesPort, Inputs, Outputs, shown_again, Chips, drive_stays, IsScene, Scene, read_from, GoesOn, Window, Track, Order, Identify, Read, Write, MayIn, Shows, AtDrive, IsDoneBy, Underway, CanBegin, IsDriveOf}
+use Rattle.dma_8237.specs.Channel.{grants, after_read}
+use Rattle.fdc_stages.specs.History.{begun as new_past}
+use Rattle.fdc_phases.specs.declared.phases.Phase.TheVariants as phase
+use Rattle.laws_machine.proofs.OnReads.Accesses.{busy_before, still_busy, calm_read}
+use Rattle.laws_machine.proofs.OnSteps.Controllers.{step_command}
+use Rattle.laws_machine.proofs.OnReads.Steps.{same_drive}
+use Rattle.laws_machine.proofs.OnWrites.Covered.{read_refuses}
+use Rattle.laws_machine.proofs.OnSteps.Runs.{gap, outputs}
+use Rattle.laws_machine.specs.OnOrders.Orders.{CanBeginAt, Moves}
+use Rattle.laws_machine.proofs.OnOrders.Behind.{KeepsOn}
+use Rattle.laws_machine.proofs.OnLead.Spinning.{none_heard}
+use Rattle.laws_machine.proofs.OnOrders.Beginning.{begun_at, begun_by}
+use Rattle.laws_machine.proofs.OnOrders.Steps.{goes_on, at_drive}
+
+-- ---- a read of the data port
+
+no_short : (order : Order) (scene : Scene) (past : Past) (next : ℕ) (last : Option ℕ) (asking : Bool) (fifo : Fifo) → MayIn order scene past (phase.Result (Short next last)) asking fifo → ⊥
+no_short Identify scene past next last asking fifo may = may
+no_short Read scene past next last asking fifo may = may
+no_short (Write (Window deleted)) scene past next last asking fifo may = may
+no_short (Write (Track numbers)) scene past next last asking fifo may = may
+
+next_byte : (order : Order) (scene : Scene) (past : Past) (ending : Ending) (results : Results) (taken : ℕ) (asking : Bool) (fifo : Fifo) → MayIn order scene past (phase.Result (Long ending results taken)) asking fifo
+    → MayIn order scene past (phase.Result (Long ending results (taken + 1))) asking fifo
+next_byte Identify scene past ending results taken asking fifo may = may
+next_byte Read scene past ending results taken asking fifo may = may
+next_byte (Write (Window deleted)) scene past ending results taken asking fifo may = may
+next_byte (Write (Track numbers)) scene past ending results taken asking fifo may = may
+
+pub may_given : (order : Order) (scene : Scene) (past : Past) (p : Phase) (asking : Bool) (fifo : Fifo) → MayIn order scene past p asking fifo
+    → MayIn order scene past (phase_after p) asking fifo ⊎ (phase_after p ≡ phase.Command)
+may_given order scene past phase.Command asking fifo may = inr refl
+may_given order scene past (phase.Execute execution) asking fifo may = inl may
+may_given order scene past (phase.Result (Short next last)) asking fifo may = absurd (no_short order scene past next last asking fifo may)
+may_given order scene past (phase.Result (Long ending results taken)) asking fifo may = by_last (nat_le 6 taken)
+  where
+    by_last : (b : Bool) → MayIn order scene past (if b then phase.Command else phase.Result (Long ending results (taken + 1))) asking fifo
+        ⊎ ((if b then phase.Command else phase.Result (Long ending results (taken + 1))) ≡ phase.Command)
+    by_last true = inr refl
+    by_last false = inl (next_byte order scene past ending results taken asking fifo may)
+
+pub shows_given : (order : Order) (scene : Scene) (fdc : Fdc) → Shows order scene fdc → Shows order scene (given fdc)
+shows_given Identify scene fdc (low, calm) = (low, calm_read fdc.phase calm)
+shows_given Read scene fdc quiet = λ up. still_busy fdc.phase (quiet up)
+shows_given (Write laid) scene fdc covered = λ is. covered (read_refuses fdc.phase is)
+
+-- ---- the channel
+
+-- of its flip-flop and its terminal count nothing is known
+same_grants : (channel : Channel) (high told : Bool) → grants (record channel { high_byte_next = high; terminal_count = told }) ≡ grants channel
+unfolding grants
+same_grants channel high told = refl
+
+pub moves_flipped : (order : Order) (scene : Scene) (past : Past) (memory : List ℕ) (channel : Channel) (high told : Bool) → Moves order scene past memory channel
+    → Moves order scene past memory (record channel { high_byte_next = high; terminal_count = told })
+moves_flipped Identify scene past memory channel high told was = was
+moves_flipped Read scene past memory channel high told was = record {
+  bytes = was.bytes;
+  goes_on = λ uncounted. let (left, all, set) = was.goes_on uncounted in (
+    left,
+    all,
+    record { granting = same_grants channel high told ∙ set.granting; writing = set.writing; place = set.place; count = set.count; room = set.room },
+  );
+  over = λ counted. let (masked, all) = was.over counted in (same_grants channel high told ∙ masked, all);
+}
+moves_flipped (Write laid) scene past memory channel high told was = record {
+  same = was.same;
+  first = was.first;
+  goes_on = λ uncounted. let (left, all, set) = was.goes_on uncounted in (
+    left,
+    all,
+    record { granting = same_grants channel high told ∙ set.granting; reading = set.reading; place = set.place; count = set.count; room = set.room },
+  );
+  over = λ counted. let (masked, all) = was.over counted in (same_grants channel high told ∙ masked, all);
+}
+
+pub moves_read : (order : Order) (scene : Scene) (past : Past) (memory : List ℕ) (channel : Channel) (port : ℕ) → Moves order scene past memory channel → Moves order scene past memory (after_read port channel)
+unfolding after_read
+moves_read order scene past memory channel port was = by_port (port == 4 || port == 5) (port == 8)
+  where
+    by_port : (a b : Bool) → Moves order scene past memory (if a then record channel { high_byte_next = not channel.high_byte_next } else (if b then record channel { terminal_count = false } else channel))
+    by_port true b = moves_flipped order scene past memory channel (not channel.high_byte_next) channel.terminal_count was
+    by_port false true = moves_flipped order scene past memory channel channel.high_byte_next false was
+    by_port false false = was
+
+-- ---- reads
+
+-- it is as before, or the controller takes commands
+pub record IsReadOn (order : Order) (scene : Scene) (past : Past) (old new : Chips) : Type 0 where
+  pub known : IsDoneBy order scene past new
+  pub busy : is_executing new.controller.phase ≡ true → is_executing old.controller.phase ≡ true
+
+pub by_port : (order : Order) (scene : Scene) (past : Past) (port : ℕ) (chips : Chips) → IsDoneBy order scene past chips → (b d : Bool)
+    → IsReadOn order scene past chips (if b then shown_again (record chips { controller = if d then given chips.controller else chips.controller }) else record chips { channel = after_read port chips.channel })
+    ⊎ ((if b then shown_again (record chips { controller = if d then given chips.controller else chips.controller }) else record chips { channel = after_read port chips.channel }).controller.phase ≡ phase.Command)
+by_port order scene past port chips was true true = elim (may_given order scene past chips.controller.phase chips.controller.asking chips.controller.fifo was.may) [
+  | inl may ↦ inl (record {
+    known = record { may = may; shows = shows_given order scene chips.controller was.shows; dor = was.dor; rate = was.rate; moves = was.moves };
+    busy = busy_before chips.controller.phase;
+  })
+  | inr over ↦ inr over
+]
+by_port order scene past port chips was true false =
+    inl (record { known = record { may = was.may; shows = was.shows; dor = was.dor; rate = was.rate; moves = was.moves }; busy = λ busy. busy })
+by_port order scene past port chips was false d =
+    inl (record { known = record { may = was.may; shows = was.shows; dor = was.dor; rate = was.rate; moves = moves_read order scene past chips.memory chips.channel port was.moves }; busy = λ busy. busy })
+
+module _ (order : Order) (scene : Scene) (On : Past → Bool → DriveState → Type 0) (keeps : KeepsOn order scene On) where
+  -- before the gap; or the controller takes commands behind it
+  pub between_goes : (port value : ℕ) (old new : Board) → Inputs port old value new → GoesOn On order scene old → GoesOn On order scene (read_from port old) ⊎ ((controller_of new).phase ≡ phase.Command)
+  between_goes port value old new access (past, was) = elim (by_port order scene past port old.bus.chips was.chips (is_controllers port) (port == 0x3F5)) [
+    | inl on ↦ inl (
+      past,
+      record {
+        scene_is = was.scene_is;
+        chips = on.known;
+        drive = keeps.less past (is_executing (controller_of old).phase) (is_executing (port_read port old.bus.chips).controller.phase) (drive_in old scene.bay) on.busy was.drive;
+      },
+    )
+    | inr over ↦ inr (gap (λ board. (controller_of board).phase ≡ phase.Command) (record { step = step_command; idle = λ old gaps fresh is. is }) (read_from port old) new access.gap over)
+  ]
+
+  pub inputs_go : (port value : ℕ) (old new : Board) → Inputs port old value new → GoesOn On order scene old → GoesOn On order scene new ⊎ ((controller_of new).phase ≡ phase.Command)
+  inputs_go port value old new access was = elim (between_goes port value old new access was) [
+    | inl on ↦ inl (gap (GoesOn On order scene) (goes_on order scene On keeps) (read_from port old) new access.gap on)
+    | inr over ↦ inr over
+  ]
+
+  -- ---- the write that begins it
+
+  module _ (At : Scene → DriveState → Type 0) (none_heard : (executes : Bool) (drive : DriveState) → IsScene scene → At scene drive → On new_past executes drive) where
+    -- before the gap
+    pub between_begun : (byte : ℕ) (old between : Board) → WritesPort 0x3F5 byte old between → CanBeginAt At order scene byte old → GoesOn On order scene between
+    between_begun byte old between writes can =
+        let (has, chips_are) = begun_at order scene byte old between writes can.last in
+        let drive_is : drive_in between scene.bay ≡ drive_in old scene.bay =
+        same_drive old.first old.second between.first between.second (drive_stays writes.lines.first refl) (drive_stays writes.lines.second refl) (scene.bay == 0) in (
+          new_past,
+          record {
+            scene_is = can.scene_is;
+            chips = subst (IsDoneBy order scene new_past) (sym chips_are) (begun_by order scene old.bus.chips (controller_of between) can.dor can.rate can.memory can.channel has);
+            drive = subst (On new_past (is_executing (controller_of between).phase)) (sym drive_is) (none_heard (is_executing (controller_of between).phase) (drive_in old scene.bay) can.scene_is can.drive);
+          },
+        )
+
+    pub begins_on : (byte : ℕ) (old new : Board) → Outputs 0x3F5 byte old new → CanBeginAt At order scene byte old → GoesOn On order scene new
+    begins_on byte old new access can = outputs (GoesOn On order scene) (goes_on order scene On keeps) 0x3F5 byte old new (λ between writes. between_begun byte old between writes can) access
+
+-- ---- of a drive at speed
+
+pub read_between : (order : Order) (scene : Scene) (port value : ℕ) (old new : Board) → Inputs port old value new → Underway order scene old
+    → Underway order scene (read_from port old) ⊎ ((controller_of new).phase ≡ phase.Command)
+read_between order scene = between_goes order scene (AtDrive order scene) (at_drive order scene)
+
+pub inputs_keep : (order : Order) (scene : Scene) (port value : ℕ) (old new : Board) → Inputs port old value new → Underway order scene old
+    → Underway order scene new ⊎ ((controller_of new).phase ≡ phase.Command)
+inputs_keep order scene = inputs_go order scene (AtDrive order scene) (at_drive order scene)
+
+pub begun_underway : (order : Order) (scene : Scene) (byte : ℕ) (old between : Board) → WritesPort 0x3F5 byte old between → CanBegin order scene byte old → Underway order scene between
+begun_underway order scene = between_begun order scene (AtDrive order scene) (at_drive order scene) IsDriveOf (none_heard order scene)
+
+pub begins : (order : Order) (scene : Scene) (byte : ℕ) (old new : Board) → Outputs 0x3F5 byte old new → CanBegin order scene byte old → Underway order scene new
+begins order scene = begins_on order scene (AtDrive order scene) (at_drive order scene) IsDriveOf (none_heard order scene)

@@ -1,0 +1,110 @@
+-- The word time of a data command.
+use Rattle.std.proofs.Common.{◌≡◌, ℕ, ◌==◌, ◌&&◌, not, Bool, true, false, List, refl, sym, ◌∙◌, ap, subst, arith}
+use Rattle.laws_machine.proofs.Common.{DriveState, Fifo, with_polls, Past, is_executing, is_held, polled, RestsIn, MovesIn, WordTime, Saw, KeptOut, Wrote, Stopped, after_time, WritesIn, Fdc, Execution, Phase, Command, Execute, Result, Works, Chips, Scene, IsScene, IsTaken, refuses, Laid, Window, Track, Order, Identify, Read, Write, MayLayIn, MayLay, LaysOn, AtDrive, IsDoneBy, led, IsGuarded}
+use Rattle.laws_machine.proofs.Facts.{if_both, polled_phase}
+use Rattle.fdc_core.specs.Writes.{RestsWritten}
+use Rattle.laws_machine.proofs.OnReads.IdWords as ids
+use Rattle.laws_machine.proofs.OnReads.Steps as reads
+use Rattle.laws_machine.proofs.OnReads.Steps.{moves_faults}
+use Rattle.laws_machine.specs.OnReads.Scenes.{outset_of}
+use Rattle.fdc_drives.proofs.Writing.{rests_on}
+use Rattle.laws_machine.proofs.OnWrites.Guards.{moves_same}
+use Rattle.laws_machine.proofs.OnWrites.Steps as writes
+use Rattle.laws_machine.proofs.OnFormats.Steps as formats
+use Rattle.fdc_drives.proofs.Late.{led_none}
+use Rattle.laws_machine.proofs.OnOrders.Behind.{IsDoing, IsBehind, IsTimed, IsTimedLed, Laying, laid_on}
+
+-- ---- of a command that writes
+
+polled_rate : (old : Fdc) → (polled old).rate ≡ old.rate
+polled_rate old = if_both (old.poll_due && not (is_held old)) (record old { poll_due = false; interrupt = true; seeks = with_polls old.seeks }) old (λ z. z.rate ≡ old.rate) refl refl
+
+-- it takes no byte
+same_taken : (time : WordTime) (past : Past) (P : List ℕ → Bool → Type 0) → P past.taken past.counted → P (after_time time past).taken (after_time time past).counted
+same_taken (Saw index word) past P was = was
+same_taken (KeptOut index word) past P was = was
+same_taken (Wrote opened closed index word) past P was = was
+same_taken Stopped past P was = was
+
+-- where so many words 0000 came first
+pub timed_led : (laid : Laid) (scene : Scene) (lead : ℕ) (late : Past) (drive after : DriveState) (polls between : Fdc) (asking : Bool) (fifo : Fifo) → IsScene scene → polls.rate ≡ scene.rate
+    → IsGuarded (Write laid) scene lead → LaysOn laid scene late true drive → (execution : Execution) → MayLayIn laid scene (led lead late) (Execute execution) asking fifo
+    → WritesIn (Execute execution) asking fifo polls drive after between → IsTimedLed laid scene lead late between after
+timed_led (Window deleted) scene lead late drive after polls between asking fifo whole rate guarded was execution may does =
+    writes.in_task scene deleted lead late drive after polls between asking fifo whole rate guarded was execution.task execution.head_drive execution.steps may does
+timed_led (Track numbers) scene lead late drive after polls between asking fifo whole rate guarded was execution may does =
+    formats.in_task scene numbers lead late drive after polls between asking fifo whole rate guarded was execution.task execution.head_drive execution.steps may does
+
+timed : (laid : Laid) (scene : Scene) (past : Past) (between : Fdc) (after : DriveState) → IsTimedLed laid scene 0 past between after → IsTimed laid scene (λ now executes. LaysOn laid scene now executes after) past between
+timed laid scene past between after made =
+    record { time = made.time; may = subst (λ p. MayLay laid scene (after_time made.time p) between) (led_none past) made.may; covered = made.covered; at = made.at }
+
+-- of the words of the track
+pub laying : (laid : Laid) (scene : Scene) → IsScene scene → Laying laid scene (LaysOn laid scene)
+laying laid scene whole = record {
+  works = λ past drive after polls between asking fifo rate was execution may does. timed laid scene past between after
+      (timed_led laid scene 0 past drive after polls between asking fifo whole rate (λ some. absurd (omega arith)) was execution
+      (subst (λ p. MayLayIn laid scene p (Execute execution) asking fifo) (sym (led_none past)) may) does);
+  rests = λ past drive after was same falls. laid_on laid scene past past false false drive after (λ at. rests_on (outset_of scene) past drive after at same falls) refl refl was;
+}
+
+pub no_command : (laid : Laid) (scene : Scene) (past : Past) (asking : Bool) (fifo : Fifo) → MayLayIn laid scene past Command asking fifo → ⊥
+no_command (Window deleted) scene past asking fifo may = may
+no_command (Track numbers) scene past asking fifo may = may
+
+rests_may : (laid : Laid) (scene : Scene) (past : Past) (phase : Phase) (asking : Bool) (fifo : Fifo) (new : Fdc) → RestsWritten phase asking fifo new → MayLayIn laid scene past phase asking fifo → MayLay laid scene past new
+rests_may (Window deleted) scene past phase asking fifo new rests may = rests.writes past scene.sent deleted may
+rests_may (Track numbers) scene past phase asking fifo new rests may = rests.formats past scene.sent.head_drive numbers may
+
+in_phase : (laid : Laid) (scene : Scene) (P : Past → Bool → DriveState → Type 0) → Laying laid scene P → (past : Past) (chips : Chips) (drive after : DriveState) (between : Fdc) → IsDoneBy (Write laid) scene past chips
+    → Works chips.controller drive between after → (phase : Phase) → (polled chips.controller).phase ≡ phase
+    → MayLayIn laid scene past phase chips.controller.asking chips.controller.fifo → P past (is_executing phase) drive
+    → (refuses phase ≡ true → scene.disk.protected ≡ true)
+    → WritesIn phase chips.controller.asking chips.controller.fifo (polled chips.controller) drive after between
+    → RestsIn phase (drive.cylinder == 0) (polled chips.controller) between → MovesIn phase (polled chips.controller) drive after
+    → IsDoing (Write laid) scene (λ now executes. P now executes after) (record chips { controller = between })
+in_phase laid scene P lays past chips drive after between known works Command is may was covered does rests moves = absurd (no_command laid scene past _ _ may)
+in_phase laid scene P lays past chips drive after between known works (Execute execution) is may was covered does rests moves =
+    let made = lays.works past drive after (polled chips.controller) between _ _ (polled_rate chips.controller ∙ known.rate) was execution may does in
+    record {
+      past = after_time made.time past;
+      known = record {
+        may = made.may;
+        shows = made.covered;
+        dor = ap (λ dor. dor.0) works.stays.dor ∙ known.dor;
+        rate = works.stays.rate ∙ known.rate;
+        moves = same_taken made.time past (λ taken counted. IsTaken scene taken counted chips.memory chips.channel) known.moves;
+      };
+      at = made.at;
+    }
+in_phase laid scene P lays past chips drive after between known works (Result answer) is may was covered does rests moves =
+    let same : between.phase ≡ Result answer = ap (λ fdc. fdc.phase) rests ∙ is in
+    record {
+      past = past;
+      known = record {
+        may = rests_may laid scene past (Result answer) chips.controller.asking chips.controller.fifo between does may;
+        shows = λ yes. covered (sym (ap refuses same) ∙ yes);
+        dor = ap (λ dor. dor.0) works.stays.dor ∙ known.dor;
+        rate = works.stays.rate ∙ known.rate;
+        moves = known.moves;
+      };
+      at = subst (λ b. P past b after) (sym (ap is_executing same)) (lays.rests past drive after was (moves_same _ drive after moves) (moves_faults _ drive after moves));
+    }
+
+pub laid_timed : (laid : Laid) (scene : Scene) (P : Past → Bool → DriveState → Type 0) → Laying laid scene P → (past : Past) (chips : Chips) (drive : DriveState) (between : Fdc) (after : DriveState)
+    → IsDoneBy (Write laid) scene past chips → P past (is_executing chips.controller.phase) drive → Works chips.controller drive between after
+    → IsDoing (Write laid) scene (λ now executes. P now executes after) (record chips { controller = between })
+laid_timed laid scene P lays past chips drive between after known at works =
+    let old = chips.controller in
+    let same : (polled old).phase ≡ old.phase = polled_phase old in
+    in_phase laid scene P lays past chips drive after between known works old.phase same known.may at known.shows works.writes
+    (subst (λ phase. RestsIn phase (drive.cylinder == 0) (polled old) between) same works.rests)
+    (subst (λ phase. MovesIn phase (polled old) drive after) same works.drive)
+
+-- ---- by the order
+
+pub word_time : (order : Order) (scene : Scene) (past : Past) (chips : Chips) (drive : DriveState) (between : Fdc) (after : DriveState) → IsScene scene → IsDoneBy order scene past chips
+    → AtDrive order scene past (is_executing chips.controller.phase) drive → Works chips.controller drive between after → IsBehind order scene (record chips { controller = between }) after
+word_time Identify scene past chips drive between after whole known at works = ids.word_time scene past chips drive between after whole known at works
+word_time Read scene past chips drive between after whole known at works = reads.word_time scene past chips drive between after whole known at works
+word_time (Write laid) scene past chips drive between after whole known at works = laid_timed laid scene (LaysOn laid scene) (laying laid scene whole) past chips drive between after known at works

@@ -1,0 +1,200 @@
+-- Between two data commands: what port accesses set.
+use Rattle.std.proofs.Common.{◌≡◌, ℕ, ◌==◌, not, ◌||◌, Bool, true, false, [], ◌∷◌, ◌++◌, if◌then◌else◌, refl, sym, ◌∙◌, ap, subst}
+use Rattle.std.proofs.lemmas.Bool.{false_from_ne_true, false≢true}
+use Rattle.laws_machine.proofs.Common.{answer, kept, More, TakesAs, is_executing, given, interrupt_after, phase_after, takes_in, is_taking, dsr_resets, is_held, Fdc, Phase, Command, Execute, Result, Board, controller_of, lines_of, is_controllers, port_read, WritesPort, RunsGap, Inputs, Outputs, sets_lines, shown_again, Chips, drive_stays, only_listens, HoldsOn, HaveTurned, IsHushed, Setting, ChipsStand, Stands}
+use Rattle.laws_machine.proofs.Facts.{if_both, idle_read, number_is, shown_stalls}
+use Rattle.dma_8237.specs.Channel.{after_write, after_read}
+use Rattle.fdc_phases.specs.Answers.{is_fresh}
+use Rattle.fdc_core.specs.Ports.{ccr_written, result_byte, dor_resets}
+use Rattle.laws_machine.specs.OnQuiet.Settings.{with_byte, with_rate, with_write, with_read}
+use Rattle.laws_machine.proofs.OnQuiet.Steps.{drives_on, like_holds, like_mode}
+use Rattle.laws_machine.proofs.OnQuiet.Standing.{standing}
+use Rattle.laws_machine.proofs.OnSteps.Runs.{gap}
+use Rattle.laws_machine.proofs.OnQuiet.Turning.{turned_still}
+
+-- ---- the gap
+
+gap_stands : (start : Board) (set : Setting) (between new : Board) → RunsGap between new → Stands set start between → Stands set start new
+gap_stands start set = gap (Stands set start) (standing start set)
+
+-- ---- writes
+
+-- a write that sets no line leaves the drives
+written_stands : (start : Board) (set : Setting) (port value : ℕ) (old between : Board) (chips : Chips) → sets_lines port value ≡ false → (writes : WritesPort port value old between)
+    → writes.chips ≡ chips → is_executing set.phase ≡ false → ChipsStand set start.bus.chips chips → HaveTurned start old → (IsHushed start → IsHushed old)
+    → chips.controller.interrupt ≡ (controller_of old).interrupt → chips.controller.poll_due ≡ (controller_of old).poll_due → Stands set start between
+written_stands start set port value old between chips other writes is idle stand drives hush interrupt poll = record {
+  idle = idle;
+  chips = subst (ChipsStand set start.bus.chips) (sym (ap (λ bus. bus.chips) writes.bus ∙ is)) stand;
+  drives = drives_on start old between drives (record {
+    first = turned_still old.first between.first (drive_stays writes.lines.first other);
+    second = turned_still old.second between.second (drive_stays writes.lines.second other);
+    direct = ap (λ bus. bus.direct) writes.bus;
+  });
+  hush = λ first. let before = hush first in record {
+    low = ap (λ bus. bus.chips.controller.interrupt) writes.bus ∙ (ap (λ c. c.controller.interrupt) is ∙ (interrupt ∙ before.low));
+    polled = ap (λ bus. bus.chips.controller.poll_due) writes.bus ∙ (ap (λ c. c.controller.poll_due) is ∙ (poll ∙ before.polled));
+    level = ap (λ bus. bus.latch.level) writes.bus ∙ before.level;
+  };
+}
+
+another_port : (port its : ℕ) → is_controllers its ≡ true → is_controllers port ≡ false → (port == its) ≡ false
+another_port port its controllers beside = false_from_ne_true (port == its) (λ is. false≢true (sym beside ∙ (ap is_controllers (number_is port its is) ∙ controllers)))
+
+-- a write of a port of the channel sets no line
+sets_none : (port value : ℕ) → is_controllers port ≡ false → sets_lines port value ≡ false
+sets_none port value beside =
+    ap (λ b. b || (if b then dor_resets value else (if port == 0x3F4 then dsr_resets value else false))) (another_port port 0x3F2 refl beside)
+    ∙ ap (λ b. if b then dsr_resets value else false) (another_port port 0x3F4 refl beside)
+
+with_channel : (old : Chips) (set : Setting) (now : Chips) (port value : ℕ) → ChipsStand set old now
+    → ChipsStand (with_write port value set) old (record now { channel = after_write port value now.channel })
+with_channel old set now port value was = record {
+  controller = was.controller;
+  phase = was.phase;
+  command = was.command;
+  rate = was.rate;
+  low = was.low;
+  channel = ap (after_write port value) was.channel;
+  memory = was.memory;
+  stalls = was.stalls;
+}
+
+pub channel_stands : (start : Board) (set : Setting) (port value : ℕ) (old new : Board) → is_controllers port ≡ false → Outputs port value old new
+    → Stands set start old → Stands (with_write port value set) start new
+channel_stands start set port value old new beside access was =
+    gap_stands start (with_write port value set) access.between new access.gap
+    (written_stands start (with_write port value set) port value old access.between (record old.bus.chips { channel = after_write port value old.bus.chips.channel })
+    (sets_none port value beside) access.writes (access.writes.writes.channels beside) was.idle
+    (with_channel start.bus.chips set old.bus.chips port value was.chips) was.drives was.hush refl refl)
+
+-- ---- the controller's ports
+
+-- a controller with other bytes, another rate or another phase
+with_controller : (old : Chips) (set : Setting) (now : Chips) (then_set : Setting) (controller : Fdc) → ChipsStand set old now → HoldsOn old.controller.data_commands old.controller controller
+    → controller.phase ≡ then_set.phase → controller.command ≡ then_set.command → controller.rate ≡ then_set.rate → controller.asking ≡ false → then_set.channel ≡ set.channel
+    → ChipsStand then_set old (shown_again (record now { controller = controller }))
+with_controller old set now then_set controller was holds phase command rate low channel = record {
+  controller = holds;
+  phase = phase;
+  command = command;
+  rate = rate;
+  low = low;
+  channel = was.channel ∙ sym channel;
+  memory = was.memory;
+  stalls = shown_stalls _ now.holding ∙ was.stalls;
+}
+
+-- the data port takes bytes
+pub port_takes : (start : Board) (set : Setting) (old : Board) → Stands set start old → set.phase ≡ Command → is_held (controller_of start) ≡ false → is_taking (controller_of old) ≡ true
+port_takes start set old was command free =
+    let same : is_held (controller_of old) ≡ false = ap (λ dor. is_held (record (controller_of start) { dor = dor })) was.chips.controller.dor ∙ free in
+    ap (λ phase. takes_in phase (is_held (controller_of old))) (was.chips.phase ∙ command) ∙ ap not same
+
+pub byte_stands : (start : Board) (set : Setting) (byte : ℕ) (old new : Board) → set.phase ≡ Command → is_held (controller_of start) ≡ false → answer (set.command ++ byte ∷ []) ≡ More
+    → Outputs 0x3F5 byte old new → Stands set start old → Stands (with_byte byte set) start new
+byte_stands start set byte old new command free more access was =
+    let (controller, writes, chips_are) = access.writes.writes.controllers refl in
+    let fdc = controller_of old in
+    let whole : answer (fdc.command ++ byte ∷ []) ≡ More = ap (λ bytes. answer (bytes ++ byte ∷ [])) was.chips.command ∙ more in
+    let after : controller ≡ record fdc { command = fdc.command ++ byte ∷ [] } =
+    subst (λ accepted. TakesAs accepted (lines_of old) (record fdc { command = kept accepted (fdc.command ++ byte ∷ []) }) controller) whole
+    ((writes.bytes refl).0 (port_takes start set old was command free)) in
+    let phase : controller.phase ≡ set.phase = ap (λ c. c.phase) after ∙ was.chips.phase in
+    let like = like_mode fdc controller (ap (λ c. c.seeks) after) (ap (λ c. c.dor) after) (ap (λ c. c.non_dma) after) (ap (λ c. c.polling) after)
+    (ap (λ c. c.data_commands) after)
+    (ap (λ c. c.fifo.on) after) (ap (λ c. c.fifo.threshold) after) in
+    let listens : only_listens controller.phase ≡ true = ap only_listens (phase ∙ command) in
+    gap_stands start (with_byte byte set) access.between new access.gap
+    (written_stands start (with_byte byte set) 0x3F5 byte old access.between (shown_again (record old.bus.chips { controller = controller })) refl access.writes chips_are was.idle
+    (with_controller start.bus.chips set old.bus.chips (with_byte byte set) controller was.chips
+    (like_holds (controller_of start).data_commands (controller_of start) fdc controller was.chips.controller like listens)
+    phase (ap (λ c. c.command) after ∙ ap (λ bytes. bytes ++ byte ∷ []) was.chips.command) (ap (λ c. c.rate) after ∙ was.chips.rate) (ap (λ c. c.asking) after ∙ was.chips.low) refl)
+    was.drives was.hush (ap (λ c. c.interrupt) after) (ap (λ c. c.poll_due) after))
+
+pub rate_stands : (start : Board) (set : Setting) (byte : ℕ) (old new : Board) → Outputs 0x3F7 byte old new → Stands set start old → Stands (with_rate byte set) start new
+rate_stands start set byte old new access was =
+    let (controller, writes, chips_are) = access.writes.writes.controllers refl in
+    let fdc = controller_of old in
+    let after : controller ≡ ccr_written byte fdc = writes.control refl in
+    let phase : controller.phase ≡ set.phase = ap (λ c. c.phase) after ∙ was.chips.phase in
+    let like = like_mode fdc controller (ap (λ c. c.seeks) after) (ap (λ c. c.dor) after) (ap (λ c. c.non_dma) after) (ap (λ c. c.polling) after)
+    (ap (λ c. c.data_commands) after)
+    (ap (λ c. c.fifo.on) after) (ap (λ c. c.fifo.threshold) after) in
+    let listens : only_listens controller.phase ≡ true = ap (λ c. only_listens c.phase) after ∙ was.chips.controller.quiet.listens in
+    gap_stands start (with_rate byte set) access.between new access.gap
+    (written_stands start (with_rate byte set) 0x3F7 byte old access.between (shown_again (record old.bus.chips { controller = controller })) refl access.writes chips_are was.idle
+    (with_controller start.bus.chips set old.bus.chips (with_rate byte set) controller was.chips
+    (like_holds (controller_of start).data_commands (controller_of start) fdc controller was.chips.controller like listens)
+    phase (ap (λ c. c.command) after ∙ was.chips.command) (ap (λ c. c.rate) after) (ap (λ c. c.asking) after ∙ was.chips.low) refl)
+    was.drives was.hush (ap (λ c. c.interrupt) after) (ap (λ c. c.poll_due) after))
+
+-- ---- reads
+
+pub idle_listens : (phase : Phase) → is_executing phase ≡ false → only_listens phase ≡ true
+idle_listens Command idle = refl
+idle_listens (Result answer) idle = refl
+idle_listens (Execute execution) idle = absurd (false≢true (sym idle))
+
+-- what a read of a port sets
+abbrev read_by : Bool → Bool → ℕ → Setting → Setting
+read_by controllers data_port port set =
+    if controllers then (if data_port then record set { phase = phase_after set.phase } else set)
+    else record set { channel = after_read port set.channel }
+
+read_chips : (old : Chips) (set : Setting) (now : Chips) (port : ℕ) → is_executing set.phase ≡ false → ChipsStand set old now → (controllers data_port : Bool)
+    → ChipsStand (read_by controllers data_port port set) old
+    (if controllers then shown_again (record now { controller = if data_port then given now.controller else now.controller }) else record now { channel = after_read port now.channel })
+read_chips old set now port idle was true true =
+    let phase : (given now.controller).phase ≡ phase_after set.phase = ap phase_after was.phase in
+    with_controller old set now (record set { phase = phase_after set.phase }) (given now.controller) was
+    (like_holds old.controller.data_commands old.controller now.controller (given now.controller) was.controller
+    (like_mode now.controller (given now.controller) refl refl refl refl refl refl refl)
+    (ap only_listens phase ∙ idle_listens (phase_after set.phase) (idle_read set.phase idle)))
+    phase was.command was.rate was.low refl
+read_chips old set now port idle was true false =
+    with_controller old set now set now.controller was was.controller was.phase was.command was.rate was.low refl
+read_chips old set now port idle was false data_port = record {
+  controller = was.controller;
+  phase = was.phase;
+  command = was.command;
+  rate = was.rate;
+  low = was.low;
+  channel = ap (after_read port) was.channel;
+  memory = was.memory;
+  stalls = was.stalls;
+}
+
+read_idle : (set : Setting) (port : ℕ) → is_executing set.phase ≡ false → (controllers data_port : Bool) → is_executing (read_by controllers data_port port set).phase ≡ false
+read_idle set port idle true true = idle_read set.phase idle
+read_idle set port idle true false = idle
+read_idle set port idle false data_port = idle
+
+low_after : (phase : Phase) (interrupt : Bool) → interrupt ≡ false → interrupt_after phase interrupt ≡ false
+low_after Command interrupt low = low
+low_after (Execute execution) interrupt low = low
+low_after (Result answer) interrupt low = if_both (is_fresh answer) false interrupt (λ z. z ≡ false) refl low
+
+read_as : (P : Fdc → Type 0) (chips : Chips) (port : ℕ) → P chips.controller → P (given chips.controller) → (controllers data_port : Bool)
+    → P (if controllers then shown_again (record chips { controller = if data_port then given chips.controller else chips.controller }) else record chips { channel = after_read port chips.channel }).controller
+read_as P chips port was now true true = now
+read_as P chips port was now true false = was
+read_as P chips port was now false data_port = was
+
+pub input_stands : (start : Board) (set : Setting) (port value : ℕ) (old new : Board) → Inputs port old value new → Stands set start old → Stands (with_read port set) start new
+input_stands start set port value old new access was =
+    let between : Board = record old { bus = record old.bus { chips = port_read port old.bus.chips; fresh = false } } in
+    gap_stands start (with_read port set) between new access.gap (record {
+      idle = read_idle set port was.idle (is_controllers port) (port == 0x3F5);
+      chips = read_chips start.bus.chips set old.bus.chips port was.idle was.chips (is_controllers port) (port == 0x3F5);
+      drives = drives_on start old between was.drives (record { first = turned_still old.first old.first refl; second = turned_still old.second old.second refl; direct = refl });
+      hush = λ first. let before = was.hush first in record {
+        low = read_as (λ f. f.interrupt ≡ false) old.bus.chips port before.low (low_after (controller_of old).phase (controller_of old).interrupt before.low) (is_controllers port) (port == 0x3F5);
+        polled = read_as (λ f. f.poll_due ≡ false) old.bus.chips port before.polled before.polled (is_controllers port) (port == 0x3F5);
+        level = before.level;
+      };
+    })
+
+-- what the data port gives
+pub input_gives : (start : Board) (set : Setting) (value : ℕ) (old new : Board) → Inputs 0x3F5 old value new → Stands set start old → value ≡ result_byte set.phase
+input_gives start set value old new access was = access.value_is ∙ ap result_byte was.chips.phase

@@ -1,0 +1,127 @@
+-- A command that listens and begins behind port accesses.
+use Rattle.std.proofs.Common.{◌≡◌, ℕ, ◌+◌, ◌%◌, ◌<◌, ◌≤◌, ◌==◌, Bool, true, false, [], ◌∷◌, ◌++◌, length, min, if◌then◌else◌, refl, sym, ◌∙◌, ap, subst, arith}
+use Rattle.laws_machine.proofs.Common.{last_count, Disk, track_words, Channel, writes_memory, answer, Sent, is_listening, Fdc, Task, next_entry, counted, Board, controller_of, channel_of, drive_in, memory_of, Outputs, drive_stays, Turned, HaveTurned, HoldsOn, GoesQuietly, Setting, Stands, Order, Identify, Read, Write, May, IsSetFor, IsLast, CanBegin, seek_bits, is_taking, Command, Scene, IsSet}
+use Rattle.dma_8237.specs.SetUp.{IsSetUp}
+use Rattle.laws_machine.proofs.OnQuiet.Accesses.{port_takes}
+use Rattle.laws_machine.proofs.OnQuiet.Steps.{quietly, drives_on}
+use Rattle.laws_machine.proofs.OnQuiet.Turning.{turned_still}
+use Rattle.laws_machine.specs.OnReads.Begins.{IsReadyIn, IsSetFor as IsSetForRead, scene_of}
+use Rattle.laws_machine.specs.OnReads.Ids.{IsSetForId, id_scene, sent_id}
+use Rattle.laws_machine.proofs.OnReads.IdWords.{listens_id}
+use Rattle.laws_machine.proofs.OnOrders.Beginning.{HasBegun, begun_as, begun_at}
+use Rattle.fdc_stages.specs.History.{begun as new_past}
+use Rattle.laws_machine.proofs.OnReads.Accesses.{gapped}
+use Rattle.laws_machine.proofs.OnReads.Steps.{listens_task}
+use Rattle.laws_machine.proofs.OnSteps.Runs.{runs}
+
+-- ---- the channel
+
+pub is_set : (address left : ℕ) (channel : Channel) → IsSetUp 0x46 address left channel → address % 65536 + left < 65536 → IsSet channel address left
+is_set address left channel up room = record {
+  granting = up.granting;
+  writing = ap (λ mode. writes_memory (record channel { mode = mode })) up.mode_is;
+  place = up.place;
+  count = up.count;
+  room = let at = up.address_is in omega arith;
+}
+
+-- ---- all but the last byte
+
+pub turned_in : (bay : ℕ) (old new : Board) → HaveTurned old new → Turned (drive_in old bay) (drive_in new bay)
+turned_in bay old new turned = by_bay (bay == 0)
+  where
+    by_bay : (b : Bool) → Turned (if b then old.first else old.second) (if b then new.first else new.second)
+    by_bay true = turned.first
+    by_bay false = turned.second
+
+-- what the commands that listen have in common
+can_begin_at : (order : Order) (start board : Board) (set : Setting) (sent : Sent) (bay address size byte : ℕ) (disk : Disk) → IsReadyIn bay disk start → Stands set start board
+    → set.phase ≡ Command → address + size ≤ length (memory_of start) → IsSetFor order (scene_of sent bay disk address size board) (channel_of board)
+    → (is_taking (controller_of board) ≡ true → (controller_of board).non_dma ≡ false → seek_bits (controller_of board).seeks ≡ 0 → IsLast order (scene_of sent bay disk address size board) byte (controller_of board))
+    → CanBegin order (scene_of sent bay disk address size board) byte board
+can_begin_at order start board set sent bay address size byte disk ready stands takes fits channel last =
+    let chips = stands.chips in
+    let turned = turned_in bay start board stands.drives in
+    let words : track_words (drive_in start bay).medium ≡ disk.words_per_track = ap track_words ready.medium in
+    record {
+      scene_is = record {
+        selects = ap (λ dor. dor.0 % 4) chips.controller.dor ∙ ready.selects;
+        bay = ready.bay_is;
+        disk = ready.disk_is;
+        fits = subst (λ memory. address + size ≤ length memory) (sym chips.memory) fits;
+      };
+      dor = refl;
+      rate = refl;
+      drive = record {
+        medium = turned.medium ∙ ready.medium;
+        cylinder = refl;
+        motor = turned.motor ∙ ready.motor;
+        speed = let before = ready.speed in let more = turned.spin in omega arith;
+        place = refl;
+        inside = subst (λ n. (drive_in board bay).place < n) words (turned.place (subst (λ n. (drive_in start bay).place < n) (sym words) ready.inside));
+        faults = refl;
+      };
+      memory = refl;
+      channel = channel;
+      last = last (port_takes start set board stands takes ready.free) (chips.controller.non_dma ∙ ready.dma) (rw chips.controller.quiet.no_seek refl);
+    }
+
+pub can_begin : (start board : Board) (set : Setting) (sent : Sent) (bay address left byte : ℕ) (disk : Disk) → IsReadyIn bay disk start → Stands set start board
+    → IsSetForRead sent address left byte set → address + (left + 1) ≤ length (memory_of start) → CanBegin Read (scene_of sent bay disk address (left + 1) board) byte board
+can_begin start board set sent bay address left byte disk ready stands for fits =
+    can_begin_at Read start board set sent bay address (left + 1) byte disk ready stands for.takes fits (left, refl, subst (λ channel. IsSet channel address left) (sym stands.chips.channel) for.channel)
+    (λ taking dma none. record {
+      gap = for.gap;
+      length_code = for.length_code;
+      whole = ap (λ bytes. answer (bytes ++ byte ∷ [])) stands.chips.command ∙ for.whole;
+      taking = taking;
+      dma = dma;
+      no_seek = none;
+    })
+
+pub id_can_begin : (start board : Board) (set : Setting) (head_drive bay byte : ℕ) (disk : Disk) → IsReadyIn bay disk start → Stands set start board
+    → IsSetForId head_drive byte set → CanBegin Identify (id_scene head_drive bay disk board) byte board
+id_can_begin start board set head_drive bay byte disk ready stands for =
+    can_begin_at Identify start board set (sent_id head_drive) bay 0 0 byte disk ready stands for.takes (omega arith) tt
+    (λ taking dma none. record { whole = ap (λ bytes. answer (bytes ++ byte ∷ [])) stands.chips.command ∙ for.whole; taking = taking; dma = dma; no_seek = none })
+
+-- ---- the counts
+
+holds_begun : (order : Order) (count : ℕ) (start old : Fdc) (head_drive : ℕ) (task : Task) → HoldsOn count start old → is_listening task ≡ true
+    → HoldsOn (counted count) start (begun_as order head_drive task (record old { command = [] }))
+holds_begun order count start old head_drive task was listens = record {
+  quiet = record { no_seek = was.quiet.no_seek; listens = listens };
+  dor = was.dor;
+  non_dma = was.non_dma;
+  polling = was.polling;
+  cylinders = was.cylinders;
+  on = was.on;
+  threshold = was.threshold;
+  data_commands = ap (λ n. min (n + 1) last_count) was.data_commands;
+}
+
+-- a command that listens
+abbrev pub Listens : Order → Type 0
+Listens (Write laid) = ⊥
+Listens _ = Unit {0}
+
+listening : (order : Order) → Listens order → (scene : Scene) (old new : Fdc) → (has : HasBegun order scene old new) → is_listening has.task ≡ true
+listening Read is scene old new has = listens_task new_past scene.sent scene.sent.head_drive 0 has.task false [] (subst (May Read scene new_past) has.after has.may)
+listening Identify is scene old new has = listens_id new_past scene.sent.head_drive scene.sent.head_drive 0 has.task (subst (May Identify scene new_past) has.after has.may)
+listening (Write laid) is scene old new has = absurd is
+
+-- the last byte's write counts one data command
+pub begins_quietly : (order : Order) → Listens order → (count : ℕ) (start : Board) (scene : Scene) (byte : ℕ) (old new : Board) → Outputs 0x3F5 byte old new → CanBegin order scene byte old
+    → GoesQuietly count start old → GoesQuietly (counted count) start new
+begins_quietly order listens count start scene byte old new access can was =
+    let (has, chips_are) = begun_at order scene byte old access.between access.writes can.last in
+    let holds : HoldsOn (counted count) (controller_of start) (controller_of access.between) = subst (HoldsOn (counted count) (controller_of start)) (sym has.after)
+    (holds_begun order count (controller_of start) (controller_of old) scene.sent.head_drive has.task was.controller (listening order listens scene (controller_of old) (controller_of access.between) has)) in
+    runs (GoesQuietly (counted count) start) (quietly (counted count) start) (next_entry access.between.bus.gaps) (gapped access.between) new access.gap.runs (record {
+      controller = holds;
+      drives = drives_on start old (gapped access.between) was.drives (record {
+        first = turned_still old.first access.between.first (drive_stays access.writes.lines.first refl);
+        second = turned_still old.second access.between.second (drive_stays access.writes.lines.second refl);
+        direct = ap (λ bus. bus.direct) access.writes.bus;
+      });
+    })

@@ -1,0 +1,42 @@
+-- From the words that a READ ID heard to the track.
+use Rattle.std.proofs.Common.{◌≡◌, ℕ, ◌+◌, ◌*◌, false, [], None, sym, subst}
+use Rattle.std.proofs.lemmas.Bool.{false≢true}
+use Rattle.laws_machine.proofs.Common.{Chrn, IsAddressAt, HasAddressMark, HasAddress, FindsNoSector, Past, HasNoClear, Ending, Done, NoMark, NoSector, NoField, BadCheck, Overrun, NoCount, Protected, Late, IdMeansIn, Short, Long, Phase, Command, Execute, Result, IsHeardFrom, IsWholeFrom, Scene, track_met, ends_late, is_late, IdEndedIn}
+use Rattle.fdc_core.specs.Meaning.{IdMeans}
+use Rattle.fdc_drives.proofs.Fields.{mark_heard, address_heard}
+use Rattle.fdc_drives.specs.Hearing.{IsCalm}
+use Rattle.fdc_drives.proofs.Turns.{turn_heard, between_is}
+use Rattle.laws_machine.proofs.OnReads.Results.{mark_ends}
+use Rattle.laws_machine.specs.OnReads.Ids.{IdEndsAs}
+
+module _ (scene : Scene) (past : Past) (faults : ℕ)
+    (heard : IsHeardFrom (track_met scene) scene.from past.turns past.seen)
+    (whole : IsCalm scene.faults faults → IsWholeFrom (track_met scene) scene.from past.turns past.seen) where
+  pub address_ends : (key : Chrn) → HasAddress past key → (p : ℕ) × IsAddressAt (track_met scene) p key
+  address_ends key (turn, p, has) =
+      let (start, turned, turned_whole) = turn_heard (track_met scene) scene.from past.turns past.seen turn heard has.among in
+      (p + 16 * start, address_heard (track_met scene) start turn turned p key has.address)
+
+  sector_ends : FindsNoSector past None → HasAddressMark (track_met scene) × (IsCalm scene.faults faults → HasNoClear None (track_met scene))
+  sector_ends ((words, among, (p, mark)), (between, is, none)) =
+      let (start, turned, turned_whole) = turn_heard (track_met scene) scene.from past.turns past.seen words heard among in (
+        (p + 16 * start, mark_heard (track_met scene) start words turned p mark),
+        λ calm. subst (HasNoClear None) (between_is (track_met scene) scene.from past between heard (whole calm) is) none,
+      )
+
+  ends : (key : Chrn) (ending : Ending) → ends_late ending ≡ false → IdMeans past key ending → IdEndsAs scene faults key ending
+  ends key (Done deleted) calm means = address_ends key means
+  ends key NoMark calm means = mark_ends scene past faults [] heard whole means
+  ends key NoSector calm means = sector_ends means
+  ends key NoField calm means = means
+  ends key BadCheck calm means = means
+  ends key Overrun calm means = means
+  ends key NoCount calm means = means
+  ends key Protected calm means = means
+  ends key Late calm means = absurd (false≢true (sym calm))
+
+  pub ended : (phase : Phase) → is_late phase ≡ false → IdMeansIn past scene.sent.head_drive phase → IdEndedIn scene faults phase
+  ended Command calm means = tt
+  ended (Execute execution) calm means = tt
+  ended (Result (Short next last)) calm means = tt
+  ended (Result (Long ending results taken)) calm (is, means) = (is, ends results.key ending calm means)

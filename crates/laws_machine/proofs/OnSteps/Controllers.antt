@@ -1,0 +1,134 @@
+-- What a poll and transfers leave of the controller.
+use Rattle.std.proofs.Common.{◌≡◌, ℕ, ◌==◌, bit_and, Bool, true, false, List, if◌then◌else◌, refl, ◌∙◌, ap, ◌&&◌, sym, subst}
+use Rattle.laws_machine.proofs.Common.{Fifo, gate, Dor, taken_in, taken_out, to_memory_of, told_count, phase_told, task_told, is_executing, is_overrun, is_read, is_reading, is_gated, polled, Fdc, Phase, Command, Execute, Result, Task, ReadId, Format, moved_to_memory, moved_from_memory, byte_read, told_if, Chips, Transferred, dor_of, asks, is_due, looked, Low, RestsIn, Board, controller_of, Step}
+use Rattle.laws_machine.proofs.Facts.{polled_keeps, told_busy, polled_phase}
+use Rattle.fdc_phases.specs.declared.phases.Task.TheVariants.{Read, Write}
+use Rattle.pc_bus.specs.Transfers.{moved, dma_stepped, granted}
+use Rattle.laws_machine.proofs.OnSteps.Transfers.{served, after_step}
+use Rattle.std.proofs.lemmas.Bool.{and_right, false≢true}
+use Rattle.laws_machine.proofs.OnSteps.Words.{controller}
+
+-- ---- a poll
+
+pub polled_fifo : (old : Fdc) → (polled old).fifo ≡ old.fifo
+polled_fifo old = polled_keeps (λ fdc. fdc.fifo) old refl
+
+pub polled_seek : (old : Fdc) → (polled old).seeks.seek ≡ old.seeks.seek
+polled_seek old = polled_keeps (λ fdc. fdc.seeks.seek) old refl
+
+pub polled_cylinders : (old : Fdc) → (polled old).seeks.cylinders ≡ old.seeks.cylinders
+polled_cylinders old = polled_keeps (λ fdc. fdc.seeks.cylinders) old refl
+
+-- the gate is a bit of DOR
+pub gated_same : (a b : Fdc) → a.dor ≡ b.dor → is_gated b ≡ true → is_gated a ≡ true
+gated_same a b same is = ap (λ (dor : Dor). (bit_and dor.0 gate == gate)) same ∙ is
+
+-- ---- transfers
+
+if_told : (P : Fdc → Type 0) → ((fdc : Fdc) → P fdc → P (told_count fdc)) → (last : Bool) (fdc : Fdc) → P fdc → P (told_if last fdc)
+if_told P told true fdc was = told fdc was
+if_told P told false fdc was = was
+
+one_byte : (P : Fdc → Type 0) → ((fdc : Fdc) → P fdc → P (told_count fdc)) → ((fdc : Fdc) → P fdc → P (taken_out fdc))
+    → ((byte : ℕ) (fdc : Fdc) → P fdc → P (taken_in byte fdc))
+    → (chips : Chips) → P chips.controller → P (moved chips).controller
+unfolding moved
+one_byte P told out into chips was = by_way (to_memory_of chips.controller)
+  where
+    by_way : (b : Bool) → P (if b then moved_to_memory chips else moved_from_memory chips).controller
+    by_way true = if_told P told (chips.channel.count == 0) (taken_out chips.controller) (out chips.controller was)
+    by_way false = if_told P told (chips.channel.count == 0) (taken_in (byte_read chips.channel chips.memory) chips.controller)
+        (into (byte_read chips.channel chips.memory) chips.controller was)
+
+-- what bytes and TC keep of the controller, each transfer keeps
+pub by_bytes : (P : Fdc → Type 0) → ((fdc : Fdc) → P fdc → P (told_count fdc)) → ((fdc : Fdc) → P fdc → P (taken_out fdc))
+    → ((byte : ℕ) (fdc : Fdc) → P fdc → P (taken_in byte fdc))
+    → Transferred (λ chips. P chips.controller)
+by_bytes P told out into = record { one = one_byte P told out into; held = λ chips holding was. was }
+
+-- and so it is with what TC keeps of the phase
+pub by_phase : {V : Type 0} (F : Phase → V) → ((phase : Phase) → F (phase_told phase) ≡ F phase) → (value : V)
+    → Transferred (λ chips. F chips.controller.phase ≡ value)
+by_phase F told value = by_bytes (λ fdc. F fdc.phase ≡ value) (λ fdc is. told fdc.phase ∙ is) (λ fdc is. is) (λ byte fdc is. is)
+
+pub phase_dma : {V : Type 0} (F : Phase → V) → ((phase : Phase) → F (phase_told phase) ≡ F phase) → (chips : Chips)
+    → F (dma_stepped chips).controller.phase ≡ F chips.controller.phase
+phase_dma F told chips = served (λ c. F c.controller.phase ≡ F chips.controller.phase) (by_phase F told (F chips.controller.phase)) chips refl
+
+-- what no transfer changes of the controller
+pub controller_dma : {V : Type 0} (F : Fdc → V) → ((fdc : Fdc) → F (told_count fdc) ≡ F fdc) → ((fdc : Fdc) → F (taken_out fdc) ≡ F fdc)
+    → ((byte : ℕ) (fdc : Fdc) → F (taken_in byte fdc) ≡ F fdc)
+    → (chips : Chips) → F (dma_stepped chips).controller ≡ F chips.controller
+controller_dma F told out into chips =
+    served (λ c. F c.controller ≡ F chips.controller) (by_bytes (λ fdc. F fdc ≡ F chips.controller)
+    (λ fdc is. told fdc ∙ is) (λ fdc is. out fdc ∙ is) (λ byte fdc is. into byte fdc ∙ is)) chips refl
+
+-- ---- phases behind TC
+
+told_overrun : (phase : Phase) → is_overrun (phase_told phase) ≡ is_overrun phase
+told_overrun Command = refl
+told_overrun (Result answer) = refl
+told_overrun (Execute execution) = refl
+
+pub told_reading : (phase : Phase) → is_reading (phase_told phase) ≡ is_reading phase
+told_reading Command = refl
+told_reading (Result answer) = refl
+told_reading (Execute execution) = in_task execution.task
+  where
+    in_task : (task : Task) → is_read (task_told task) ≡ is_read task
+    in_task (ReadId search) = refl
+    in_task (Read reading) = refl
+    in_task (Write writing) = refl
+    in_task (Format formatting) = refl
+
+pub dma_executing : (value : Bool) (chips : Chips) → is_executing chips.controller.phase ≡ value → is_executing (dma_stepped chips).controller.phase ≡ value
+dma_executing value chips was = phase_dma is_executing told_busy chips ∙ was
+
+pub dma_overrun : (value : Bool) (chips : Chips) → is_overrun chips.controller.phase ≡ value → is_overrun (dma_stepped chips).controller.phase ≡ value
+dma_overrun value chips was = phase_dma is_overrun told_overrun chips ∙ was
+
+-- ---- the mode of the FIFO behind TC and behind a byte
+
+pub byte_on : (full : Bool) (fifo : Fifo) (bytes : List ℕ) → (if full then fifo else record fifo { bytes = bytes }).on ≡ fifo.on
+byte_on true fifo bytes = refl
+byte_on false fifo bytes = refl
+
+pub byte_threshold : (full : Bool) (fifo : Fifo) (bytes : List ℕ) → (if full then fifo else record fifo { bytes = bytes }).threshold ≡ fifo.threshold
+byte_threshold true fifo bytes = refl
+byte_threshold false fifo bytes = refl
+
+-- ---- what transfers leave
+
+pub dma_controller : {V : Type 0} (F : Fdc → V) → ((fdc : Fdc) → F (told_count fdc) ≡ F fdc) → ((fdc : Fdc) → F (taken_out fdc) ≡ F fdc) → ((byte : ℕ) (fdc : Fdc) → F (taken_in byte fdc) ≡ F fdc)
+    → (value : V) (chips : Chips) → F chips.controller ≡ value → F (dma_stepped chips).controller ≡ value
+dma_controller F told out into value chips was = controller_dma F told out into chips ∙ was
+
+pub dma_dor : (value : ℕ) (chips : Chips) → dor_of chips.controller ≡ value → dor_of (dma_stepped chips).controller ≡ value
+dma_dor value chips was = dma_controller dor_of (λ fdc. refl) (λ fdc. refl) (λ byte fdc. refl) value chips was
+
+-- where DRQ is low nothing is moved
+pub idle_dma : (chips : Chips) → chips.controller.asking ≡ false → dma_stepped chips ≡ record chips { holding = record chips.holding { request = Low } }
+unfolding dma_stepped
+idle_dma chips low = by_line (asks chips.controller) (ap (λ b. is_gated chips.controller && b) low ∙ and_right (is_gated chips.controller) false refl)
+  where
+    by_line : (line : Bool) → line ≡ false
+        → (if is_due (looked line chips.holding).request then granted (record chips { holding = looked line chips.holding }) else record chips { holding = looked line chips.holding })
+        ≡ record chips { holding = record chips.holding { request = Low } }
+    by_line true is = absurd (false≢true (sym is))
+    by_line false is = refl
+
+-- ---- while it takes commands, device steps keep it so
+
+rests_command : (old between : Fdc) (track0 : Bool) → old.phase ≡ Command → RestsIn (polled old).phase track0 (polled old) between → between.phase ≡ Command
+rests_command old between track0 is rests =
+    let same = polled_phase old ∙ is in
+    let quiet = subst (λ phase. RestsIn phase track0 (polled old) between) same rests in
+    ap (λ fdc. fdc.phase) quiet ∙ same
+
+pub step_command : (old new : Board) → Step old new → (controller_of old).phase ≡ Command → (controller_of new).phase ≡ Command
+step_command old new step is =
+    after_step (λ c. c.controller.phase ≡ Command) (by_bytes (λ fdc. fdc.phase ≡ Command) (λ fdc was. ap phase_told was)
+    (λ fdc was. was) (λ byte fdc was. was)) old new step
+    (controller (step.between.phase ≡ Command) old new step
+    (λ before after works. rests_command (controller_of old) step.between (before.cylinder == 0) is works.rests)
+    (λ works. rests_command (controller_of old) step.between false is works.rests))

@@ -1,0 +1,275 @@
+-- A data command ends in time, whatever is done meanwhile.
+use Rattle.std.proofs.Common.{◌≡◌, ◌⊎◌, inl, inr, ℕ, suc, ◌+◌, ◌-◌, ◌≤◌, ◌==◌, nat_le, min, Bool, true, false, Option, Some, None, List, [], ◌∷◌, ◌++◌, if◌then◌else◌, refl, sym, ◌∙◌, ap, subst, arith}
+use Rattle.std.proofs.lemmas.Bool.{false≢true}
+use Rattle.std.proofs.lemmas.Bool.Decides.{nat_tests}
+use Rattle.laws_machine.proofs.Common.{last_count, sensed, seek_bits, answer, kept, Accepted, More, Ready, Invalid, after_byte, Obeys, TakesAs, sensing_by, answered, taken_out, taken_in, to_memory_of, phase_told, is_executing, dsr_resets, phase_after, is_taking, rate_chosen, reset, polled, RestsIn, Answer, Short, Long, Fdc, Lines, Phase, Board, controller_of, Step, moved_to_memory, moved_from_memory, byte_read, told_if, Chips, Meets, Goes, Lasting, Marching}
+use Rattle.fdc_commands.specs.declared.command.Command.{Command}
+use Rattle.fdc_commands.specs.declared.command.Command.TheVariants as command
+use Rattle.fdc_core.specs.Commands.{BeginsData, Begins, ObeysAtRest}
+use Rattle.fdc_core.specs.Ports.{Writes}
+use Rattle.fdc_core.specs.Steps.{steps_left, EndsIn, IsCounted}
+use Rattle.fdc_phases.specs.declared.phases.Phase.TheVariants as phase
+use Rattle.pc_bus.specs.Transfers.{moved}
+use Rattle.laws_machine.specs.OnSteps.Ends.{Elapses, IsOver}
+use Rattle.laws_machine.proofs.OnSteps.Acts.{Touches, at_controller}
+use Rattle.laws_machine.proofs.Facts.{polled_phase}
+use Rattle.laws_machine.proofs.OnSteps.Moves.{lasts, meets_behind}
+use Rattle.laws_machine.proofs.OnSteps.Transfers.{after_step}
+use Rattle.laws_machine.proofs.OnSteps.Words.{controller}
+
+-- what transfers leave of a controller: the steps that are left, and what is counted
+record Shows (left begun : ℕ) (fdc : Fdc) : Type 0 where
+  steps : steps_left fdc.phase ≡ left
+  counted : IsCounted fdc.phase
+  count : fdc.data_commands ≡ begun
+
+-- ---- the device step
+
+told_left : (p : Phase) → steps_left (phase_told p) ≡ steps_left p
+told_left phase.Command = refl
+told_left (phase.Result answer) = refl
+told_left (phase.Execute execution) = refl
+
+told_counted : (p : Phase) → IsCounted p → IsCounted (phase_told p)
+told_counted phase.Command was = was
+told_counted (phase.Result answer) was = was
+told_counted (phase.Execute execution) was = was
+
+shows_moved : (left begun : ℕ) (chips : Chips) → Shows left begun chips.controller → Shows left begun (moved chips).controller
+unfolding moved
+shows_moved left begun chips was = by_way (to_memory_of chips.controller)
+  where
+    by_last : (last : Bool) (fdc : Fdc) → Shows left begun fdc → Shows left begun (told_if last fdc)
+    by_last true fdc is = record { steps = told_left fdc.phase ∙ is.steps; counted = told_counted fdc.phase is.counted; count = is.count }
+    by_last false fdc is = is
+
+    by_way : (b : Bool) → Shows left begun (if b then moved_to_memory chips else moved_from_memory chips).controller
+    by_way true = by_last (chips.channel.count == 0) (taken_out chips.controller) (record { steps = was.steps; counted = was.counted; count = was.count })
+    by_way false = by_last (chips.channel.count == 0) (taken_in (byte_read chips.channel chips.memory) chips.controller) (record { steps = was.steps; counted = was.counted; count = was.count })
+
+-- a step is over, and behind it the count of a data command in execution is below 65,536
+record Falls (old new : Phase) : Type 0 where
+  steps : steps_left new ≤ steps_left old - 1
+  counted : IsCounted new
+
+falls_none : (old new : Phase) → new ≡ old → steps_left old ≡ 0 → IsCounted old → Falls old new
+falls_none old new same none counted = let left = ap steps_left same in record { steps = omega arith; counted = subst IsCounted (sym same) counted }
+
+ends_in : (p : Phase) (polls between : Fdc) (track0 : Bool) → EndsIn p between.phase → RestsIn p track0 polls between → polls.phase ≡ p → Falls p between.phase
+ends_in phase.Command polls between track0 ends rests same = falls_none phase.Command between.phase (ap (λ fdc. fdc.phase) rests ∙ same) refl tt
+ends_in (phase.Result answer) polls between track0 ends rests same = falls_none (phase.Result answer) between.phase (ap (λ fdc. fdc.phase) rests ∙ same) refl tt
+ends_in (phase.Execute execution) polls between track0 ends rests same = let less = ends.0 in record { steps = omega arith; counted = ends.1 }
+
+word_ends : (old between : Fdc) (track0 : Bool) → EndsIn old.phase between.phase → RestsIn (polled old).phase track0 (polled old) between → Falls old.phase between.phase
+word_ends old between track0 ends rests =
+    ends_in old.phase (polled old) between track0 ends (subst (λ p. RestsIn p track0 (polled old) between) (polled_phase old) rests) (polled_phase old)
+
+record Ticks (old new : Fdc) : Type 0 where
+  falls : Falls old.phase new.phase
+  count : new.data_commands ≡ old.data_commands
+
+step_ticks : (old new : Board) → (step : Step old new) → Ticks (controller_of old) (controller_of new)
+step_ticks old new step =
+    let word : Ticks (controller_of old) step.between = controller (Ticks (controller_of old) step.between) old new step
+    (λ before after works. record { falls = word_ends (controller_of old) step.between (before.cylinder == 0) works.ends works.rests; count = works.stays.data_commands })
+    (λ works. record { falls = word_ends (controller_of old) step.between false works.ends works.rests; count = works.stays.data_commands }) in
+    let shows = after_step (λ c. Shows (steps_left step.between.phase) step.between.data_commands c.controller) (record { one = shows_moved _ _; held = λ chips holding was. was }) old new step
+    (record { steps = refl; counted = word.falls.counted; count = refl }) in
+    let fewer = word.falls.steps in let same = shows.steps in
+    record { falls = record { steps = omega arith; counted = shows.counted }; count = shows.count ∙ word.count }
+
+-- a data command has fewer device steps left with each of them
+pub step_ends : (old new : Board) → Step old new → steps_left (controller_of new).phase ≤ steps_left (controller_of old).phase - 1
+step_ends old new step = (step_ticks old new step).falls.steps
+
+pub ending : (start : Board) → Marching (λ n board. steps_left (controller_of board).phase ≤ steps_left (controller_of start).phase - n)
+ending start = record { step = λ n old new step was. (let fewer = step_ends old new step in omega arith); idle = λ n old gaps fresh was. was }
+
+-- ---- the acts
+
+-- a data command in execution, if there is one, is the same as before
+pub record Keeps (old new : Phase) : Type 0 where
+  pub left : steps_left new ≤ steps_left old
+  pub counted : IsCounted old → IsCounted new
+
+-- so it is, or a data command began
+pub data Holds (old : Fdc) (new : Fdc) : Type 0 where
+  Same : new.data_commands ≡ old.data_commands → Keeps old.phase new.phase → Holds old new
+  Began : new.data_commands ≡ min (old.data_commands + 1) last_count → Holds old new
+
+keeps_same : (old new : Phase) → new ≡ old → Keeps old new
+keeps_same old new same = let left = ap steps_left same in record { left = omega arith; counted = λ was. subst IsCounted (sym same) was }
+
+keeps_idle : (old new : Phase) → is_executing new ≡ false → Keeps old new
+keeps_idle old phase.Command none = record { left = omega arith; counted = λ was. tt }
+keeps_idle old (phase.Result answer) none = record { left = omega arith; counted = λ was. tt }
+keeps_idle old (phase.Execute execution) none = absurd (false≢true (sym none))
+
+same_phase : (old new : Fdc) → new.data_commands ≡ old.data_commands → new.phase ≡ old.phase → Holds old new
+same_phase old new count stays = Holds.Same count (keeps_same old.phase new.phase stays)
+
+idle : (old new : Fdc) → new.data_commands ≡ old.data_commands → is_executing new.phase ≡ false → Holds old new
+idle old new count none = Holds.Same count (keeps_idle old.phase new.phase none)
+
+same_fdc : (old new : Fdc) → new ≡ old → Holds old new
+same_fdc old new is = same_phase old new (ap (λ fdc. fdc.data_commands) is) (ap (λ fdc. fdc.phase) is)
+
+resets : (b : Bool) (set old : Fdc) → set.data_commands ≡ old.data_commands → set.phase ≡ old.phase → Holds old (if b then reset set else set)
+resets true set old count stays = idle old (reset set) count refl
+resets false set old count stays = same_phase old set count stays
+
+sensed_idle : (some : Option (ℕ × ℕ)) (old new : Fdc) → new ≡ sensing_by some old → Holds old new
+sensed_idle None old new is = idle old new (ap (λ fdc. fdc.data_commands) is) (ap (λ fdc. is_executing fdc.phase) is)
+sensed_idle (Some (status, cylinder)) old new is = idle old new (ap (λ fdc. fdc.data_commands) is) (ap (λ fdc. is_executing fdc.phase) is)
+
+answered_idle : (byte : ℕ) (last : Option ℕ) (old new : Fdc) → new ≡ answered byte last old → Holds old new
+answered_idle byte last old new is = idle old new (ap (λ fdc. fdc.data_commands) is) (ap (λ fdc. is_executing fdc.phase) is)
+
+data_begins : (c : Command) (old new : Fdc) → BeginsData c old new → Holds old new
+data_begins (command.ReadId head_drive) old new (task, is, waits, after) = Holds.Began (ap (λ fdc. fdc.data_commands) after)
+data_begins (command.ReadData head_drive key eot gpl dtl) old new (task, is, waits, after) = Holds.Began (ap (λ fdc. fdc.data_commands) after)
+data_begins (command.WriteData head_drive key eot gpl dtl) old new (task, is, waits, after) = Holds.Began (ap (λ fdc. fdc.data_commands) after)
+data_begins (command.WriteDeleted head_drive key eot gpl dtl) old new (task, is, waits, after) = Holds.Began (ap (λ fdc. fdc.data_commands) after)
+data_begins (command.FormatTrack head_drive n sc gpl fill) old new (task, is, waits, after) = Holds.Began (ap (λ fdc. fdc.data_commands) after)
+data_begins _ old new is = answered_idle 0x80 None old new is
+
+by_dma : (c : Command) (old new : Fdc) → Begins c old new → Holds old new
+by_dma c old new (without, with_dma) = by_bit old.non_dma refl
+  where
+    by_bit : (b : Bool) → old.non_dma ≡ b → Holds old new
+    by_bit true is = answered_idle 0x80 None old new (without is)
+    by_bit false is = data_begins c old new (with_dma is)
+
+at_rest : (c : Command) (lines : Lines) (old new : Fdc) → ObeysAtRest c lines old new → Holds old new
+at_rest (command.Specify srt_hut hlt_nd) lines old new is = same_phase old new (ap (λ fdc. fdc.data_commands) is) (ap (λ fdc. fdc.phase) is)
+at_rest (command.SenseDrive head_drive) lines old new is = idle old new (ap (λ fdc. fdc.data_commands) is) (ap (λ fdc. is_executing fdc.phase) is)
+at_rest (command.Recalibrate drive) lines old new is = same_phase old new (ap (λ fdc. fdc.data_commands) is) (ap (λ fdc. fdc.phase) is)
+at_rest command.SenseInterrupt lines old new is = sensed_idle (sensed old.seeks) old new is
+at_rest (command.Seek head_drive target) lines old new is = same_phase old new (ap (λ fdc. fdc.data_commands) is) (ap (λ fdc. fdc.phase) is)
+at_rest command.Version lines old new is = answered_idle 0x90 None old new is
+at_rest (command.Configure fixed options pretrk) lines old new is = same_phase old new (ap (λ fdc. fdc.data_commands) is) (ap (λ fdc. fdc.phase) is)
+at_rest c lines old new is = by_dma c old new is
+
+pub zero_of : (n : ℕ) → (n == 0) ≡ true → n ≡ 0
+zero_of n is = grind (arith, nat_tests)
+
+by_bits : (c : Command) (lines : Lines) (old new : Fdc) → (seek_bits old.seeks ≡ 0 → ObeysAtRest c lines old new)
+    → ((seek_bits old.seeks == 0) ≡ false → new ≡ answered 0x80 None old) → Holds old new
+by_bits c lines old new rests refuses = by_test (seek_bits old.seeks == 0) refl
+  where
+    by_test : (b : Bool) → (seek_bits old.seeks == 0) ≡ b → Holds old new
+    by_test true is = at_rest c lines old new (rests (zero_of (seek_bits old.seeks) is))
+    by_test false is = answered_idle 0x80 None old new (refuses is)
+
+obeys : (c : Command) (lines : Lines) (old new : Fdc) → Obeys c lines old new → Holds old new
+obeys command.SenseInterrupt lines old new is = sensed_idle (sensed old.seeks) old new is
+obeys c lines old new (rests, refuses) = by_bits c lines old new rests refuses
+
+took : (accepted : Accepted) (lines : Lines) (old new : Fdc) → TakesAs accepted lines old new → Holds old new
+took More lines old new is = same_fdc old new is
+took (Ready c) lines old new does = obeys c lines old new does
+took Invalid lines old new is = answered_idle 0x80 None old new is
+
+sent : (value : ℕ) (lines : Lines) (old new : Fdc) → (port : ℕ) → port ≡ 0x3F5 → Writes port value lines old new → Holds old new
+sent value lines old new port is writes = by_taking (is_taking old) refl
+  where
+    by_taking : (b : Bool) → is_taking old ≡ b → Holds old new
+    by_taking true takes =
+        let bytes = old.command ++ value ∷ [] in
+        with_command (kept (answer bytes) bytes) (took (answer bytes) lines (record old { command = kept (answer bytes) bytes }) new ((writes.bytes is).0 takes))
+      where
+        with_command : (command : List ℕ) → Holds (record old { command = command }) new → Holds old new
+        with_command command (Holds.Same count keeps) = Holds.Same count keeps
+        with_command command (Holds.Began count) = Holds.Began count
+    by_taking false ignores = same_fdc old new ((writes.bytes is).1 ignores)
+
+pub port_is : (port at : ℕ) → (port == at) ≡ true → port ≡ at
+port_is port at is = grind (arith, nat_tests)
+
+writes_hold : (port value : ℕ) (lines : Lines) (old new : Fdc) → Writes port value lines old new → Holds old new
+writes_hold port value lines old new writes = by_port (port == 0x3F2) (port == 0x3F4) (port == 0x3F5) (port == 0x3F7) refl refl refl refl
+  where
+    by_port : (a b c d : Bool) → (port == 0x3F2) ≡ a → (port == 0x3F4) ≡ b → (port == 0x3F5) ≡ c → (port == 0x3F7) ≡ d → Holds old new
+    by_port true b c d p q r s = subst (Holds old) (sym (writes.output (port_is port 0x3F2 p))) (resets _ (record old { dor = record { 0 = value } }) old refl refl)
+    by_port false true c d p q r s = subst (Holds old) (sym (writes.select (port_is port 0x3F4 q))) (resets (dsr_resets value) (record old { rate = rate_chosen value }) old refl refl)
+    by_port false false true d p q r s = sent value lines old new port (port_is port 0x3F5 r) writes
+    by_port false false false true p q r s = subst (Holds old) (sym (writes.control (port_is port 0x3F7 s))) (same_phase old _ refl refl)
+    by_port false false false false p q r s = same_fdc old new (writes.others p q r s)
+
+-- a read of the data port
+pub idle_answer : (answer : Answer) → is_executing (after_byte answer) ≡ false
+idle_answer (Short next None) = refl
+idle_answer (Short next (Some last)) = refl
+idle_answer (Long ending results taken) = by_last (nat_le 6 taken)
+  where
+    by_last : (b : Bool) → is_executing (if b then phase.Command else phase.Result (Long ending results (taken + 1))) ≡ false
+    by_last true = refl
+    by_last false = refl
+
+given_keeps : (p : Phase) → Keeps p (phase_after p)
+given_keeps phase.Command = keeps_idle phase.Command phase.Command refl
+given_keeps (phase.Result answer) = keeps_idle (phase.Result answer) (after_byte answer) (idle_answer answer)
+given_keeps (phase.Execute execution) = keeps_same (phase.Execute execution) (phase.Execute execution) refl
+
+touches_hold : (old new : Fdc) → Touches old new → Holds old new
+touches_hold old new (Touches.Leaves last is) = same_fdc old last is
+touches_hold old new (Touches.Gives last is) = Holds.Same (ap (λ fdc. fdc.data_commands) is) (subst (Keeps old.phase) (sym (ap (λ fdc. fdc.phase) is)) (given_keeps old.phase))
+touches_hold old new (Touches.Takes port value lines last writes) = writes_hold port value lines old last writes
+
+-- ---- courses
+
+ticked : (start : Board) (n : ℕ) (old new : Board) → Ticks (controller_of old) (controller_of new) → Elapses start n old → Elapses start (suc n) new
+ticked start n old new ticks was =
+    let fewer = ticks.falls.steps in let same = ticks.count in let rises = was.rises in
+    record {
+      rises = omega arith;
+      left = elim was.left [ inl before ↦ (let left = before.left in inl (record { left = omega arith; counted = λ why. ticks.falls.counted })) | inr rose ↦ inr (omega arith) ];
+    }
+
+held : (start : Board) (n : ℕ) (old new : Board) → Holds (controller_of old) (controller_of new) → Elapses start n old → Elapses start n new
+held start n old new (Holds.Same same keeps) was =
+    let rises = was.rises in let fewer = keeps.left in
+    record {
+      rises = omega arith;
+      left = elim was.left [ inl before ↦ (let left = before.left in inl (record { left = omega arith; counted = λ why. keeps.counted (before.counted why) })) | inr rose ↦ inr (omega arith) ];
+    }
+held start n old new (Holds.Began count) was = let rises = was.rises in record { rises = omega arith; left = inr (omega arith) }
+
+elapsing : (start : Board) → Lasting (Elapses start)
+elapsing start = record {
+  step = λ n old new step. ticked start n old new (step_ticks old new step);
+  act = λ n old new acts. held start n old new (touches_hold (controller_of old) (controller_of new) (at_controller old new acts));
+}
+
+elapses : (old new : Board) (n : ℕ) → Goes old n new → Elapses old n new
+elapses old new n goes =
+    lasts (Elapses old) (elapsing old) old new n goes (record { rises = omega arith; left = inl (record { left = omega arith; counted = λ why. elim why [ inl was ↦ was | inr some ↦ absurd (omega arith) ] }) })
+
+-- where none is left it is over
+over_of : (p : Phase) → IsCounted p → steps_left p ≡ 0 → is_executing p ≡ false
+over_of phase.Command counted none = refl
+over_of (phase.Result answer) counted none = refl
+over_of (phase.Execute execution) counted none = absurd (omega arith)
+
+most_left : (p : Phase) → steps_left p ≤ 65536
+most_left phase.Command = omega arith
+most_left (phase.Result answer) = omega arith
+most_left (phase.Execute execution) = omega arith
+
+ends_by : (old new : Board) (n : ℕ) → Goes old n new → IsCounted (controller_of old).phase ⊎ (1 ≤ n) → steps_left (controller_of old).phase ≤ n → IsOver old new
+ends_by old new n goes why many = elim (elapses old new n goes).left [
+  | inl lessens ↦ (let left = lessens.left in inl (over_of (controller_of new).phase (lessens.counted why) (omega arith)))
+  | inr rose ↦ inr rose
+]
+
+-- behind as many device steps as were left of it
+pub data_ends : (old new : Board) (n : ℕ) → Goes old n new → IsCounted (controller_of old).phase → steps_left (controller_of old).phase ≤ n → IsOver old new
+data_ends old new n goes counted many = ends_by old new n goes (inl counted) many
+
+-- behind 65,536 in any case
+pub data_ends_in_time : (old new : Board) (n : ℕ) → Goes old n new → 65536 ≤ n → IsOver old new
+data_ends_in_time old new n goes many = let most = most_left (controller_of old).phase in ends_by old new n goes (inr (omega arith)) (omega arith)
+
+-- so it is on the way, behind 65,536
+pub data_over : (old new : Board) (n : ℕ) → Goes old n new → 65536 ≤ n → Meets (IsOver old) 65536 old n new
+data_over old new n goes many = meets_behind (IsOver old) 65536 n old new (λ mid first. data_ends_in_time old mid 65536 first (omega arith)) goes many

@@ -1,0 +1,183 @@
+-- What transfers leave of a command that takes bytes from memory.
+use Rattle.std.proofs.Common.{◌≡◌, ℕ, ◌≤◌, ◌<◌, ◌==◌, Bool, true, false, List, [], ◌∷◌, ◌++◌, length, if◌then◌else◌, refl, sym, ◌∙◌, ap, subst, arith, length-append}
+use Rattle.std.proofs.lemmas.Bool.{false≢true}
+use Rattle.std.proofs.lemmas.Bool.Decides.{nat_tests}
+use Rattle.laws_machine.proofs.Common.{Channel, after_transfer, Fifo, room_of, asking_told, fifo_told, taken_in, told_count, with_byte, phase_asks, phase_told, task_asks, task_told, is_moving, is_read, is_reading, asks, PhaseWaits, phase_counted, task_counted, Phase, Command, Execute, Result, Task, ReadId, Format, Holds, byte_read, moved_from_memory, moved_to_memory, told_if, Chips, fills, fills_task, IsFilling}
+use Rattle.laws_machine.proofs.Facts.{same_grants}
+use Rattle.dma_8237.specs.Channel.{grants}
+use Rattle.fdc_phases.specs.Waiting.{TaskWaits}
+use Rattle.fdc_phases.specs.declared.phases.Task.TheVariants.{Read, Write}
+use Rattle.fdc_core.proofs.Feeding.{in_waits, told_waits, low_waits}
+use Rattle.pc_bus.specs.Transfers.{moved}
+use Rattle.laws_machine.proofs.OnReads.Served.{phase_again}
+
+-- ---- the rule
+
+-- DRQ by the rule stays as it is
+pub ruled_by : (phase : Phase) (asking now : Bool) (fifo : Fifo) → now ≡ phase_asks phase asking fifo → now ≡ phase_asks phase now fifo
+ruled_by phase asking now fifo rule = rule ∙ (sym (phase_again phase asking fifo) ∙ ap (λ b. phase_asks phase b fifo) (sym rule))
+
+-- ---- phases
+
+not_read : (task : Task) → fills_task task ≡ true → is_read task ≡ false
+not_read (ReadId search) is = refl
+not_read (Read reading) is = absurd (false≢true is)
+not_read (Write writing) is = refl
+not_read (Format formatting) is = refl
+
+pub not_reading : (phase : Phase) → fills phase ≡ true → is_reading phase ≡ false
+not_reading Command is = refl
+not_reading (Result answer) is = refl
+not_reading (Execute execution) is = not_read execution.task is
+
+-- behind the terminal count
+told_fills : (phase : Phase) → fills (phase_told phase) ≡ fills phase
+told_fills Command = refl
+told_fills (Result answer) = refl
+told_fills (Execute execution) = in_task execution.task
+  where
+    in_task : (task : Task) → fills_task (task_told task) ≡ fills_task task
+    in_task (ReadId search) = refl
+    in_task (Read reading) = refl
+    in_task (Write writing) = refl
+    in_task (Format formatting) = refl
+
+told_counted : (phase : Phase) → phase_counted (phase_told phase) ≡ true
+told_counted Command = refl
+told_counted (Result answer) = refl
+told_counted (Execute execution) = in_task execution.task
+  where
+    in_task : (task : Task) → task_counted (task_told task) ≡ true
+    in_task (ReadId search) = refl
+    in_task (Read reading) = refl
+    in_task (Write writing) = refl
+    in_task (Format formatting) = refl
+
+told_low : (phase : Phase) (asking : Bool) (fifo : Fifo) → fills phase ≡ true → asking_told (is_moving phase) asking ≡ phase_asks (phase_told phase) (asking_told (is_moving phase) asking) fifo
+told_low Command asking fifo is = absurd (false≢true is)
+told_low (Result answer) asking fifo is = absurd (false≢true is)
+told_low (Execute execution) asking fifo is = in_task execution.task is
+  where
+    in_task : (task : Task) → fills_task task ≡ true
+        → asking_told (is_moving (Execute (record execution { task = task }))) asking ≡ task_asks (task_told task) (asking_told (is_moving (Execute (record execution { task = task }))) asking) fifo
+    in_task (ReadId search) is = absurd (false≢true is)
+    in_task (Read reading) is = absurd (false≢true is)
+    in_task (Write writing) is = refl
+    in_task (Format formatting) is = refl
+
+-- behind the terminal count it can wait for ever
+counted_task : (slack : ℕ) (task : Task) (fifo : Fifo) → fills_task task ≡ true → task_counted task ≡ true → TaskWaits slack task fifo
+counted_task slack (ReadId search) fifo is counted = tt
+counted_task slack (Read reading) fifo is counted = absurd (false≢true is)
+counted_task slack (Write writing) fifo is counted = λ uncounted. absurd (false≢true (sym uncounted ∙ counted))
+counted_task slack (Format formatting) fifo is counted = λ uncounted. absurd (false≢true (sym uncounted ∙ counted))
+
+pub counted_waits : (slack : ℕ) (phase : Phase) (fifo : Fifo) → fills phase ≡ true → phase_counted phase ≡ true → PhaseWaits slack phase fifo
+counted_waits slack Command fifo is counted = tt
+counted_waits slack (Result answer) fifo is counted = tt
+counted_waits slack (Execute execution) fifo is counted = counted_task slack execution.task fifo is counted
+
+-- ---- a byte
+
+room_more : (byte : ℕ) (fifo : Fifo) → fifo.on ≡ true → length fifo.bytes ≤ 16 → length (with_byte byte fifo).bytes ≤ 16
+room_more byte fifo on room = by_full (length fifo.bytes == room_of fifo.on) refl
+  where
+    unlike : (a b : ℕ) → (a == b) ≡ false → a ≤ b → a < b
+    unlike a b h less = grind (arith, nat_tests)
+
+    by_full : (full : Bool) → (length fifo.bytes == room_of fifo.on) ≡ full → length (if full then fifo else record fifo { bytes = fifo.bytes ++ byte ∷ [] }).bytes ≤ 16
+    by_full true is = room
+    by_full false is =
+        let wide : room_of fifo.on ≡ 16 = ap room_of on in
+        let less = unlike (length fifo.bytes) (room_of fifo.on) is (omega arith) in
+        let more = length-append fifo.bytes (byte ∷ []) in omega arith
+
+kept_mode : (byte : ℕ) (full : Bool) (fifo : Fifo) (bytes : List ℕ) → ((if full then fifo else record fifo { bytes = bytes }).on ≡ fifo.on) × ((if full then fifo else record fifo { bytes = bytes }).threshold ≡ fifo.threshold)
+kept_mode byte true fifo bytes = (refl, refl)
+kept_mode byte false fifo bytes = (refl, refl)
+
+told_mode : (b : Bool) (fifo : Fifo) → b ≡ false → fifo_told b fifo ≡ fifo
+told_mode true fifo is = absurd (false≢true (sym is))
+told_mode false fifo is = refl
+
+-- a byte came
+into : (slack : ℕ) (chips : Chips) (byte : ℕ) (channel : Channel) → IsFilling slack chips → (phase_counted chips.controller.phase ≡ false → grants channel ≡ true)
+    → IsFilling slack (record chips { controller = taken_in byte chips.controller; channel = channel })
+into slack chips byte channel was granting =
+    let fdc = chips.controller in
+    let mode = kept_mode byte (length fdc.fifo.bytes == room_of fdc.fifo.on) fdc.fifo (fdc.fifo.bytes ++ byte ∷ []) in
+    record {
+      on = mode.0 ∙ was.on;
+      threshold = mode.1 ∙ was.threshold;
+      gated = was.gated;
+      fills_it = was.fills_it;
+      rule = sym (phase_again fdc.phase fdc.asking (with_byte byte fdc.fifo));
+      room = room_more byte fdc.fifo was.on was.room;
+      granting = granting;
+      waits = in_waits slack byte fdc.phase fdc.fifo (not_reading fdc.phase was.fills_it) was.waits;
+    }
+
+-- and then TC
+told : (slack : ℕ) (chips : Chips) → IsFilling slack chips → IsFilling slack (record chips { controller = told_count chips.controller })
+told slack chips was =
+    let fdc = chips.controller in
+    let same : fifo_told (is_reading fdc.phase) fdc.fifo ≡ fdc.fifo = told_mode (is_reading fdc.phase) fdc.fifo (not_reading fdc.phase was.fills_it) in
+    record {
+      on = ap (λ (fifo : Fifo). fifo.on) same ∙ was.on;
+      threshold = ap (λ (fifo : Fifo). fifo.threshold) same ∙ was.threshold;
+      gated = was.gated;
+      fills_it = told_fills fdc.phase ∙ was.fills_it;
+      rule = told_low fdc.phase fdc.asking (fifo_told (is_reading fdc.phase) fdc.fifo) was.fills_it;
+      room = subst (λ (fifo : Fifo). length fifo.bytes ≤ 16) (sym same) was.room;
+      granting = λ uncounted. absurd (false≢true (sym uncounted ∙ told_counted fdc.phase));
+      waits = told_waits slack fdc.phase (fifo_told (is_reading fdc.phase) fdc.fifo);
+    }
+
+-- TC may come with a channel that is masked then
+masked : (slack : ℕ) (chips : Chips) (byte : ℕ) (channel : Channel) → IsFilling slack chips → IsFilling slack (record chips { controller = told_count (taken_in byte chips.controller); channel = channel })
+masked slack chips byte channel was =
+    let first = into slack chips byte chips.channel was was.granting in
+    let second = told slack (record chips { controller = taken_in byte chips.controller }) first in
+    record {
+      on = second.on;
+      threshold = second.threshold;
+      gated = second.gated;
+      fills_it = second.fills_it;
+      rule = second.rule;
+      room = second.room;
+      granting = λ uncounted. absurd (false≢true (sym uncounted ∙ told_counted chips.controller.phase));
+      waits = second.waits;
+    }
+
+by_last : (slack : ℕ) (chips : Chips) → IsFilling slack chips → (last : Bool) → (chips.channel.count == 0) ≡ last
+    → IsFilling slack (record chips { controller = told_if last (taken_in (byte_read chips.channel chips.memory) chips.controller); channel = after_transfer chips.channel })
+by_last slack chips was true is = masked slack chips (byte_read chips.channel chips.memory) (after_transfer chips.channel) was
+by_last slack chips was false is =
+    into slack chips (byte_read chips.channel chips.memory) (after_transfer chips.channel) was (λ uncounted. same_grants chips.channel is ∙ was.granting uncounted)
+
+pub filling_moved : (slack : ℕ) (chips : Chips) → IsFilling slack chips → IsFilling slack (moved chips)
+unfolding moved
+filling_moved slack chips was =
+    let P : Bool → Type 0 = λ b. IsFilling slack (if b then moved_to_memory chips else moved_from_memory chips) in
+    subst P (sym (not_reading chips.controller.phase was.fills_it)) (by_last slack chips was (chips.channel.count == 0) refl)
+
+-- the request plays no part
+filling_as : (slack later : ℕ) (chips : Chips) (holding : Holds) → IsFilling slack chips → PhaseWaits later chips.controller.phase chips.controller.fifo → IsFilling later (record chips { holding = holding })
+filling_as slack later chips holding was waits = record {
+  on = was.on;
+  threshold = was.threshold;
+  gated = was.gated;
+  fills_it = was.fills_it;
+  rule = was.rule;
+  room = was.room;
+  granting = was.granting;
+  waits = waits;
+}
+
+pub filling_held : (slack : ℕ) (chips : Chips) (holding : Holds) → IsFilling slack chips → IsFilling slack (record chips { holding = holding })
+filling_held slack chips holding was = filling_as slack slack chips holding was was.waits
+
+-- while DRQ is low no byte is missing for nine device steps
+pub filling_low : (slack : ℕ) (chips : Chips) → IsFilling slack chips → asks chips.controller ≡ false → IsFilling 9 chips
+filling_low slack chips was low = filling_as slack 9 chips chips.holding was
+    (low_waits slack chips.controller (record { before = chips.controller.asking; asks = was.rule; gated = was.gated; on = was.on; threshold = was.threshold }) was.waits low)

@@ -1,0 +1,178 @@
+-- The write gates, step by step.
+use Rattle.std.proofs.Common.{◌≡◌, ◌⊎◌, inl, inr, ℕ, ◌+◌, ◌<◌, ◌/◌, ◌%◌, ◌&&◌, not, Bool, true, false, Option, Some, None, if◌then◌else◌, refl, sym, ◌∙◌, ap, subst}
+use Rattle.std.proofs.lemmas.Bool.{and_parts, false≢true}
+use Rattle.laws_machine.proofs.Common.{DriveState, Writes, at_speed, can_write, rewritten, Fifo, FormatNext, WriteNext, FormatDoes, after_laid, is_listening, polled, Moves, MovesIn, MovesTask, WordTime, Saw, KeptOut, Wrote, Stopped, IsTime, Closes, WritesIn, WritesTask, WriteDoes, after_next, is_ended, Fdc, Phase, Command, Execute, Result, Task, ReadId, Format, DataRate, Formatting, Writing, Board, controller_of, selected_of, Works, Step, Marching}
+use Rattle.laws_machine.proofs.Facts.{polled_phase}
+use Rattle.fdc_stages.specs.declared.formatting.FormatNext.TheVariants as format_next
+use Rattle.fdc_stages.specs.declared.writing.WriteNext.TheVariants as write_next
+use Rattle.fdc_phases.specs.Formatting as laying
+use Rattle.fdc_phases.specs.declared.phases.Task.TheVariants.{Read, Write}
+use Rattle.laws_machine.specs.OnWrites.Guards.{GatesDrives, HoldsGates, IsGated, IsGateOf, IsGivenIn, MakesTask, MakesTime, PassesClosed, is_recording}
+use Rattle.laws_machine.proofs.OnQuiet.Steps.{listens_told}
+use Rattle.fdc_drives.proofs.WritingWords.{closes_same, opens_same}
+use Rattle.laws_machine.proofs.OnWrites.Guards.{moves_same, step_leaves}
+use Rattle.laws_machine.proofs.OnSteps.Controllers.{dma_controller}
+use Rattle.laws_machine.proofs.OnSteps.Words.{bays}
+
+-- ---- a drive
+
+moves_closed : (pulse : Option Bool) (before after : DriveState) → Moves pulse before after → PassesClosed before after
+moves_closed None before after becomes =
+    record { pulse = None; moves = becomes; gate = ap (λ s. s.gate) becomes.becomes; medium = ap (λ s. s.medium) becomes.becomes }
+moves_closed (Some inward) before after (between, pulses, becomes) = record {
+  pulse = Some inward;
+  moves = (between, pulses, becomes);
+  gate = ap (λ s. s.gate) becomes.becomes;
+  medium = moves_same (Some inward) before after (between, pulses, becomes);
+}
+
+not_closed : (drive : DriveState) → drive.gate ≡ false → drive.gate ≡ true → ⊥
+not_closed drive closed on = false≢true (sym closed ∙ on)
+
+-- a word is recorded through an open gate
+recorded : (from : DriveState) (head word : ℕ) (can : Bool) → can_write from ≡ can
+    → ((if can then rewritten from.medium from.cylinder head from.place word else from.medium) ≡ from.medium) ⊎ (from.gate ≡ true)
+recorded from head word true can = inr ((and_parts from.gate (not from.cut) (and_parts (at_speed from) (from.gate && not from.cut) can).1).0)
+recorded from head word false can = inl refl
+
+writes_gated : (from mid : DriveState) (head word : ℕ) → Writes head word from mid → (mid.medium ≡ from.medium) ⊎ (from.gate ≡ true)
+writes_gated from mid head word (inl wrote) =
+    elim (recorded from head word (can_write from) refl) [ inl same ↦ inl (ap (λ s. s.medium) wrote.becomes ∙ same) | inr on ↦ inr on ]
+writes_gated from mid head word (inr (can, becomes, rose)) = inl (ap (λ s. s.medium) becomes.becomes)
+
+-- ---- the word time of a command that records
+
+time_gates : (Makes : WordTime → Type 0) (time : WordTime) (rate : DataRate) (head : ℕ) (before after : DriveState) → IsTime time rate head before after → Makes time
+    → PassesClosed before after ⊎ IsGivenIn Makes before after
+time_gates Makes (Saw index word) rate head before after is makes = inl (moves_closed None before after is.passes)
+time_gates Makes (KeptOut index word) rate head before after (other, is) makes = inl (moves_closed None before after is.passes)
+time_gates Makes (Wrote opened closed index word) rate head before after is makes = inr (record {
+  head = head;
+  opened = opened;
+  closed = closed;
+  index = index;
+  word = word;
+  makes = makes;
+  from = is.from;
+  mid = is.mid;
+  opens = is.opens;
+  writes = is.writes;
+  closes = is.closes;
+  gate = elim (writes_gated is.from is.mid head word is.writes) [
+    | inl same ↦ inl (closes_same closed is.mid after is.closes ∙ (same ∙ opens_same opened before is.from is.opens))
+    | inr on ↦ inr on
+  ];
+})
+time_gates Makes Stopped rate head before after is makes = inl (moves_closed None before after is)
+
+closes_gate : (closed : Bool) (mid after : DriveState) → Closes closed mid after → closed ≡ true → after.gate ≡ false
+closes_gate true mid after becomes is = ap (λ s. s.gate) becomes.becomes
+closes_gate false mid after same wrong = absurd cc
+
+-- where a word leaves the gate open, the write goes on
+next_records : (next : WriteNext) (head_drive steps : ℕ) (writing : Writing) (old new : Fdc) (closed : Bool) (mid after : DriveState) → new ≡ after_next head_drive steps writing next old
+    → closed ≡ is_ended next → Closes closed mid after → after.gate ≡ true → is_recording new.phase ≡ true
+next_records (write_next.On stage) head_drive steps writing old new closed mid after is goes closes on = ap (λ f. is_recording f.phase) is
+next_records (write_next.Ended ending) head_drive steps writing old new closed mid after is over closes on = absurd (not_closed after (closes_gate closed mid after closes over) on)
+
+laid_records : (next : FormatNext) (head_drive steps : ℕ) (formatting : Formatting) (old new : Fdc) (closed : Bool) (mid after : DriveState)
+    → new ≡ after_laid head_drive steps formatting next old → closed ≡ laying.is_ended next → Closes closed mid after → after.gate ≡ true → is_recording new.phase ≡ true
+laid_records (format_next.On stage) head_drive steps formatting old new closed mid after is goes closes on = ap (λ f. is_recording f.phase) is
+laid_records (format_next.Ended ending key) head_drive steps formatting old new closed mid after is over closes on = absurd (not_closed after (closes_gate closed mid after closes over) on)
+
+write_goes : (time : WordTime) (rate : DataRate) (head head_drive steps : ℕ) (writing : Writing) (old : Fdc) (before after : DriveState) (new : Fdc) → IsTime time rate head before after
+    → WriteDoes time head_drive steps writing old before new → after.gate ≡ true → is_recording new.phase ≡ true
+write_goes (Saw index word) rate head head_drive steps writing old before after new is does on = absurd (not_closed after (ap (λ s. s.gate) is.passes.becomes) on)
+write_goes (KeptOut index word) rate head head_drive steps writing old before after new (other, is) does on = absurd (not_closed after (ap (λ s. s.gate) is.passes.becomes) on)
+write_goes (Wrote opened closed index word) rate head head_drive steps writing old before after new is does on =
+    next_records does.next head_drive (steps + 1) writing _ new closed is.mid after does.after_is does.closed_is is.closes on
+write_goes Stopped rate head head_drive steps writing old before after new is does on = absurd (not_closed after (ap (λ s. s.gate) is.becomes) on)
+
+format_goes : (time : WordTime) (rate : DataRate) (head head_drive steps : ℕ) (formatting : Formatting) (old : Fdc) (before after : DriveState) (new : Fdc) → IsTime time rate head before after
+    → FormatDoes time head_drive steps formatting old before new → after.gate ≡ true → is_recording new.phase ≡ true
+format_goes (Saw index word) rate head head_drive steps formatting old before after new is does on = absurd (not_closed after (ap (λ s. s.gate) is.passes.becomes) on)
+format_goes (KeptOut index word) rate head head_drive steps formatting old before after new (other, is) does on = absurd (not_closed after (ap (λ s. s.gate) is.passes.becomes) on)
+format_goes (Wrote opened closed index word) rate head head_drive steps formatting old before after new is does on =
+    laid_records does.next head_drive (steps + 1) formatting _ new closed is.mid after does.after_is does.closed_is is.closes on
+format_goes Stopped rate head head_drive steps formatting old before after new is does on = absurd (not_closed after (ap (λ s. s.gate) is.becomes) on)
+
+-- ---- the selected drive
+
+-- what it made of its word time, where a command that records was in execution or not
+record IsWorked (records : Bool) (Makes : WordTime → Type 0) (before after : DriveState) (new : Fdc) : Type 0 where
+  time : PassesClosed before after ⊎ ((records ≡ true) × IsGivenIn Makes before after)
+  goes_on : after.gate ≡ true → is_recording new.phase ≡ true
+
+worked_closed : (records : Bool) (Makes : WordTime → Type 0) (before after : DriveState) (new : Fdc) → PassesClosed before after → IsWorked records Makes before after new
+worked_closed records Makes before after new closed = record { time = inl closed; goes_on = λ on. absurd (not_closed after closed.gate on) }
+
+recording : {A B : Type 0} → A ⊎ B → A ⊎ ((true ≡ true) × B)
+recording (inl closed) = inl closed
+recording (inr given) = inr (refl, given)
+
+by_task : (task : Task) (head_drive steps : ℕ) (asking : Bool) (fifo : Fifo) (polls : Fdc) (before after : DriveState) (new : Fdc) → MovesTask (is_listening task) before after
+    → WritesTask task head_drive steps asking fifo polls before after new
+    → IsWorked (not (is_listening task)) (λ time. MakesTask task head_drive steps time polls before new) before after new
+by_task (ReadId search) head_drive steps asking fifo polls before after new moves writes = worked_closed false _ before after new (moves_closed None before after moves)
+by_task (Read reading) head_drive steps asking fifo polls before after new moves writes = worked_closed false _ before after new (moves_closed None before after moves)
+by_task (Write writing) head_drive steps asking fifo polls before after new moves writes =
+    let does = writes.step.does in record {
+      time = recording (time_gates (λ time. WriteDoes time head_drive steps writing polls before new) does.time polls.rate (head_drive / 4 % 2) before after does.is does.does);
+      goes_on = write_goes does.time polls.rate (head_drive / 4 % 2) head_drive steps writing polls before after new does.is does.does;
+    }
+by_task (Format formatting) head_drive steps asking fifo polls before after new moves writes =
+    let does = writes.step.does in record {
+      time = recording (time_gates (λ time. FormatDoes time head_drive steps formatting polls before new) does.time polls.rate (head_drive / 4 % 2) before after does.is does.does);
+      goes_on = format_goes does.time polls.rate (head_drive / 4 % 2) head_drive steps formatting polls before after new does.is does.does;
+    }
+
+by_phase : (phase : Phase) (asking : Bool) (fifo : Fifo) (polls : Fdc) (before after : DriveState) (new : Fdc) → MovesIn phase polls before after
+    → WritesIn phase asking fifo polls before after new → IsWorked (is_recording phase) (λ time. MakesTime phase time polls before new) before after new
+by_phase Command asking fifo polls before after new moves writes = worked_closed false _ before after new (moves_closed _ before after moves)
+by_phase (Result answer) asking fifo polls before after new moves writes = worked_closed false _ before after new (moves_closed _ before after moves)
+by_phase (Execute execution) asking fifo polls before after new moves writes =
+    by_task execution.task execution.head_drive execution.steps asking fifo polls before after new moves writes
+
+works_gate : (old : Fdc) (before : DriveState) (new : Fdc) (after : DriveState) → Works old before new after
+    → IsWorked (is_recording old.phase) (λ time. MakesTime old.phase time (polled old) before new) before after new
+works_gate old before new after works =
+    by_phase old.phase old.asking old.fifo (polled old) before after new
+    (subst (λ phase. MovesIn phase (polled old) before after) (polled_phase old) works.drive) works.writes
+
+-- ---- the device step
+
+selected_gated : (old : Board) (new : Fdc) (bay : ℕ) (before after : DriveState) → selected_of old ≡ bay → Works (controller_of old) before new after
+    → IsGated old bay before after
+selected_gated old new bay before after at works = elim (works_gate (controller_of old) before new after works).time [
+  | inl closed ↦ inl closed
+  | inr (records, given) ↦ inr (at, records, (new, given))
+]
+
+pub step_gates : (old new : Board) → Step old new → GatesDrives old new
+step_gates old new step =
+    let (first, second) = bays (IsGated old) old new step (selected_gated old step.between)
+    (λ bay before after passes. inl (moves_closed None before after passes)) in
+    record { first = first; second = second }
+
+-- ---- behind a device step
+
+-- transfers leave the command in execution
+recording_after : (old new : Board) → (step : Step old new) → is_recording step.between.phase ≡ true → is_recording (controller_of new).phase ≡ true
+recording_after old new step is =
+    ap (λ bus. is_recording bus.chips.controller.phase) step.bus
+    ∙ dma_controller (λ fdc. is_recording fdc.phase) (λ fdc. ap not (listens_told fdc.phase)) (λ fdc. refl) (λ byte fdc. refl) true (record old.bus.chips { controller = step.between }) is
+
+step_holds : (old new : Board) → Step old new → HoldsGates new
+step_holds old new step =
+    let same : selected_of new ≡ selected_of old = ap (λ byte. byte % 4) (step_leaves old new step).dor in
+    let (first, second) = bays (λ bay before. IsGateOf new bay) old new step
+    (λ bay before after at works on. (same ∙ at, recording_after old new step ((works_gate (controller_of old) before step.between after works).goes_on on)))
+    (λ bay before after passes on. absurd (not_closed after (moves_closed None before after passes).gate on)) in
+    record { first = first; second = second }
+
+-- and behind each further one
+pub gating : Marching (λ n board. 0 < n → HoldsGates board)
+gating = record {
+  step = λ n old new step was some. step_holds old new step;
+  idle = λ n old gaps fresh was some. let held = was some in record { first = held.first; second = held.second };
+}

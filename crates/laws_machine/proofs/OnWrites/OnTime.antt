@@ -1,0 +1,279 @@
+-- A command that takes bytes from memory, on time through device steps.
+use Rattle.std.proofs.Common.{◌≡◌, ◌⊎◌, inl, inr, ℕ, ◌+◌, ◌-◌, ◌%◌, ◌≤◌, ◌==◌, Bool, true, false, length, if◌then◌else◌, refl, sym, ◌∙◌, ap, subst, arith}
+use Rattle.std.proofs.lemmas.Bool.{false≢true}
+use Rattle.std.proofs.lemmas.List.{length-drop}
+use Rattle.laws_machine.proofs.Common.{Rose, DriveState, Fifo, emptied, room_of, FormatNext, WriteNext, begun, WaitsAtFirst, asked, FormatDoes, after_laid, is_executing, is_overrun, is_reading, asks, is_gated, polled, WordTime, Saw, KeptOut, Wrote, Stopped, PhaseWaits, phase_counted, WritesIn, WritesTask, WriteDoes, after_next, without_byte, Fdc, Phase, Command, Execute, Result, Task, ReadId, Format, Formatting, Writing, IsInTime, IsReady, looked, Request, Low, in_time, IsRuled, Stalled, drive_in, Board, selected_of, Works, Step, can_move, looked_at, shown_again, Chips, fills, fills_task, IsFilling, IsTimely, IsOnTime, Keeping, Stalled}
+use Rattle.dma_8237.specs.Channel.{grants}
+use Rattle.fdc_stages.specs.declared.formatting.FormatNext.TheVariants as format_next
+use Rattle.fdc_stages.specs.declared.writing.WriteNext.TheVariants as write_next
+use Rattle.fdc_core.specs.Waiting.{Lasts, LastsIn}
+use Rattle.fdc_phases.specs.declared.phases.Task.TheVariants.{Read, Write}
+use Rattle.pc_bus.specs.Transfers.{moved_up_to, dma_stepped}
+use Rattle.laws_machine.specs.OnWrites.Timely.{IsPunctual}
+use Rattle.laws_machine.proofs.OnWrites.Filling.{counted_waits, filling_held, filling_low, filling_moved, not_reading, ruled_by}
+use Rattle.laws_machine.proofs.OnWrites.Guards.{step_leaves}
+use Rattle.laws_machine.proofs.OnSteps.Words.{some_drive}
+use Rattle.laws_machine.proofs.OnSteps.Transfers.{by_request, up_to}
+use Rattle.laws_machine.proofs.OnSteps.Controllers.{dma_executing, dma_overrun, gated_same, polled_fifo}
+use Rattle.laws_machine.proofs.OnSteps.Stalls.{dma_stalls, shown_low}
+use Rattle.laws_machine.proofs.OnQuiet.Standing.{rested}
+use Rattle.laws_machine.proofs.OnReads.Served.{phase_again, served}
+use Rattle.laws_machine.proofs.OnReads.Timely.{first_low, flows_in, not_due, ready_low, ready_one}
+
+-- ---- the word time
+
+-- behind it the command goes on with no more bytes in the FIFO, or it is over
+pub record GoesOnFilling (fifo : Fifo) (new : Fdc) : Type 0 where
+  pub fills_it : is_executing new.phase ≡ true → fills new.phase ≡ true
+  pub fewer : is_executing new.phase ≡ true → length new.fifo.bytes ≤ length fifo.bytes
+
+without_fewer : (needs : Bool) (old : Fdc) → length (without_byte needs old).fifo.bytes ≤ length old.fifo.bytes
+without_fewer true old = let less = length-drop 1 old.fifo.bytes in omega arith
+without_fewer false old = omega arith
+
+next_fills : (head_drive steps : ℕ) (writing : Writing) (after : WriteNext) (old : Fdc) (fifo : Fifo) → length old.fifo.bytes ≤ length fifo.bytes → GoesOnFilling fifo (after_next head_drive steps writing after old)
+next_fills head_drive steps writing (write_next.On stage) old fifo few = record { fills_it = λ _. refl; fewer = λ _. few }
+next_fills head_drive steps writing (write_next.Ended ending) old fifo few = record { fills_it = λ busy. absurd (false≢true busy); fewer = λ busy. absurd (false≢true busy) }
+
+laid_fills : (head_drive steps : ℕ) (formatting : Formatting) (after : FormatNext) (old : Fdc) (fifo : Fifo) → length old.fifo.bytes ≤ length fifo.bytes → GoesOnFilling fifo (after_laid head_drive steps formatting after old)
+laid_fills head_drive steps formatting (format_next.On stage) old fifo few = record { fills_it = λ _. refl; fewer = λ _. few }
+laid_fills head_drive steps formatting (format_next.Ended ending key) old fifo few = record { fills_it = λ busy. absurd (false≢true busy); fewer = λ busy. absurd (false≢true busy) }
+
+over_fills : (fifo : Fifo) (new : Fdc) → is_executing new.phase ≡ false → GoesOnFilling fifo new
+over_fills fifo new idle = record { fills_it = λ busy. absurd (false≢true (sym idle ∙ busy)); fewer = λ busy. absurd (false≢true (sym idle ∙ busy)) }
+
+write_fills : (time : WordTime) (head_drive steps : ℕ) (writing : Writing) (old : Fdc) (before : DriveState) (new : Fdc) → WriteDoes time head_drive steps writing old before new → GoesOnFilling old.fifo new
+write_fills (Saw index word) head_drive steps writing old before new (due, does) =
+    subst (GoesOnFilling old.fifo) (sym does.after_is) (next_fills head_drive (steps + 1) writing does.next old old.fifo (omega arith))
+write_fills (KeptOut index word) head_drive steps writing old before new (opening, does) =
+    subst (GoesOnFilling old.fifo) (sym does.after_is) (next_fills head_drive (steps + 1) writing does.next old old.fifo (omega arith))
+write_fills (Wrote opened closed index word) head_drive steps writing old before new does =
+    subst (GoesOnFilling old.fifo) (sym does.after_is) (next_fills head_drive (steps + 1) writing does.next (without_byte _ old) old.fifo (without_fewer _ old))
+write_fills Stopped head_drive steps writing old before new does = over_fills old.fifo new (ap (λ fdc. is_executing fdc.phase) does.after_is)
+
+format_fills : (time : WordTime) (head_drive steps : ℕ) (formatting : Formatting) (old : Fdc) (before : DriveState) (new : Fdc) → FormatDoes time head_drive steps formatting old before new → GoesOnFilling old.fifo new
+format_fills (Saw index word) head_drive steps formatting old before new (due, does) =
+    subst (GoesOnFilling old.fifo) (sym does.after_is) (laid_fills head_drive (steps + 1) formatting does.next old old.fifo (omega arith))
+format_fills (KeptOut index word) head_drive steps formatting old before new (opening, does) =
+    subst (GoesOnFilling old.fifo) (sym does.after_is) (laid_fills head_drive (steps + 1) formatting does.next old old.fifo (omega arith))
+format_fills (Wrote opened closed index word) head_drive steps formatting old before new does =
+    subst (GoesOnFilling old.fifo) (sym does.after_is) (laid_fills head_drive (steps + 1) formatting does.next (without_byte does.needs old) old.fifo (without_fewer does.needs old))
+format_fills Stopped head_drive steps formatting old before new does = over_fills old.fifo new (ap (λ fdc. is_executing fdc.phase) does.after_is)
+
+task_fills : (task : Task) (head_drive steps : ℕ) (asking : Bool) (fifo : Fifo) (polls : Fdc) (before after : DriveState) (new : Fdc) → fills_task task ≡ true
+    → WritesTask task head_drive steps asking fifo polls before after new → GoesOnFilling polls.fifo new
+task_fills (ReadId search) head_drive steps asking fifo polls before after new is writes = absurd (false≢true is)
+task_fills (Read reading) head_drive steps asking fifo polls before after new is writes = absurd (false≢true is)
+task_fills (Write writing) head_drive steps asking fifo polls before after new is writes = write_fills writes.step.does.time head_drive steps writing polls before new writes.step.does.does
+task_fills (Format formatting) head_drive steps asking fifo polls before after new is writes = format_fills writes.step.does.time head_drive steps formatting polls before new writes.step.does.does
+
+phase_fills : (phase : Phase) (asking : Bool) (fifo : Fifo) (polls : Fdc) (before after : DriveState) (new : Fdc) → fills phase ≡ true → WritesIn phase asking fifo polls before after new → GoesOnFilling polls.fifo new
+phase_fills Command asking fifo polls before after new is writes = absurd (false≢true is)
+phase_fills (Result answer) asking fifo polls before after new is writes = absurd (false≢true is)
+phase_fills (Execute execution) asking fifo polls before after new is writes = task_fills execution.task execution.head_drive execution.steps asking fifo polls before after new is writes
+
+-- ---- the request
+
+-- ---- the transfers
+
+left_filling : (reading : Bool) (bytes room : ℕ) → reading ≡ false → room ≡ 16 → (if reading then bytes else room - bytes) ≤ 16
+left_filling true bytes room is wide = absurd (false≢true (sym is))
+left_filling false bytes room is wide = omega arith
+
+-- a request that was granted is low, or the terminal count came
+served_timely : (slack : ℕ) (chips : Chips) → IsFilling slack chips → IsTimely (shown_again (moved_up_to 16 chips))
+served_timely slack chips was = by_counted (phase_counted then_chips.controller.phase) refl
+  where
+    then_chips : Chips
+    then_chips = moved_up_to 16 chips
+
+    then_is : IsFilling slack (moved_up_to 16 chips)
+    then_is = up_to (IsFilling slack) (filling_moved slack) 16 chips was
+
+    ruled : IsRuled chips.controller
+    ruled = record { rule = was.rule; room = let wide : room_of chips.controller.fifo.on ≡ 16 = ap room_of was.on in let few = was.room in omega arith }
+
+    quiet : can_move (moved_up_to 16 chips) ≡ false
+    quiet = (served 16 chips ruled (left_filling (is_reading chips.controller.phase) (length chips.controller.fifo.bytes) (room_of chips.controller.fifo.on)
+        (not_reading chips.controller.phase was.fills_it) (ap room_of was.on))).falls
+
+    by_counted : (counted : Bool) → phase_counted (moved_up_to 16 chips).controller.phase ≡ counted → IsTimely (shown_again (moved_up_to 16 chips))
+    by_counted true is = record {
+      slack = slack;
+      filling = filling_held slack (moved_up_to 16 chips) (shown_again (moved_up_to 16 chips)).holding then_is;
+      ready = λ uncounted. absurd (false≢true (sym uncounted ∙ is));
+    }
+    by_counted false is =
+        let low : asks (moved_up_to 16 chips).controller ≡ false = first_low (asks (moved_up_to 16 chips).controller) (grants (moved_up_to 16 chips).channel) quiet (then_is.granting is) in
+        record {
+          slack = 9;
+          filling = filling_held 9 (moved_up_to 16 chips) (shown_again (moved_up_to 16 chips)).holding (filling_low slack (moved_up_to 16 chips) then_is low);
+          ready = λ _. ready_low (asks (moved_up_to 16 chips).controller) (moved_up_to 16 chips).holding 9 low (omega arith);
+        }
+
+-- behind a look at the request
+dma_timely : (slack : ℕ) (chips : Chips) → IsFilling slack chips
+    → (phase_counted chips.controller.phase ≡ false → IsInTime (looked_at chips).holding.request slack) → IsTimely (dma_stepped chips)
+dma_timely slack chips was enough =
+    let look = filling_held slack chips (looked_at chips).holding was in
+    by_request IsTimely chips (λ is. record {
+      slack = slack;
+      filling = look;
+      ready = λ uncounted. not_due (looked_at chips).holding.request slack
+          (enough uncounted) is;
+    })
+    (λ masked. record { slack = slack; filling = look; ready = λ uncounted. absurd (false≢true (sym masked ∙ was.granting uncounted)) })
+    (λ _. served_timely slack (looked_at chips) look)
+
+-- the line is looked at
+behind : (before slack : ℕ) (chips : Chips) → IsFilling slack chips → before ≤ slack + 1
+    → (phase_counted chips.controller.phase ≡ false → IsReady chips.holding.request before)
+    → (counted : Bool) → phase_counted chips.controller.phase ≡ counted → (line : Bool) → asks chips.controller ≡ line
+    → IsTimely (dma_stepped chips) ⊎ Rose chips.holding.stalls (looked_at chips).holding.stalls
+behind before slack chips was less ready true is line line_is = inl (dma_timely slack chips was (λ uncounted. absurd (false≢true (sym uncounted ∙ is))))
+behind before slack chips was less ready false is false line_is =
+    let request : (looked_at chips).holding.request ≡ Low = ap (λ b. (looked b chips.holding).request) line_is in
+    inl (dma_timely 9 chips (filling_low slack chips was line_is) (λ _. subst (λ r. IsInTime r 9) (sym request) (omega arith)))
+behind before slack chips was less ready false is true line_is =
+    elim (in_time true chips.holding before slack (ready is) less (λ low. absurd (false≢true (sym low)))) [
+      | inl enough ↦ inl (dma_timely slack chips was (λ _. subst (λ b. IsInTime (looked b chips.holding).request slack) (sym line_is) enough))
+      | inr rose ↦ inr (subst (λ b. Rose chips.holding.stalls (looked b chips.holding).stalls) (sym line_is) rose)
+    ]
+
+-- ---- the device step
+
+lasts_in : (phase : Phase) (old new : Fdc) (slack : ℕ) → is_executing phase ≡ true → LastsIn phase old new → PhaseWaits (slack + 1) phase old.fifo → Lasts slack old new
+lasts_in Command old new slack busy lasts waits = absurd (false≢true busy)
+lasts_in (Result answer) old new slack busy lasts waits = absurd (false≢true busy)
+lasts_in (Execute execution) old new slack busy lasts waits = lasts slack waits
+
+-- the slack of the step
+pub record HasSlack (request : Request) (old : Fdc) : Type 0 where
+  pub after : ℕ
+  pub before : ℕ
+  pub waits : PhaseWaits (after + 1) old.phase old.fifo
+  pub less : before ≤ after + 1
+  pub ready : phase_counted old.phase ≡ false → IsReady request before
+
+slack_of : (chips : Chips) → IsTimely chips → (counted : Bool) → phase_counted chips.controller.phase ≡ counted → HasSlack chips.holding.request chips.controller
+slack_of chips was true is = record {
+  after = 0;
+  before = 0;
+  waits = counted_waits 1 chips.controller.phase chips.controller.fifo was.filling.fills_it is;
+  less = omega arith;
+  ready = λ uncounted. absurd (false≢true (sym uncounted ∙ is));
+}
+slack_of chips was false is =
+    let ready = was.ready is in
+    let some = ready_one chips.holding.request was.slack ready in
+    let same : was.slack ≡ was.slack - 1 + 1 = omega arith in
+    record {
+      after = was.slack - 1;
+      before = was.slack;
+      waits = subst (λ n. PhaseWaits n chips.controller.phase chips.controller.fifo) same was.filling.waits;
+      less = omega arith;
+      ready = λ _. ready;
+    }
+
+module _ (chips : Chips) (drive : DriveState) (between : Fdc) (after : DriveState) (works : Works chips.controller drive between after)
+    (was : IsPunctual chips) where
+  -- the command was in execution
+  busy_step : is_executing chips.controller.phase ≡ true → (busy : Bool) → is_executing between.phase ≡ busy
+      → IsPunctual (dma_stepped (record chips { controller = between })) ⊎ Rose chips.holding.stalls (dma_stepped (record chips { controller = between })).holding.stalls
+  busy_step was_busy busy is =
+      let timely = was.timely was_busy in
+      let slack = slack_of chips timely (phase_counted chips.controller.phase) refl in
+      let lasts : Lasts slack.after chips.controller between = lasts_in chips.controller.phase chips.controller between slack.after was_busy works.lasts slack.waits in
+      let over : is_overrun (dma_stepped (record chips { controller = between })).controller.phase ≡ false = dma_overrun false (record chips { controller = between }) lasts.no_overrun in
+      by_busy timely slack lasts over busy is
+    where
+      by_busy : (timely : IsTimely chips) (slack : HasSlack chips.holding.request chips.controller) (lasts : Lasts slack.after chips.controller between)
+          → is_overrun (dma_stepped (record chips { controller = between })).controller.phase ≡ false → (busy : Bool) → is_executing between.phase ≡ busy
+          → IsPunctual (dma_stepped (record chips { controller = between })) ⊎ Rose chips.holding.stalls (dma_stepped (record chips { controller = between })).holding.stalls
+      by_busy timely slack lasts over false idle =
+          inl (record { timely = λ busy. absurd (false≢true (sym (dma_executing false (record chips { controller = between }) idle) ∙ busy)); no_overrun = over })
+      by_busy timely slack lasts over true busy =
+          let filling = timely.filling in
+          let goes = phase_fills chips.controller.phase chips.controller.asking chips.controller.fifo (polled chips.controller) drive after between filling.fills_it works.writes in
+          let fills_now = goes.fills_it busy in
+          let few = goes.fewer busy in
+          let same : length (polled chips.controller).fifo.bytes ≡ length chips.controller.fifo.bytes = ap (λ fifo. length fifo.bytes) (polled_fifo chips.controller) in
+          let room = filling.room in
+          let flows = flows_in chips.controller.phase chips.controller.asking between was_busy works.flows in
+          let then_is : IsFilling slack.after (record chips { controller = between }) = record {
+            on = works.stays.on ∙ filling.on;
+            threshold = works.stays.threshold ∙ filling.threshold;
+            gated = gated_same between chips.controller works.stays.dor filling.gated;
+            fills_it = fills_now;
+            rule = ruled_by between.phase chips.controller.asking between.asking between.fifo flows;
+            room = omega arith;
+            granting = λ uncounted. filling.granting (lasts.uncounted uncounted);
+            waits = lasts.waits;
+          } in
+          elim (behind slack.before slack.after (record chips { controller = between }) then_is slack.less
+          (λ uncounted. slack.ready (lasts.uncounted uncounted))
+          (phase_counted between.phase) refl (asks between) refl) [
+            | inl on_time ↦ inl (record { timely = λ _. on_time; no_overrun = over })
+            | inr rose ↦ inr (subst (λ stalls. Rose chips.holding.stalls stalls) (sym (dma_stalls (record chips { controller = between }))) rose)
+          ]
+
+  -- it was over
+  idle_step : is_executing chips.controller.phase ≡ false → IsPunctual (dma_stepped (record chips { controller = between }))
+  idle_step idle =
+      let same : between.phase ≡ chips.controller.phase =
+      (rested chips.controller between (drive.cylinder == 0) idle works.rests).phase in
+      record {
+        timely = λ busy. absurd (false≢true (sym (dma_executing false (record chips { controller = between }) (ap is_executing same ∙ idle)) ∙ busy));
+        no_overrun = dma_overrun false (record chips { controller = between }) (ap is_overrun same ∙ was.no_overrun);
+      }
+
+  pub in_step : (busy : Bool) → is_executing chips.controller.phase ≡ busy
+      → IsPunctual (dma_stepped (record chips { controller = between })) ⊎ Rose chips.holding.stalls (dma_stepped (record chips { controller = between })).holding.stalls
+  in_step true busy = busy_step busy (is_executing between.phase) refl
+  in_step false idle = inl (idle_step idle)
+
+pub step_on_time : (old new : Board) → Step old new → IsOnTime old → IsOnTime new ⊎ Stalled old new
+step_on_time old new step was =
+    let chips = old.bus.chips in
+    let leaves = step_leaves old new step in
+    let same : selected_of new ≡ selected_of old = ap (λ byte. byte % 4) leaves.dor in
+    let selects = was.selects in
+    let chips_are : new.bus.chips ≡ dma_stepped (record chips { controller = step.between }) = ap (λ bus. bus.chips) step.bus in
+    let result = some_drive (IsPunctual (dma_stepped (record chips { controller = step.between })) ⊎ Rose chips.holding.stalls
+    (dma_stepped (record chips { controller = step.between })).holding.stalls) old new was.selects step
+    (λ bay works. in_step chips (drive_in old bay) step.between (drive_in new bay) works was.punctual (is_executing chips.controller.phase) refl) in
+    elim result [
+      | inl on_time ↦ inl (record { selects = omega arith; punctual = subst IsPunctual (sym chips_are) on_time })
+      | inr rose ↦ inr (subst (λ now. Rose chips.holding.stalls now.holding.stalls) (sym chips_are) rose)
+    ]
+
+-- ---- many
+
+pub on_time : Keeping IsOnTime
+on_time = record { step = step_on_time; idle = λ old gaps fresh was. record { selects = was.selects; punctual = was.punctual } }
+
+-- ---- the beginning
+
+-- a command that begins asks for bytes, and can wait nine device steps for them
+pub begun_punctual : (chips : Chips) (head_drive : ℕ) (task : Task) (old : Fdc) → fills_task task ≡ true → WaitsAtFirst task → old.fifo.on ≡ true → old.fifo.threshold ≡ 8 → is_gated old ≡ true
+    → grants chips.channel ≡ true → chips.holding.request ≡ Low → IsPunctual (shown_again (record chips { controller = asked (begun head_drive task old) }))
+begun_punctual chips head_drive task old is waits on threshold gated granting low =
+    let fifo = emptied old.fifo.on old.fifo.threshold in
+    let new : Fdc = asked (begun head_drive task old) in
+    record {
+      timely = λ _. record {
+        slack = 9;
+        filling = record {
+          on = on;
+          threshold = threshold;
+          gated = gated;
+          fills_it = is;
+          rule = sym (phase_again (begun head_drive task old).phase false fifo);
+          room = omega arith;
+          granting = λ _. granting;
+          waits = waits fifo refl on;
+        };
+        ready = λ _. subst (λ request. IsReady request 9) (sym (shown_low (asks new) chips.holding low)) (omega arith);
+      };
+      no_overrun = refl;
+    }

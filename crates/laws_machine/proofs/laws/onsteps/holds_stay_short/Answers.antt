@@ -1,0 +1,5 @@
+use Rattle.laws_machine.proofs.OnSteps.Short as short
+use Rattle.laws_machine.proofs.laws.onsteps.holds_stay_short.Goals as goal
+
+pub returns : goal.returns
+returns c = short.holds_stay_short

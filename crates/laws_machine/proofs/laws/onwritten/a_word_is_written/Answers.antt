@@ -1,0 +1,5 @@
+use Rattle.fdc_drives.proofs.Written.{word_written}
+use Rattle.laws_machine.proofs.laws.onwritten.a_word_is_written.Goals as goal
+
+pub returns-clause-writes : goal.returns-clause-writes
+returns-clause-writes c = word_written

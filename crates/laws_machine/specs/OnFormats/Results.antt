@@ -1,0 +1,93 @@
+-- What the results of a FORMAT TRACK say of the medium.
+use Rattle.std.specs.Prelude.{◌≡◌, ◌⊎◌, ℕ, ◌≤◌, true, false, Some, List, length, take}
+use Rattle.std.specs.List.{flat_map}
+use Rattle.flop_base.specs.declared.key.Chrn.{Chrn}
+use Rattle.raw_image.specs.Disk.{Disk, IsWithTrack, track_of}
+use Rattle.track_model.specs.Layouts.{Fits, lay}
+use Rattle.flop_base.specs.Lists.{with_items}
+use Rattle.track_format.specs.Keys.{key_bytes}
+use Rattle.sector_map.specs.Layings.{Laying}
+use Rattle.drive_model.specs.Drive.{DriveState}
+use Rattle.fdc_stages.specs.declared.ending.Ending.{Ending}
+use Rattle.fdc_stages.specs.declared.ending.Ending.TheVariants.{Done, NoMark, NoField, Overrun, Protected}
+use Rattle.fdc_stages.specs.Formats.{Numbers}
+use Rattle.fdc_phases.specs.Answers.{results_of}
+use Rattle.fdc_phases.specs.Rates.{rate_fits}
+use Rattle.fdc_phases.specs.declared.answers.Answer.TheVariants.{Long}
+use Rattle.fdc_phases.specs.declared.phases.Phase.{Phase}
+use Rattle.fdc_phases.specs.declared.phases.Phase.TheVariants.{Result}
+use Rattle.fdc_drives.specs.Hearing.{IsCalm}
+use Rattle.pc_bus.specs.Boards.{Board, controller_of, memory_of, drive_in}
+use Rattle.laws_machine.specs.OnReads.Scenes.{Scene, head_sent}
+use Rattle.laws_machine.specs.OnWrites.Results.{IsUnchanged}
+use Rattle.laws_machine.specs.OnWrites.Underway.{range_of}
+use Rattle.laws_machine.specs.OnWrites.Drives.{IsThere}
+
+-- the range has the bytes of these keys, one for each sector
+pub record AreKeysOf (scene : Scene) (numbers : Numbers) (keys : List Chrn) : Type 0 where
+  pub many : length keys ≡ numbers.sectors
+  pub bytes : flat_map key_bytes keys ≡ range_of scene
+
+-- the layout of the keys on a track of the disk
+abbrev pub layout_in : Scene → Numbers → List Chrn → List ℕ
+layout_in scene numbers keys = lay keys numbers.n numbers.gap3 numbers.fill scene.disk.words_per_track
+
+-- the first words of the layout stand on the track under the head, and nothing else on the disk changed
+pub record LaysTo (scene : Scene) (numbers : Numbers) (keys : List Chrn) (laying : Laying) (after : Disk) : Type 0 where
+  pub cylinder : laying.cylinder ≡ scene.cylinder
+  pub rate : rate_fits scene.rate scene.disk.rate ≡ true
+  pub unprotected : scene.disk.protected ≡ false
+  pub track : IsThere scene
+  pub most : laying.words ≤ scene.disk.words_per_track
+  pub laid : IsWithTrack scene.disk scene.cylinder (head_sent scene.sent)
+      (with_items (track_of scene.disk scene.cylinder (head_sent scene.sent)) 0 (take laying.words (layout_in scene numbers keys))) after
+
+-- the medium was laid so
+pub record HasLaying (scene : Scene) (numbers : Numbers) (keys : List Chrn) (drive : DriveState) : Type 0 where
+  pub laying : Laying
+  pub after : Disk
+  pub medium : drive.medium ≡ Some after
+  pub lays : LaysTo scene numbers keys laying after
+
+-- the medium is as it was, or was laid
+abbrev pub IsSameOrLaid : Scene → Numbers → List Chrn → DriveState → Type 0
+IsSameOrLaid scene numbers keys drive = IsUnchanged scene drive ⊎ HasLaying scene numbers keys drive
+
+-- all words of the track are laid where the drive had no fault
+pub record LaysWhole (scene : Scene) (numbers : Numbers) (keys : List Chrn) (drive : DriveState) : Type 0 where
+  pub has : HasLaying scene numbers keys drive
+  pub whole : IsCalm scene.faults drive.faults → has.laying.words ≡ scene.disk.words_per_track
+
+-- the turn went by: the track under the head is laid, or there is no such track, and the medium is as it was
+pub record LaysTurn (scene : Scene) (numbers : Numbers) (keys : List Chrn) (drive : DriveState) : Type 0 where
+  pub rate : rate_fits scene.rate scene.disk.rate ≡ true
+  pub there : IsThere scene → LaysWhole scene numbers keys drive
+  pub absent : (IsThere scene → ⊥) → IsUnchanged scene drive
+
+-- the layout is no longer than a track
+abbrev pub FitsOn : Scene → Numbers → List Chrn → Type 0
+FitsOn scene numbers keys = Fits keys numbers.n numbers.gap3 scene.disk.words_per_track
+
+-- what an ending says: IC 00, that the turn was laid and the layout fits; MA with MD, that it was laid and the layout doesn't fit;
+-- MA alone, that the medium has another rate; NW, that it is protected. EN, ND, DE and the last step don't come
+abbrev pub EndsAs : Scene → Numbers → List Chrn → DriveState → Ending → Type 0
+EndsAs scene numbers keys drive (Done marked) = LaysTurn scene numbers keys drive × FitsOn scene numbers keys
+EndsAs scene numbers keys drive NoField = LaysTurn scene numbers keys drive × (FitsOn scene numbers keys → ⊥)
+EndsAs scene numbers keys drive NoMark = IsUnchanged scene drive × (rate_fits scene.rate scene.disk.rate ≡ false)
+EndsAs scene numbers keys drive Overrun = IsSameOrLaid scene numbers keys drive
+EndsAs scene numbers keys drive Protected = IsUnchanged scene drive × (scene.disk.protected ≡ true)
+EndsAs scene numbers keys drive _ = ⊥
+
+-- the result bytes are those of an ending, and that is what it says
+abbrev pub EndedIn : Scene → Numbers → List Chrn → DriveState → Phase → Type 0
+EndedIn scene numbers keys drive (Result (Long ending results _)) =
+    (results ≡ results_of ending scene.sent.head_drive results.key) × EndsAs scene numbers keys drive ending
+EndedIn scene numbers keys drive _ = Unit {0}
+
+abbrev pub FormatEnded : Scene → Numbers → List Chrn → Board → Type 0
+FormatEnded scene numbers keys board = EndedIn scene numbers keys (drive_in board scene.bay) (controller_of board).phase
+
+-- at any time: memory is as it was, and the medium is, or was laid
+pub record FormatsOnly (scene : Scene) (numbers : Numbers) (keys : List Chrn) (board : Board) : Type 0 where
+  pub memory : memory_of board ≡ scene.memory
+  pub medium : IsSameOrLaid scene numbers keys (drive_in board scene.bay)

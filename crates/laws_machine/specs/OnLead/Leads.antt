@@ -1,0 +1,42 @@
+-- A data command whatever the speed of its drive was when it began: words 0000 pass until the medium is at speed.
+use Rattle.std.specs.Prelude.{◌≡◌, ◌⊎◌, ℕ, ◌≤◌, Bool, false}
+use Rattle.drive_model.specs.Drive.{DriveState}
+use Rattle.fdc_stages.specs.History.{Past}
+use Rattle.fdc_drives.specs.Spinning.{IsUnheard, led, IsTurningIn as IsTurningSince, IsSpinning as IsSpinningSince}
+use Rattle.pc_bus.specs.Boards.{Board}
+use Rattle.laws_machine.specs.OnReads.Scenes.{Scene, outset_of}
+use Rattle.laws_machine.specs.OnOrders.Orders.{Order, Write, AtDrive, GoesOn, CanBeginAt}
+
+-- ---- the drive
+
+-- the motor is on with the scene's medium, whatever its speed, and no word has passed since
+abbrev pub IsTurningIn : Scene → DriveState → Type 0
+IsTurningIn scene = IsTurningSince (outset_of scene)
+
+-- the medium spins up, for so many word times at least
+abbrev pub IsSpinning : Scene → ℕ → DriveState → Type 0
+IsSpinning scene = IsSpinningSince (outset_of scene)
+
+-- where a word passed, the medium of a command that writes isn't protected
+abbrev pub IsGuarded : Order → Scene → ℕ → Type 0
+IsGuarded (Write laid) scene lead = 1 ≤ lead → scene.disk.protected ≡ false
+IsGuarded _ scene lead = Unit {0}
+
+-- the medium spins up; or it is at speed, and of what passed since all is known that is of a command that begins there
+pub record IsLed (order : Order) (scene : Scene) (past : Past) (executes : Bool) (drive : DriveState) : Type 0 where
+  pub lead : ℕ
+  pub late : Past
+  pub past_is : past ≡ led lead late
+  pub short : lead ≤ 6250
+  pub guarded : IsGuarded order scene lead
+  pub drive_is : (IsUnheard late × IsSpinning scene lead drive) ⊎ AtDrive order scene late executes drive
+
+-- ---- the command
+
+-- it began in this scene, at whatever speed, and is in execution, or gives its results
+abbrev pub WarmsUp : Order → Scene → Board → Type 0
+WarmsUp order scene board = GoesOn (IsLed order scene) order scene board
+
+-- all stands as in the scene, whatever the drive's speed is, and the last byte of the command is written
+abbrev pub CanWarm : Order → Scene → ℕ → Board → Type 0
+CanWarm order scene byte board = CanBeginAt IsTurningIn order scene byte board

@@ -1,0 +1,76 @@
+-- A READ DATA that ends before it has taken all its steps.
+use Rattle.std.specs.Prelude.{◌≡◌, ℕ, ◌+◌, ◌≤◌, ◌==◌, ◌&&◌, not, bit_and, Bool, true, false, [], length}
+use Rattle.fdc_registers.specs.St1 as st1
+use Rattle.fdc_registers.specs.St2 as st2
+use Rattle.fdc_commands.specs.declared.results.Results.{Results}
+use Rattle.fdc_core.specs.Listening.{is_executing}
+use Rattle.fdc_phases.specs.Phases.{is_over}
+use Rattle.fdc_core.specs.State.{is_gated}
+use Rattle.fdc_phases.specs.Waiting.{phase_counted}
+use Rattle.fdc_phases.specs.declared.phases.Phase.{Phase}
+use Rattle.fdc_phases.specs.declared.phases.Phase.TheVariants.{Execute}
+use Rattle.fdc_phases.specs.declared.phases.Task.{Task}
+use Rattle.fdc_phases.specs.declared.phases.Task.TheVariants.{Read}
+use Rattle.irq_events.specs.Holds.{AreShort, IsShort}
+use Rattle.irq_events.specs.declared.holding.Request.{Request}
+use Rattle.irq_events.specs.declared.holding.Request.TheVariants.{Low, High}
+use Rattle.laws_machine.specs.OnReads.Scenes.{Scene}
+use Rattle.laws_machine.specs.OnReads.Served.{IsRuled}
+use Rattle.laws_machine.specs.OnReads.Timely.{ReadInTime}
+use Rattle.laws_machine.specs.OnOrders.Orders as order
+pub use Rattle.laws_machine.specs.OnReads.Late.{ends_late, answers_late, is_late}
+use Rattle.pc_bus.specs.Boards.{Board, holds_of}
+use Rattle.pc_bus.specs.declared.chips.Chips.{Chips}
+
+-- the results tell MA, and not MD
+abbrev pub tells_no_mark : Results → Bool
+tells_no_mark results =
+    (bit_and results.st1.0 st1.missing_mark == st1.missing_mark)
+    && not (bit_and results.st2.0 st2.missing_data_mark == st2.missing_data_mark)
+
+-- the field is over, and its last bytes wait for DMA
+abbrev pub task_lingers : Task → Bool
+task_lingers (Read reading) = is_over reading.stage
+task_lingers _ = false
+
+abbrev pub lingers : Phase → Bool
+lingers (Execute execution) = task_lingers execution.task
+lingers _ = false
+
+-- the device steps that a data command has taken
+abbrev pub steps_taken : Phase → ℕ
+steps_taken (Execute execution) = execution.steps
+steps_taken _ = 0
+
+-- with its line high a request is granted within so many device steps; none where no byte waits
+abbrev pub wait_left : Bool → Request → ℕ
+wait_left true request = 0
+wait_left false Low = 257
+wait_left false (High left) = left + 1
+
+-- a READ DATA takes no more steps: two turns of 16,384 words and a word, and as long as the last bytes wait for their grant
+abbrev pub most_steps : ℕ
+most_steps = 33026
+
+-- in execution DRQ goes by the rule, the FIFO holds no more than it has room for, and nothing behind the terminal count; once
+-- the field is over its bytes are granted before as many steps were taken
+pub record IsGrantedSoon (chips : Chips) : Type 0 where
+  pub ruled : IsRuled chips.controller
+  pub drained : phase_counted chips.controller.phase ≡ true → chips.controller.fifo.bytes ≡ []
+  pub few : lingers chips.controller.phase ≡ true
+      → steps_taken chips.controller.phase + wait_left (length chips.controller.fifo.bytes == 0) chips.holding.request ≤ most_steps
+
+-- DOR lets DRQ out, and a request waits for a byte's hold at most; so the results don't tell that the command took too long
+pub record IsSoonOver (chips : Chips) : Type 0 where
+  pub gated : is_gated chips.controller ≡ true
+  pub short : IsShort chips.holding.request
+  pub granted : is_executing chips.controller.phase ≡ true → IsGrantedSoon chips
+  pub no_late : is_late chips.controller.phase ≡ false
+
+-- a READ DATA is underway, and ends soon behind its field, whatever stalls are counted
+abbrev pub ReadSoon : Scene → Board → Type 0
+ReadSoon scene board = order.Underway order.Read scene board × IsSoonOver board.bus.chips × AreShort (holds_of board)
+
+-- a READ DATA is underway, in time, and ends soon behind its field
+abbrev pub ReadPrompt : Scene → Board → Type 0
+ReadPrompt scene board = ReadInTime scene board × IsSoonOver board.bus.chips

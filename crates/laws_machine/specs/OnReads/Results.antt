@@ -1,0 +1,54 @@
+-- What the results of a READ DATA say of the track under the head.
+use Rattle.std.specs.Prelude.{◌≡◌, ◌⊎◌, ℕ, ◌+◌, ◌<◌, ◌≤◌, Bool, Some, List, length, slice_index}
+use Rattle.track_model.specs.declared.Look.TheVariants.{Found, NoData, BadCrc}
+use Rattle.track_model.specs.Fields.{IsAddressAt, IsDataMark, IsWhole}
+use Rattle.track_model.specs.Looks.{HasAddressMark, LookAt}
+use Rattle.track_model.specs.Sectors.{IsLone}
+use Rattle.sector_map.specs.Met.{HasLook}
+use Rattle.fdc_phases.specs.Heard.{results_sent}
+use Rattle.fdc_phases.specs.declared.answers.Answer.TheVariants.{Long}
+use Rattle.fdc_phases.specs.declared.phases.Phase.{Phase}
+use Rattle.fdc_phases.specs.declared.phases.Phase.TheVariants.{Result}
+use Rattle.fdc_stages.specs.Searches.{HasNoClear}
+use Rattle.fdc_stages.specs.declared.ending.Ending.{Ending}
+use Rattle.fdc_stages.specs.declared.ending.Ending.TheVariants.{Done, NoMark, NoSector, NoField, BadCheck, NoCount, Protected}
+use Rattle.pc_bus.specs.Boards.{Board, controller_of, memory_of, drive_in}
+use Rattle.laws_machine.specs.OnReads.Scenes.{Scene, track_met}
+use Rattle.fdc_drives.specs.Hearing.{IsCalm}
+use Rattle.laws_machine.specs.OnReads.Underway.{HasBytes}
+
+-- a field of the key with this mark and content is on the track, and the content is in memory; where the drive had no fault,
+-- or no other data mark is there, it is what a look for it finds
+pub record FindsField (scene : Scene) (faults : ℕ) (deleted : Bool) (content memory : List ℕ) : Type 0 where
+  pub place : ℕ
+  pub mark : ℕ
+  pub address_field : IsAddressAt (track_met scene) place scene.sent.key
+  pub data_mark : IsDataMark (track_met scene) place mark deleted
+  pub whole : IsWhole (track_met scene) mark scene.sent.key.n content
+  pub in_memory : HasBytes scene.address content scene.memory memory
+  pub looked : IsCalm scene.faults faults ⊎ IsLone (track_met scene) place → LookAt (track_met scene) place scene.sent.key.n (Found deleted (mark + 64))
+
+-- what an ending says of the track, where the drive's count of faults is now this
+abbrev pub EndsAs : Scene → ℕ → List ℕ → Ending → Type 0
+EndsAs scene faults memory (Done deleted) = (content : List ℕ) × FindsField scene faults deleted content memory
+EndsAs scene faults memory NoMark = IsCalm scene.faults faults → HasAddressMark (track_met scene) → ⊥
+EndsAs scene faults memory NoSector =
+    HasAddressMark (track_met scene) × (IsCalm scene.faults faults → HasNoClear (Some scene.sent.key) (track_met scene))
+EndsAs scene faults memory NoField = IsCalm scene.faults faults → HasLook (track_met scene) scene.sent.key NoData
+EndsAs scene faults memory BadCheck = IsCalm scene.faults faults → HasLook (track_met scene) scene.sent.key BadCrc
+EndsAs scene faults memory NoCount = ⊥
+EndsAs scene faults memory Protected = ⊥
+EndsAs scene faults memory _ = Unit {0}
+
+-- the result bytes are those of an ending, and that is what it says
+abbrev pub EndedIn : Scene → ℕ → List ℕ → Phase → Type 0
+EndedIn scene faults memory (Result (Long ending results _)) = (results ≡ results_sent ending scene.sent) × EndsAs scene faults memory ending
+EndedIn scene faults memory _ = Unit {0}
+
+abbrev pub ReadEnded : Scene → Board → Type 0
+ReadEnded scene board = EndedIn scene (drive_in board scene.bay).faults (memory_of board) (controller_of board).phase
+
+-- outside the range memory is as it was
+pub record StaysOutside (scene : Scene) (memory : List ℕ) : Type 0 where
+  pub lengths : length memory ≡ length scene.memory
+  pub others : (k : ℕ) → (k < scene.address) ⊎ (scene.address + scene.size ≤ k) → slice_index memory k ≡ slice_index scene.memory k

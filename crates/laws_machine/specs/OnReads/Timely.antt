@@ -1,0 +1,36 @@
+-- A READ DATA whose requests are granted in time.
+use Rattle.std.specs.Prelude.{◌≡◌, ℕ, ◌-◌, true, false, length}
+use Rattle.dma_8237.specs.Channel.{grants}
+use Rattle.fdc_phases.specs.Dma.{phase_asks}
+use Rattle.fdc_core.specs.Listening.{is_executing}
+use Rattle.fdc_phases.specs.Phases.{is_overrun}
+use Rattle.fdc_core.specs.State.{is_gated}
+use Rattle.fdc_core.specs.declared.controller.Fdc.{Fdc}
+use Rattle.irq_events.specs.Holds.{IsReady}
+use Rattle.pc_bus.specs.Boards.{Board}
+use Rattle.pc_bus.specs.declared.chips.Chips.{Chips}
+use Rattle.laws_machine.specs.OnReads.Scenes.{Scene}
+pub use Rattle.laws_machine.specs.OnSteps.Stalls.{Stalled}
+use Rattle.laws_machine.specs.OnOrders.Orders.{Read, Underway}
+
+-- for so many device steps a READ DATA can go on with no grant: its FIFO has room for a byte in each
+abbrev pub slack_of : Fdc → ℕ
+slack_of controller = 16 - length controller.fifo.bytes
+
+-- the FIFO is on with threshold 8, DOR lets DRQ out, and DRQ goes by the rule; until the terminal count the request is granted
+-- before the FIFO is full
+pub record IsTimely (chips : Chips) : Type 0 where
+  pub on : chips.controller.fifo.on ≡ true
+  pub threshold : chips.controller.fifo.threshold ≡ 8
+  pub gated : is_gated chips.controller ≡ true
+  pub rule : chips.controller.asking ≡ phase_asks chips.controller.phase chips.controller.asking chips.controller.fifo
+  pub ready : grants chips.channel ≡ true → IsReady chips.holding.request (slack_of chips.controller)
+
+-- so it is in execution, and the results don't tell OR
+pub record IsPunctual (chips : Chips) : Type 0 where
+  pub timely : is_executing chips.controller.phase ≡ true → IsTimely chips
+  pub no_overrun : is_overrun chips.controller.phase ≡ false
+
+-- a READ DATA is underway, and in time
+abbrev pub ReadInTime : Scene → Board → Type 0
+ReadInTime scene board = Underway Read scene board × IsPunctual board.bus.chips

@@ -1,0 +1,77 @@
+-- How long a command lasts, whatever is done meanwhile.
+use Rattle.std.specs.Prelude.{◌≡◌, ◌⊎◌, ◌≤◌, ◌+◌, ◌-◌, ℕ, min, false, true, Option, Some, None, IsSomeAnd}
+use Rattle.flop_base.specs.Counts.{last_count, Rose, RoseBy}
+use Rattle.fdc_seek.specs.Seeking.{is_seeking}
+use Rattle.fdc_seek.specs.declared.motion.Motion.{Motion}
+use Rattle.fdc_seek.specs.declared.motion.Motion.TheVariants.{Outward, Toward, Ended}
+use Rattle.fdc_seek.specs.declared.motion.Seek.{Seek}
+use Rattle.fdc_core.specs.Listening.{is_executing}
+use Rattle.fdc_core.specs.State.{data_commands_of}
+use Rattle.fdc_core.specs.Steps.{steps_left, IsCounted}
+use Rattle.pc_bus.specs.Boards.{Board, controller_of}
+use Rattle.laws_machine.specs.OnSteps.Moves.{Goes}
+
+-- on a course of so many device steps there is a board of which this holds, behind no more than `most` of them
+pub record Meets (P : Board → Type 0) (most : ℕ) (start : Board) (n : ℕ) (now : Board) : Type 0 where
+  pub mid : Board
+  pub first : ℕ
+  pub behind : ℕ
+  pub goes : Goes start first mid
+  pub goes_on : Goes mid behind now
+  pub all : first + behind ≡ n
+  pub within : first ≤ most
+  pub holds : P mid
+
+-- ---- data commands
+
+-- so many device steps have passed since: each took one of those that were left of the data command in execution
+pub record Lessens (start : Board) (n : ℕ) (now : Board) : Type 0 where
+  pub left : steps_left (controller_of now).phase ≤ steps_left (controller_of start).phase - n
+  -- its count is below 65,536, as behind every device step
+  pub counted : IsCounted (controller_of start).phase ⊎ (1 ≤ n) → IsCounted (controller_of now).phase
+
+-- a data command began since
+abbrev pub Began : Board → Board → Type 0
+Began start now = Rose (data_commands_of (controller_of start)) (data_commands_of (controller_of now))
+
+-- so it is, unless another one began
+pub record Elapses (start : Board) (n : ℕ) (now : Board) : Type 0 where
+  pub rises : min (data_commands_of (controller_of start)) last_count ≤ data_commands_of (controller_of now)
+  pub left : Lessens start n now ⊎ Began start now
+
+-- no data command is in execution, unless another one began
+abbrev pub IsOver : Board → Board → Type 0
+IsOver start now = (is_executing (controller_of now).phase ≡ false) ⊎ Began start now
+
+-- ---- seeks
+
+-- the device steps that a seek still takes
+abbrev pub motion_left : Motion → ℕ
+motion_left (Outward pulses) = pulses + 1
+motion_left (Toward cylinder target) = (cylinder - target) + (target - cylinder) + 1
+motion_left Ended = 0
+
+abbrev pub seek_left : Option Seek → ℕ
+seek_left None = 0
+seek_left (Some seek) = motion_left seek.motion
+
+abbrev pub pulses_left : Board → ℕ
+pulses_left board = seek_left (controller_of board).seeks.seek
+
+abbrev pub seeks : Board → Type 0
+seeks board = is_seeking (controller_of board).seeks ≡ true
+
+-- none runs
+abbrev pub HasNoSeek : Board → Type 0
+HasNoSeek board = is_seeking (controller_of board).seeks ≡ false
+
+-- the seek is a RECALIBRATE's
+abbrev pub Recalibrates : Board → Type 0
+Recalibrates board = IsSomeAnd (controller_of board).seeks.seek (λ seek. (pulses : ℕ) × (seek.motion ≡ Outward pulses))
+
+-- ---- the count of device steps
+
+-- it rose by so many, up to its last value
+pub record Counts (n : ℕ) (old new : Board) : Type 0 where
+  pub least : RoseBy n old.bus.steps new.bus.steps
+  pub most : new.bus.steps ≤ old.bus.steps + n

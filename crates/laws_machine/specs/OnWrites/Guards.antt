@@ -1,0 +1,106 @@
+-- What any device step may do to the media.
+use Rattle.std.specs.Prelude.{◌≡◌, ◌⊎◌, ◌==◌, ℕ, Bool, true, false, not, Option, Some}
+use Rattle.raw_image.specs.Disk.{Disk, with_word}
+use Rattle.drive_model.specs.Drive.{DriveState, Writes}
+use Rattle.fdc_core.specs.State.{dor_of}
+use Rattle.fdc_core.specs.Formatting.{FormatDoes}
+use Rattle.fdc_core.specs.Steps.{Moves, polled}
+use Rattle.fdc_core.specs.Times.{WordTime, Wrote, Opens, Closes}
+use Rattle.fdc_core.specs.Writing.{WriteDoes}
+use Rattle.fdc_core.specs.declared.controller.Fdc.{Fdc}
+use Rattle.fdc_phases.specs.declared.phases.Phase.{Phase}
+use Rattle.fdc_phases.specs.declared.phases.Phase.TheVariants.{Execute}
+use Rattle.fdc_phases.specs.declared.phases.Task.{Task}
+use Rattle.fdc_phases.specs.declared.phases.Task.TheVariants.{Write, Format}
+use Rattle.pc_bus.specs.Boards.{Board, controller_of, selected_of}
+use Rattle.laws_machine.specs.OnQuiet.Quiet.{only_listens}
+
+-- one word of an unprotected medium was replaced
+pub record HasOneWord (before after : Option Disk) : Type 0 where
+  pub disk : Disk
+  pub c : ℕ
+  pub h : ℕ
+  pub place : ℕ
+  pub word : ℕ
+  pub was : before ≡ Some disk
+  pub unprotected : disk.protected ≡ false
+  pub is : after ≡ Some (with_word disk c h place word)
+
+-- a medium stays as it is, but for one word at most
+abbrev pub IsGuarded : Option Disk → Option Disk → Type 0
+IsGuarded before after = (after ≡ before) ⊎ HasOneWord before after
+
+-- so it is with both media
+pub record GuardsMedia (old new : Board) : Type 0 where
+  pub first : IsGuarded old.first.medium new.first.medium
+  pub second : IsGuarded old.second.medium new.second.medium
+
+-- the same drive is selected, and the medium of each other drive is as it was
+pub record LeavesOthers (old new : Board) : Type 0 where
+  pub dor : dor_of (controller_of new) ≡ dor_of (controller_of old)
+  pub first : (selected_of old == 0) ≡ false → new.first.medium ≡ old.first.medium
+  pub second : (selected_of old == 1) ≡ false → new.second.medium ≡ old.second.medium
+
+-- ---- the write gates
+
+-- a WRITE DATA, a WRITE DELETED or a FORMAT TRACK is in execution
+abbrev pub is_recording : Phase → Bool
+is_recording phase = not (only_listens phase)
+
+-- a word time passes at a drive with its gate closed, behind the pulse of a seek where one is due
+pub record PassesClosed (before after : DriveState) : Type 0 where
+  pub pulse : Option Bool
+  pub moves : Moves pulse before after
+  pub gate : after.gate ≡ false
+  pub medium : after.medium ≡ before.medium
+
+-- this is a word time of the write or the format in execution, which leads from this controller to that one
+abbrev pub MakesTask : Task → ℕ → ℕ → WordTime → Fdc → DriveState → Fdc → Type 0
+MakesTask (Write writing) head_drive steps time old before new = WriteDoes time head_drive steps writing old before new
+MakesTask (Format formatting) head_drive steps time old before new = FormatDoes time head_drive steps formatting old before new
+MakesTask _ head_drive steps time old before new = ⊥
+
+abbrev pub MakesTime : Phase → WordTime → Fdc → DriveState → Fdc → Type 0
+MakesTime (Execute execution) time old before new = MakesTask execution.task execution.head_drive execution.steps time old before new
+MakesTime _ time old before new = ⊥
+
+-- a drive is given a word in a word time that a command makes; its gate is opened before it and closed behind it, or not
+pub record IsGivenIn (Makes : WordTime → Type 0) (before after : DriveState) : Type 0 where
+  pub head : ℕ
+  pub opened : Bool
+  pub closed : Bool
+  pub index : Bool
+  pub word : ℕ
+  pub makes : Makes (Wrote opened closed index word)
+  pub from : DriveState
+  pub mid : DriveState
+  pub opens : Opens opened before from
+  pub writes : Writes head word from mid
+  pub closes : Closes closed mid after
+  -- a word of the medium is replaced through an open gate alone
+  pub gate : (after.medium ≡ before.medium) ⊎ (from.gate ≡ true)
+
+-- it is the word that the command in execution has to record
+abbrev pub IsGivenWord : Fdc → DriveState → DriveState → Type 0
+IsGivenWord old before after = (new : Fdc) × IsGivenIn (λ time. MakesTime old.phase time (polled old) before new) before after
+
+-- what a device step is to the drive in a bay: its gate is closed, or it is the selected one, and is given a word of the
+-- command in execution, which records
+abbrev pub IsGated : Board → ℕ → DriveState → DriveState → Type 0
+IsGated old bay before after =
+    PassesClosed before after
+    ⊎ ((selected_of old ≡ bay) × (is_recording (controller_of old).phase ≡ true) × IsGivenWord (controller_of old) before after)
+
+-- so it is at both drives
+pub record GatesDrives (old new : Board) : Type 0 where
+  pub first : IsGated old 0 old.first new.first
+  pub second : IsGated old 1 old.second new.second
+
+-- an open gate is that of the selected drive, while a command records
+abbrev pub IsGateOf : Board → ℕ → DriveState → Type 0
+IsGateOf board bay drive = drive.gate ≡ true → (selected_of board ≡ bay) × (is_recording (controller_of board).phase ≡ true)
+
+-- so it is with both gates
+pub record HoldsGates (board : Board) : Type 0 where
+  pub first : IsGateOf board 0 board.first
+  pub second : IsGateOf board 1 board.second

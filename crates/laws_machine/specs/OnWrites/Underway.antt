@@ -1,0 +1,47 @@
+-- The bytes that a command that writes takes, and results that refuse it.
+use Rattle.std.specs.Prelude.{◌≡◌, ℕ, ◌+◌, ◌<◌, Bool, true, false, List, length, take, drop}
+use Rattle.dma_8237.specs.Channel.{Channel, grants, reads_memory, place_of}
+use Rattle.fdc_stages.specs.declared.ending.Ending.{Ending}
+use Rattle.fdc_stages.specs.declared.ending.Ending.TheVariants.{Protected}
+use Rattle.fdc_phases.specs.declared.answers.Answer.{Answer}
+use Rattle.fdc_phases.specs.declared.answers.Answer.TheVariants.{Long}
+use Rattle.fdc_phases.specs.declared.phases.Phase.{Phase}
+use Rattle.fdc_phases.specs.declared.phases.Phase.TheVariants.{Result}
+use Rattle.laws_machine.specs.OnReads.Scenes.{Scene}
+
+-- ---- the bytes
+
+-- the channel gives the byte at an address next, and so many behind it in the same page
+pub record IsReadSet (channel : Channel) (address left : ℕ) : Type 0 where
+  pub granting : grants channel ≡ true
+  pub reading : reads_memory channel ≡ true
+  pub place : place_of channel ≡ address
+  pub count : channel.count ≡ left
+  pub room : channel.address + left < 65536
+
+-- the bytes of the range
+abbrev pub range_of : Scene → List ℕ
+range_of scene = take scene.size (drop scene.address scene.memory)
+
+-- memory is as it was, and the bytes that were taken are the first of the range; the channel goes on behind them until the
+-- range is over
+pub record IsTaken (scene : Scene) (taken : List ℕ) (counted : Bool) (memory : List ℕ) (channel : Channel) : Type 0 where
+  pub same : memory ≡ scene.memory
+  pub first : taken ≡ take (length taken) (drop scene.address scene.memory)
+  pub goes_on : counted ≡ false → (left : ℕ) × (length taken + (left + 1) ≡ scene.size) × IsReadSet channel (scene.address + length taken) left
+  pub over : counted ≡ true → (grants channel ≡ false) × (length taken ≡ scene.size)
+
+-- ---- the results
+
+-- the results tell NW
+abbrev pub refuses_as : Ending → Bool
+refuses_as Protected = true
+refuses_as _ = false
+
+abbrev pub refuses_answer : Answer → Bool
+refuses_answer (Long ending _ _) = refuses_as ending
+refuses_answer _ = false
+
+abbrev pub refuses : Phase → Bool
+refuses (Result answer) = refuses_answer answer
+refuses _ = false

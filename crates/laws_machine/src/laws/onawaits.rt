@@ -1,0 +1,41 @@
+// What follows of the machine's steps. The bodies are empty.
+ghost use Rattle.std.specs.Prelude.{◌≡◌, ℕ, true, false, ◌==◌};
+ghost use Rattle.fdc_core.specs.Listening.{is_executing};
+ghost use Rattle.fdc_core.specs.State.{data_commands_of};
+ghost use Rattle.laws_machine.specs.OnAwaits.Awaits.{IsAwaited, IsLetOut};
+ghost use Rattle.laws_machine.specs.OnAwaits.Goes.{GoesOn, StandsReady};
+ghost use Rattle.laws_machine.specs.OnOrders.Orders.{CanBegin, Order};
+ghost use Rattle.laws_machine.specs.OnQuiet.Quiet.{IsHushed};
+ghost use Rattle.laws_machine.specs.OnReads.Scenes.{Scene};
+ghost use Rattle.laws_machine.specs.OnSteps.Steady.{Steady};
+ghost use Rattle.irq_events.specs.Holds.{counted};
+ghost use Rattle.pc_bus.specs.Boards.{Board, controller_of};
+ghost use Rattle.pc_bus.specs.Handling.{irq_taken};
+ghost use Rattle.pc_bus.specs.Ports.{Inputs, Outputs};
+
+/// A data command that begins while INT is low, and the latch saw the line low, counts as one, and sets the latch when it ends,
+/// whatever strays come and are taken before; what was set stays until then.
+#[tactic(auto, using(crate::proofs::OnAwaits::Awaiting::awaiting, crate::proofs::OnAwaits::Accesses::stray_awaits))]
+pub fn a_data_command_is_awaited()
+    ensures begins { (order : Order) (scene : Scene) (byte : ℕ) (old new : Board) → Outputs 0x3F5 byte old new → CanBegin order scene byte old
+        → IsLetOut (controller_of old) → IsHushed old → IsAwaited (counted (data_commands_of (controller_of old))) old new }
+    ensures steady { (begun : ℕ) (start : Board) → Steady (IsAwaited begun start) }
+    ensures read { (begun port value : ℕ) (start old new : Board) → (port == 0x3F5) ≡ false → Inputs port old value new
+        → IsAwaited begun start old → IsAwaited begun start new }
+    ensures strays { (begun : ℕ) (start old : Board) → is_executing (controller_of old).phase ≡ true → IsAwaited begun start old
+        → IsAwaited begun start (record old { bus = irq_taken old.bus }) }
+{}
+
+/// A data command that begins with INT and DRQ let out, INT low, the FIFO on with threshold 8, and no request left from before,
+/// goes on through device steps, waits, strays that are taken, and reads of MSR, until its end is told. Where the holds were bytes
+/// as it began, a READ DATA ends soon behind its field, whatever stalls are counted.
+#[tactic(auto, using(crate::proofs::OnAwaits::Courses::going))]
+pub fn a_data_command_goes_on()
+    ensures begins { (order : Order) (scene : Scene) (byte : ℕ) (old new : Board) → Outputs 0x3F5 byte old new → CanBegin order scene byte old
+        → StandsReady old → GoesOn order scene old new }
+    ensures steady { (order : Order) (scene : Scene) (start : Board) → Steady (GoesOn order scene start) }
+    ensures status { (order : Order) (scene : Scene) (start : Board) (value : ℕ) (old new : Board) → Inputs 0x3F4 old value new
+        → GoesOn order scene start old → GoesOn order scene start new }
+    ensures strays { (order : Order) (scene : Scene) (start old : Board) → is_executing (controller_of old).phase ≡ true → GoesOn order scene start old
+        → GoesOn order scene start (record old { bus = irq_taken old.bus }) }
+{}

@@ -1,0 +1,58 @@
+// What follows of the machine's steps. The bodies are empty.
+ghost use Rattle.std.specs.Prelude.{◌≡◌, ◌⊎◌, ◌≤◌, ◌+◌, ℕ, false, length};
+ghost use Rattle.fdc_core.specs.Listening.{is_executing};
+ghost use Rattle.fdc_phases.specs.declared.phases.Phase.TheVariants.{Command};
+ghost use Rattle.laws_machine.specs.OnOrders.Orders.{CanBegin, Leaves, Order, Underway};
+ghost use Rattle.laws_machine.specs.OnOrders.Outside.{CanFetch, IsFetching};
+ghost use Rattle.laws_machine.specs.OnQuiet.Quiet.{StandsStill};
+ghost use Rattle.laws_machine.specs.OnReads.Results.{StaysOutside};
+ghost use Rattle.laws_machine.specs.OnReads.Scenes.{Scene};
+ghost use Rattle.laws_machine.specs.OnSteps.Steady.{Steady};
+ghost use Rattle.laws_machine.specs.OnWrites.Guards.{LeavesOthers};
+ghost use Rattle.laws_machine.specs.OnWrites.Heads.{IsIdle, RestsIdle, StaysStill};
+ghost use Rattle.pc_bus.specs.Boards.{Board, controller_of, memory_of};
+ghost use Rattle.pc_bus.specs.Ports.{Inputs, Outputs};
+ghost use Rattle.pc_bus.specs.Steps.{Runs};
+
+/// Each device step keeps what is known of a READ ID, a READ DATA, a write or a FORMAT TRACK, whatever holds, strays, gaps and
+/// faults of the drive there are; and so does each call that leaves the chips and the drives, as one that takes the latch. The port
+/// write that completes its bytes begins it, and moves no heads. A read of a port keeps what is known of it until the last result
+/// byte was read; and so does a write that leaves DOR, the rate and the channel, as a byte to the data port, or one that clears the
+/// channel's flip-flop.
+#[tactic(auto, using(crate::proofs::OnOrders::Steps::underway, crate::proofs::OnOrders::Steps::still_keeps, crate::proofs::OnOrders::Outputs::leaves_data))]
+pub fn a_data_command_goes_on()
+    ensures steady { (order : Order) (scene : Scene) → Steady (Underway order scene) }
+    ensures stands { (order : Order) (scene : Scene) (old new : Board) → StandsStill old new → Underway order scene old → Underway order scene new }
+    ensures begins { (order : Order) (scene : Scene) (byte : ℕ) (old new : Board) → Outputs 0x3F5 byte old new → CanBegin order scene byte old → Underway order scene new }
+    ensures still { (order : Order) (scene : Scene) (byte : ℕ) (old new : Board) → Outputs 0x3F5 byte old new → CanBegin order scene byte old → StaysStill old new }
+    ensures leaves { (order : Order) (scene : Scene) (byte : ℕ) (old new : Board) → Outputs 0x3F5 byte old new → CanBegin order scene byte old → LeavesOthers old new }
+    ensures reads { (order : Order) (scene : Scene) (port value : ℕ) (old new : Board) → Inputs port old value new → Underway order scene old
+        → Underway order scene new ⊎ ((controller_of new).phase ≡ Command) }
+    ensures writes { (order : Order) (scene : Scene) (port value : ℕ) (old new : Board) → Outputs port value old new → Leaves port value old → Underway order scene old
+        → Underway order scene new }
+    ensures ignores { (value : ℕ) (board : Board) → Leaves 0x3F5 value board }
+    ensures flips { (value : ℕ) (board : Board) → Leaves 0x0C value board }
+{}
+
+/// Whatever the drive is, absent, empty, spinning up, or another one selected: from the write that begins a READ DATA on no device
+/// step changes a byte outside the range that the channel was set to; nor does a call that leaves the chips, a read of a port, or a
+/// write that leaves DOR, the rate and the channel but for its flip-flop. Once it gives its results the machine is idle, and so it
+/// is behind the last result byte: while it is, no byte moves at all.
+#[tactic(auto, using(crate::proofs::OnOrders::Outside::fetching, crate::proofs::OnOrders::Outside::outside, crate::proofs::OnOrders::Outside::still_fetching, crate::proofs::OnOrders::Outside::idles))]
+pub fn a_read_moves_bytes_of_its_range_alone()
+    ensures outside { (scene : Scene) (byte n : ℕ) (old between new : Board) → CanFetch scene byte old → Outputs 0x3F5 byte old between → Runs n between new
+        → StaysOutside scene (memory_of new) }
+    ensures begins { (scene : Scene) (byte : ℕ) (old new : Board) → Outputs 0x3F5 byte old new → CanFetch scene byte old → IsFetching scene new }
+    ensures steady { (scene : Scene) → scene.address + scene.size ≤ length scene.memory → Steady (IsFetching scene) }
+    ensures ranges { (scene : Scene) (board : Board) → IsFetching scene board → StaysOutside scene (memory_of board) }
+    ensures stands { (scene : Scene) (old new : Board) → StandsStill old new → IsFetching scene old → IsFetching scene new }
+    ensures reads { (scene : Scene) (port value : ℕ) (old new : Board) → scene.address + scene.size ≤ length scene.memory
+        → Inputs port old value new → IsFetching scene old → IsFetching scene new ⊎ ((controller_of new).phase ≡ Command) }
+    ensures keeps { (scene : Scene) (port value : ℕ) (old new : Board) → scene.address + scene.size ≤ length scene.memory
+        → Inputs port old value new → IsFetching scene old → StaysOutside scene (memory_of new) }
+    ensures over { (scene : Scene) (port value : ℕ) (old new : Board) → scene.address + scene.size ≤ length scene.memory
+        → Inputs port old value new → IsFetching scene old → (controller_of new).phase ≡ Command → RestsIdle old new }
+    ensures idles { (scene : Scene) (board : Board) → IsFetching scene board → is_executing (controller_of board).phase ≡ false → IsIdle board }
+    ensures writes { (scene : Scene) (port value : ℕ) (old new : Board) → scene.address + scene.size ≤ length scene.memory
+        → Outputs port value old new → Leaves port value old → IsFetching scene old → IsFetching scene new }
+{}

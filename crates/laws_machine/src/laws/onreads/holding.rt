@@ -1,0 +1,36 @@
+// What follows of transfers. The bodies are empty.
+ghost use Rattle.std.specs.Prelude.{◌≡◌, ◌⊎◌, ◌≤◌, ℕ, true, false};
+ghost use Rattle.fdc_core.specs.State.{is_gated};
+ghost use Rattle.fdc_phases.specs.declared.phases.Phase.TheVariants.{Command};
+ghost use Rattle.laws_machine.specs.OnQuiet.Quiet.{StandsStill};
+ghost use Rattle.laws_machine.specs.OnOrders.Orders.{CanBegin, Read};
+ghost use Rattle.laws_machine.specs.OnReads.Scenes.{Scene};
+ghost use Rattle.laws_machine.specs.OnReads.Timely.{ReadInTime};
+ghost use Rattle.laws_machine.specs.OnReads.Served.{IsRuled, moves_left};
+ghost use Rattle.pc_bus.specs.Boards.{Board, controller_of};
+ghost use Rattle.pc_bus.specs.Ports.{Inputs, Outputs};
+ghost use Rattle.laws_machine.specs.OnSteps.Stalls.{Keeping, Stalled};
+ghost use Rattle.pc_bus.specs.Transfers.{can_move, moved_up_to};
+ghost use Rattle.pc_bus.specs.declared.chips.Chips.{Chips};
+
+/// A request that is served falls, or the channel stops granting, within as many bytes as a FIFO holds.
+#[tactic(auto, using(crate::proofs::OnReads::Served::stays_ruled))]
+pub fn a_served_request_falls()
+    ensures falls { (most : ℕ) (chips : Chips) → IsRuled chips.controller → moves_left chips.controller.phase chips.controller.fifo ≤ most
+        → can_move (moved_up_to most chips) ≡ false }
+    ensures rule { (most : ℕ) (chips : Chips) → IsRuled chips.controller → IsRuled (moved_up_to most chips).controller }
+{}
+
+/// A READ DATA that begins with the FIFO on, threshold 8 and DRQ let out ends with OR only where a stall was counted since:
+/// each step either keeps it in time or counts one; a call that leaves the chips and the drives keeps it, and so does a port
+/// that is read until the last result byte was.
+#[tactic(auto, using(crate::proofs::OnReads::InTime::in_time, crate::proofs::OnReads::HeldCalls::still_in_time))]
+pub fn a_read_overruns_only_by_a_stall()
+    ensures begins { (scene : Scene) (byte : ℕ) (old new : Board) → Outputs 0x3F5 byte old new → CanBegin Read scene byte old
+        → (controller_of old).fifo.on ≡ true → (controller_of old).fifo.threshold ≡ 8 → is_gated (controller_of old) ≡ true
+        → ReadInTime scene new ⊎ Stalled old new }
+    ensures keeping { (scene : Scene) → Keeping (ReadInTime scene) }
+    ensures still { (old new : Board) → StandsStill old new → (scene : Scene) → ReadInTime scene old → ReadInTime scene new }
+    ensures read { (port value : ℕ) (old new : Board) → Inputs port old value new → (scene : Scene) → ReadInTime scene old
+        → ReadInTime scene new ⊎ ((controller_of new).phase ≡ Command) ⊎ Stalled old new }
+{}

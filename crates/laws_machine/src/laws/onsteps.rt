@@ -1,0 +1,58 @@
+// What follows of every course of calls: device steps, and whatever is done between them. The bodies are empty.
+ghost use Rattle.std.specs.Prelude.{◌≡◌, ◌≤◌, ◌-◌, ℕ, Bool, false};
+ghost use Rattle.fdc_core.specs.Listening.{is_executing};
+ghost use Rattle.fdc_core.specs.Steps.{steps_left, IsCounted};
+ghost use Rattle.laws_machine.specs.OnSteps.Ends.{Counts, HasNoSeek, IsOver, Meets, Recalibrates, pulses_left, seeks};
+ghost use Rattle.laws_machine.specs.OnSteps.Moves.{Goes};
+ghost use Rattle.laws_machine.specs.OnSteps.Steady.{Marching, Steady};
+ghost use Rattle.irq_events.specs.Entries.{next_entry};
+ghost use Rattle.irq_events.specs.Holds.{AreShort};
+ghost use Rattle.pc_bus.specs.Boards.{Board, IsInRange, controller_of, holds_of};
+ghost use Rattle.pc_bus.specs.Handling.{Touches, byte_set, irq_taken};
+ghost use Rattle.pc_bus.specs.Ports.{Inputs, Outputs};
+ghost use Rattle.pc_bus.specs.Steps.{Runs, RunsToIrq, Waits, stirred};
+
+/// Each call of the machine is a course of so many device steps.
+pub fn calls_are_courses()
+    ensures wait { (n : ℕ) (old new : Board) → Runs n (stirred old) new → Goes old n new }
+    ensures wait_irq { (most : ℕ) (set : Bool) (old new : Board) → (waits : Waits most old set new) → Goes old waits.steps new }
+    ensures run_to_irq { (most steps : ℕ) (old new : Board) → RunsToIrq most old steps new → Goes old steps new }
+    ensures read { (port value : ℕ) (old new : Board) → Inputs port old value new → Goes old (next_entry old.bus.gaps) new }
+    ensures write { (port value : ℕ) (old new : Board) → Outputs port value old new → Goes old (next_entry old.bus.gaps) new }
+    ensures take_irq { (old : Board) → Goes old 0 (record old { bus = irq_taken old.bus }) }
+    ensures set_byte { (address value : ℕ) (old : Board) → Goes old 0 (record old { bus = byte_set address value old.bus }) }
+    ensures handle { (bay : ℕ) (old new : Board) → Touches bay old new → Goes old 0 new }
+{}
+
+/// Behind as many device steps as were left of a data command none is in execution, unless another one began, whatever calls
+/// came between: 65,536 in any case, and so it is on the way of each longer course. A reset ends it too. Each device step
+/// leaves one fewer, whatever the pace.
+pub fn a_data_command_ends()
+    ensures steps { (start : Board) → Marching (λ n board. steps_left (controller_of board).phase ≤ steps_left (controller_of start).phase - n) }
+    ensures left { (old new : Board) (n : ℕ) → Goes old n new → IsCounted (controller_of old).phase
+        → steps_left (controller_of old).phase ≤ n → IsOver old new }
+    ensures most { (old new : Board) (n : ℕ) → Goes old n new → 65536 ≤ n → IsOver old new }
+    ensures meets { (old new : Board) (n : ℕ) → Goes old n new → 65536 ≤ n → Meets (IsOver old) 65536 old n new }
+{}
+
+/// A seek that runs comes to its end in no more device steps than are left of it, whatever calls come between: 256 at most, and
+/// 80 for a RECALIBRATE. A reset ends it too.
+pub fn a_seek_ends()
+    ensures ends { (old new : Board) (n : ℕ) → Goes old n new → is_executing (controller_of old).phase ≡ false → seeks old
+        → pulses_left old ≤ n → Meets HasNoSeek (pulses_left old) old n new }
+    ensures most { (board : Board) → IsInRange board → pulses_left board ≤ 256 }
+    ensures recalibrates { (board : Board) → IsInRange board → Recalibrates board → pulses_left board ≤ 80 }
+{}
+
+/// Device steps are counted, and nothing else is: a wait for the interrupt adds no more than its number, and exactly that where
+/// it answers false.
+pub fn device_steps_are_counted()
+    ensures course { (n : ℕ) (old new : Board) → Goes old n new → Counts n old new }
+    ensures wait_irq { (most : ℕ) (set : Bool) (old new : Board) → Waits most old set new
+        → (n : ℕ) × (n ≤ most) × (set ≡ false → n ≡ most) × Counts n old new }
+{}
+
+/// A hold that is left stays below 256, and so does what is left of a request.
+pub fn holds_stay_short()
+    ensures { Steady (λ board. AreShort (holds_of board)) }
+{}

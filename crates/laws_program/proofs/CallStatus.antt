@@ -1,0 +1,249 @@
+-- How a text of calls of INT 13h ends, where each file that is put in is the file of a disk.
+use Rattle.std.proofs.Common.{◌≡◌, ◌∙◌, ℕ, Bool, true, false, List, [], ◌∷◌, ◌++◌, map, Option, Some, None, Result, Ok, refl, ap, sym, subst}
+use Rattle.std.specs.Prelude.{MatchBool, length}
+use Rattle.std.specs.List.{list_all, range_with_len}
+use Rattle.flop_base.specs.Shelf.{Files}
+use Rattle.flop_base.specs.declared.answers.Status.{Status}
+use Rattle.flop_base.specs.declared.answers.Status.TheVariants as status
+use Rattle.flop_base.specs.declared.key.Chrn.{Chrn}
+use Rattle.flop_base.specs.Bays.{both}
+use Rattle.flop_base.specs.Counters.{DriveCounts}
+use Rattle.floppy_jobs.specs.Texts.{calls_of}
+use Rattle.floppy_jobs.specs.declared.calls.CallLine.{CallLine}
+use Rattle.floppy_jobs.specs.declared.calls.CallLine.TheVariants as call
+use Rattle.floppy_requests.specs.declared.request.Request.{Request}
+use Rattle.floppy_requests.specs.declared.request.Request.TheVariants as request
+use Rattle.int13.specs.declared.work.Kind.{Kind}
+use Rattle.int13.specs.declared.work.Kind.TheVariants.{Read, Write, Verify}
+use Rattle.int13.specs.declared.work.Work.{Work}
+use Rattle.int13.specs.declared.work.Work.TheVariants.{Answer, Changed, Move}
+use Rattle.sector_model.specs.declared.reply.Stop.{Stop}
+use Rattle.sector_model.specs.Faults.{Blames}
+use Rattle.sector_model.specs.States.{State}
+use Rattle.sector_model.specs.Orders.{is_acknowledged}
+use Rattle.sector_model.specs.Steps.{StopsAt, IsAbsent, IsLonger}
+use Rattle.sector_model.specs.Texts.{stop_status}
+use Rattle.sector_model.specs.Runs.{Taken, IsEndStop}
+use Rattle.sector_model.specs.Plays.{World, IsText, Prints, Whole, Part, IsPutFault, most_job_bytes, whole_status}
+use Rattle.floppy_session.specs.Services.{record_requests, record_request, record_behind, place_of_record, put_requests, put_request, MovesRecords, All, UpToOne, MovesIn, AcksAlone, DoesWork}
+use Rattle.text_commands.specs.CallRounds.{Round, DoesLine, AreRounds, lines_of, has_refused, Breaks, AtStop, AtPut}
+use Rattle.text_commands.specs.CallCourses.{ServesCalls, There, Missing, TooLong, Faulty, Starved, ServesParsed, ServesLines, Through, Broken, EndStopped}
+use Rattle.floppy_words.specs.declared.form.Form.TheVariants as form
+use Rattle.text_commands.specs.JobRounds.{world}
+use Rattle.floppy_tools.specs.Programs.{DoesOrStarves, AsAsked, StarvesWords}
+use Rattle.floppy_tools.specs.Performed.{Stand, RanOver}
+use Rattle.laws_commands.proofs.Steps.{and_both}
+use Rattle.laws_program.specs.Answered.{AnswersCalls}
+use Rattle.laws_program.specs.Ends.{EndsAnswered}
+use Rattle.laws_program.specs.Inserted.{IsDiskFile, Names, named_by, HoldsBy, InsertsDisks, requests_among}
+use Rattle.laws_program.proofs.Telling.{EndsBy, end_by}
+use Rattle.laws_program.proofs.Inserting.{IsKept}
+use Rattle.laws_program.proofs.KeptSteps.{keeps_media, same_kept, media_kept, step_kept, course_kept}
+use Rattle.laws_program.proofs.PlayStatus.{kept_stop, same_text, text_there, text_short, begins_kept}
+use Rattle.laws_program.proofs.Calls.{int13_answers}
+use Rattle.laws_commands.specs.VerifyRuns.{IsEndStatus}
+
+-- ---- the requests of a call keep the media
+
+all_keep : (f : ℕ → Request) → ((i : ℕ) → keeps_media (f i) ≡ true) → (row : List ℕ) → list_all keeps_media (map f row) ≡ true
+all_keep f each [] = refl
+all_keep f each (i ∷ later) = rw (each i, all_keep f each later) refl
+
+record_keeps : (kind : Kind) (bay address : ℕ) (key : Chrn) → keeps_media (record_request kind bay key address) ≡ true
+record_keeps Read bay address key = refl
+record_keeps Write bay address key = refl
+record_keeps Verify bay address key = refl
+
+records_keep : (kind : Kind) (bay : ℕ) (first : Chrn) (address count : ℕ) → list_all keeps_media (record_requests kind bay first address count) ≡ true
+unfolding record_requests
+records_keep kind bay first address count = all_keep _ (λ i. record_keeps kind bay (place_of_record kind address i) (record_behind first i)) (range_with_len 0 count)
+
+puts_keep : (address : ℕ) (bytes : List ℕ) → list_all keeps_media (put_requests address bytes) ≡ true
+unfolding put_requests
+puts_keep address bytes = all_keep (put_request address bytes) (λ i. refl) (range_with_len 0 (length bytes))
+
+first_keep : (one : List Request) (next : Request) (two : List Request) → list_all keeps_media (one ++ next ∷ two) ≡ true
+    → (list_all keeps_media one ≡ true) × (keeps_media next ≡ true)
+first_keep [] next two e = (refl, (and_both (keeps_media next) (list_all keeps_media two) e).0)
+first_keep (asked ∷ one) next two e =
+    let both = and_both (keeps_media asked) (list_all keeps_media (one ++ next ∷ two)) e in
+    let rest = first_keep one next two both.1 in
+    (rw (both.0, rest.0) refl, rest.1)
+
+module _ (Holds : List ℕ → Type 0) (names : Names) where
+  moved_kept : (asked : List Request) (old new : State) (told : Option Files) (course : List Taken) (code moved : ℕ) → list_all keeps_media asked ≡ true
+      → MovesRecords asked old told course code moved new → IsKept Holds names old told → IsKept Holds names new told
+  moved_kept asked old new told course code moved all (All done many fine) kept =
+      course_kept Holds names old new told told course (ap (λ (row : List Request). list_all keeps_media row) done.asked ∙ all) done.run kept
+  moved_kept asked old new told course code moved all (UpToOne is) kept =
+      let parts = first_keep is.done is.next is.later (ap (λ (row : List Request). list_all keeps_media row) (sym is.parts) ∙ all) in
+      let mid = course_kept Holds names old is.mid told told is.before
+      (ap (λ (row : List Request). list_all keeps_media row) is.done_well.asked ∙ parts.0) is.done_well.run kept in
+      media_kept Holds names is.mid told mid is.next _ new told parts.1 is.step
+
+  in_kept : (kind : Kind) (address : ℕ) (asked : List Request) (old new : State) (told : Option Files) (course : List Taken) (code moved : ℕ)
+      → list_all keeps_media asked ≡ true → MovesIn kind address asked old told course code moved new → IsKept Holds names old told
+      → IsKept Holds names new told
+  in_kept Read address asked old new told course code moved all moves kept = moved_kept asked old new told course code moved all moves kept
+  in_kept Write address asked old new told course code moved all moves kept = moved_kept asked old new told course code moved all moves kept
+  in_kept Verify address asked old new told course code moved all is kept =
+      let puts = is.puts_back in
+      course_kept Holds names is.mid new told told is.puts
+      (ap (λ (row : List Request). list_all keeps_media row) puts.asked ∙ puts_keep address _) puts.run
+      (moved_kept asked old is.mid told is.reads code moved all is.moves kept)
+
+  goes_kept : (b : Bool) (kind : Kind) (bay address : ℕ) (asked : List Request) (old new : State) (told : Option Files) (course : List Taken) (code moved : ℕ)
+      → list_all keeps_media asked ≡ true
+      → MatchBool b (MovesIn kind address asked old told course code moved new) (AcksAlone bay old told course code moved new)
+      → IsKept Holds names old told → IsKept Holds names new told
+  goes_kept true kind bay address asked old new told course code moved all goes kept = in_kept kind address asked old new told course code moved all goes kept
+  goes_kept false kind bay address asked old new told course code moved all is kept =
+      media_kept Holds names old told kept (request.Ack bay) _ new told refl is.step
+
+  work_kept : (work : Work) (old new : State) (told : Option Files) (course : List Taken) (code moved : ℕ) → DoesWork work old told course code moved new
+      → IsKept Holds names old told → IsKept Holds names new told
+  work_kept (Answer planned) old new told course code moved is kept = subst (λ (s : State). IsKept Holds names s told) (sym is.same) kept
+  work_kept (Changed bay) old new told course code moved is kept = same_kept Holds names old told kept new told is.same refl
+  work_kept (Move kind bay c h r count address) old new told course code moved is kept =
+      goes_kept (is_acknowledged old.station bay) kind bay address _ is.looked new told is.later code moved (records_keep kind bay _ address count) is.goes
+      (same_kept Holds names old told kept is.looked told is.same refl)
+
+-- ---- lines
+
+-- a line was done, and those behind it go on
+through_line : {R : Type 0} (Holds : List ℕ → Type 0) (names : Names) (line : CallLine) (more : List CallLine) (kept : ℕ) (old : State) (told : Option Files)
+    (round : Round) (mid : Option Files) → DoesLine line kept old told round mid → IsKept Holds names old told
+    → InsertsDisks Holds names (requests_among (line ∷ more))
+    → ((Now : List ℕ → Type 0) (names : Names) → IsKept Now names round.after mid → InsertsDisks Now names (requests_among more) → R) → R
+through_line Holds names (call.Job asked) more kept old told round mid does is inserts next =
+    next (HoldsBy Holds names asked) (named_by names asked)
+    (step_kept Holds names old told is asked does.answer round.after mid inserts.0 does.step) inserts.1
+through_line Holds names (call.Call ax bx cx dx es) more kept old told round mid does is inserts next =
+    next Holds names
+    (subst (λ (f : Option Files). IsKept Holds names round.after f) (sym does.files)
+    (work_kept Holds names _ old round.after told round.course does.serves.code does.serves.moved does.serves.work is)) inserts
+
+rounds_stop : (asked : Request) (later : List CallLine) (cause : Stop) (mid new : State) (files after : Option Files) (kept_mid : ℕ)
+    → StopsAt asked mid files cause new after
+    → (rounds : List Round) (Holds : List ℕ → Type 0) (names : Names) (kept : ℕ) (old : State) (told : Option Files)
+    → AreRounds kept old told rounds kept_mid mid files → InsertsDisks Holds names (requests_among (lines_of rounds ++ call.Job asked ∷ later))
+    → IsKept Holds names old told → IsEndStop cause
+rounds_stop asked later cause mid new files after kept_mid stops [] Holds names kept old told are inserts is =
+    kept_stop Holds names mid files
+    (subst (λ (f : Option Files). IsKept Holds names mid f) (sym are.2) (subst (λ (s : State). IsKept Holds names s told) (sym are.1) is))
+    asked cause new after inserts.0 stops
+rounds_stop asked later cause mid new files after kept_mid stops (round ∷ rest) Holds names kept old told are inserts is =
+    through_line Holds names round.line (lines_of rest ++ call.Job asked ∷ later) kept old told round are.0 are.1 is inserts
+    (λ Now now then_kept then_inserts.
+    rounds_stop asked later cause mid new files after kept_mid stops rest Now now round.kept round.after are.0 are.2 then_inserts then_kept)
+
+-- ---- the whole text
+
+-- 0 or 1, or what the outside gives
+abbrev IsAnswered : Status → Type 0
+IsAnswered status.AllOk = Unit {0}
+IsAnswered status.SomeRefused = Unit {0}
+IsAnswered status.NoMemory = Unit {0}
+IsAnswered status.FileFault = Unit {0}
+IsAnswered status.SinkFault = Unit {0}
+IsAnswered _ = ⊥
+
+outside_answered : (ended : Status) → EndsBy false ended → IsAnswered ended
+outside_answered status.AllOk ends = tt
+outside_answered status.SomeRefused ends = tt
+outside_answered status.NoMemory ends = tt
+outside_answered status.FileFault ends = tt
+outside_answered status.SinkFault ends = tt
+outside_answered status.BadImage ends = ends
+outside_answered status.Absent ends = ends
+outside_answered status.BadJob ends = ends
+outside_answered status.BadWords ends = ends
+
+put_answered : (ended : Status) → IsPutFault ended → IsAnswered ended
+put_answered status.NoMemory fault = tt
+put_answered status.SinkFault fault = tt
+put_answered status.AllOk fault = absurd fault
+put_answered status.SomeRefused fault = absurd fault
+put_answered status.BadImage fault = absurd fault
+put_answered status.Absent fault = absurd fault
+put_answered status.FileFault fault = absurd fault
+put_answered status.BadJob fault = absurd fault
+put_answered status.BadWords fault = absurd fault
+
+prints_answered : (line : List (List ℕ)) (wanted : Status) (old new : Option (List (List ℕ))) (ended : Status) → Prints line wanted old new ended → IsAnswered wanted
+    → IsAnswered ended
+prints_answered line wanted old new ended (Whole is well) by = subst IsAnswered (sym well) by
+prints_answered line wanted old new ended (Part grows fault) by = put_answered ended fault
+
+whole_answered : (refused : Bool) → IsAnswered (whole_status refused)
+whole_answered true = tt
+whole_answered false = tt
+
+stop_answered : (cause : Stop) → IsEndStop cause → IsAnswered (stop_status cause)
+stop_answered cause only = outside_answered (stop_status cause) (end_by false cause only)
+
+module _ (Holds : List ℕ → Type 0) (names : Names) where
+  lines_by : (lines : List CallLine) (old : World) (course : List Taken) (new : World) (ended : Status) → InsertsDisks Holds names (requests_among lines)
+      → IsKept Holds names old.state old.files → ServesLines lines old course new ended → IsAnswered ended
+  lines_by lines old course new ended inserts kept (Through is) = subst IsAnswered (sym is.status) (whole_answered (has_refused is.rounds))
+  lines_by lines old course new ended inserts kept (Broken is) = broken is.breaks
+    where
+      broken : Breaks is.kept is.line is.mid is.last new ended → IsAnswered ended
+      broken (AtStop asked cause line nothing stops prints) =
+          let parts = is.parts ∙ ap (λ (row : List CallLine). row ++ is.line ∷ is.later) is.served.all
+          ∙ ap (λ (l : CallLine). lines_of is.rounds ++ l ∷ is.later) line in
+          prints_answered _ _ _ _ ended prints
+          (stop_answered cause
+          (rounds_stop asked is.later cause is.mid.state new.state is.mid.files new.files is.kept stops is.rounds Holds names 0 old.state old.files
+          is.served.served (subst (λ (l : List CallLine). InsertsDisks Holds names (requests_among l)) parts inserts) kept))
+      broken (AtPut round does last after grows fault) = put_answered ended fault
+  lines_by lines old course new ended inserts kept (EndStopped is) = subst IsAnswered (sym is.status) (stop_answered is.cause is.only)
+
+calls_by : (name : List ℕ) (files : Files) (text : List ℕ) (lines : List CallLine) (old : World) (course : List Taken) (new : World) (ended : Status)
+    → old.files ≡ Some files → IsText (Some files) name text → calls_of text ≡ Ok lines
+    → InsertsDisks (IsDiskFile (Some files)) (both None) (requests_among lines) → IsKept (IsDiskFile (Some files)) (both None) old.state old.files
+    → ServesCalls name old course new ended → IsAnswered ended
+calls_by name files text lines old course new ended told is spells inserts kept (There there) =
+    let same = same_text files name there.text text (subst (λ (f : Option Files). IsText f name there.text) told there.told) is in
+    lines_by (IsDiskFile (Some files)) (both None) lines old course new ended inserts kept
+    (subst (λ (parsed : Result (List CallLine) ℕ). ServesParsed parsed old course new ended) (ap calls_of same ∙ spells) there.serves)
+calls_by name files text lines old course new ended told is spells inserts kept (Missing absent tells) =
+    absurd (text_there files name text is (subst (λ (f : Option Files). IsAbsent f name) told absent))
+calls_by name files text lines old course new ended told is spells inserts kept (TooLong longer tells) =
+    absurd (text_short files name text is (subst (λ (f : Option Files). IsLonger f name most_job_bytes) told longer))
+calls_by name files text lines old course new ended told is spells inserts kept (Faulty nothing idle) = subst IsAnswered (sym idle.status) tt
+calls_by name files text lines old course new ended told is spells inserts kept (Starved nothing idle) = subst IsAnswered (sym idle.status) tt
+
+-- with the faults that were counted
+counted_answered : (Such : Type 0) (old new : Stand) (ended : Status) → Blames (ended ≡ status.FileFault) old.desk.shelf_faults new.desk.shelf_faults
+    → Blames (ended ≡ status.SinkFault) old.desk.sink_faults new.desk.sink_faults → IsAnswered ended
+    → (IsEndStatus ended → Such) → EndsAnswered Such old new ended
+counted_answered Such old new status.AllOk shelf sink ends such = such tt
+counted_answered Such old new status.SomeRefused shelf sink ends such = such tt
+counted_answered Such old new status.NoMemory shelf sink ends such = tt
+counted_answered Such old new status.FileFault shelf sink ends such = shelf.rose refl
+counted_answered Such old new status.SinkFault shelf sink ends such = sink.rose refl
+counted_answered Such old new status.BadImage shelf sink ends such = ends
+counted_answered Such old new status.Absent shelf sink ends such = ends
+counted_answered Such old new status.BadJob shelf sink ends such = ends
+counted_answered Such old new status.BadWords shelf sink ends such = ends
+
+pub int13_ends : (name : List ℕ) (spares : List DriveCounts) (old new : Stand) (ended : Status) (files : Files) (text : List ℕ) (lines : List CallLine)
+    → old.desk.desk.files ≡ Some files → IsText (Some files) name text → calls_of text ≡ Ok lines
+    → InsertsDisks (IsDiskFile (Some files)) (both None) (requests_among lines) → (ran : RanOver (Some (form.Int13 name)) spares old new ended)
+    → EndsAnswered (AnswersCalls name (world ran.runs.start old.desk.desk.files old.desk.desk.report) ran.runs.runs.course
+    (world ran.runs.last new.desk.desk.files new.desk.desk.report) ended) old new ended
+int13_ends name spares old new ended files text lines told is spells inserts ran =
+    let over = ran.runs in
+    let first = world over.start old.desk.desk.files old.desk.desk.report in
+    let last = world over.last new.desk.desk.files new.desk.desk.report in
+    counted_answered (AnswersCalls name first over.runs.course last ended) old new ended ran.shelf_faults ran.sink_faults (go over.runs.does)
+    (λ whole. int13_answers name spares old.board new.board old.desk.desk new.desk.desk ended over whole)
+  where
+    go : DoesOrStarves (form.Int13 name) (world ran.runs.start old.desk.desk.files old.desk.desk.report) ran.runs.runs.course
+        (world ran.runs.last new.desk.desk.files new.desk.desk.report) ended → IsAnswered ended
+    go (AsAsked does) =
+        calls_by name files text lines (world ran.runs.start old.desk.desk.files old.desk.desk.report) ran.runs.runs.course
+        (world ran.runs.last new.desk.desk.files new.desk.desk.report) ended told is spells inserts
+        (begins_kept files ran.runs.start old.desk.desk.files told ran.runs.set_up.names ran.runs.set_up.fresh) does
+    go (StarvesWords nothing idle) = subst IsAnswered (sym idle.status) tt

@@ -1,0 +1,68 @@
+-- What a text of calls of INT 13h tells.
+use Rattle.std.proofs.Common.{◌≡◌, ◌∙◌, ℕ, List, Result, Ok, Err, Some, refl, subst}
+use Rattle.flop_base.specs.declared.answers.Status.{Status}
+use Rattle.flop_base.specs.declared.answers.Status.TheVariants as status
+use Rattle.flop_base.specs.Counters.{DriveCounts}
+use Rattle.pc_bus.specs.Boards.{Board}
+use Rattle.floppy_jobs.specs.Texts.{calls_of}
+use Rattle.floppy_jobs.specs.declared.calls.CallLine.{CallLine}
+use Rattle.sector_model.specs.Runs.{Taken}
+use Rattle.sector_model.specs.Plays.{World, IsText}
+use Rattle.text_commands.specs.CallRounds.{Breaks, AtStop, AtPut}
+use Rattle.text_commands.specs.CallCourses.{ServesCalls, There, Missing, TooLong, Faulty, Starved, ServesParsed, ServesLines, Through, Broken, EndStopped}
+use Rattle.archive_commands.specs.Files.{Desk}
+use Rattle.floppy_words.specs.declared.form.Form.TheVariants as form
+use Rattle.floppy_tools.specs.Programs.{DoesOrStarves, AsAsked, StarvesWords}
+use Rattle.text_commands.specs.JobRounds.{world}
+use Rattle.floppy_tools.specs.Machines.{RunsOver}
+use Rattle.laws_commands.specs.VerifyRuns.{IsEndStatus}
+use Rattle.laws_commands.proofs.VerifyRun.{not_put}
+use Rattle.laws_program.specs.Answered.{AnswersCalls}
+use Rattle.laws_program.proofs.Plays.{put_end, no_stop_end, no_end}
+
+module _ (name : List ℕ) (old : World) (course : List Taken) (new : World) (ended : Status) (whole : IsEndStatus ended) where
+  abbrev Answered : Type 0
+  Answered = AnswersCalls name old course new ended
+
+  lines_answered : (text : List ℕ) (lines : List CallLine) → IsText old.files name text → calls_of text ≡ Ok lines → ServesLines lines old course new ended → Answered
+  lines_answered text lines told spells (Through is) = record {
+    text = text;
+    told = told;
+    lines = lines;
+    spelled = spells;
+    rounds = is.rounds;
+    each = is.served.all;
+    ran = is.course_is;
+    done = record { mid = is.mid.state; files = is.mid.files; kept = is.kept; rounds_are = is.served.served; stored = is.stored };
+    report = is.report ∙ is.served.report;
+    status = is.status;
+  }
+  lines_answered text lines told spells (Broken is) = absurd (broken is.breaks)
+    where
+      broken : Breaks is.kept is.line is.mid is.last new ended → ⊥
+      broken (AtStop asked cause line nothing stops prints) = no_stop_end cause ended whole (put_end _ _ _ _ ended whole prints)
+      broken (AtPut round does last after grows fault) = not_put ended whole fault
+  lines_answered text lines told spells (EndStopped is) = absurd (no_stop_end is.cause ended whole is.status)
+
+  parsed_answered : (text : List ℕ) (parsed : Result (List CallLine) ℕ) → IsText old.files name text → calls_of text ≡ parsed
+      → ServesParsed parsed old course new ended → Answered
+  parsed_answered text (Ok lines) told spells serves = lines_answered text lines told spells serves
+  parsed_answered text (Err line) told spells tells = absurd (no_end status.BadJob ended whole (put_end _ _ _ _ ended whole tells.tells.prints) (λ e. e))
+
+  calls_answered : ServesCalls name old course new ended → Answered
+  calls_answered (There is) = parsed_answered is.text (calls_of is.text) is.told refl is.serves
+  calls_answered (Missing absent tells) = absurd (no_end status.Absent ended whole (put_end _ _ _ _ ended whole tells.tells.prints) (λ e. e))
+  calls_answered (TooLong longer tells) = absurd (no_end status.BadJob ended whole (put_end _ _ _ _ ended whole tells.tells.prints) (λ e. e))
+  calls_answered (Faulty nothing idle) = absurd (no_end status.FileFault ended whole idle.status (λ e. e))
+  calls_answered (Starved nothing idle) = absurd (no_end status.NoMemory ended whole idle.status (λ e. e))
+
+does_answered : (name : List ℕ) (old : World) (course : List Taken) (new : World) (ended : Status) → IsEndStatus ended
+    → DoesOrStarves (form.Int13 name) old course new ended → AnswersCalls name old course new ended
+does_answered name old course new ended whole (AsAsked does) = calls_answered name old course new ended whole does
+does_answered name old course new ended whole (StarvesWords nothing idle) = absurd (subst IsEndStatus idle.status whole)
+
+pub int13_answers : (name : List ℕ) (spares : List DriveCounts) (old new : Board) (before after : Desk) (ended : Status)
+    → (over : RunsOver (Some (form.Int13 name)) old spares before new after ended) → IsEndStatus ended
+    → AnswersCalls name (world over.start before.files before.report) over.runs.course (world over.last after.files after.report) ended
+int13_answers name spares old new before after ended over whole =
+    does_answered name (world over.start before.files before.report) over.runs.course (world over.last after.files after.report) ended whole over.runs.does

@@ -1,0 +1,252 @@
+-- The forms on whole disks, by whether some reply was a refusal.
+use Rattle.std.proofs.Common.{◌≡◌, ℕ, ◌+◌, ◌-◌, Bool, true, false, List, [], Option, Some, Result, Ok, Err, get_or, refl, ap, sym, subst, arith}
+use Rattle.std.specs.Prelude.{◌||◌, nat_lt, sum, codes, if◌then◌else◌, ◌==◌, ◌*◌}
+use Rattle.std.proofs.lemmas.Bool.{lt-ltb}
+use Rattle.flop_base.specs.Shelf.{Files}
+use Rattle.flop_base.specs.Standard.{sectors_at}
+use Rattle.flop_base.specs.declared.answers.Rate.{Rate}
+use Rattle.flop_base.specs.declared.answers.Rate.TheVariants.{R250, R500}
+use Rattle.flop_base.specs.declared.answers.Status.{Status}
+use Rattle.flop_base.specs.declared.key.Chrn.{Chrn}
+use Rattle.raw_image.specs.Disk.{Disk}
+use Rattle.flat_files.specs.Flat.{sector_place}
+use Rattle.sector_map.specs.Standard.{key_of}
+use Rattle.floppy_requests.specs.declared.request.Request.TheVariants as request
+use Rattle.sector_model.specs.declared.reply.Reply.{Reply}
+use Rattle.sector_model.specs.declared.reply.Reply.TheVariants as reply
+use Rattle.sector_model.specs.declared.reply.Stop.{Stop}
+use Rattle.flop_base.specs.Memory.{bytes_from}
+use Rattle.sector_model.specs.States.{State}
+use Rattle.sector_model.specs.Steps.{IsImageOf}
+use Rattle.sector_model.specs.Texts.{is_refusal, stop_status}
+use Rattle.sector_model.specs.Runs.{Taken, has_refusal}
+use Rattle.sector_model.specs.Plays.{World}
+use Rattle.floppy_session.specs.Blanks.{blank_request}
+use Rattle.commands.specs.Scripts.{Asks, RunsScript}
+use Rattle.commands.specs.Parts.{Part, asks, says, may_starve, formats}
+use Rattle.commands.specs.Records.{record_address}
+use Rattle.commands.proofs.Reading.{last_run}
+use Rattle.disk_commands.specs.Format.{format_script, formats_disk}
+use Rattle.disk_commands.specs.Verify.{no_reads, one_more, tells_failure, verifies_record, verifies_track, verify_script, reads_disk}
+use Rattle.disk_commands.specs.Copy.{write_request, no_marks, reads_record, writes_record, copies_track, copy_script, makes_copy, copies_disk}
+use Rattle.disk_commands.specs.FlatFiles.{IsFlatFile, IsFlatFound, IsNotTaken}
+use Rattle.disk_commands.specs.Import.{Imports, import_script, fills_byte, fills_record, fills_track, writes_track, imports_track}
+use Rattle.disk_commands.specs.Import as import
+use Rattle.disk_commands.specs.Export.{export_script, reads_track}
+use Rattle.disk_commands.specs.Export as export
+use Rattle.disk_commands.specs.Exercise.{exercise_script, no_work, counted, reads_work, writes_work, works_drawn, works_behind, works}
+use Rattle.disk_commands.specs.Exercise as exercise
+use Rattle.disk_commands.specs.Workload.{number_after}
+use Rattle.laws_commands.proofs.VerifyRun.{Tally}
+use Rattle.laws_commands.proofs.FlatEnds.{taken_flat}
+use Rattle.laws_program.proofs.Telling.{EndsBy, Came, NeverInserts, end_by, IsFaithful, prints_by, script_tells, opens_tells, needs_tells, PartTells, PartEnds, carries_tells, acknowledges_tells, each_tells, tracks_tell}
+
+pub blank_never : (bay : ℕ) (name : List ℕ) (count : ℕ) (rate : Rate) → NeverInserts (blank_request bay name count rate)
+blank_never bay name count R500 = λ other named e. absurd (cc e)
+blank_never bay name count R250 = λ other named e. absurd (cc e)
+
+pub format_never : (bay c h : ℕ) → PartEnds (formats bay c h tt)
+format_never bay c h = carries_tells (request.Format bay c h) (λ bay name e. absurd (cc e))
+
+pub format_by : (rate : Rate) (name : List ℕ) (count : ℕ) (old new : World) (course : List Taken) (ended : Status)
+    → RunsScript (format_script name count rate) old course new ended → EndsBy (has_refusal course) ended
+unfolding format_script formats_disk
+format_by rate name count old new course ended runs =
+    script_tells false _ old new course ended
+    (carries_tells (blank_request 0 name count rate) (blank_never 0 name count rate) _ (λ none.
+    acknowledges_tells 0 rate _ (λ none.
+    tracks_tell (λ none. false) (formats 0) (λ c h none. format_never 0 c h) count 2 tt _ (λ none.
+    carries_tells (request.Eject 0) (λ bay name e. absurd (cc e)) _ (λ none. refl))))) runs
+
+read_ends : (c h r : ℕ) (marks : List Bool) → PartEnds (reads_record c h r marks)
+unfolding reads_record
+read_ends c h r marks rest is =
+    needs_tells (request.Read 0 (key_of c h r) (record_address r)) _ (λ bay name e. absurd (cc e)) (λ answer after. is _)
+
+write_never : (deleted : Bool) (key : Chrn) (address : ℕ) → NeverInserts (write_request deleted key address)
+write_never true key address = λ bay name e. absurd (cc e)
+write_never false key address = λ bay name e. absurd (cc e)
+
+write_ends : (marks : List Bool) (c h r : ℕ) (none : Unit {0}) → PartEnds (writes_record marks c h r none)
+unfolding writes_record
+write_ends marks c h r none = carries_tells _ (write_never (get_or marks (r - 1) false) (key_of c h r) (record_address r))
+
+pub copy_by : (from to : List ℕ) (files : Files) (disk : Disk) (old new : World) (course : List Taken) (ended : Status)
+    → old.files ≡ Some files → IsImageOf (Some files) from disk
+    → RunsScript (copy_script from to) old course new ended → EndsBy (has_refusal course) ended
+unfolding copy_script makes_copy copies_disk copies_track
+copy_by from to files disk old new course ended told image runs =
+    opens_tells from _ files disk old new course ended told image (λ shape.
+    carries_tells (blank_request 1 to shape.cylinders shape.rate) (blank_never 1 to shape.cylinders shape.rate) _ (λ none.
+    acknowledges_tells 0 shape.rate _ (λ none.
+    acknowledges_tells 1 shape.rate _ (λ none.
+    tracks_tell (λ none. false) (copies_track (sectors_at shape.rate)) (λ c h none rest is.
+    format_never 1 c h _ (λ none.
+    each_tells (λ marks. false) (reads_record c h) (read_ends c h) 1 (sectors_at shape.rate) no_marks _ (λ marks.
+    each_tells (λ none. false) (writes_record marks c h) (write_ends marks c h) 1 (sectors_at shape.rate) tt rest is)))
+    shape.cylinders shape.heads tt _ (λ none.
+    carries_tells (request.Eject 1) (λ bay name e. absurd (cc e)) _ (λ none. refl)))))) runs
+
+tells_either : (key : Chrn) (answer : Reply) (refused : Bool) → PartTells (λ none. refused) refused (tells_failure key answer)
+unfolding tells_failure says
+tells_either key (reply.Refused cause) refused rest is = is tt
+tells_either key reply.Done refused rest is = is tt
+tells_either key reply.DoneDeleted refused rest is = is tt
+tells_either key (reply.Bytes address content) refused rest is = is tt
+
+verified_by : (c h r : ℕ) (tally : Tally) → PartTells (λ (tally : Tally). tally.refused) tally.refused (verifies_record c h r tally)
+unfolding verifies_record asks
+verified_by c h r tally rest is = (
+  λ bay name e. absurd (cc e),
+  λ answer after came.
+      tells_either (key_of c h r) answer (tally.refused || is_refusal answer) _ (λ none. is (one_more tally (is_refusal answer))),
+)
+
+pub verify_by : (name : List ℕ) (files : Files) (disk : Disk) (old new : World) (course : List Taken) (ended : Status)
+    → old.files ≡ Some files → IsImageOf (Some files) name disk
+    → RunsScript (verify_script name) old course new ended → EndsBy (has_refusal course) ended
+unfolding verify_script reads_disk verifies_track
+verify_by name files disk old new course ended told image runs =
+    opens_tells name _ files disk old new course ended told image (λ shape.
+    acknowledges_tells 0 shape.rate _ (λ none.
+    tracks_tell (λ (tally : Tally). tally.refused) (verifies_track (sectors_at shape.rate))
+    (λ c h tally. each_tells (λ (tally : Tally). tally.refused) (verifies_record c h) (verified_by c h) 1 (sectors_at shape.rate) tally)
+    shape.cylinders shape.heads no_reads _ (λ tally. refl))) runs
+
+import_write : (c h r : ℕ) (none : Unit {0}) → PartEnds (import.writes_record c h r none)
+unfolding import.writes_record
+import_write c h r none = carries_tells (request.Write 0 (key_of c h r) (record_address r)) (λ bay name e. absurd (cc e))
+
+import_fill : (bytes : List ℕ) (place address i : ℕ) (none : Unit {0}) → PartEnds (fills_byte bytes place address i none)
+unfolding fills_byte
+import_fill bytes place address i none = carries_tells _ (λ bay name e. absurd (cc e))
+
+import_fills : (bytes : List ℕ) (place address : ℕ) (none : Unit {0}) → PartEnds (fills_record bytes place address none)
+unfolding fills_record
+import_fills bytes place address none = each_tells (λ none. false) (fills_byte bytes place address) (import_fill bytes place address) 0 512 none
+
+import_track : (bytes : List ℕ) (sectors c h : ℕ) (none : Unit {0}) → PartEnds (imports_track bytes sectors c h none)
+unfolding imports_track fills_track writes_track
+import_track bytes sectors c h none rest is =
+    format_never 0 c h _ (λ none.
+    each_tells (λ none. false) (λ r. fills_record bytes (sector_place sectors c h r) (record_address r))
+    (λ r. import_fills bytes (sector_place sectors c h r) (record_address r)) 1 sectors tt _ (λ none.
+    each_tells (λ none. false) (import.writes_record c h) (import_write c h) 1 sectors tt rest is))
+
+import_found : (flat name bytes : List ℕ) (files : Files) (at : Rate) (found : Result (List ℕ × Rate) Stop) (old new : World) (course : List Taken) (ended : Status)
+    → old.files ≡ Some files → IsFlatFile (Some files) flat bytes at → IsFlatFound old.files flat found → RunsScript (import_script found name) old course new ended
+    → EndsBy (has_refusal course) ended
+import_found flat name bytes files at (Ok (row, rate)) old new course ended told is there runs =
+    script_tells false _ old new course ended
+    (carries_tells (blank_request 0 name 80 rate) (blank_never 0 name 80 rate) _ (λ none.
+    acknowledges_tells 0 rate _ (λ none.
+    tracks_tell (λ none. false) (imports_track row (sectors_at rate)) (λ c h none. import_track row (sectors_at rate) c h none) 80 2 tt _ (λ none.
+    carries_tells (request.Eject 0) (λ bay name e. absurd (cc e)) _ (λ none. refl))))) runs
+import_found flat name bytes files at (Err cause) old new course ended told is not runs =
+    let only = taken_flat files flat bytes at cause is (subst (λ (f : Option Files). IsNotTaken f flat cause) told not) in
+    prints_by (has_refusal course) _ _ _ _ ended (last_run _ (stop_status cause) old course new ended runs).1.report (end_by (has_refusal course) cause only)
+
+pub import_by : (flat name bytes : List ℕ) (files : Files) (at : Rate) (old new : World) (course : List Taken) (ended : Status)
+    → old.files ≡ Some files → IsFlatFile (Some files) flat bytes at → Imports flat name old course new ended → EndsBy (has_refusal course) ended
+import_by flat name bytes files at old new course ended told is imports =
+    import_found flat name bytes files at imports.0 old new course ended told is imports.1 imports.2
+
+export_read : (c h r : ℕ) (bytes : List ℕ) → PartEnds (export.reads_record c h r bytes)
+unfolding export.reads_record may_starve
+export_read c h r bytes rest is =
+    needs_tells (request.Read 0 (key_of c h r) (record_address r)) _ (λ bay name e. absurd (cc e)) (λ answer after. is _)
+
+pub export_by : (name flat : List ℕ) (files : Files) (disk : Disk) (old new : World) (course : List Taken) (ended : Status)
+    → old.files ≡ Some files → IsImageOf (Some files) name disk
+    → RunsScript (export_script name flat) old course new ended → EndsBy (has_refusal course) ended
+unfolding reads_track
+export_by name flat files disk old new course ended told image runs =
+    opens_tells name _ files disk old new course ended told image (λ shape.
+    acknowledges_tells 0 shape.rate _ (λ none.
+    tracks_tell (λ bytes. false) (reads_track (sectors_at shape.rate))
+    (λ c h bytes. each_tells (λ bytes. false) (export.reads_record c h) (export_read c h) 1 (sectors_at shape.rate) bytes) 80 2 [] _
+    (λ bytes. refl))) runs
+
+-- ---- The workload.
+
+abbrev type_of : {T : Type 0} → T → Type 0
+type_of {T = T} value = T
+
+abbrev Work : Type 0
+Work = type_of no_work
+
+-- some of it was refused
+abbrev some_work : Work → Bool
+some_work work = nat_lt 0 work.refused
+
+counted_by : (answer : Reply) (total : ℕ) (work : Work) → (some_work work || is_refusal answer) ≡ some_work (counted answer total work)
+counted_by answer total work = go answer (some_work work) refl
+  where
+    go : (answer : Reply) (some : Bool) → some ≡ some_work work → (some || is_refusal answer) ≡ some_work (counted answer total work)
+    go (reply.Refused cause) true is = sym (lt-ltb 0 (work.refused + 1) (omega arith))
+    go (reply.Refused cause) false is = sym (lt-ltb 0 (work.refused + 1) (omega arith))
+    go reply.Done true is = is
+    go reply.Done false is = is
+    go reply.DoneDeleted true is = is
+    go reply.DoneDeleted false is = is
+    go (reply.Bytes address content) true is = is
+    go (reply.Bytes address content) false is = is
+
+-- memory at 20000 is filled whenever that is asked
+filled : (byte : ℕ) (answer : Reply) (after : State) → Came (request.Fill 0x20000 512 byte) answer after → is_refusal answer ≡ false
+filled byte answer after came = ap is_refusal came.3.0
+
+reads_by : (key : Chrn) (work : Work) → PartTells some_work (some_work work) (reads_work key work)
+unfolding reads_work asks
+reads_by key work rest is = (
+  λ bay name e. absurd (cc e),
+  λ answer after came.
+      subst (λ (b : Bool). IsFaithful b (rest (counted answer (sum (bytes_from after.station.memory 0x10000 512)) work)))
+      (sym (counted_by answer (sum (bytes_from after.station.memory 0x10000 512)) work)) (is _),
+)
+
+work_never : (deleted : Bool) (key : Chrn) → NeverInserts (exercise.write_request deleted key)
+work_never true key = λ bay name e. absurd (cc e)
+work_never false key = λ bay name e. absurd (cc e)
+
+or_not : (a b : Bool) → b ≡ false → a ≡ (a || b)
+or_not true b e = refl
+or_not false b e = sym e
+
+writes_by : (deleted : Bool) (key : Chrn) (byte : ℕ) (work : Work) → PartTells some_work (some_work work) (writes_work deleted key byte work)
+unfolding writes_work asks
+writes_by deleted key byte work rest is = (
+  λ bay name e. absurd (cc e),
+  λ answer between came.
+      subst (λ (b : Bool). IsFaithful b (Asks (exercise.write_request deleted key) (λ answer after. rest (counted answer 0 work))))
+      (or_not (some_work work) (is_refusal answer) (filled byte answer between came)) (
+        work_never deleted key,
+        λ last after came. subst (λ (b : Bool). IsFaithful b (rest (counted last 0 work))) (sym (counted_by last 0 work)) (is _),
+      ),
+)
+
+chosen_by : (b : Bool) (before : Bool) (p q : Part Work) → PartTells some_work before p → PartTells some_work before q
+    → PartTells some_work before (if b then p else q)
+chosen_by true before p q one two = one
+chosen_by false before p q one two = two
+
+drawn_by : (kind : ℕ) (key : Chrn) (byte : ℕ) (work : Work) → PartTells some_work (some_work work) (works_drawn kind key byte work)
+unfolding works_drawn
+drawn_by kind key byte work =
+    chosen_by (kind == 0) (some_work work) _ _ (writes_by false key byte work)
+    (chosen_by (kind == 3) (some_work work) _ _ (writes_by true key byte work) (reads_by key work))
+
+behind_by : (x : ℕ) (work : Work) → PartTells some_work (some_work work) (works_behind x work)
+unfolding works_behind
+behind_by x work = drawn_by _ _ _ work
+
+pub exercise_by : (seed count : ℕ) (old new : World) (course : List Taken) (ended : Status)
+    → RunsScript (exercise_script seed count) old course new ended → EndsBy (has_refusal course) ended
+unfolding works may_starve
+exercise_by seed count old new course ended runs =
+    script_tells false (exercise_script seed count) old new course ended
+    (carries_tells (blank_request 0 (codes "exercise") 4 R500) (blank_never 0 (codes "exercise") 4 R500) _ (λ none.
+    acknowledges_tells 0 R500 _ (λ none.
+    tracks_tell (λ none. false) (formats 0) (λ c h none. format_never 0 c h) 4 2 tt _ (λ none.
+    each_tells some_work (λ i. works_behind (number_after (5 * i) seed)) (λ i work. behind_by (number_after (5 * i) seed) work) 0 count no_work _
+    (λ work. refl))))) runs

@@ -1,0 +1,148 @@
+-- How the forms on whole disks end where nothing can go wrong.
+use Rattle.std.proofs.Common.{◌≡◌, ◌≢◌, ◌≤◌, ℕ, All, List, [], Some, None, subst, sym, inl, inr, refl}
+use Rattle.flop_base.specs.Shelf.{Files, file_at}
+use Rattle.flop_base.specs.Standard.{sectors_at}
+use Rattle.flop_base.specs.declared.answers.Rate.{Rate}
+use Rattle.flop_base.specs.declared.answers.Rate.TheVariants.{R250, R500}
+use Rattle.flop_base.specs.declared.answers.Status.{Status}
+use Rattle.flop_base.specs.declared.answers.Status.TheVariants as status
+use Rattle.raw_image.specs.Disk.{Disk}
+use Rattle.flop_base.specs.Counters.{DriveCounts}
+use Rattle.sector_model.specs.Faults.{Blames}
+use Rattle.sector_map.specs.Disks.{IsRegularDisk}
+use Rattle.sector_model.specs.Steps.{IsImageOf}
+use Rattle.rescue.specs.Course.{logged_keys}
+use Rattle.rescue.specs.declared.line.LogLine.{LogLine}
+use Rattle.disk_commands.specs.Logs.{IsLogFound}
+use Rattle.sector_model.specs.Plays.{World}
+use Rattle.disk_commands.specs.FlatFiles.{IsFlatFile}
+use Rattle.commands.specs.Leading.{Runs}
+use Rattle.floppy_words.specs.declared.form.Form.{Form}
+use Rattle.floppy_words.specs.declared.form.Form.TheVariants as form
+use Rattle.text_commands.specs.JobRounds.{world}
+use Rattle.floppy_tools.specs.Programs.{DoesForm}
+use Rattle.floppy_tools.specs.Machines.{RunsOver}
+use Rattle.floppy_tools.specs.Performed.{Stand, RanOver}
+use Rattle.laws_commands.specs.Formatted.{StoresFormatted}
+use Rattle.laws_commands.specs.Imported.{StoresDisk}
+use Rattle.laws_commands.specs.Exported.{StoresFlatOf}
+use Rattle.laws_commands.specs.FlatComplete.{IsWholeDisk}
+use Rattle.laws_commands.specs.EndsComplete.{BeginsSound, EndsWellOrOutside, HasKey, IsReadable, StoresSameSectors, StoresSameAndLog, StoresRestAndLog, TakesKeys}
+use Rattle.laws_commands.proofs.CommandEnds.{format_complete, copy_complete, verify_complete}
+use Rattle.laws_commands.proofs.FlatEnds.{import_complete, export_complete}
+use Rattle.laws_commands.proofs.RescueEnds.{new_rescue_complete}
+use Rattle.laws_commands.proofs.RescueFurther.{further_rescue_complete}
+use Rattle.laws_program.specs.Disturbed.{IsSound}
+use Rattle.laws_program.specs.Ends.{EndsWell}
+use Rattle.laws_program.specs.Told.{ListsFailing}
+use Rattle.laws_program.proofs.OnBoards.{nothing_left}
+use Rattle.laws_program.proofs.OfForms.{form_done}
+
+-- what of an end is the outside's was counted
+counted : (Inner Holds : Type 0) (old new : Stand) (ended : Status) → (Inner → Holds) → Blames (ended ≡ status.FileFault) old.desk.shelf_faults new.desk.shelf_faults
+    → Blames (ended ≡ status.SinkFault) old.desk.sink_faults new.desk.sink_faults → EndsWellOrOutside Inner ended → EndsWell Holds old new ended
+counted Inner Holds old new status.AllOk means shelf sink ends = means ends
+counted Inner Holds old new status.NoMemory means shelf sink ends = tt
+counted Inner Holds old new status.FileFault means shelf sink ends = shelf.rose refl
+counted Inner Holds old new status.SinkFault means shelf sink ends = sink.rose refl
+counted Inner Holds old new status.SomeRefused means shelf sink ends = ends
+counted Inner Holds old new status.BadImage means shelf sink ends = ends
+counted Inner Holds old new status.Absent means shelf sink ends = ends
+counted Inner Holds old new status.BadJob means shelf sink ends = ends
+counted Inner Holds old new status.BadWords means shelf sink ends = ends
+
+module _ (asked : Form) (spares : List DriveCounts) (old new : Stand) (ended : Status) (ran : RanOver (Some asked) spares old new ended) where
+  abbrev over : RunsOver (Some asked) old.board spares old.desk.desk new.board new.desk.desk ended
+  over = ran.runs
+
+  abbrev first : World
+  first = world over.start old.desk.desk.files old.desk.desk.report
+
+  abbrev last : World
+  last = world over.last new.desk.desk.files new.desk.desk.report
+
+  begins : IsSound old.board spares → BeginsSound first
+  begins sound = record {
+    fresh = over.set_up.fresh;
+    sound = nothing_left old.board spares over.start.station over.set_up.fresh over.set_up.starts sound;
+  }
+
+  ends_by : (Inner Holds : Type 0) → (Inner → Holds) → (Runs (DoesForm asked) first last ended → EndsWellOrOutside Inner ended) → EndsWell Holds old new ended
+  ends_by Inner Holds means complete = elim (form_done asked old.board spares old.desk.desk new.board new.desk.desk ended over) [
+    | inl runs ↦ counted Inner Holds old new ended means ran.shelf_faults ran.sink_faults (complete runs)
+    | inr starved ↦ subst (λ (s : Status). EndsWell Holds old new s) (sym starved) tt
+  ]
+
+pub format_ends : (name : List ℕ) (count : ℕ) (spares : List DriveCounts) (old new : Stand) (ended : Status) → 1 ≤ count → count ≤ 80
+    → RanOver (Some (form.Format name count)) spares old new ended → IsSound old.board spares
+    → EndsWell (StoresFormatted R500 name count old.desk.desk.files new.desk.desk.files) old new ended
+format_ends name count spares old new ended least most ran sound =
+    let asked = form.Format name count in
+    ends_by asked spares old new ended ran _ _ (λ is. is)
+    (format_complete R500 name count (first asked spares old new ended ran) (last asked spares old new ended ran) ended least most (begins asked spares old new ended ran sound))
+
+pub format_dd_ends : (name : List ℕ) (count : ℕ) (spares : List DriveCounts) (old new : Stand) (ended : Status) → 1 ≤ count → count ≤ 80
+    → RanOver (Some (form.FormatDd name count)) spares old new ended → IsSound old.board spares
+    → EndsWell (StoresFormatted R250 name count old.desk.desk.files new.desk.desk.files) old new ended
+format_dd_ends name count spares old new ended least most ran sound =
+    let asked = form.FormatDd name count in
+    ends_by asked spares old new ended ran _ _ (λ is. is)
+    (format_complete R250 name count (first asked spares old new ended ran) (last asked spares old new ended ran) ended least most (begins asked spares old new ended ran sound))
+
+pub copy_ends : (from to : List ℕ) (spares : List DriveCounts) (old new : Stand) (ended : Status) (files : Files) (disk : Disk)
+    → RanOver (Some (form.Copy from to)) spares old new ended → IsSound old.board spares → old.desk.desk.files ≡ Some files
+    → IsImageOf (Some files) from disk → IsReadable disk → EndsWell (StoresSameSectors disk to (Some files) new.desk.desk.files) old new ended
+copy_ends from to spares old new ended files disk ran sound told image readable =
+    let asked = form.Copy from to in
+    ends_by asked spares old new ended ran _ _ (λ is. is)
+    (copy_complete from to (first asked spares old new ended ran) (last asked spares old new ended ran) ended files disk
+    (begins asked spares old new ended ran sound) told image readable)
+
+pub verify_ends : (name : List ℕ) (spares : List DriveCounts) (old new : Stand) (ended : Status) (files : Files) (disk : Disk)
+    → RanOver (Some (form.Verify name)) spares old new ended → IsSound old.board spares → old.desk.desk.files ≡ Some files
+    → IsImageOf (Some files) name disk → IsReadable disk → EndsWell (ListsFailing disk [] old.desk.desk new.desk.desk status.AllOk) old new ended
+verify_ends name spares old new ended files disk ran sound told image readable =
+    let asked = form.Verify name in
+    ends_by asked spares old new ended ran _ _ (λ tells. record { report = tells.report; status = tells.status })
+    (verify_complete name (first asked spares old new ended ran) (last asked spares old new ended ran) ended files disk
+    (begins asked spares old new ended ran sound) told image readable)
+
+pub import_ends : (flat name : List ℕ) (spares : List DriveCounts) (old new : Stand) (ended : Status) (files : Files) (bytes : List ℕ) (at : Rate)
+    → RanOver (Some (form.Import flat name)) spares old new ended → IsSound old.board spares → old.desk.desk.files ≡ Some files
+    → IsFlatFile (Some files) flat bytes at → EndsWell (StoresDisk bytes name at (Some files) new.desk.desk.files) old new ended
+import_ends flat name spares old new ended files bytes at ran sound told is =
+    let asked = form.Import flat name in
+    ends_by asked spares old new ended ran _ _ (λ same. same)
+    (import_complete flat name (first asked spares old new ended ran) (last asked spares old new ended ran) ended files bytes at
+    (begins asked spares old new ended ran sound) told is)
+
+pub export_ends : (name flat : List ℕ) (spares : List DriveCounts) (old new : Stand) (ended : Status) (files : Files) (disk : Disk)
+    → RanOver (Some (form.Export name flat)) spares old new ended → IsSound old.board spares → old.desk.desk.files ≡ Some files
+    → IsImageOf (Some files) name disk → IsWholeDisk disk → EndsWell (StoresFlatOf disk flat (Some files) new.desk.desk.files) old new ended
+export_ends name flat spares old new ended files disk ran sound told image whole =
+    let asked = form.Export name flat in
+    ends_by asked spares old new ended ran _ _ (λ is. is)
+    (export_complete name flat (first asked spares old new ended ran) (last asked spares old new ended ran) ended files disk
+    (begins asked spares old new ended ran sound) told image whole)
+
+pub new_rescue_ends : (from to log : List ℕ) (spares : List DriveCounts) (old new : Stand) (ended : Status) (files : Files) (disk : Disk)
+    → RanOver (Some (form.Rescue from to log)) spares old new ended → IsSound old.board spares → old.desk.desk.files ≡ Some files
+    → IsImageOf (Some files) from disk → IsReadable disk → file_at files log ≡ None → to ≢ log
+    → EndsWell (StoresSameAndLog disk to log (Some files) new.desk.desk.files) old new ended
+new_rescue_ends from to log spares old new ended files disk ran sound told image readable absent differ =
+    let asked = form.Rescue from to log in
+    ends_by asked spares old new ended ran _ _ (λ is. is)
+    (new_rescue_complete from to log (first asked spares old new ended ran) (last asked spares old new ended ran) ended files disk
+    (begins asked spares old new ended ran sound) told image readable absent differ)
+
+pub further_rescue_ends : (from to log : List ℕ) (spares : List DriveCounts) (old new : Stand) (ended : Status) (files : Files) (disk target : Disk)
+    (lines : List LogLine)
+    → RanOver (Some (form.Rescue from to log)) spares old new ended → IsSound old.board spares → old.desk.desk.files ≡ Some files
+    → IsImageOf (Some files) from disk → IsImageOf (Some files) to target → IsLogFound (Some files) log (sectors_at disk.rate) (Some lines) → to ≢ log
+    → IsRegularDisk disk → All (HasKey disk) (logged_keys lines) → TakesKeys disk.rate (logged_keys lines) target
+    → EndsWell (StoresRestAndLog disk target (logged_keys lines) to log (Some files) new.desk.desk.files) old new ended
+further_rescue_ends from to log spares old new ended files disk target lines ran sound told image other there differ regular has takes =
+    let asked = form.Rescue from to log in
+    ends_by asked spares old new ended ran _ _ (λ is. is)
+    (further_rescue_complete from to log (first asked spares old new ended ran) (last asked spares old new ended ran) ended files disk target lines
+    (begins asked spares old new ended ran sound) told image other there differ regular has takes)

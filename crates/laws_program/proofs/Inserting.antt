@@ -1,0 +1,191 @@
+-- What stands in the bays and under their names in a run: the files of disks stay the files of disks.
+use Rattle.std.proofs.Common.{◌≡◌, ◌∙◌, ◌≤◌, ℕ, Bool, true, false, true≢false, cond, List, [], ◌∷◌, length, Option, Some, None, Ok, refl, ap, sym, subst, inl}
+use Rattle.std.specs.Prelude.{◌==◌, ◌&&◌, not, is_some, IsSomeAnd, MatchOption, if◌then◌else◌}
+use Rattle.std.specs.Ordering.{nat_cmp, eq_by_cmp}
+use Rattle.std.proofs.lemmas.Cmp.{eq_by_cmp_equiv}
+use Rattle.std.specs.Cmp.Lexicographic.{slice_cmp, nat_list_cmp_total}
+use Rattle.std.specs.FinMap as fin
+use Rattle.flop_base.specs.Shelf.{Files, file_at, stored}
+use Rattle.flop_base.specs.declared.answers.Code.TheVariants as code
+use Rattle.raw_image.specs.Disk.{Disk, IsDisk}
+use Rattle.raw_image.specs.Image.{image_of, file_of}
+use Rattle.raw_image.proofs.Images.{image_again}
+use Rattle.flop_base.specs.Bays.{Two, in_bay, with_bay}
+use Rattle.sector_map.specs.Changes.{Change, Written}
+use Rattle.sector_map.specs.Layings.{Format, Laying}
+use Rattle.sector_model.specs.declared.reply.Reason.{Reason}
+use Rattle.sector_model.specs.declared.reply.Reason.TheVariants as reason
+use Rattle.sector_model.specs.Stations.{Bay}
+use Rattle.sector_model.specs.States.{State}
+use Rattle.sector_model.specs.Writes.{Reaches, ChangesDisk}
+use Rattle.sector_model.specs.Formats.{Lays, LaysDisk}
+use Rattle.sector_model.specs.Steps.{IsImageOf, unless_bad, most_image_bytes}
+use Rattle.laws_commands.proofs.Verified.{one_image}
+use Rattle.laws_commands.proofs.StoredFiles.{file_fits}
+use Rattle.laws_program.specs.Inserted.{IsDiskText, IsDiskFile, Names}
+
+-- ---- files
+
+pub file_text : (d : Disk) → IsDisk d → IsDiskText (file_of d) d
+file_text d valid = (file_fits d valid, (valid, inl refl))
+
+pub file_stored : (files : Files) (name bytes other : List ℕ)
+    → file_at (fin.insert files name bytes) other ≡ cond (eq_by_cmp (slice_cmp nat_cmp) other name) (Some bytes) (file_at files other)
+file_stored files name bytes other = fin.get-insert nat_list_cmp_total files name bytes other
+
+-- what is stored is the file of a disk
+pub stored_last : (told : Option Files) (name : List ℕ) (d : Disk) → IsDisk d → IsDiskFile (stored told name (file_of d)) name
+stored_last None name d valid = (d, tt)
+stored_last (Some files) name d valid =
+    let there : file_at (fin.insert files name (file_of d)) name ≡ Some (file_of d) =
+    file_stored files name (file_of d) name
+    ∙ ap (λ (t : Bool). cond t (Some (file_of d)) (file_at files name)) ((eq_by_cmp_equiv nat_list_cmp_total).refl name) in
+    (d, subst (λ (o : Option (List ℕ)). IsSomeAnd o (λ bytes. IsDiskText bytes d)) (sym there) (file_text d valid))
+
+-- the others are what they were
+pub stored_still : (told : Option Files) (name other : List ℕ) (d : Disk) → IsDisk d → IsDiskFile told other → IsDiskFile (stored told name (file_of d)) other
+stored_still None name other d valid is = is
+stored_still (Some files) name other d valid is =
+    let kept = go (eq_by_cmp (slice_cmp nat_cmp) other name) in
+    (kept.0, subst (λ (o : Option (List ℕ)). IsSomeAnd o (λ bytes. IsDiskText bytes kept.0)) (sym (file_stored files name (file_of d) other)) kept.1)
+  where
+    go : (t : Bool) → (disk : Disk) × IsSomeAnd (cond t (Some (file_of d)) (file_at files other)) (λ bytes. IsDiskText bytes disk)
+    go true = (d, file_text d valid)
+    go false = is
+
+-- such a file is an image
+pub file_image : (files : Files) (name : List ℕ) → (is : IsDiskFile (Some files) name) → IsImageOf (Some files) name is.0
+file_image files name is = go (file_at files name) is.1
+  where
+    go : (o : Option (List ℕ)) → IsSomeAnd o (λ bytes. IsDiskText bytes is.0)
+        → IsSomeAnd o (λ bytes. (length bytes ≤ most_image_bytes) × (image_of bytes ≡ Ok is.0))
+    go None there = absurd there
+    go (Some bytes) there = (there.0, image_again bytes is.0 there.1)
+
+pub file_disk : (files : Files) (name : List ℕ) → (is : IsDiskFile (Some files) name) → IsDisk is.0
+file_disk files name is = go (file_at files name) is.1
+  where
+    go : (o : Option (List ℕ)) → IsSomeAnd o (λ bytes. IsDiskText bytes is.0) → IsDisk is.0
+    go None there = absurd there
+    go (Some bytes) there = there.1.0
+
+-- the disk of such a file is one
+pub inserted_disk : (files : Files) (name : List ℕ) (disk : Disk) → IsDiskFile (Some files) name → IsImageOf (Some files) name disk → IsDisk disk
+inserted_disk files name disk is image =
+    subst IsDisk (one_image files name is.0 disk (file_image files name is) image) (file_disk files name is)
+
+-- ---- the bays
+
+-- a bay has a disk exactly where it has a name
+abbrev pub IsHeld : Option (List ℕ) → Option Disk → Type 0
+IsHeld (Some name) (Some disk) = IsDisk disk
+IsHeld None None = Unit {0}
+IsHeld (Some name) None = ⊥
+IsHeld None (Some disk) = ⊥
+
+pub record AreHeld (names : Names) (bays : Two Bay) : Type 0 where
+  pub first : IsHeld names.first bays.first.medium
+  pub second : IsHeld names.second bays.second.medium
+
+pub held_in : (names : Names) (bays : Two Bay) (at : ℕ) → AreHeld names bays → IsHeld (in_bay names at) (in_bay bays at).medium
+held_in names bays at held = go (at == 0)
+  where
+    go : (b : Bool) → IsHeld (if b then names.first else names.second) (if b then bays.first else bays.second).medium
+    go true = held.first
+    go false = held.second
+
+pub held_with : (names : Names) (bays : Two Bay) (at : ℕ) (name : Option (List ℕ)) (x : Bay) → AreHeld names bays → IsHeld name x.medium
+    → AreHeld (with_bay names at name) (with_bay bays at x)
+held_with names bays at name x held here = go (at == 0)
+  where
+    go : (b : Bool) → AreHeld (if b then record names { first = name } else record names { second = name })
+        (if b then record bays { first = x } else record bays { second = x })
+    go true = record { first = here; second = held.second }
+    go false = record { first = held.first; second = here }
+
+-- the bay has another state, and its name
+pub held_still : (names : Names) (bays : Two Bay) (at : ℕ) (x : Bay) → AreHeld names bays → IsHeld (in_bay names at) x.medium → AreHeld names (with_bay bays at x)
+held_still names bays at x held here = go (at == 0) here
+  where
+    go : (b : Bool) → IsHeld (if b then names.first else names.second) x.medium
+        → AreHeld names (if b then record bays { first = x } else record bays { second = x })
+    go true here = record { first = here; second = held.second }
+    go false here = record { first = held.first; second = here }
+
+pub named_loaded : (name : Option (List ℕ)) (medium : Option Disk) → IsHeld name medium → is_some medium ≡ is_some name
+named_loaded (Some name) (Some disk) held = refl
+named_loaded None None held = refl
+named_loaded (Some name) None held = absurd held
+named_loaded None (Some disk) held = absurd held
+
+pub held_none : (name : Option (List ℕ)) (medium : Option Disk) → is_some medium ≡ false → IsHeld name medium → IsHeld name None
+held_none name None empty held = held
+held_none name (Some disk) empty held = absurd (true≢false empty)
+
+pub held_is : (name : Option (List ℕ)) (medium : Option Disk) (disk : Disk) → medium ≡ Some disk → IsHeld name medium → IsDisk disk
+held_is (Some name) (Some other) disk is held = subst IsDisk (cc is) held
+held_is None (Some other) disk is held = absurd held
+held_is name None disk is held = absurd (cc is)
+
+changes_valid : (written : Written) (disk : Disk) (changes : List Change) (after : Disk) → IsDisk disk → ChangesDisk written disk changes after → IsDisk after
+changes_valid written disk [] after valid is = subst IsDisk (sym is) valid
+changes_valid written disk (change ∷ later) after valid is = changes_valid written is.0 later after is.1.cut.valid is.2
+
+lays_valid : (format : Format) (disk : Disk) (layings : List Laying) (after : Disk) → IsDisk disk → LaysDisk format disk layings after → IsDisk after
+lays_valid format disk [] after valid is = subst IsDisk (sym is) valid
+lays_valid format disk (laying ∷ later) after valid is = lays_valid format is.0 later after is.1.laid.valid is.2
+
+pub reach_held : (name : Option (List ℕ)) (written : Written) (before : Option Disk) (changes : List Change) (after : Option Disk)
+    → IsHeld name before → Reaches written before changes after → IsHeld name after
+reach_held (Some name) written (Some disk) changes (Some after) held reach = changes_valid written disk changes after held reach
+reach_held None written (Some disk) changes (Some after) held reach = absurd held
+reach_held name written (Some disk) changes None held reach = absurd reach
+reach_held name written None changes after held reach = subst (IsHeld name) (sym reach.1) held
+
+pub lays_held : (name : Option (List ℕ)) (format : Format) (before : Option Disk) (layings : List Laying) (after : Option Disk)
+    → IsHeld name before → Lays format before layings after → IsHeld name after
+lays_held (Some name) format (Some disk) layings (Some after) held lays = lays_valid format disk layings after held lays
+lays_held None format (Some disk) layings (Some after) held lays = absurd held
+lays_held name format (Some disk) layings None held lays = absurd lays
+lays_held name format None layings after held lays = subst (IsHeld name) (sym lays.1) held
+
+-- ---- one step
+
+-- so the bays have these names, and what holds the file of a disk is that
+pub record IsKept (Holds : List ℕ → Type 0) (names : Names) (state : State) (told : Option Files) : Type 0 where
+  pub files : Files
+  pub told_is : told ≡ Some files
+  pub named : state.names ≡ names
+  pub held : AreHeld names state.station.bays
+  pub holds : (name : List ℕ) → Holds name → IsDiskFile told name
+
+-- by the order of refusals: a medium goes in, or nothing changes
+pub choose : {P : Type 0} {Q : Reason → Type 0} (F : Names → Type 0) (names put : Names) (good loaded : Bool)
+    → MatchOption (unless_bad good (if loaded then Some reason.Busy else None)) P Q → (good ≡ true → loaded ≡ false → P → F put)
+    → ((cause : Reason) → Q cause → F names)
+    → F (if good then (if loaded then names else put) else names)
+choose F names put true true holds done refused = refused reason.Busy holds
+choose F names put true false holds done refused = done refl refl holds
+choose F names put false loaded holds done refused = refused (reason.Driver code.BadRequest) holds
+
+-- or one comes out
+pub choose_out : {P : Type 0} {Q : Reason → Type 0} (F : Names → Type 0) (names put : Names) (good loaded : Bool)
+    → MatchOption (unless_bad good (if loaded then None else Some reason.Empty)) P Q → (P → F put)
+    → ((cause : Reason) → (good ≡ true → loaded ≡ true → ⊥) → Q cause → F names) → F (if good then (if loaded then put else names) else names)
+choose_out F names put true true holds done refused = done holds
+choose_out F names put true false holds done refused = refused reason.Empty (λ a b. true≢false (sym b)) holds
+choose_out F names put false loaded holds done refused = refused (reason.Driver code.BadRequest) (λ a b. true≢false (sym a)) holds
+
+-- a medium that isn't refused goes into a free bay
+pub goes_in : (good loaded : Bool) → unless_bad good (if loaded then Some reason.Busy else None) ≡ None → (good && not loaded) ≡ true
+goes_in true true e = absurd (cc e)
+goes_in true false e = refl
+goes_in false loaded e = absurd (cc e)
+
+pub both_free : (good loaded : Bool) → good ≡ true → loaded ≡ false → (good && not loaded) ≡ true
+both_free good loaded e f = rw (e, f) refl
+
+pub not_loaded : (good loaded : Bool) (next : Option Reason) → unless_bad good (if loaded then Some reason.Busy else next) ≡ None → loaded ≡ false
+not_loaded true true next e = absurd (cc e)
+not_loaded true false next e = refl
+not_loaded false loaded next e = absurd (cc e)

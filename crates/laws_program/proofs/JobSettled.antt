@@ -1,0 +1,108 @@
+-- Two runs of one job over machines where nothing is left that could go wrong.
+use Rattle.std.proofs.Common.{◌≡◌, ◌∙◌, ℕ, List, [], ◌∷◌, length, Some, refl, ap, sym, subst, inl, inr}
+use Rattle.std.specs.Prelude.{◌⊎◌}
+use Rattle.flop_base.specs.Shelf.{Files}
+use Rattle.flop_base.specs.Counters.{DriveCounts}
+use Rattle.flop_base.specs.declared.answers.Status.{Status}
+use Rattle.flop_base.specs.declared.answers.Status.TheVariants as status
+use Rattle.sector_model.specs.Faults.{Blames}
+use Rattle.sector_model.specs.States.{State}
+use Rattle.sector_model.specs.Runs.{Taken}
+use Rattle.sector_model.specs.Plays.{World}
+use Rattle.laws_program.specs.Determined.{AreBytes, BeginAlike, AreRegularBefore, AnswersAgree, IsFreeEnd, EndAlike, EndAlikeUnlessFree}
+use Rattle.laws_program.proofs.PlaysAgree.{answers_determined}
+use Rattle.floppy_words.specs.declared.form.Form.TheVariants as form
+use Rattle.text_commands.specs.JobRounds.{world}
+use Rattle.floppy_tools.specs.Programs.{DoesOrStarves, AsAsked, StarvesWords}
+use Rattle.floppy_tools.specs.Performed.{Stand, RanOver}
+use Rattle.laws_program.specs.Disturbed.{IsSound}
+use Rattle.laws_program.specs.Ends.{EndsOutside}
+use Rattle.laws_program.proofs.OnBoards.{nothing_left}
+
+-- any course agrees with none
+none_agree : (state : State) (course : List Taken) → AnswersAgree state course []
+none_agree state [] = tt
+none_agree state (taken ∷ later) = tt
+
+both_settled : (job : List ℕ) (one one_after two two_after : World) (course other : List Taken) (ended other_ended : Status) → BeginAlike one two
+    → DoesOrStarves (form.Play job) one course one_after ended → DoesOrStarves (form.Play job) two other two_after other_ended
+    → AnswersAgree one.state course other
+    × (AreRegularBefore one.state course → EndAlikeUnlessFree one two course other one_after two_after ended other_ended)
+both_settled job one one_after two two_after course other ended other_ended begins (AsAsked plays) (AsAsked too) =
+    answers_determined job one one_after two two_after course other ended other_ended begins plays too
+both_settled job one one_after two two_after course other ended other_ended begins (StarvesWords nothing idle) too = (
+  subst (λ (row : List Taken). AnswersAgree one.state row other) (sym nothing) tt,
+  λ regular. inl (subst IsFreeEnd (sym idle.status) tt),
+)
+both_settled job one one_after two two_after course other ended other_ended begins (AsAsked plays) (StarvesWords nothing idle) = (
+  subst (λ (row : List Taken). AnswersAgree one.state course row) (sym nothing) (none_agree one.state course),
+  λ regular. inr (inl (subst IsFreeEnd (sym idle.status) tt)),
+)
+
+-- what the outside ended was counted
+free_counted : (old new : Stand) (ended : Status) → Blames (ended ≡ status.FileFault) old.desk.shelf_faults new.desk.shelf_faults
+    → Blames (ended ≡ status.SinkFault) old.desk.sink_faults new.desk.sink_faults → IsFreeEnd ended → EndsOutside old new ended
+free_counted old new status.NoMemory shelf sink free = tt
+free_counted old new status.FileFault shelf sink free = shelf.rose refl
+free_counted old new status.SinkFault shelf sink free = sink.rose refl
+free_counted old new status.AllOk shelf sink free = free
+free_counted old new status.SomeRefused shelf sink free = free
+free_counted old new status.BadImage shelf sink free = free
+free_counted old new status.Absent shelf sink free = free
+free_counted old new status.BadJob shelf sink free = free
+free_counted old new status.BadWords shelf sink free = free
+
+module _ (job : List ℕ) (spares other_spares : List DriveCounts) (old new other_old other_new : Stand) (ended other_ended : Status) (files : Files)
+    (one : RanOver (Some (form.Play job)) spares old new ended) (two : RanOver (Some (form.Play job)) other_spares other_old other_new other_ended) where
+  abbrev first : World
+  first = world one.runs.start old.desk.desk.files old.desk.desk.report
+
+  abbrev second : World
+  second = world two.runs.start other_old.desk.desk.files other_old.desk.desk.report
+
+  abbrev first_after : World
+  first_after = world one.runs.last new.desk.desk.files new.desk.desk.report
+
+  abbrev second_after : World
+  second_after = world two.runs.last other_new.desk.desk.files other_new.desk.desk.report
+
+  -- as many spare drives
+  same_spares : length other_spares ≡ length spares → two.runs.start.station.spares ≡ one.runs.start.station.spares
+  same_spares many =
+      sym two.runs.set_up.fresh.spares ∙ ap (λ (d : List DriveCounts). length d) two.runs.set_up.starts.spares_are ∙ many
+      ∙ sym (ap (λ (d : List DriveCounts). length d) one.runs.set_up.starts.spares_are) ∙ one.runs.set_up.fresh.spares
+
+  pub job_settled : IsSound old.board spares → IsSound other_old.board other_spares → length other_spares ≡ length spares
+      → old.desk.desk.files ≡ Some files → other_old.desk.desk.files ≡ Some files → AreBytes files
+      → AnswersAgree one.runs.start one.runs.runs.course two.runs.runs.course
+      × (AreRegularBefore one.runs.start one.runs.runs.course
+      → EndsOutside old new ended ⊎ EndsOutside other_old other_new other_ended
+      ⊎ EndAlike first second one.runs.runs.course two.runs.runs.course first_after second_after ended other_ended)
+  job_settled sound other_sound many told told_too bytes =
+      let set_up = one.runs.set_up in
+      let other_set_up = two.runs.set_up in
+      let begins : BeginAlike first second = record {
+        first = record {
+          fresh = set_up.fresh;
+          nothing_left = nothing_left old.board spares one.runs.start.station set_up.fresh set_up.starts sound;
+        };
+        second = record {
+          fresh = other_set_up.fresh;
+          nothing_left = nothing_left other_old.board other_spares two.runs.start.station other_set_up.fresh other_set_up.starts other_sound;
+        };
+        spares = same_spares many;
+        names = other_set_up.names ∙ sym set_up.names;
+        files = files;
+        told = told;
+        told_too = told_too;
+        bytes = bytes;
+      } in
+      let both = both_settled job first first_after second second_after one.runs.runs.course two.runs.runs.course ended other_ended begins
+      one.runs.runs.does two.runs.runs.does in (
+        both.0,
+        λ regular. elim (both.1 regular) [
+          | inl free ↦ inl (free_counted old new ended one.shelf_faults one.sink_faults free)
+          | inr (inl free) ↦ inr (inl (free_counted other_old other_new other_ended two.shelf_faults two.sink_faults free))
+          | inr (inr alike) ↦ inr (inr alike)
+        ],
+      )

@@ -1,0 +1,299 @@
+-- Each step of a run keeps what stands in the bays and under their names.
+use Rattle.std.proofs.Common.{◌≡◌, ◌∙◌, ℕ, Bool, true, false, true≢false, List, [], ◌∷◌, Option, Some, None, Result, Ok, Err, refl, ap, sym, subst, inl, inr}
+use Rattle.std.specs.Prelude.{is_some, MatchBool, if◌then◌else◌}
+use Rattle.std.specs.List.{list_all}
+use Rattle.std.proofs.lemmas.Bool.{leb-true}
+use Rattle.flop_base.specs.Shelf.{Files, stored}
+use Rattle.flop_base.specs.declared.answers.Code.{Code}
+use Rattle.flop_base.specs.declared.answers.Code.TheVariants as code
+use Rattle.flop_base.specs.declared.answers.Rate.{Rate}
+use Rattle.flop_base.specs.declared.answers.Rate.TheVariants.{R500, R250}
+use Rattle.flop_base.specs.declared.key.Chrn.{Chrn}
+use Rattle.raw_image.specs.Disk.{Disk, IsDisk}
+use Rattle.raw_image.specs.Image.{file_of}
+use Rattle.flop_base.specs.Bays.{Two, in_bay, with_bay}
+use Rattle.floppy_requests.specs.declared.request.Request.{Request}
+use Rattle.floppy_requests.specs.declared.request.Request.TheVariants as request
+use Rattle.sector_model.specs.declared.reply.Reply.{Reply}
+use Rattle.sector_model.specs.Stations.{StationState, Bay, Becomes, Stays, bay_of, set_bay, fresh_bay}
+use Rattle.sector_model.specs.States.{State, IsSame}
+use Rattle.sector_model.specs.Orders.{read_refusal, write_refusal, format_refusal, rate_refusal, is_bay, IsRefusedAtOnce}
+use Rattle.sector_model.specs.Calls.{Acks, AcksDrive}
+use Rattle.sector_model.specs.Reads.{ReadsDrive}
+use Rattle.sector_model.specs.Writes.{WritesTo}
+use Rattle.sector_model.specs.Formats.{FormatsTo}
+use Rattle.sector_model.specs.Steps.{Step, IsImageOf, IsDriverCall, refusal_of, spare_refusal, is_loaded, is_blank_request, blank_of}
+use Rattle.sector_model.specs.Runs.{Taken, Run, requests_of}
+use Rattle.laws_commands.proofs.Prepared.{blank_valid}
+use Rattle.laws_commands.proofs.Steps.{and_both}
+use Rattle.laws_program.specs.Inserted.{IsDiskFile, Names, named_by, IsStoredBy, HoldsBy, InsertsDisk}
+use Rattle.laws_program.proofs.Stepping.{either, either_is}
+use Rattle.laws_program.proofs.Inserting.{IsHeld, AreHeld, IsKept, held_in, held_with, held_still, held_none, held_is, named_loaded, reach_held, lays_held, stored_last, stored_still, inserted_disk, choose, choose_out, both_free, not_loaded}
+
+-- the request neither puts a medium in nor takes one out, nor exchanges a drive
+abbrev pub keeps_media : Request → Bool
+keeps_media (request.Insert bay name) = false
+keeps_media (request.Blank bay name cylinders) = false
+keeps_media (request.BlankDd bay name cylinders) = false
+keeps_media (request.Eject bay) = false
+keeps_media (request.Unit bay) = false
+keeps_media (request.Ack bay) = true
+keeps_media (request.Read bay key address) = true
+keeps_media (request.Write bay key address) = true
+keeps_media (request.WriteDeleted bay key address) = true
+keeps_media (request.Format bay c h) = true
+keeps_media (request.Fill address count byte) = true
+keeps_media (request.Dump address count) = true
+keeps_media (request.SetRate bay rate) = true
+keeps_media (request.Tries tries) = true
+
+module _ (Holds : List ℕ → Type 0) (names : Names) (old : State) (told : Option Files) (kept : IsKept Holds names old told) where
+  -- where the bays are still those
+  on_bays : (new : State) (after : Option Files) (bays : Two Bay) → new.station.bays ≡ bays → AreHeld names bays → new.names ≡ old.names → after ≡ told
+      → IsKept Holds names new after
+  on_bays new after bays is held same still = record {
+    files = kept.files;
+    told_is = still ∙ kept.told_is;
+    named = same ∙ kept.named;
+    held = subst (AreHeld names) (sym is) held;
+    holds = λ name known. subst (λ (f : Option Files). IsDiskFile f name) (sym still) (kept.holds name known);
+  }
+
+  stays_kept : (new : State) (after : Option Files) → Stays old.station new.station → new.names ≡ old.names → after ≡ told → IsKept Holds names new after
+  stays_kept new after stays same still = on_bays new after old.station.bays (ap (λ (s : StationState). s.bays) stays) kept.held same still
+
+  pub same_kept : (new : State) (after : Option Files) → IsSame old new → after ≡ told → IsKept Holds names new after
+  same_kept new after same still = stays_kept new after same.stays same.names still
+
+  -- a bay that has what its name asks for
+  bay_kept : (new : State) (after : Option Files) (at : ℕ) (x : Bay) → new.station.bays ≡ with_bay old.station.bays at x → IsHeld (in_bay names at) x.medium
+      → new.names ≡ old.names → after ≡ told → IsKept Holds names new after
+  bay_kept new after at x is held same still =
+      on_bays new after (with_bay old.station.bays at x) is (held_still names old.station.bays at x kept.held held) same still
+
+  here : (at : ℕ) → IsHeld (in_bay names at) (bay_of old.station at).medium
+  here at = held_in names old.station.bays at kept.held
+
+  write_kept : (new : State) (after : Option Files) (at address : ℕ) (key : Chrn) (deleted : Bool) (called : Result (Unit {0}) Code)
+      → IsDriverCall old told new after → WritesTo at key address deleted old.station called new.station → IsKept Holds names new after
+  write_kept new after at address key deleted called call writes =
+      either (write_refusal old.station at key address) writes
+      (λ does. bay_kept new after at _ (ap (λ (s : StationState). s.bays) does.becomes)
+      (reach_held (in_bay names at) _ (bay_of old.station at).medium does.changes (bay_of new.station at).medium (here at) does.reach) call.names call.files)
+      (λ code refused. stays_kept new after refused.stays call.names call.files)
+
+  format_kept : (new : State) (after : Option Files) (at c h gap3 fill : ℕ) (called : Result (Unit {0}) Code)
+      → IsDriverCall old told new after → FormatsTo at c h gap3 fill old.station called new.station → IsKept Holds names new after
+  format_kept new after at c h gap3 fill called call formats =
+      either (format_refusal old.station at c h gap3) formats
+      (λ does. bay_kept new after at _ (ap (λ (s : StationState). s.bays) does.becomes)
+      (lays_held (in_bay names at) _ (bay_of old.station at).medium does.layings (bay_of new.station at).medium (here at) does.lays) call.names call.files)
+      (λ code refused. stays_kept new after refused.stays call.names call.files)
+
+  ack_done : (new : State) (after : Option Files) (at : ℕ) (called : Result (Unit {0}) Code) → IsDriverCall old told new after
+      → AcksDrive at old.station called new.station → IsKept Holds names new after
+  ack_done new after at (Ok done) call acks =
+      let is = acks.done refl in
+      bay_kept new after at _ (ap (λ (s : StationState). s.bays) is.becomes) (subst (IsHeld (in_bay names at)) is.medium (here at)) call.names call.files
+  ack_done new after at (Err code) call acks = bay_kept new after at _ (ap (λ (s : StationState). s.bays) acks.refused.becomes) (here at) call.names call.files
+
+  ack_kept : (new : State) (after : Option Files) (at : ℕ) (called : Result (Unit {0}) Code) → IsDriverCall old told new after
+      → Acks at old.station called new.station → IsKept Holds names new after
+  ack_kept new after at called call acks = go (is_bay at) acks
+    where
+      go : (b : Bool) → MatchBool b (AcksDrive at old.station called new.station) (IsRefusedAtOnce code.BadRequest old.station called new.station)
+          → IsKept Holds names new after
+      go true does = ack_done new after at called call does
+      go false refused = stays_kept new after refused.stays call.names call.files
+
+  read_kept : (new : State) (after : Option Files) (at address : ℕ) (key : Chrn) (called : Result Bool Code) → IsDriverCall old told new after
+      → ReadsDrive at key address old.station called new.station → IsKept Holds names new after
+  read_kept new after at address key (Ok deleted) call reads =
+      on_bays new after old.station.bays (ap (λ (s : StationState). s.bays) reads.found.becomes) kept.held call.names call.files
+  read_kept new after at address key (Err code) call reads =
+      on_bays new after old.station.bays (ap (λ (s : StationState). s.bays) reads.refused.becomes) kept.held call.names call.files
+
+  -- a step that keeps the media
+  pub media_kept : (asked : Request) (answer : Reply) (new : State) (after : Option Files) → keeps_media asked ≡ true → Step asked old told answer new after
+      → IsKept Holds names new after
+  media_kept (request.Insert at name) answer new after e step = absurd (true≢false (sym e))
+  media_kept (request.Blank at name count) answer new after e step = absurd (true≢false (sym e))
+  media_kept (request.BlankDd at name count) answer new after e step = absurd (true≢false (sym e))
+  media_kept (request.Eject at) answer new after e step = absurd (true≢false (sym e))
+  media_kept (request.Unit at) answer new after e step = absurd (true≢false (sym e))
+  media_kept (request.Ack at) answer new after e step = ack_kept new after at step.1.0 step.0 step.1.2
+  media_kept (request.Read at key address) answer new after e step =
+      either (read_refusal old.station at key address) step.1.2 (λ does. read_kept new after at address key step.1.0 step.0 does)
+      (λ code refused. stays_kept new after refused.stays step.0.names step.0.files)
+  media_kept (request.Write at key address) answer new after e step = write_kept new after at address key false step.1.0 step.0 step.1.2
+  media_kept (request.WriteDeleted at key address) answer new after e step = write_kept new after at address key true step.1.0 step.0 step.1.2
+  media_kept (request.Format at c h) answer new after e step = format_kept new after at c h _ _ step.1.0 step.0 step.1.2
+  media_kept (request.Fill address count byte) answer new after e step =
+      either (refusal_of old (request.Fill address count byte)) step
+      (λ does. on_bays new after old.station.bays (ap (λ (s : StationState). s.bays) does.2.becomes) kept.held does.2.names does.1)
+      (λ cause refused. same_kept new after refused.same refused.files)
+  media_kept (request.Dump address count) answer new after e step =
+      either (refusal_of old (request.Dump address count)) step
+      (λ does. same_kept new after does.2 does.1) (λ cause refused. same_kept new after refused.same refused.files)
+  media_kept (request.SetRate at rate) answer new after e step =
+      either (rate_refusal old.station at) step.1.2
+      (λ does. bay_kept new after at _ (ap (λ (s : StationState). s.bays) does.becomes) (here at) step.0.names step.0.files)
+      (λ code refused. stays_kept new after refused.stays step.0.names step.0.files)
+  media_kept (request.Tries tries) answer new after e step =
+      on_bays new after old.station.bays (ap (λ (s : StationState). s.bays) step.2.becomes) kept.held step.0.names step.0.files
+
+  -- ---- media that go in and out
+
+  pub loaded_is : (at : ℕ) → is_loaded old at ≡ is_some (in_bay names at)
+  loaded_is at = named_loaded (in_bay names at) (bay_of old.station at).medium (here at)
+
+  abbrev Behind : Request → State → Option Files → Names → Type 0
+  Behind asked new after now = IsKept (HoldsBy Holds names asked) now new after
+
+  pub behind : (asked : Request) (new : State) (after : Option Files) → ((name : List ℕ) → IsStoredBy names asked name → ⊥) → IsKept Holds names new after
+      → Behind asked new after names
+  behind asked new after none is = record {
+    files = is.files;
+    told_is = is.told_is;
+    named = is.named;
+    held = is.held;
+    holds = λ name known. elim known [ inl before ↦ is.holds name before | inr now ↦ absurd (none name now) ];
+  }
+
+  -- a valid disk went in
+  went_in : (asked : Request) (new : State) (after : Option Files) (at : ℕ) (name : List ℕ) (disk : Disk)
+      → ((other : List ℕ) → IsStoredBy names asked other → ⊥) → IsDisk disk → new.names ≡ with_bay old.names at (Some name)
+      → Becomes (set_bay old.station at (fresh_bay (Some disk))) new.station → after ≡ told
+      → Behind asked new after (with_bay names at (Some name))
+  went_in asked new after at name disk none valid named becomes still = record {
+    files = kept.files;
+    told_is = still ∙ kept.told_is;
+    named = named ∙ ap (λ (n : Names). with_bay n at (Some name)) kept.named;
+    held = subst (AreHeld (with_bay names at (Some name))) (sym (ap (λ (s : StationState). s.bays) becomes))
+        (held_with names old.station.bays at (Some name) (fresh_bay (Some disk)) kept.held valid);
+    holds = λ other known. elim known [
+      | inl before ↦ subst (λ (f : Option Files). IsDiskFile f other) (sym still) (kept.holds other before)
+      | inr now ↦ absurd (none other now)
+    ];
+  }
+
+  by_load : (asked : Request) (new : State) (after : Option Files) (at : ℕ) (good : Bool) (put : Names)
+      → Behind asked new after (if good then (if is_loaded old at then names else put) else names)
+      → Behind asked new after (if good then (if is_some (in_bay names at) then names else put) else names)
+  by_load asked new after at good put is =
+      subst (λ (b : Bool). Behind asked new after (if good then (if b then names else put) else names)) (loaded_is at) is
+
+  blank_kept : (asked : Request) (new : State) (after : Option Files) (at count : ℕ) (rate : Rate) (name : List ℕ)
+      → ((other : List ℕ) → IsStoredBy names asked other → ⊥) → is_blank_request at count ≡ true → new.names ≡ with_bay old.names at (Some name)
+      → Becomes (set_bay old.station at (fresh_bay (Some (blank_of count rate)))) new.station → after ≡ told
+      → Behind asked new after (with_bay names at (Some name))
+  blank_kept asked new after at count rate name none good named becomes still =
+      let most = and_both _ _ good in
+      let least = and_both _ _ most.0 in
+      went_in asked new after at name (blank_of count rate) none (blank_valid count rate (leb-true 1 count least.1) (leb-true count 80 most.1)) named becomes still
+
+  insert_kept : (at : ℕ) (name : List ℕ) (answer : Reply) (new : State) (after : Option Files) → InsertsDisk Holds names (request.Insert at name)
+      → Step (request.Insert at name) old told answer new after → Behind (request.Insert at name) new after (named_by names (request.Insert at name))
+  insert_kept at name answer new after known step =
+      let asked = request.Insert at name in
+      by_load asked new after at (is_bay at) (with_bay names at (Some name))
+      (choose (Behind asked new after) names (with_bay names at (Some name)) (is_bay at) (is_loaded old at) step
+      (λ good empty does.
+      let put = does.2 in
+      let holds = known (both_free (is_bay at) (is_some (in_bay names at)) good (sym (loaded_is at) ∙ empty)) in
+      let is = subst (λ (f : Option Files). IsDiskFile f name) kept.told_is (kept.holds name holds) in
+      let valid = inserted_disk kept.files name put.0 is (subst (λ (f : Option Files). IsImageOf f name put.0) kept.told_is put.1) in
+      went_in asked new after at name put.0 (λ other none. none) valid put.2.names put.2.exchanged.becomes does.1)
+      (λ cause refused. behind asked new after (λ other none. none) (same_kept new after refused.same refused.files)))
+
+  -- one comes out, and is stored
+  ejected_kept : (at : ℕ) (new : State) (after : Option Files) (disk : Disk) (name : List ℕ) → (bay_of old.station at).medium ≡ Some disk
+      → in_bay old.names at ≡ Some name → new.names ≡ with_bay old.names at None → Becomes (set_bay old.station at (fresh_bay None)) new.station
+      → after ≡ stored told name (file_of disk) → Behind (request.Eject at) new after (with_bay names at None)
+  ejected_kept at new after disk name medium under named becomes stores =
+      let valid = held_is (in_bay names at) (bay_of old.station at).medium disk medium (here at) in
+      record {
+        files = _;
+        told_is = stores ∙ ap (λ (f : Option Files). stored f name (file_of disk)) kept.told_is;
+        named = named ∙ ap (λ (n : Names). with_bay n at None) kept.named;
+        held = subst (AreHeld (with_bay names at None)) (sym (ap (λ (s : StationState). s.bays) becomes))
+            (held_with names old.station.bays at None (fresh_bay None) kept.held tt);
+        holds = λ other known. subst (λ (f : Option Files). IsDiskFile f other) (sym stores) (elim known as (λ _. IsDiskFile (stored told name (file_of disk)) other) [
+          | inl before ↦ stored_still told name other disk valid (kept.holds other before)
+          | inr now ↦
+              let one = ap (λ (n : Names). in_bay n at) kept.named in
+              let two = now.1 in
+              let same : name ≡ other = cc (one, two, under) in
+              subst (λ (n : List ℕ). IsDiskFile (stored told name (file_of disk)) n) same (stored_last told name disk valid)
+        ]);
+      }
+
+  eject_kept : (at : ℕ) (answer : Reply) (new : State) (after : Option Files) → Step (request.Eject at) old told answer new after
+      → Behind (request.Eject at) new after (named_by names (request.Eject at))
+  eject_kept at answer new after step =
+      let asked = request.Eject at in
+      subst (λ (b : Bool). Behind asked new after (if is_bay at then (if b then with_bay names at None else names) else names)) (loaded_is at)
+      (choose_out (Behind asked new after) names (with_bay names at None) (is_bay at) (is_loaded old at) step
+      (λ does. ejected_kept at new after does.1.0 does.1.1 does.1.2 does.1.3 does.1.4.names does.1.4.exchanged.becomes does.1.5)
+      (λ cause none refused. behind asked new after (λ other now. none now.0 (loaded_is at ∙ ap (λ (n : Option (List ℕ)). is_some n) now.1))
+      (same_kept new after refused.same refused.files)))
+
+  unit_kept : (at : ℕ) (answer : Reply) (new : State) (after : Option Files) → Step (request.Unit at) old told answer new after
+      → Behind (request.Unit at) new after names
+  unit_kept at answer new after step =
+      let asked = request.Unit at in
+      either_is (refusal_of old asked) step
+      (λ free does.
+      let empty = not_loaded (is_bay at) (is_loaded old at) (spare_refusal old) free in
+      behind asked new after (λ other none. none)
+      (bay_kept new after at (fresh_bay None) (ap (λ (s : StationState). s.bays) does.3.becomes)
+      (held_none (in_bay names at) (bay_of old.station at).medium empty (here at)) does.2 does.1))
+      (λ cause refused. behind asked new after (λ other none. none) (same_kept new after refused.same refused.files))
+
+  pub step_kept : (asked : Request) (answer : Reply) (new : State) (after : Option Files) → InsertsDisk Holds names asked → Step asked old told answer new after
+      → Behind asked new after (named_by names asked)
+  step_kept (request.Insert at name) answer new after known step = insert_kept at name answer new after known step
+  step_kept (request.Blank at name count) answer new after known step =
+      let asked = request.Blank at name count in
+      by_load asked new after at (is_blank_request at count) (with_bay names at (Some name))
+      (choose (Behind asked new after) names (with_bay names at (Some name)) (is_blank_request at count) (is_loaded old at) step
+      (λ good empty does. blank_kept asked new after at count R500 name (λ other none. none) good does.2.names does.2.exchanged.becomes does.1)
+      (λ cause refused. behind asked new after (λ other none. none) (same_kept new after refused.same refused.files)))
+  step_kept (request.BlankDd at name count) answer new after known step =
+      let asked = request.BlankDd at name count in
+      by_load asked new after at (is_blank_request at count) (with_bay names at (Some name))
+      (choose (Behind asked new after) names (with_bay names at (Some name)) (is_blank_request at count) (is_loaded old at) step
+      (λ good empty does. blank_kept asked new after at count R250 name (λ other none. none) good does.2.names does.2.exchanged.becomes does.1)
+      (λ cause refused. behind asked new after (λ other none. none) (same_kept new after refused.same refused.files)))
+  step_kept (request.Eject at) answer new after known step = eject_kept at answer new after step
+  step_kept (request.Unit at) answer new after known step = unit_kept at answer new after step
+  step_kept (request.Ack at) answer new after known step =
+      behind (request.Ack at) new after (λ other none. none) (media_kept (request.Ack at) answer new after refl step)
+  step_kept (request.Read at key address) answer new after known step =
+      behind (request.Read at key address) new after (λ other none. none) (media_kept (request.Read at key address) answer new after refl step)
+  step_kept (request.Write at key address) answer new after known step =
+      behind (request.Write at key address) new after (λ other none. none) (media_kept (request.Write at key address) answer new after refl step)
+  step_kept (request.WriteDeleted at key address) answer new after known step =
+      behind (request.WriteDeleted at key address) new after (λ other none. none) (media_kept (request.WriteDeleted at key address) answer new after refl step)
+  step_kept (request.Format at c h) answer new after known step =
+      behind (request.Format at c h) new after (λ other none. none) (media_kept (request.Format at c h) answer new after refl step)
+  step_kept (request.Fill address count byte) answer new after known step =
+      behind (request.Fill address count byte) new after (λ other none. none) (media_kept (request.Fill address count byte) answer new after refl step)
+  step_kept (request.Dump address count) answer new after known step =
+      behind (request.Dump address count) new after (λ other none. none) (media_kept (request.Dump address count) answer new after refl step)
+  step_kept (request.SetRate at rate) answer new after known step =
+      behind (request.SetRate at rate) new after (λ other none. none) (media_kept (request.SetRate at rate) answer new after refl step)
+  step_kept (request.Tries tries) answer new after known step =
+      behind (request.Tries tries) new after (λ other none. none) (media_kept (request.Tries tries) answer new after refl step)
+
+-- ---- a run
+
+-- media are kept through a course of such requests
+pub course_kept : (Holds : List ℕ → Type 0) (names : Names) (old new : State) (told after : Option Files) (course : List Taken)
+    → list_all keeps_media (requests_of course) ≡ true → Run old told course new after → IsKept Holds names old told → IsKept Holds names new after
+course_kept Holds names old new told after [] all run kept =
+    subst (λ (f : Option Files). IsKept Holds names new f) (sym run.1) (subst (λ (s : State). IsKept Holds names s told) (sym run.0) kept)
+course_kept Holds names old new told after (taken ∷ later) all run kept =
+    let parts = and_both (keeps_media taken.asked) (list_all keeps_media (requests_of later)) all in
+    course_kept Holds names taken.after new run.0 after later parts.1 run.2
+    (media_kept Holds names old told kept taken.asked taken.answer taken.after run.0 parts.0 run.1)

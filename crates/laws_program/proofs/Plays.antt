@@ -1,0 +1,97 @@
+-- What a job tells.
+use Rattle.std.proofs.Common.{◌≡◌, ◌∙◌, ℕ, Bool, List, [], ◌∷◌, ◌++◌, length, Option, Result, Ok, Err, Some, None, refl, ap, sym, subst}
+use Rattle.std.specs.Prelude.{◌||◌, IsSomeAnd, ◌≤◌}
+use Rattle.std.specs.List.{list_any}
+use Rattle.std.proofs.lemmas.List.{length-map}
+use Rattle.flop_base.specs.Shelf.{Files, file_at}
+use Rattle.flop_base.specs.Sink.{grown}
+use Rattle.flop_base.specs.declared.answers.Status.{Status}
+use Rattle.flop_base.specs.declared.answers.Status.TheVariants as status
+use Rattle.flop_base.specs.Counters.{DriveCounts}
+use Rattle.pc_bus.specs.Boards.{Board}
+use Rattle.floppy_requests.specs.Texts.{job_of}
+use Rattle.floppy_requests.specs.declared.request.Request.{Request}
+use Rattle.sector_model.specs.declared.reply.Stop.{Stop}
+use Rattle.sector_model.specs.Texts.{reply_lines, is_refusal, stop_status}
+use Rattle.sector_model.specs.Runs.{Taken, requests_of, course_lines, has_refusal}
+use Rattle.sector_model.specs.Plays.{World, Plays, There, Missing, TooLong, Faulty, Starved, PlaysParsed, PlaysRequests, Played, Stopped, BrokenOff, EndStopped, Prints, Whole, Part, IsText, most_job_bytes, whole_status}
+use Rattle.archive_commands.specs.Files.{Desk}
+use Rattle.floppy_words.specs.declared.form.Form.TheVariants as form
+use Rattle.floppy_tools.specs.Programs.{DoesOrStarves, AsAsked, StarvesWords}
+use Rattle.text_commands.specs.JobRounds.{world}
+use Rattle.floppy_tools.specs.Machines.{RunsOver}
+use Rattle.laws_commands.specs.VerifyRuns.{IsEndStatus}
+use Rattle.laws_commands.proofs.VerifyRun.{not_put, not_stop}
+use Rattle.laws_program.specs.Answered.{AnswersJob, replies_lines, answers_of}
+
+told_replies : (course : List Taken) → course_lines course ≡ replies_lines (requests_of course) (answers_of course)
+told_replies [] = refl
+told_replies (taken ∷ later) = ap (λ (rest : List (List ℕ)). reply_lines taken.asked taken.answer ++ rest) (told_replies later)
+
+some_refused : (course : List Taken) → has_refusal course ≡ list_any is_refusal (answers_of course)
+some_refused [] = refl
+some_refused (taken ∷ later) = ap (λ (rest : Bool). is_refusal taken.answer || rest) (some_refused later)
+
+pub put_end : (line : List (List ℕ)) (wanted : Status) (old new : Option (List (List ℕ))) (ended : Status) → IsEndStatus ended → Prints line wanted old new ended → ended ≡ wanted
+put_end line wanted old new ended whole (Whole is well) = well
+put_end line wanted old new ended whole (Part grows fault) = absurd (not_put ended whole fault)
+
+pub no_stop_end : (cause : Stop) (ended : Status) → IsEndStatus ended → ended ≡ stop_status cause → ⊥
+no_stop_end cause ended whole is = not_stop cause (subst IsEndStatus is whole)
+
+pub no_end : (wanted ended : Status) → IsEndStatus ended → ended ≡ wanted → (IsEndStatus wanted → ⊥) → ⊥
+no_end wanted ended whole is bad = bad (subst IsEndStatus is whole)
+
+pub text_there : (files : Files) (job text : List ℕ) → IsText (Some files) job text → file_at files job ≡ Some text
+text_there files job text told = go (file_at files job) told
+  where
+    go : (found : Option (List ℕ)) → IsSomeAnd found (λ bytes. (bytes ≡ text) × (length bytes ≤ most_job_bytes)) → found ≡ Some text
+    go (Some bytes) is = ap (λ (b : List ℕ). Some b) is.0
+    go None is = absurd is
+
+module _ (job : List ℕ) (files : Files) (old : World) (course : List Taken) (new : World) (ended : Status) (whole : IsEndStatus ended)
+    (told : old.files ≡ Some files) where
+  requests_answered : (text : List ℕ) (requests : List Request) → file_at files job ≡ Some text → job_of text ≡ Ok requests
+      → PlaysRequests requests old course new ended → AnswersJob job old course new ended
+  requests_answered text requests there spells (Played is) = record {
+    requests = requests;
+    spelled = record { files = files; text = text; tells = told; there = there; spells = spells };
+    done = record { mid = is.mid; files = is.files; run = is.run; stored = is.stored };
+    asked = sym is.all;
+    answers = answers_of course;
+    given = refl;
+    each = length-map course (λ (taken : Taken). taken.answer) ∙ sym (length-map course (λ (taken : Taken). taken.asked))
+        ∙ sym (ap (λ (row : List Request). length row) is.all);
+    report = is.report ∙ ap (λ (t : List (List ℕ)). grown old.report t) (told_replies course
+        ∙ sym (ap (λ (row : List Request). replies_lines row (answers_of course)) is.all));
+    status = is.status ∙ ap whole_status (some_refused course);
+  }
+  requests_answered text requests there spells (Stopped is) =
+      absurd (no_stop_end is.cause ended whole (put_end _ _ _ _ ended whole is.prints))
+  requests_answered text requests there spells (BrokenOff is) = absurd (not_put ended whole is.fault)
+  requests_answered text requests there spells (EndStopped is) = absurd (no_stop_end is.cause ended whole is.status)
+
+  parsed_answered : (text : List ℕ) (parsed : Result (List Request) ℕ) → file_at files job ≡ Some text → job_of text ≡ parsed
+      → PlaysParsed parsed old course new ended → AnswersJob job old course new ended
+  parsed_answered text (Ok requests) there spells plays = requests_answered text requests there spells plays
+  parsed_answered text (Err line) there spells tells = absurd (no_end status.BadJob ended whole (put_end _ _ _ _ ended whole tells.tells.prints) (λ e. e))
+
+  job_answered : Plays job old course new ended → AnswersJob job old course new ended
+  job_answered (There is) =
+      parsed_answered is.text (job_of is.text) (text_there files job is.text (subst (λ (f : Option Files). IsText f job is.text) told is.told)) refl is.plays
+  job_answered (Missing absent tells) = absurd (no_end status.Absent ended whole (put_end _ _ _ _ ended whole tells.tells.prints) (λ e. e))
+  job_answered (TooLong longer tells) = absurd (no_end status.BadJob ended whole (put_end _ _ _ _ ended whole tells.tells.prints) (λ e. e))
+  job_answered (Faulty nothing idle) = absurd (no_end status.FileFault ended whole idle.status (λ e. e))
+  job_answered (Starved nothing idle) = absurd (no_end status.NoMemory ended whole idle.status (λ e. e))
+
+does_answered : (job : List ℕ) (files : Files) (old : World) (course : List Taken) (new : World) (ended : Status) → IsEndStatus ended
+    → old.files ≡ Some files → DoesOrStarves (form.Play job) old course new ended → AnswersJob job old course new ended
+does_answered job files old course new ended whole told (AsAsked does) = job_answered job files old course new ended whole told does
+does_answered job files old course new ended whole told (StarvesWords nothing idle) = absurd (subst IsEndStatus idle.status whole)
+
+pub play_answers : (job : List ℕ) (spares : List DriveCounts) (old new : Board) (before after : Desk) (ended : Status) (files : Files)
+    → (over : RunsOver (Some (form.Play job)) old spares before new after ended) → IsEndStatus ended → before.files ≡ Some files
+    → AnswersJob job (world over.start before.files before.report) over.runs.course (world over.last after.files after.report) ended
+play_answers job spares old new before after ended files over whole told =
+    does_answered job files (world over.start before.files before.report) over.runs.course (world over.last after.files after.report) ended whole told
+    over.runs.does

@@ -1,0 +1,308 @@
+-- A protected disk that stands under a name before a run stands there after it.
+use Rattle.std.proofs.Common.{◌≡◌, ◌∙◌, ℕ, Bool, true, false, true≢false, cond, List, [], ◌∷◌, length, Option, Some, None, Result, Ok, Err, refl, ap, sym, subst, inr}
+use Rattle.std.specs.Prelude.{◌≤◌, ◌==◌, ◌-◌, not, is_some, IsSomeAnd, if◌then◌else◌}
+use Rattle.std.specs.Option.{option_map_or}
+use Rattle.std.specs.Ordering.{nat_cmp, eq_by_cmp}
+use Rattle.std.specs.Cmp.Lexicographic.{slice_cmp}
+use Rattle.std.specs.FinMap as fin
+use Rattle.std.proofs.lemmas.Map.Views.{tells_apart}
+use Rattle.flop_base.specs.Shelf.{Files, file_at, stored}
+use Rattle.flop_base.specs.declared.answers.Status.{Status}
+use Rattle.raw_image.specs.Disk.{Disk, IsDisk}
+use Rattle.raw_image.specs.Image.{image_of, file_of}
+use Rattle.raw_image.proofs.Images.{image_again}
+use Rattle.flop_base.specs.Bays.{Two, both, in_bay, with_bay}
+use Rattle.flop_base.specs.Counters.{DriveCounts}
+use Rattle.pc_bus.specs.Boards.{Board}
+use Rattle.floppy_requests.specs.declared.request.Request.{Request}
+use Rattle.floppy_requests.specs.declared.request.Request.TheVariants as request
+use Rattle.sector_model.specs.declared.reply.Reply.{Reply}
+use Rattle.sector_model.specs.Stations.{Bay, bay_of, set_bay, fresh_bay}
+use Rattle.sector_model.specs.States.{State, IsSame, ChangesMedium}
+use Rattle.sector_model.specs.Orders.{is_bay}
+use Rattle.sector_model.specs.Steps.{Step, StoresMedium, IsImageOf, refusal_of, spare_refusal, is_loaded, most_image_bytes}
+use Rattle.sector_model.specs.Runs.{Taken, Run, requests_of, Ends, EndsBay, Stored, Left, EndStopsAt, AtFirst, AtSecond}
+use Rattle.sector_model.specs.Plays.{World, Plays, There, Missing, TooLong, Faulty, Starved, PlaysParsed, PlaysRequests, Played, Stopped, BrokenOff, EndStopped}
+use Rattle.commands.proofs.Passed.{run_both}
+use Rattle.archive_commands.specs.Files.{Desk}
+use Rattle.floppy_words.specs.declared.form.Form.TheVariants as form
+use Rattle.text_commands.specs.JobRounds.{world}
+use Rattle.floppy_tools.specs.Programs.{DoesOrStarves, AsAsked, StarvesWords}
+use Rattle.floppy_tools.specs.Machines.{RunsOver}
+use Rattle.laws_commands.proofs.Verified.{one_image}
+use Rattle.laws_program.specs.Inserted.{Names}
+use Rattle.laws_program.specs.Steps.{is_same_bay, exchanges, IsGuarded}
+use Rattle.laws_program.specs.Guarded.{BlanksUnder, BlanksNone}
+use Rattle.laws_program.proofs.Stepping.{either, either_is, sorted, other_bay, same_bay, becomes_medium, step_keeps}
+use Rattle.laws_program.proofs.Inserting.{file_text, file_stored, not_loaded}
+
+-- ---- files
+
+abbrev IsImageText : Option (List ℕ) → Disk → Type 0
+IsImageText found disk = IsSomeAnd found (λ bytes. (length bytes ≤ most_image_bytes) × (image_of bytes ≡ Ok disk))
+
+own_image : (disk : Disk) → IsDisk disk → IsImageText (Some (file_of disk)) disk
+own_image disk valid = let text = file_text disk valid in (text.0, image_again (file_of disk) disk text.1)
+
+-- the file of the same disk is stored under the name, or that of any under another
+image_stored : (files : Files) (name other : List ℕ) (disk put : Disk) → IsDisk disk → (other ≡ name → put ≡ disk) → IsImageOf (Some files) name disk
+    → IsImageOf (Some (fin.insert files other (file_of put))) name disk
+image_stored files name other disk put valid same image =
+    subst (λ (o : Option (List ℕ)). IsImageText o disk) (sym (file_stored files other (file_of put) name))
+    (go (eq_by_cmp (slice_cmp nat_cmp) name other)
+    (λ e. sym (tells_apart (fin.slice_cmp-IsAntisymmetric fin.nat_cmp-IsAntisymmetric) name other e)))
+  where
+    go : (t : Bool) → (t ≡ true → other ≡ name) → IsImageText (cond t (Some (file_of put)) (file_at files name)) disk
+    go true is = subst (λ (d : Disk). IsImageText (Some (file_of d)) disk) (sym (same (is refl))) (own_image disk valid)
+    go false is = image
+
+-- ---- bays
+
+in_same : {T : Type 0} (two : Two T) (at bay : ℕ) (x : T) → is_same_bay at bay ≡ true → in_bay (with_bay two at x) bay ≡ x
+in_same two at bay x same = go (at == 0) (bay == 0) same
+  where
+    go : (s t : Bool) → (if s then t else not t) ≡ true
+        → (if t then (if s then record two { first = x } else record two { second = x }).first
+        else (if s then record two { first = x } else record two { second = x }).second) ≡ x
+    go true true e = refl
+    go true false e = absurd (true≢false (sym e))
+    go false true e = absurd (true≢false (sym e))
+    go false false e = refl
+
+-- the name has the image of the disk, and each medium of this name is that disk
+pub record IsStored (name : List ℕ) (disk : Disk) (state : State) (told : Option Files) : Type 0 where
+  pub files : Files
+  pub told_is : told ≡ Some files
+  pub image : IsImageOf (Some files) name disk
+  pub held : (bay : ℕ) → in_bay state.names bay ≡ Some name → (bay_of state.station bay).medium ≡ Some disk
+
+-- ---- one step
+
+module _ (name : List ℕ) (disk : Disk) (valid : IsDisk disk) (guarded : disk.protected ≡ true) (old : State) (told : Option Files)
+    (kept : IsStored name disk old told) where
+  abbrev Keeps : State → Option Files → Type 0
+  Keeps new after = IsStored name disk new after
+
+  on_media : (new : State) (after : Option Files) → after ≡ told
+      → ((bay : ℕ) → in_bay new.names bay ≡ Some name → (bay_of new.station bay).medium ≡ Some disk) → Keeps new after
+  on_media new after still held = record { files = kept.files; told_is = still ∙ kept.told_is; image = kept.image; held = held }
+
+  guard : (bay : ℕ) → (bay_of old.station bay).medium ≡ Some disk → IsGuarded old.station bay
+  guard bay is = inr (ap (λ (m : Option Disk). option_map_or (λ (d : Disk). d.protected) m false) is ∙ guarded)
+
+  named_still : (new : State) → new.names ≡ old.names → (bay : ℕ) → in_bay new.names bay ≡ Some name → (bay_of old.station bay).medium ≡ Some disk
+  named_still new names bay named = kept.held bay (ap (λ (n : Names). in_bay n bay) (sym names) ∙ named)
+
+  -- where protected media stay
+  same_media : (new : State) (after : Option Files) → new.names ≡ old.names → after ≡ told
+      → ((bay : ℕ) → IsGuarded old.station bay → (bay_of new.station bay).medium ≡ (bay_of old.station bay).medium) → Keeps new after
+  same_media new after names still media = on_media new after still (λ bay named.
+      let here = named_still new names bay named in
+      media bay (guard bay here) ∙ here)
+
+  refused_kept : (new : State) (after : Option Files) → IsSame old new → after ≡ told → Keeps new after
+  refused_kept new after same still = same_media new after same.names still
+      (λ bay guards. becomes_medium (record old.station { counters = new.station.counters }) new.station bay same.stays)
+
+  calm_kept : (asked : Request) (answer : Reply) (new : State) (after : Option Files) → Step asked old told answer new after
+      → ((bay : ℕ) → exchanges bay asked ≡ false) → new.names ≡ old.names → after ≡ told → Keeps new after
+  calm_kept asked answer new after step apart names still = same_media new after names still
+      (λ bay guards. step_keeps old bay guards asked told answer new after step (apart bay))
+
+  -- a bay has another medium, or none
+  changed_held : (at : ℕ) (put : Option (List ℕ)) (medium : Option Disk) (new : State) → (put ≡ Some name → medium ≡ Some disk)
+      → ChangesMedium at put medium old new → (bay : ℕ) → in_bay new.names bay ≡ Some name → (bay_of new.station bay).medium ≡ Some disk
+  changed_held at put medium new same changes bay named =
+      let now = ap (λ (n : Names). in_bay n bay) (sym changes.names) ∙ named in
+      let is = becomes_medium (set_bay old.station at (fresh_bay medium)) new.station bay changes.exchanged.becomes in
+      sorted (is_same_bay at bay)
+      (λ e. is ∙ ap (λ (b : Bay). b.medium) (in_same old.station.bays at bay (fresh_bay medium) e)
+      ∙ same (sym (in_same old.names at bay put e) ∙ now))
+      (λ e. is ∙ ap (λ (b : Bay). b.medium) (other_bay old.station.bays at bay (fresh_bay medium) e)
+      ∙ kept.held bay (sym (other_bay old.names at bay put e) ∙ now))
+
+  -- what is put in from a file of this name is the disk
+  inserted_same : (other : List ℕ) (put : Disk) → IsImageOf told other put → Some other ≡ Some name → Some put ≡ Some disk
+  inserted_same other put image is =
+      let same : other ≡ name = cc is in
+      let here = subst (λ (f : Option Files). IsImageOf f name put) kept.told_is (subst (λ (n : List ℕ). IsImageOf told n put) same image) in
+      ap (λ (d : Disk). Some d) (one_image kept.files name put disk here kept.image)
+
+  insert_kept : (at : ℕ) (other : List ℕ) (answer : Reply) (new : State) (after : Option Files) → Step (request.Insert at other) old told answer new after
+      → Keeps new after
+  insert_kept at other answer new after step =
+      either (refusal_of old (request.Insert at other)) step
+      (λ does. on_media new after does.1
+      (changed_held at (Some other) (Some does.2.0) new (inserted_same other does.2.0 does.2.1) does.2.2))
+      (λ cause refused. refused_kept new after refused.same refused.files)
+
+  blank_kept : (at : ℕ) (other : List ℕ) (put : Disk) (new : State) (after : Option Files) → (other ≡ name → ⊥)
+      → ChangesMedium at (Some other) (Some put) old new → after ≡ told → Keeps new after
+  blank_kept at other put new after differs changes still =
+      on_media new after still (changed_held at (Some other) (Some put) new (λ is. absurd (differs (cc is))) changes)
+
+  -- a medium is stored under its name
+  stores_kept : (at : ℕ) (new : State) (after : Option Files) (put : Disk) (other : List ℕ) → (bay_of old.station at).medium ≡ Some put
+      → in_bay old.names at ≡ Some other → ChangesMedium at None None old new → after ≡ stored told other (file_of put) → Keeps new after
+  stores_kept at new after put other medium named changes stores = record {
+    files = fin.insert kept.files other (file_of put);
+    told_is = stores ∙ ap (λ (f : Option Files). stored f other (file_of put)) kept.told_is;
+    image = image_stored kept.files name other disk put valid (λ is.
+        let here = kept.held at (named ∙ ap (λ (n : List ℕ). Some n) is) in
+        cc (here, medium)) kept.image;
+    held = changed_held at None None new (λ is. absurd (cc is)) changes;
+  }
+
+  pub taken_kept : (at : ℕ) (new : State) (after : Option Files) → StoresMedium at old told new after → Keeps new after
+  taken_kept at new after is = stores_kept at new after is.0 is.1 is.2 is.3 is.4 is.5
+
+  unit_kept : (at : ℕ) (answer : Reply) (new : State) (after : Option Files) → Step (request.Unit at) old told answer new after → Keeps new after
+  unit_kept at answer new after step =
+      either_is (refusal_of old (request.Unit at)) step
+      (λ free does.
+      let empty = not_loaded (is_bay at) (is_loaded old at) (spare_refusal old) free in
+      on_media new after does.1 (λ bay named.
+      let here = named_still new does.2 bay named in
+      sorted (is_same_bay at bay)
+      (λ e.
+      let loaded = ap (λ (b : Bay). is_some b.medium) (same_bay old.station.bays at bay e) ∙ ap (λ (m : Option Disk). is_some m) here in
+      absurd (true≢false (sym loaded ∙ empty)))
+      (λ e. becomes_medium (record (set_bay old.station at (fresh_bay None)) { spares = old.station.spares - 1 }) new.station bay does.3.becomes
+      ∙ ap (λ (b : Bay). b.medium) (other_bay old.station.bays at bay (fresh_bay None) e) ∙ here)))
+      (λ cause refused. refused_kept new after refused.same refused.files)
+
+  step_kept : (asked : Request) (answer : Reply) (new : State) (after : Option Files) → (BlanksUnder name asked → ⊥) → Step asked old told answer new after
+      → Keeps new after
+  step_kept (request.Insert at other) answer new after none step = insert_kept at other answer new after step
+  step_kept (request.Blank at other count) answer new after none step =
+      either (refusal_of old (request.Blank at other count)) step (λ does. blank_kept at other _ new after none does.2 does.1)
+      (λ cause refused. refused_kept new after refused.same refused.files)
+  step_kept (request.BlankDd at other count) answer new after none step =
+      either (refusal_of old (request.BlankDd at other count)) step (λ does. blank_kept at other _ new after none does.2 does.1)
+      (λ cause refused. refused_kept new after refused.same refused.files)
+  step_kept (request.Eject at) answer new after none step =
+      either (refusal_of old (request.Eject at)) step (λ does. taken_kept at new after does.1)
+      (λ cause refused. refused_kept new after refused.same refused.files)
+  step_kept (request.Unit at) answer new after none step = unit_kept at answer new after step
+  step_kept (request.Ack at) answer new after none step =
+      calm_kept (request.Ack at) answer new after step (λ bay. refl) step.0.names step.0.files
+  step_kept (request.Read at key address) answer new after none step =
+      calm_kept (request.Read at key address) answer new after step (λ bay. refl) step.0.names step.0.files
+  step_kept (request.Write at key address) answer new after none step =
+      calm_kept (request.Write at key address) answer new after step (λ bay. refl) step.0.names step.0.files
+  step_kept (request.WriteDeleted at key address) answer new after none step =
+      calm_kept (request.WriteDeleted at key address) answer new after step (λ bay. refl) step.0.names step.0.files
+  step_kept (request.Format at c h) answer new after none step =
+      calm_kept (request.Format at c h) answer new after step (λ bay. refl) step.0.names step.0.files
+  step_kept (request.Fill address count byte) answer new after none step =
+      either (refusal_of old (request.Fill address count byte)) step
+      (λ does. calm_kept (request.Fill address count byte) answer new after step (λ bay. refl) does.2.names does.1)
+      (λ cause refused. refused_kept new after refused.same refused.files)
+  step_kept (request.Dump address count) answer new after none step =
+      either (refusal_of old (request.Dump address count)) step (λ does. refused_kept new after does.2 does.1)
+      (λ cause refused. refused_kept new after refused.same refused.files)
+  step_kept (request.SetRate at rate) answer new after none step =
+      calm_kept (request.SetRate at rate) answer new after step (λ bay. refl) step.0.names step.0.files
+  step_kept (request.Tries tries) answer new after none step =
+      calm_kept (request.Tries tries) answer new after step (λ bay. refl) step.0.names step.0.files
+
+  -- the end of a bay
+  end_kept : (at : ℕ) (new : State) (after : Option Files) → EndsBay at old told new after → Keeps new after
+  end_kept at new after (Stored is) = taken_kept at new after is
+  end_kept at new after (Left is) = refused_kept new after is.same is.files
+
+-- ---- a run
+
+-- the told files have the image of the disk under the name
+abbrev pub HasImage : List ℕ → Disk → Option Files → Type 0
+HasImage name disk told = (files : Files) × (told ≡ Some files) × IsImageOf (Some files) name disk
+
+pub still : (name : List ℕ) (disk : Disk) (told after : Option Files) → after ≡ told → HasImage name disk told → HasImage name disk after
+still name disk told after same has = subst (λ (f : Option Files). HasImage name disk f) (sym same) has
+
+pub image_in : (name : List ℕ) (disk : Disk) (state : State) (told : Option Files) → IsStored name disk state told → HasImage name disk told
+image_in name disk state told kept = (kept.files, kept.told_is, kept.image)
+
+module _ (name : List ℕ) (disk : Disk) (valid : IsDisk disk) (guarded : disk.protected ≡ true) where
+  abbrev Has : State → Option Files → Type 0
+  Has state told = IsStored name disk state told
+
+  pub course_kept : (old new : State) (told after : Option Files) (course : List Taken) → BlanksNone name (requests_of course) → Run old told course new after
+      → Has old told → Has new after
+  course_kept old new told after [] none run kept =
+      subst (λ (f : Option Files). Has new f) (sym run.1) (subst (λ (s : State). Has s told) (sym run.0) kept)
+  course_kept old new told after (taken ∷ later) none run kept =
+      course_kept taken.after new run.0 after later none.1 run.2
+      (step_kept name disk valid guarded old told kept taken.asked taken.answer taken.after run.0 none.0 run.1)
+
+  pub ends_kept : (old new : State) (told after : Option Files) → Ends old told new after → Has old told → HasImage name disk after
+  ends_kept old new told after ends kept =
+      let first = end_kept name disk valid guarded old told kept 0 ends.0 ends.1 ends.2 in
+      image_in name disk new after (end_kept name disk valid guarded ends.0 ends.1 first 1 new after ends.3)
+
+  pub end_stopped : (old new : State) (told after : Option Files) → EndStopsAt old told new after → Has old told → HasImage name disk after
+  end_stopped old new told after (AtFirst drops same) kept = still name disk told after same (image_in name disk old told kept)
+  end_stopped old new told after (AtSecond mid first drops) kept =
+      image_in name disk mid after (end_kept name disk valid guarded old told kept 0 mid after first)
+
+  requests_keep : (requests : List Request) (old : World) (course : List Taken) (new : World) (ended : Status) → BlanksNone name (requests_of course)
+      → Has old.state old.files → PlaysRequests requests old course new ended → HasImage name disk new.files
+  requests_keep requests old course new ended none kept (Played is) =
+      ends_kept is.mid new.state is.files new.files is.stored (course_kept old.state is.mid old.files is.files course none is.run kept)
+  requests_keep requests old course new ended none kept (Stopped is) =
+      still name disk is.files new.files is.stops.files
+      (image_in name disk is.mid is.files (course_kept old.state is.mid old.files is.files course none is.run kept))
+  requests_keep requests old course new ended none kept (BrokenOff is) =
+      let whole = run_both old.state is.mid is.last.after old.files is.files new.files is.before (is.last ∷ []) is.run (new.files, is.step, (refl, refl)) in
+      let run = subst (λ (steps : List Taken). Run old.state old.files steps is.last.after new.files) (sym is.course_is) whole in
+      image_in name disk is.last.after new.files (course_kept old.state is.last.after old.files new.files course none run kept)
+  requests_keep requests old course new ended none kept (EndStopped is) =
+      end_stopped is.mid new.state is.files new.files is.stops (course_kept old.state is.mid old.files is.files course none is.run kept)
+
+  parsed_keep : (parsed : Result (List Request) ℕ) (old : World) (course : List Taken) (new : World) (ended : Status) → BlanksNone name (requests_of course)
+      → Has old.state old.files → PlaysParsed parsed old course new ended → HasImage name disk new.files
+  parsed_keep (Ok requests) old course new ended none kept plays = requests_keep requests old course new ended none kept plays
+  parsed_keep (Err line) old course new ended none kept plays = still name disk old.files new.files plays.tells.files (image_in name disk old.state old.files kept)
+
+  job_keeps : (job : List ℕ) (old : World) (course : List Taken) (new : World) (ended : Status) → BlanksNone name (requests_of course)
+      → Has old.state old.files → Plays job old course new ended → HasImage name disk new.files
+  job_keeps job old course new ended none kept (There is) = parsed_keep _ old course new ended none kept is.plays
+  job_keeps job old course new ended none kept (Missing absent tells) =
+      still name disk old.files new.files tells.tells.files (image_in name disk old.state old.files kept)
+  job_keeps job old course new ended none kept (TooLong longer tells) =
+      still name disk old.files new.files tells.tells.files (image_in name disk old.state old.files kept)
+  job_keeps job old course new ended none kept (Faulty nothing idle) =
+      still name disk old.files new.files (ap (λ (w : World). w.files) idle.same) (image_in name disk old.state old.files kept)
+  job_keeps job old course new ended none kept (Starved nothing idle) =
+      still name disk old.files new.files (ap (λ (w : World). w.files) idle.same) (image_in name disk old.state old.files kept)
+
+  form_keeps : (job : List ℕ) (old : World) (course : List Taken) (new : World) (ended : Status) → BlanksNone name (requests_of course)
+      → Has old.state old.files → DoesOrStarves (form.Play job) old course new ended → HasImage name disk new.files
+  form_keeps job old course new ended none kept (AsAsked does) = job_keeps job old course new ended none kept does
+  form_keeps job old course new ended none kept (StarvesWords nothing idle) =
+      still name disk old.files new.files (ap (λ (w : World). w.files) idle.same) (image_in name disk old.state old.files kept)
+
+-- a session begins with no medium
+not_named : (name : List ℕ) (bay : ℕ) → in_bay (both None) bay ≡ Some name → ⊥
+not_named name bay named = go (bay == 0) named
+  where
+    go : (b : Bool) → (if b then None else None) ≡ Some name → ⊥
+    go true e = absurd (cc e)
+    go false e = absurd (cc e)
+
+pub begun : (name : List ℕ) (disk : Disk) (start : State) (told : Option Files) (files : Files) → told ≡ Some files → IsImageOf (Some files) name disk
+    → start.names ≡ both None → IsStored name disk start told
+begun name disk start told files is image names = record {
+  files = files;
+  told_is = is;
+  image = image;
+  held = λ bay named. absurd (not_named name bay (ap (λ (n : Names). in_bay n bay) (sym names) ∙ named));
+}
+
+pub play_stays : (name job : List ℕ) (spares : List DriveCounts) (old new : Board) (before after : Desk) (ended : Status) (files : Files) (disk : Disk)
+    (over : RunsOver (Some (form.Play job)) old spares before new after ended) → before.files ≡ Some files → IsImageOf (Some files) name disk
+    → IsDisk disk → disk.protected ≡ true → BlanksNone name (requests_of over.runs.course) → HasImage name disk after.files
+play_stays name job spares old new before after ended files disk over told image valid guarded none =
+    form_keeps name disk valid guarded job (world over.start before.files before.report) over.runs.course
+    (world over.last after.files after.report) ended none
+    (begun name disk over.start before.files files told image over.set_up.names) over.runs.does

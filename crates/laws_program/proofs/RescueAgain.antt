@@ -1,0 +1,132 @@
+-- The status of a rescue that a log asks for, by whether some reply was a refusal.
+use Rattle.std.proofs.Common.{◌≡◌, ℕ, true, false, List, [], ◌∷◌, length, Option, Some, refl, sym, ap, subst, inl, inr, unwrap_or}
+use Rattle.std.specs.Prelude.{◌||◌}
+use Rattle.flop_base.specs.Shelf.{Files}
+use Rattle.flop_base.specs.Standard.{sectors_at}
+use Rattle.flop_base.specs.declared.answers.Status.{Status}
+use Rattle.flop_base.specs.declared.answers.Status.TheVariants as status
+use Rattle.raw_image.specs.Disk.{Disk}
+use Rattle.floppy_requests.specs.declared.request.Request.TheVariants as request
+use Rattle.sector_model.specs.declared.reply.Reply.{Reply}
+use Rattle.sector_model.specs.declared.reply.Reply.TheVariants as reply
+use Rattle.sector_model.specs.declared.reply.Stop.{Stop}
+use Rattle.sector_model.specs.declared.reply.Stop.TheVariants as stop
+use Rattle.sector_model.specs.States.{State}
+use Rattle.sector_model.specs.Steps.{Step, StopCause, IsImageOf, IsBadImage, IsLonger, IsAbsent}
+use Rattle.sector_model.specs.Texts.{is_refusal}
+use Rattle.sector_model.specs.Runs.{Taken, has_refusal, IsEndStop}
+use Rattle.sector_model.specs.Plays.{World}
+use Rattle.floppy_session.specs.declared.shape.Shape.{Shape}
+use Rattle.floppy_session.specs.Shapes.{shape_of}
+use Rattle.commands.specs.Scripts.{Script, Fails, RunsScript, unless_refused}
+use Rattle.commands.specs.Parts.{needs, carries, may_starve, no_tracks, shape_at, opens, through}
+use Rattle.commands.specs.Leading.{with_report}
+use Rattle.rescue.specs.Course.{logged_keys}
+use Rattle.rescue.specs.declared.line.LogLine.{LogLine}
+use Rattle.disk_commands.specs.Logs.{IsLogFound, IsFound}
+use Rattle.disk_commands.proofs.RescueRests.{by_log}
+use Rattle.disk_commands.specs.Rescue.{rescues, acknowledges_both, prepares_old, prepares, rescues_all, rescue_found, rescue_rest, Rescues}
+use Rattle.laws_commands.proofs.PutIn.{put_shape}
+use Rattle.laws_commands.proofs.Steps.{done_does}
+use Rattle.laws_program.proofs.Telling.{EndsBy, IsFaithful, acknowledges_tells, prints_by, end_by, script_tells, unrefused}
+use Rattle.laws_program.proofs.PlayStatus.{never_bad, never_long, never_absent}
+use Rattle.laws_program.proofs.RescueStatus.{records_by, behind}
+
+-- ---- a file that is there is put in
+
+pub stop_here : (files : Files) (name : List ℕ) (disk : Disk) (bay : ℕ) (cause : Stop) → IsImageOf (Some files) name disk
+    → StopCause (Some files) (request.Insert bay name) cause → IsEndStop cause
+stop_here files name disk bay stop.FileFault image is = tt
+stop_here files name disk bay stop.NoMemory image is = tt
+stop_here files name disk bay (stop.BadImage other error) image is =
+    let e = is.0.1 in
+    let same : other ≡ name = cc e in
+    absurd (never_bad files name disk error image (subst (λ (n : List ℕ). IsBadImage (Some files) n error) same is.1))
+stop_here files name disk bay (stop.TooLong other most) image is =
+    let e = is.0.1 in
+    let same : other ≡ name = cc e in
+    absurd (never_long files name disk most is.1 image (subst (λ (n : List ℕ). IsLonger (Some files) n most) same is.2))
+stop_here files name disk bay (stop.Absent other) image is =
+    let e = is.0.1 in
+    let same : other ≡ name = cc e in
+    absurd (never_absent files name disk image (subst (λ (n : List ℕ). IsAbsent (Some files) n) same is.1))
+
+inserts_tells : (bay : ℕ) (name : List ℕ) (rest : Unit {0} → Script) (files : Files) (disk : Disk) (old new : World) (course : List Taken) (ended : Status)
+    → old.files ≡ Some files → IsImageOf (Some files) name disk → IsFaithful false (rest tt)
+    → RunsScript (carries (request.Insert bay name) rest) old course new ended → EndsBy (has_refusal course) ended
+unfolding carries needs
+inserts_tells bay name rest files disk old new [] ended told image is runs =
+    prints_by false _ _ _ _ ended runs.2
+    (end_by false runs.0
+    (stop_here files name disk bay runs.0 image (subst (λ (f : Option Files). StopCause f (request.Insert bay name) runs.0) told runs.1.cause)))
+inserts_tells bay name rest files disk old new (taken ∷ later) ended told image is runs =
+    script_tells (false || is_refusal taken.answer) (unless_refused (request.Insert bay name) taken.answer (rest tt)) (with_report taken.after runs.1 old.report)
+    new later ended (unrefused (request.Insert bay name) taken.answer (rest tt) is) runs.3
+
+-- ---- the disk to rescue is put in
+
+module _ (name : List ℕ) (rest : Shape → Script) (files : Files) (disk : Disk) (image : IsImageOf (Some files) name disk) (new : World) (ended : Status)
+    (next : (shape : Shape) (mid : World) (later : List Taken) → mid.files ≡ Some files → shape ≡ shape_of disk → RunsScript (rest shape) mid later new ended
+    → EndsBy (has_refusal later) ended) where
+  by_shape : (old mid : State) (after : Option Files) (report : Option (List (List ℕ))) (later : List Taken) (answer : Reply) → is_refusal answer ≡ false
+      → Step (request.Insert 0 name) old (Some files) answer mid after
+      → RunsScript (rest (shape_at mid 0)) (with_report mid after report) later new ended → EndsBy (has_refusal later) ended
+  by_shape old mid after report later answer done step runs =
+      next (shape_at mid 0) (with_report mid after report) later (done_does old mid (Some files) after (request.Insert 0 name) answer step done).1
+      (ap (λ (o : Option Shape). unwrap_or o no_tracks) (put_shape name disk files old mid after answer image step done)) runs
+
+  by_answer : (old mid : State) (after : Option Files) (report : Option (List (List ℕ))) (later : List Taken) (answer : Reply)
+      → Step (request.Insert 0 name) old (Some files) answer mid after
+      → RunsScript (unless_refused (request.Insert 0 name) answer (rest (shape_at mid 0))) (with_report mid after report) later new ended
+      → EndsBy (is_refusal answer || has_refusal later) ended
+  by_answer old mid after report later (reply.Refused cause) step runs =
+      script_tells true (unless_refused (request.Insert 0 name) (reply.Refused cause) (rest (shape_at mid 0)))
+      (with_report mid after report) new later ended refl runs
+  by_answer old mid after report later reply.Done step runs =
+      by_shape old mid after report later reply.Done refl step runs
+  by_answer old mid after report later reply.DoneDeleted step runs =
+      by_shape old mid after report later reply.DoneDeleted refl step runs
+  by_answer old mid after report later (reply.Bytes address content) step runs =
+      by_shape old mid after report later (reply.Bytes address content) refl step runs
+
+  opens_then : (old : World) (course : List Taken) → old.files ≡ Some files → RunsScript (opens name rest) old course new ended
+      → EndsBy (has_refusal course) ended
+  unfolding opens needs
+  opens_then old [] told runs =
+      prints_by false _ _ _ _ ended runs.2
+      (end_by false runs.0
+      (stop_here files name disk 0 runs.0 image (subst (λ (f : Option Files). StopCause f (request.Insert 0 name) runs.0) told runs.1.cause)))
+  opens_then old (taken ∷ later) told runs =
+      by_answer old.state taken.after runs.1 old.report later taken.answer
+      (subst (λ (f : Option Files). Step (request.Insert 0 name) old.state f taken.answer taken.after runs.1) told runs.2) runs.3
+
+-- ---- by a log
+
+again_by : (to log : List ℕ) (shape : Shape) (lines : List LogLine)
+    → IsFaithful false (acknowledges_both shape.rate (λ none. through rescues (logged_keys lines) [] (behind to log shape (length (logged_keys lines)))))
+unfolding acknowledges_both
+again_by to log shape lines =
+    acknowledges_tells 0 shape.rate _ (λ none. acknowledges_tells 1 shape.rate _ (λ none. records_by to log shape (logged_keys lines)))
+
+found_by : (to log : List ℕ) (shape : Shape) (lines : List LogLine) (files : Files) (target : Disk) (mid new : World) (later : List Taken) (ended : Status)
+    → mid.files ≡ Some files → IsImageOf (Some files) to target → RunsScript (rescue_found to log shape (Some lines)) mid later new ended
+    → EndsBy (has_refusal later) ended
+unfolding rescue_found rescues_all may_starve prepares prepares_old
+found_by to log shape lines files target mid new later ended told image (inl runs) =
+    inserts_tells 1 to _ files target mid new later ended told image (again_by to log shape lines) runs
+found_by to log shape lines files target mid new later ended told image (inr none) =
+    subst (λ (s : Status). EndsBy (has_refusal later) s) (sym none.2) tt
+
+pub rescue_again_by : (from to log : List ℕ) (files : Files) (disk target : Disk) (lines : List LogLine) (old new : World) (course : List Taken)
+    (ended : Status) → old.files ≡ Some files → IsImageOf (Some files) from disk → IsImageOf (Some files) to target
+    → IsLogFound (Some files) log (sectors_at disk.rate) (Some lines) → Rescues from to log old course new ended → EndsBy (has_refusal course) ended
+rescue_again_by from to log files disk target lines old new course ended told image other found (answers, are, runs) =
+    opens_then from (λ shape. rescue_rest to log shape (answers shape.rate)) files disk image new ended
+    (λ shape mid later there same left.
+    by_log files to log shape (λ script. RunsScript script mid later new ended → EndsBy (has_refusal later) ended) lines
+    (subst (λ (s : Shape). IsLogFound (Some files) log (sectors_at s.rate) (Some lines)) (sym same) found)
+    (λ asked runs. found_by to log shape asked files target mid new later ended there other runs)
+    (λ runs. script_tells false (Fails status.FileFault) mid new later ended tt runs)
+    (λ runs. script_tells false (Fails status.NoMemory) mid new later ended tt runs)
+    (answers shape.rate) (subst (λ (f : Option Files). IsFound f log (sectors_at shape.rate) (answers shape.rate)) told (are shape.rate)) left)
+    old course told runs

@@ -1,0 +1,219 @@
+-- Scripts whose status says whether some reply was a refusal.
+use Rattle.std.proofs.Common.{◌≡◌, ℕ, zero, suc, ◌+◌, Bool, true, false, List, [], ◌∷◌, Option, Some, refl, sym, subst, inl, inr}
+use Rattle.std.specs.Prelude.{◌||◌}
+use Rattle.flop_base.specs.Shelf.{Files}
+use Rattle.flop_base.specs.Sink.{grown}
+use Rattle.flop_base.specs.declared.answers.Rate.{Rate}
+use Rattle.flop_base.specs.declared.answers.Rate.TheVariants.{R500, R250}
+use Rattle.flop_base.specs.declared.answers.Status.{Status}
+use Rattle.flop_base.specs.declared.answers.Status.TheVariants as status
+use Rattle.raw_image.specs.Disk.{Disk}
+use Rattle.floppy_requests.specs.declared.request.Request.{Request}
+use Rattle.floppy_requests.specs.declared.request.Request.TheVariants as request
+use Rattle.sector_model.specs.declared.reply.Reply.{Reply}
+use Rattle.sector_model.specs.declared.reply.Reply.TheVariants as reply
+use Rattle.sector_model.specs.declared.reply.Stop.{Stop}
+use Rattle.sector_model.specs.declared.reply.Stop.TheVariants as stop
+use Rattle.sector_model.specs.States.{State}
+use Rattle.sector_model.specs.Steps.{Step, StopsAt, StopCause, IsImageOf}
+use Rattle.sector_model.specs.Texts.{stop_status, is_refusal}
+use Rattle.sector_model.specs.Runs.{Taken, has_refusal, IsEndStop}
+use Rattle.sector_model.specs.Plays.{World, Prints, Whole, Part as InPart, IsPutFault, whole_status}
+use Rattle.floppy_session.specs.declared.shape.Shape.{Shape}
+use Rattle.commands.specs.Scripts.{Script, Ends, Says, Asks, Stores, MayStarve, Fails, RunsScript, StoresLast, IsStored, NotStored, IsStoreFault, unless_refused}
+use Rattle.commands.specs.Parts.{Part, needs, carries, shape_at, opens, sets_rate, acknowledges, through, each, by_track}
+use Rattle.commands.specs.Leading.{with_report}
+use Rattle.laws_commands.proofs.Bays.{insert_stops}
+
+-- a status by whether some reply was a refusal, or one that the outside gives
+abbrev pub EndsBy : Bool → Status → Type 0
+EndsBy refused status.AllOk = refused ≡ false
+EndsBy refused status.SomeRefused = refused ≡ true
+EndsBy refused status.NoMemory = Unit {0}
+EndsBy refused status.FileFault = Unit {0}
+EndsBy refused status.SinkFault = Unit {0}
+EndsBy refused _ = ⊥
+
+-- a request that puts no file's disk in
+abbrev pub NeverInserts : Request → Type 0
+NeverInserts asked = (bay : ℕ) (name : List ℕ) → asked ≡ request.Insert bay name → ⊥
+
+-- some step of the request has this answer, and leads to this state
+abbrev pub Came : Request → Reply → State → Type 0
+Came asked answer after = (old : State) × (told : Option Files) × (files : Option Files) × Step asked old told answer after files
+
+-- each way of a script to its end has the status that its replies give, where some reply before it was a refusal, or none
+abbrev pub IsFaithful : Bool → Script → Type 0
+IsFaithful refused (Ends line wanted) = wanted ≡ whole_status refused
+IsFaithful refused (Says line rest) = IsFaithful refused rest
+IsFaithful refused (Asks asked rest) =
+    NeverInserts asked × ((answer : Reply) (after : State) → Came asked answer after → IsFaithful (refused || is_refusal answer) (rest answer after))
+IsFaithful refused (Stores name bytes line wanted) = wanted ≡ whole_status refused
+IsFaithful refused (MayStarve rest) = IsFaithful refused rest
+IsFaithful refused (Fails cause) = EndsBy refused cause
+
+pub whole_by : (refused : Bool) → EndsBy refused (whole_status refused)
+whole_by true = refl
+whole_by false = refl
+
+pub put_by : (refused : Bool) (ended : Status) → IsPutFault ended → EndsBy refused ended
+put_by refused status.NoMemory fault = tt
+put_by refused status.SinkFault fault = tt
+put_by refused status.AllOk fault = absurd fault
+put_by refused status.SomeRefused fault = absurd fault
+put_by refused status.BadImage fault = absurd fault
+put_by refused status.Absent fault = absurd fault
+put_by refused status.FileFault fault = absurd fault
+put_by refused status.BadJob fault = absurd fault
+put_by refused status.BadWords fault = absurd fault
+
+store_by : (refused : Bool) (ended : Status) → IsStoreFault ended → EndsBy refused ended
+store_by refused status.NoMemory fault = tt
+store_by refused status.FileFault fault = tt
+store_by refused status.AllOk fault = absurd fault
+store_by refused status.SomeRefused fault = absurd fault
+store_by refused status.BadImage fault = absurd fault
+store_by refused status.Absent fault = absurd fault
+store_by refused status.SinkFault fault = absurd fault
+store_by refused status.BadJob fault = absurd fault
+store_by refused status.BadWords fault = absurd fault
+
+pub prints_by : (refused : Bool) (line : List (List ℕ)) (wanted : Status) (old new : Option (List (List ℕ))) (ended : Status) → Prints line wanted old new ended
+    → EndsBy refused wanted → EndsBy refused ended
+prints_by refused line wanted old new ended (Whole is well) by = subst (λ (s : Status). EndsBy refused s) (sym well) by
+prints_by refused line wanted old new ended (InPart grows fault) by = put_by refused ended fault
+
+told_by : (refused : Bool) (line : List (List ℕ)) (wanted : Status) (old new : Option (List (List ℕ))) (ended : Status) → Prints line wanted old new ended
+    → wanted ≡ whole_status refused → EndsBy refused ended
+told_by refused line wanted old new ended prints is =
+    prints_by refused line wanted old new ended prints (subst (λ (s : Status). EndsBy refused s) (sym is) (whole_by refused))
+
+stored_by : (refused : Bool) (name bytes line : List ℕ) (wanted : Status) (old new : World) (ended : Status)
+    → StoresLast name bytes line wanted old new ended → wanted ≡ whole_status refused → EndsBy refused ended
+stored_by refused name bytes line wanted old new ended (IsStored state files prints) is = told_by refused (line ∷ []) wanted _ _ ended prints is
+stored_by refused name bytes line wanted old new ended (NotStored same fault) is = store_by refused ended fault
+
+-- what stops a request that puts nothing in is the outside's
+stop_by : (refused : Bool) (told : Option Files) (asked : Request) (cause : Stop) → StopCause told asked cause → NeverInserts asked
+    → EndsBy refused (stop_status cause)
+stop_by refused told asked (stop.BadImage name error) cause never = absurd (never cause.0.0 name cause.0.1)
+stop_by refused told asked (stop.TooLong name most) cause never = absurd (never cause.0.0 name cause.0.1)
+stop_by refused told asked (stop.Absent name) cause never = absurd (never cause.0.0 name cause.0.1)
+stop_by refused told asked stop.FileFault cause never = tt
+stop_by refused told asked stop.NoMemory cause never = tt
+
+pub or_none : (a : Bool) → a ≡ (a || false)
+or_none true = refl
+or_none false = refl
+
+or_over : (a b c : Bool) → ((a || b) || c) ≡ (a || (b || c))
+or_over true b c = refl
+or_over false b c = refl
+
+at_end : (refused : Bool) (ended : Status) → EndsBy refused ended → EndsBy (refused || false) ended
+at_end refused ended by = subst (λ (b : Bool). EndsBy b ended) (or_none refused) by
+
+pub script_tells : (refused : Bool) (script : Script) (old new : World) (course : List Taken) (ended : Status) → IsFaithful refused script
+    → RunsScript script old course new ended → EndsBy (refused || has_refusal course) ended
+script_tells refused (Ends line wanted) old new [] ended is runs = at_end refused ended (told_by refused line wanted _ _ ended runs.report is)
+script_tells refused (Ends line wanted) old new (taken ∷ later) ended is runs = absurd runs
+script_tells refused (Says line rest) old new course ended is (inl runs) =
+    script_tells refused rest (record old { report = grown old.report (line ∷ []) }) new course ended is runs
+script_tells refused (Says line rest) old new course ended is (inr cut) = put_by (refused || has_refusal course) ended cut.1.1
+script_tells refused (Asks asked rest) old new [] ended is runs =
+    at_end refused ended (prints_by refused _ _ _ _ ended runs.2 (stop_by refused old.files asked runs.0 runs.1.cause is.0))
+script_tells refused (Asks asked rest) old new (taken ∷ later) ended is runs =
+    subst (λ (b : Bool). EndsBy b ended) (or_over refused (is_refusal taken.answer) (has_refusal later))
+    (script_tells (refused || is_refusal taken.answer) (rest taken.answer taken.after) (with_report taken.after runs.1 old.report) new later ended
+    (is.1 taken.answer taken.after (old.state, old.files, runs.1, runs.2)) runs.3)
+script_tells refused (Stores name bytes line wanted) old new [] ended is runs =
+    at_end refused ended (stored_by refused name bytes line wanted old new ended runs is)
+script_tells refused (Stores name bytes line wanted) old new (taken ∷ later) ended is runs = absurd runs
+script_tells refused (MayStarve rest) old new course ended is (inl runs) = script_tells refused rest old new course ended is runs
+script_tells refused (MayStarve rest) old new course ended is (inr none) = subst (λ (s : Status). EndsBy (refused || has_refusal course) s) (sym none.2) tt
+script_tells refused (Fails cause) old new [] ended is runs = at_end refused ended (subst (λ (s : Status). EndsBy refused s) (sym runs.1) is)
+script_tells refused (Fails cause) old new (taken ∷ later) ended is runs = absurd runs
+
+-- ---- Parts.
+
+pub unrefused : (asked : Request) (answer : Reply) (later : Script) → IsFaithful false later → IsFaithful (false || is_refusal answer) (unless_refused asked answer later)
+unrefused asked (reply.Refused cause) later is = refl
+unrefused asked reply.Done later is = is
+unrefused asked reply.DoneDeleted later is = is
+unrefused asked (reply.Bytes address content) later is = is
+
+pub needs_tells : (asked : Request) (rest : Reply → State → Script) → NeverInserts asked
+    → ((answer : Reply) (after : State) → IsFaithful false (rest answer after)) → IsFaithful false (needs asked rest)
+unfolding needs
+needs_tells asked rest never is = (never, λ answer after came. unrefused asked answer (rest answer after) (is answer after))
+
+pub some_whole : (refused : Bool) → status.SomeRefused ≡ whole_status (refused || true)
+some_whole true = refl
+some_whole false = refl
+
+unrefused_at : (refused : Bool) (asked : Request) (answer : Reply) (later : Script) → IsFaithful refused later
+    → IsFaithful (refused || is_refusal answer) (unless_refused asked answer later)
+unrefused_at refused asked (reply.Refused cause) later is = some_whole refused
+unrefused_at refused asked reply.Done later is = subst (λ (b : Bool). IsFaithful b later) (or_none refused) is
+unrefused_at refused asked reply.DoneDeleted later is = subst (λ (b : Bool). IsFaithful b later) (or_none refused) is
+unrefused_at refused asked (reply.Bytes address content) later is = subst (λ (b : Bool). IsFaithful b later) (or_none refused) is
+
+pub carries_tells_at : (refused : Bool) (asked : Request) → NeverInserts asked → (rest : Unit {0} → Script) → IsFaithful refused (rest tt)
+    → IsFaithful refused (carries asked rest)
+unfolding carries needs
+carries_tells_at refused asked never rest is = (never, λ answer after came. unrefused_at refused asked answer (rest tt) is)
+
+-- a part behind which a flag of what was found says whether some reply was a refusal
+abbrev pub PartTells : {Found : Type 0} → (Found → Bool) → Bool → Part Found → Type 0
+PartTells {Found = Found} flag before part =
+    (rest : Found → Script) → ((found : Found) → IsFaithful (flag found) (rest found)) → IsFaithful before (part rest)
+
+-- a part that goes on only where nothing was refused
+abbrev pub PartEnds : {Found : Type 0} → Part Found → Type 0
+PartEnds {Found = Found} part = PartTells {Found = Found} (λ found. false) false part
+
+pub carries_tells : (asked : Request) → NeverInserts asked → PartEnds (carries asked)
+unfolding carries
+carries_tells asked never rest is = needs_tells asked (λ answer after. rest tt) never (λ answer after. is tt)
+
+pub acknowledges_tells : (bay : ℕ) (rate : Rate) → PartEnds (acknowledges bay rate)
+unfolding acknowledges sets_rate
+acknowledges_tells bay R500 rest is = carries_tells (request.Ack bay) (λ bay name e. absurd (cc e)) _ is
+acknowledges_tells bay R250 rest is =
+    carries_tells (request.Ack bay) (λ bay name e. absurd (cc e)) _
+    (λ none. carries_tells (request.SetRate bay R250) (λ bay name e. absurd (cc e)) rest is)
+
+pub each_tells : {Found : Type 0} (flag : Found → Bool) (part : ℕ → Found → Part Found)
+    → ((i : ℕ) (found : Found) → PartTells flag (flag found) (part i found)) → (a count : ℕ) (found : Found)
+    → PartTells flag (flag found) (each a count part found)
+unfolding each through
+each_tells flag part is a zero found rest ends = ends found
+each_tells flag part is a (suc count) found rest ends =
+    is a found (λ now. each (a + 1) count part now rest) (λ now. each_tells flag part is (a + 1) count now rest ends)
+
+pub tracks_tell : {Found : Type 0} (flag : Found → Bool) (part : ℕ → ℕ → Found → Part Found)
+    → ((c h : ℕ) (found : Found) → PartTells flag (flag found) (part c h found)) → (cylinders heads : ℕ) (found : Found)
+    → PartTells flag (flag found) (by_track cylinders heads part found)
+tracks_tell flag part is cylinders heads found =
+    each_tells flag (λ c. each 0 heads (part c)) (λ c now. each_tells flag (part c) (is c) 0 heads now) 0 cylinders found
+
+-- ---- The disk of a file is put in, which is there.
+
+pub end_by : (refused : Bool) (cause : Stop) → IsEndStop cause → EndsBy refused (stop_status cause)
+end_by refused stop.FileFault only = tt
+end_by refused stop.NoMemory only = tt
+end_by refused (stop.BadImage named error) only = absurd only
+end_by refused (stop.TooLong named most) only = absurd only
+end_by refused (stop.Absent named) only = absurd only
+
+pub opens_tells : (name : List ℕ) (rest : Shape → Script) (files : Files) (disk : Disk) (old new : World) (course : List Taken) (ended : Status)
+    → old.files ≡ Some files → IsImageOf (Some files) name disk → ((shape : Shape) → IsFaithful false (rest shape))
+    → RunsScript (opens name rest) old course new ended → EndsBy (has_refusal course) ended
+unfolding opens needs
+opens_tells name rest files disk old new [] ended told image is runs =
+    let stops = subst (λ (f : Option Files). StopsAt (request.Insert 0 name) old.state f runs.0 new.state new.files) told runs.1 in
+    prints_by false _ _ _ _ ended runs.2 (end_by false runs.0 (insert_stops 0 name files disk old.state new.state new.files runs.0 image stops))
+opens_tells name rest files disk old new (taken ∷ later) ended told image is runs =
+    let left = rest (shape_at taken.after 0) in
+    script_tells (false || is_refusal taken.answer) (unless_refused (request.Insert 0 name) taken.answer left) (with_report taken.after runs.1 old.report)
+    new later ended (unrefused (request.Insert 0 name) taken.answer left (is (shape_at taken.after 0))) runs.3

@@ -1,0 +1,5 @@
+use Rattle.laws_program.proofs.OnCounts.{over_ties}
+use Rattle.laws_program.proofs.counts.counts_are_tied.Goals as goal
+
+pub returns : goal.returns
+returns c = over_ties

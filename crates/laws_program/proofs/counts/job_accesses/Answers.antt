@@ -1,0 +1,5 @@
+use Rattle.laws_program.proofs.OnCounts.{machine_accesses}
+use Rattle.laws_program.proofs.counts.job_accesses.Goals as goal
+
+pub returns : goal.returns
+returns c = machine_accesses c.args._job.now

@@ -1,0 +1,5 @@
+use Rattle.laws_program.proofs.UsedMachines.{ports_seeks}
+use Rattle.laws_program.proofs.seeks.ports_seeks_end.Goals as goal
+
+pub returns : goal.returns
+returns c = ports_seeks c.args._file.now

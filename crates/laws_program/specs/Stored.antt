@@ -1,0 +1,75 @@
+-- What the forms of the program store, by the files before and after.
+use Rattle.std.specs.Prelude.{◌≡◌, ◌⊎◌, ℕ, Bool, false, List, length, Option, Some, IfSome}
+use Rattle.flop_base.specs.Shelf.{Files, file_at, stored}
+use Rattle.flop_base.specs.Standard.{words_at, sectors_at}
+use Rattle.flop_base.specs.declared.key.Chrn.{Chrn}
+use Rattle.raw_image.specs.Disk.{Disk, IsDisk, HasTrack, track_of}
+use Rattle.raw_image.specs.Image.{file_of}
+use Rattle.track_model.specs.Laid.{IsLaid}
+use Rattle.track_model.specs.Sectors.{IsSector as IsSectorOf}
+use Rattle.sector_map.specs.Disks.{IsRegularDisk}
+use Rattle.sector_map.specs.Standard.{key_of}
+use Rattle.flat_files.specs.Flat.{IsSector, flat_length}
+use Rattle.pc_bus.specs.Boards.{Board}
+use Rattle.track_model.specs.declared.Look.{Look}
+use Rattle.sector_map.specs.Failing.{AreFailing}
+use Rattle.floppy_session.specs.Shapes.{shape_of}
+use Rattle.rescue.specs.Log.{log_text}
+use Rattle.rescue.specs.declared.line.LogLine.{LogLine}
+use Rattle.disk_commands.specs.Logs.{IsLogFound}
+use Rattle.disk_commands.specs.Rescue.{asked_keys}
+use Rattle.laws_commands.specs.LaidFields.{HasLaidFields}
+use Rattle.laws_commands.specs.Rescued.{failing_lines}
+use Rattle.laws_commands.specs.Verified.{IsStandardKey}
+use Rattle.laws_commands.specs.Copied.{AllLone, IsFieldOf}
+use Rattle.laws_commands.specs.EndsComplete.{HaveSameSector}
+use Rattle.laws_commands.specs.Imported.{sector_bytes}
+use Rattle.laws_commands.specs.Exported.{HasContent}
+use Rattle.laws_program.specs.Disturbed.{HadNoFault}
+
+-- what is read of a disk in bay 0 is its sectors: it is regular, and the drive had no fault, or no field has two data marks
+pub record IsReadSure (disk : Disk) (old new : Board) : Type 0 where
+  pub regular : IsRegularDisk disk
+  pub drive : HadNoFault 0 old new ⊎ AllLone disk
+
+-- a copied disk has a sector of the key, with the mark and the content of an intact field of the key on the other
+abbrev pub HasSomeField : Disk → Disk → Chrn → Type 0
+HasSomeField disk copied key =
+    (deleted : Bool) × (content : List ℕ) × IsFieldOf disk key deleted content × IsSectorOf (track_of copied key.c key.h) key deleted content
+
+-- a copy of a disk was stored under a name, and no other file changed: a regular disk of the same cylinders and rate, with two
+-- heads, that has for each standard key a sector with the mark and the content of an intact field of the key on the other: of its
+-- sector, where what is read of the disk is its sectors; the tracks that the other disk has are Laid, and so is each track with an
+-- address field
+pub record StoresCopyAsRead (sure : Type 0) (disk : Disk) (to : List ℕ) (told after : Option Files) : Type 0 where
+  pub copied : Disk
+  pub valid : IsDisk copied
+  pub protected : copied.protected ≡ false
+  pub cylinders : copied.cylinders ≡ disk.cylinders
+  pub heads : copied.heads ≡ 2
+  pub rate : copied.rate ≡ disk.rate
+  pub words_per_track : copied.words_per_track ≡ words_at disk.rate
+  pub regular : IsRegularDisk copied
+  pub laid : (c h : ℕ) → HasTrack disk c h → IsLaid (track_of copied c h)
+  pub laid_fields : HasLaidFields copied
+  pub fields : (key : Chrn) → IsStandardKey disk key → HasSomeField disk copied key
+  pub sectors : sure → (key : Chrn) → IsStandardKey disk key → HaveSameSector disk copied key
+  pub files : after ≡ stored told to (file_of copied)
+
+-- a flat file was stored under a name, and no other file changed: it has at the place of each sector of a disk the bytes of an
+-- intact field of its key, with some mark; those of its sector, where what is read of the disk is its sectors
+pub record StoresFlatAsRead (sure : Type 0) (disk : Disk) (flat : List ℕ) (told after : Option Files) : Type 0 where
+  pub bytes : List ℕ
+  pub size : length bytes ≡ flat_length (sectors_at disk.rate)
+  pub fields : (c h r : ℕ) → IsSector (sectors_at disk.rate) c h r
+      → (deleted : Bool) × IsFieldOf disk (key_of c h r) deleted (sector_bytes bytes (sectors_at disk.rate) c h r)
+  pub sectors : sure → (c h r : ℕ) → IsSector (sectors_at disk.rate) c h r
+      → HasContent disk c h r (sector_bytes bytes (sectors_at disk.rate) c h r)
+  pub files : after ≡ stored told flat bytes
+
+-- the file of a log's name is the log of the asked records that aren't found on a disk, in their order, each with the code of its look
+pub record StoresLogOf (disk : Disk) (log : List ℕ) (files : Files) (after : Option Files) : Type 0 where
+  pub found : Option (List LogLine)
+  pub there : IsLogFound (Some files) log (sectors_at disk.rate) found
+  pub stores : (failed : List (Chrn × Look)) → AreFailing disk (asked_keys (shape_of disk) found) failed
+      → IfSome after (λ files. file_at files log ≡ Some (log_text (failing_lines failed)))

@@ -1,0 +1,24 @@
+-- What the forms of the program tell, by the report before and after.
+use Rattle.std.specs.Prelude.{◌≡◌, ℕ, List, [], ◌∷◌, length, nat_le, Option}
+use Rattle.flop_base.specs.Sink.{grown}
+use Rattle.flop_base.specs.declared.answers.Code.{Code}
+use Rattle.flop_base.specs.declared.answers.Status.{Status}
+use Rattle.flop_base.specs.declared.key.Chrn.{Chrn}
+use Rattle.raw_image.specs.Disk.{Disk}
+use Rattle.floppy_requests.specs.declared.request.Request.{Request}
+use Rattle.sector_model.specs.declared.reply.Reason.{Reason}
+use Rattle.sector_model.specs.Plays.{whole_status}
+use Rattle.commands.specs.LastLines.{stopped_text}
+use Rattle.floppy_session.specs.Shapes.{shape_of}
+use Rattle.disk_commands.specs.Disks.{sectors_of}
+use Rattle.archive_commands.specs.Files.{Desk}
+use Rattle.laws_commands.specs.VerifyRuns.{verify_report}
+
+-- these failing keys of a disk were told and no others, and the status says whether there are any
+pub record ListsFailing (disk : Disk) (failed : List (Chrn × Code)) (before after : Desk) (ended : Status) : Type 0 where
+  pub report : after.report ≡ grown before.report (verify_report (sectors_of (shape_of disk)) failed)
+  pub status : ended ≡ whole_status (nat_le 1 (length failed))
+
+-- the report doesn't tell that a refusal stopped the form
+abbrev pub IsNotToldStopped : Option (List (List ℕ)) → Option (List (List ℕ)) → Type 0
+IsNotToldStopped before after = (asked : Request) (cause : Reason) → after ≡ grown before (stopped_text asked cause ∷ []) → ⊥

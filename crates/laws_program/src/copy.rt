@@ -1,0 +1,35 @@
+// The form that copies a disk.
+ghost use Rattle.std.specs.Prelude.{◌≡◌, List, Option, Some};
+ghost use Rattle.flop_base.specs.Shelf.{Files};
+ghost use Rattle.raw_image.specs.Disk.{Disk};
+ghost use Rattle.flop_base.specs.Counters.{DriveCounts};
+ghost use Rattle.sector_model.specs.Steps.{IsImageOf};
+ghost use Rattle.pc_bus.specs.Boards.{Board};
+ghost use Rattle.archive_commands.specs.Files.{Desk};
+ghost use Rattle.floppy_words.specs.declared.form.Form.TheVariants as form;
+ghost use Rattle.floppy_tools.specs.Machines.{RunsOver};
+ghost use Rattle.laws_commands.specs.Targets.{HoldsTarget};
+ghost use Rattle.laws_program.specs.Disturbed.{HadNoFault};
+ghost use Rattle.laws_program.specs.Stored.{IsReadSure, StoresCopyAsRead};
+
+use flop_base::Status;
+
+/// A law: where `copy FROM TO` ends with status 0, FROM is the image of a disk, and the drive of bay 1 had no fault, the file TO is the
+/// image of a regular disk that has for each standard key of FROM a sector with the mark and the content of an intact field of the key
+/// on FROM, whatever faults the drive of bay 0 had; and no other file changed. These are its sectors where FROM is regular, and the
+/// drive of bay 0 had no fault or no field of FROM has two data marks. DMA requests may have waited.
+pub fn copy_of_a_disk(_from: &str, _to: &str)
+    ensures { (spares : List DriveCounts) (old new : Board) (before after : Desk) (files : Files) (disk : Disk)
+        → RunsOver (Some (form.Copy _from.now _to.now)) old spares before new after Status.AllOk
+        → before.files ≡ Some files → IsImageOf (Some files) _from.now disk
+        → HadNoFault 1 old new
+        → StoresCopyAsRead (IsReadSure disk old new) disk _to.now (Some files) after.files }
+{}
+
+/// A law: so TO is a disk that a rescue may go on with: a regular disk in its ranges, not protected, that has each standard key of FROM,
+/// and each of whose address fields is on a Laid track.
+pub fn copied_disk_is_a_target(_from: &str, _to: &str)
+    ensures { (old new : Board) (files : Files) (after : Option Files) (disk : Disk)
+        (stores : StoresCopyAsRead (IsReadSure disk old new) disk _to.now (Some files) after)
+        → IsImageOf (Some files) _from.now disk → HoldsTarget _to.now disk stores.copied after }
+{}

@@ -1,0 +1,26 @@
+// The status of port accesses, with no driver.
+ghost use Rattle.std.specs.Prelude.{◌≡◌, ℕ, List, Some, None, Ok};
+ghost use Rattle.flop_base.specs.Shelf.{Files};
+ghost use Rattle.flop_base.specs.Bays.{both};
+ghost use Rattle.flop_base.specs.Counters.{DriveCounts};
+ghost use Rattle.flop_base.specs.declared.answers.Status.{Status};
+ghost use Rattle.floppy_jobs.specs.Texts.{ports_of};
+ghost use Rattle.floppy_jobs.specs.declared.ports.PortLine.{PortLine};
+ghost use Rattle.sector_model.specs.Plays.{IsText};
+ghost use Rattle.floppy_words.specs.Forms.{ports_file_of};
+ghost use Rattle.floppy_tools.specs.Performed.{Stand, Performed};
+ghost use Rattle.text_commands.specs.PortCourses.{has_refusal};
+ghost use Rattle.laws_program.specs.Ends.{EndsByReplies};
+ghost use Rattle.laws_program.specs.Inserted.{IsDiskFile, InsertsDisks, media_among};
+
+/// A law: `ports FILE` ends with status 1 where some line of its run was refused, and else with 0, unless memory couldn't be had, or the
+/// shelf or the sink failed, and counted it; where FILE is a text of port accesses of at most 4,194,304 bytes, and each file that it
+/// inserts, where the insert doesn't have to be refused, is the file of a disk, or was stored by one of its ejects before.
+pub fn ports_status(_file: &str)
+    ensures { (words : List (List ℕ)) (spares : List DriveCounts) (old new : Stand) (ended : Status) (files : Files) (text : List ℕ)
+        (lines : List PortLine) (named : ports_file_of words ≡ Some _file.now)
+        → old.desk.desk.files ≡ Some files → IsText (Some files) _file.now text → ports_of text ≡ Ok lines
+        → InsertsDisks (IsDiskFile (Some files)) (both None) (media_among lines)
+        → (done : Performed words spares old new ended)
+        → EndsByReplies (has_refusal (done.does.ports _file.now named).1.course) old new ended }
+{}

@@ -1,0 +1,69 @@
+// The form that rescues what it can of a disk.
+ghost use Rattle.std.specs.Prelude.{◌≡◌, ◌≢◌, List, Some, None};
+ghost use Rattle.flop_base.specs.Shelf.{Files, file_at};
+ghost use Rattle.raw_image.specs.Disk.{Disk};
+ghost use Rattle.sector_model.specs.Steps.{IsImageOf};
+ghost use Rattle.laws_commands.specs.Verified.{IsUnmistaken};
+ghost use Rattle.laws_commands.specs.VerifyRuns.{IsEndStatus};
+ghost use Rattle.laws_program.specs.Disturbed.{HadNoFault, HadNoStall};
+ghost use Rattle.laws_program.specs.Stored.{StoresLogOf};
+ghost use Rattle.laws_program.specs.Told.{IsNotToldStopped};
+ghost use Rattle.flop_base.specs.declared.answers.Status.{Status};
+ghost use Rattle.flop_base.specs.Counters.{DriveCounts};
+ghost use Rattle.pc_bus.specs.Boards.{Board};
+ghost use Rattle.archive_commands.specs.Files.{Desk};
+ghost use Rattle.floppy_words.specs.declared.form.Form.TheVariants as form;
+ghost use Rattle.text_commands.specs.JobRounds.{world};
+ghost use Rattle.floppy_tools.specs.Machines.{RunsOver};
+ghost use Rattle.rescue.specs.declared.line.LogLine.{LogLine};
+ghost use Rattle.laws_commands.specs.Rescued.{StoresInOrder, BringsUpNoMark, IsRescue};
+ghost use Rattle.sector_map.specs.Disks.{IsRegularDisk};
+
+/// A law: however `rescue FROM TO LOG` ends, it has stored nothing, or a disk under TO alone, or that and then a log under LOG.
+pub fn rescue_stores_in_order(_from: &str, _to: &str, _log: &str)
+    ensures { (spares : List DriveCounts) (old new : Board) (before after : Desk) (ended : Status)
+        → RunsOver (Some (form.Rescue _from.now _to.now _log.now)) old spares before new after ended
+        → (lines : List LogLine) × StoresInOrder _to.now _log.now lines before.files after.files }
+{}
+
+/// A law: where it ends with status 0 or 1, its report doesn't tell that a refusal stopped it, FROM is the image of a disk whose
+/// address fields can't be mistaken, the drive of bay 0 had no fault and no DMA request waited too long, the file LOG is the log of
+/// the records that were asked for and aren't found on that disk, in their order, each with the code of its look. Asked for are the
+/// records of the log that was there, and else all.
+pub fn rescue_logs_the_rest(_from: &str, _to: &str, _log: &str)
+    ensures { (spares : List DriveCounts) (old new : Board) (before after : Desk) (ended : Status) (files : Files) (disk : Disk)
+        → RunsOver (Some (form.Rescue _from.now _to.now _log.now)) old spares before new after ended → IsEndStatus ended
+        → IsNotToldStopped before.report after.report
+        → before.files ≡ Some files → IsImageOf (Some files) _from.now disk
+        → HadNoFault 0 old new → HadNoStall old new → IsUnmistaken disk
+        → StoresLogOf disk _log.now files after.files }
+{}
+
+/// A law: where it ends with status 0 or 1, its report doesn't tell that a refusal stopped it, no file LOG was there, TO and LOG
+/// differ, FROM is the image of a disk, and the drive of bay 1 had no fault, a disk is stored under TO, and then a log under LOG, and
+/// each record is either in that log, with the code that its read gave, or on that disk, with the mark and the content that its read
+/// gave, and never in both; whatever faults the drive of bay 0 had, these are those of an intact field of the record on FROM. The last
+/// line counts those on the disk, and all.
+pub fn new_rescue_settles_each_record(_from: &str, _to: &str, _log: &str)
+    ensures { (spares : List DriveCounts) (old new : Board) (before after : Desk) (ended : Status) (files : Files) (disk : Disk)
+        (over : RunsOver (Some (form.Rescue _from.now _to.now _log.now)) old spares before new after ended) → IsEndStatus ended
+        → IsNotToldStopped before.report after.report → _to.now ≢ _log.now
+        → before.files ≡ Some files → IsImageOf (Some files) _from.now disk → file_at files _log.now ≡ None
+        → HadNoFault 1 old new
+        → IsRescue disk disk _to.now _log.now files (world over.start before.files before.report) over.runs.course
+        (world over.last after.files after.report) ended }
+{}
+
+/// A law: so it is where a log may be there, and TO is the image of a regular disk on which no write of the run brings up an address mark,
+/// since its address fields are on Laid tracks, or each write is Tidy: asked for are the records of the log, and all other entries of that
+/// disk stay. Either run leaves what a next one asks for: the image of a regular disk, whose fields are on Laid tracks if it was new or
+/// they were, and a log.
+pub fn further_rescue_settles_each_record(_from: &str, _to: &str, _log: &str)
+    ensures { (spares : List DriveCounts) (old new : Board) (before after : Desk) (ended : Status) (files : Files) (disk target : Disk)
+        (over : RunsOver (Some (form.Rescue _from.now _to.now _log.now)) old spares before new after ended) → IsEndStatus ended
+        → IsNotToldStopped before.report after.report → _to.now ≢ _log.now
+        → before.files ≡ Some files → IsImageOf (Some files) _from.now disk → HadNoFault 1 old new
+        → IsImageOf (Some files) _to.now target → IsRegularDisk target → BringsUpNoMark target over.start over.runs.course
+        → IsRescue disk target _to.now _log.now files (world over.start before.files before.report) over.runs.course
+        (world over.last after.files after.report) ended }
+{}

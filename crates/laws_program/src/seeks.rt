@@ -1,0 +1,40 @@
+// Seeks and data commands on a machine that was made and used. The bodies are empty.
+ghost use Rattle.std.specs.Prelude.{◌≡◌, ◌≤◌, ℕ, List, Some};
+ghost use Rattle.flop_base.specs.Counters.{DriveCounts};
+ghost use Rattle.flop_base.specs.declared.answers.Status.{Status};
+ghost use Rattle.floppy_words.specs.Forms.{ports_file_of};
+ghost use Rattle.floppy_tools.specs.Performed.{Stand, Performed};
+ghost use Rattle.machine_commands.specs.Ready.{IsIdle};
+ghost use Rattle.machine_commands.specs.declared.motors.Motors.{Motors};
+ghost use Rattle.laws_machine.specs.OnSteps.Ends.{HasNoSeek, Meets, Recalibrates, pulses_left, seeks};
+ghost use Rattle.laws_machine.specs.OnSteps.Moves.{Goes};
+ghost use Rattle.machine_station.specs.Started.{IsFreshBoard};
+ghost use Rattle.pc_bus.specs.Boards.{Board, IsInRange, controller_of};
+ghost use Rattle.laws_program.specs.Seeks.{IsUsed, NotBoth, SeeksEnd};
+
+/// A law: on a machine that was made and then used by whatever calls, and on one that a driver set up, between two of its commands, no
+/// seek runs while a data command is in execution; and so it stays on every course.
+pub fn seeks_and_data_commands_stay_apart()
+    ensures used { (board : Board) → IsUsed board → NotBoth (controller_of board) }
+    ensures set_up { (motors : Motors) (board : Board) → IsIdle motors board → NotBoth (controller_of board) }
+    ensures goes { (old new : Board) (n : ℕ) → Goes old n new → NotBoth (controller_of old) → NotBoth (controller_of new) }
+{}
+
+/// A law: a seek that runs on a machine that was made and used comes to its end in no more device steps than are left of it, whatever
+/// calls come between: 256 at most, and 80 for a RECALIBRATE. A reset ends it too.
+pub fn a_seek_of_a_used_machine_ends()
+    ensures ends { (old new : Board) (n : ℕ) → IsUsed old → Goes old n new → seeks old → pulses_left old ≤ n
+        → Meets HasNoSeek (pulses_left old) old n new }
+    ensures in_time { (old new : Board) (n : ℕ) → IsUsed old → IsInRange old → Goes old n new → seeks old → 256 ≤ n
+        → Meets HasNoSeek 256 old n new }
+    ensures recalibrates { (old new : Board) (n : ℕ) → IsUsed old → IsInRange old → Goes old n new → Recalibrates old → 80 ≤ n
+        → Meets HasNoSeek 80 old n new }
+{}
+
+/// A law: in `ports FILE`, a seek that runs before some line has ended on the way, within 256 device steps, where the lines from there
+/// on wait as many, whatever they do.
+pub fn ports_seeks_end(_file: &str)
+    ensures { (words : List (List ℕ)) (spares : List DriveCounts) (old new : Stand) (ended : Status)
+        (named : ports_file_of words ≡ Some _file.now) → IsFreshBoard old.board → (done : Performed words spares old new ended)
+        → SeeksEnd old.board (done.does.ports _file.now named).1.course new.board }
+{}

@@ -1,0 +1,30 @@
+// What the answers to a job depend on, where nothing can go wrong.
+ghost use Rattle.std.specs.Prelude.{◌≡◌, ◌⊎◌, List, Some, length};
+ghost use Rattle.flop_base.specs.Shelf.{Files};
+ghost use Rattle.flop_base.specs.Counters.{DriveCounts};
+ghost use Rattle.flop_base.specs.declared.answers.Status.{Status};
+ghost use Rattle.laws_program.specs.Determined.{AreBytes, AreRegularBefore, AnswersAgree, EndAlike};
+ghost use Rattle.floppy_words.specs.declared.form.Form.TheVariants as form;
+ghost use Rattle.text_commands.specs.JobRounds.{world};
+ghost use Rattle.floppy_tools.specs.Performed.{Stand, RanOver};
+ghost use Rattle.laws_program.specs.Disturbed.{IsSound};
+ghost use Rattle.laws_program.specs.Ends.{EndsOutside};
+
+/// A law: two runs of `play JOB`, each on a machine and spare drives where nothing is left that could go wrong, with the same files and as
+/// many spare drives, answer alike, request by request, as far as both go and while the disks of the first are regular. Where these are
+/// regular whenever a request comes, the two end alike too, with the same status, unless memory couldn't be had in one of them, or its
+/// shelf or sink failed, and counted it. The bytes of a dump alone may differ: a refused read may leave anything in its range of memory.
+pub fn job_answers_are_settled(_job: &str)
+    ensures { (spares other_spares : List DriveCounts) (old new other_old other_new : Stand) (ended other_ended : Status) (files : Files)
+        (one : RanOver (Some (form.Play _job.now)) spares old new ended)
+        (two : RanOver (Some (form.Play _job.now)) other_spares other_old other_new other_ended)
+        → IsSound old.board spares → IsSound other_old.board other_spares → length other_spares ≡ length spares
+        → old.desk.desk.files ≡ Some files → other_old.desk.desk.files ≡ Some files → AreBytes files
+        → AnswersAgree one.runs.start one.runs.runs.course two.runs.runs.course
+        × (AreRegularBefore one.runs.start one.runs.runs.course
+        → EndsOutside old new ended ⊎ EndsOutside other_old other_new other_ended
+        ⊎ EndAlike (world one.runs.start old.desk.desk.files old.desk.desk.report)
+        (world two.runs.start other_old.desk.desk.files other_old.desk.desk.report) one.runs.runs.course two.runs.runs.course
+        (world one.runs.last new.desk.desk.files new.desk.desk.report)
+        (world two.runs.last other_new.desk.desk.files other_new.desk.desk.report) ended other_ended) }
+{}

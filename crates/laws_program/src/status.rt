@@ -1,0 +1,118 @@
+// What the status of a form tells, where its files are there and in their grammar.
+ghost use Rattle.std.specs.Prelude.{◌≡◌, ℕ, List, Some, None, Ok};
+ghost use Rattle.flop_base.specs.Shelf.{Files, file_at};
+ghost use Rattle.flop_base.specs.declared.answers.Rate.{Rate};
+ghost use Rattle.flop_base.specs.declared.answers.Status.{Status};
+ghost use Rattle.raw_image.specs.Disk.{Disk};
+ghost use Rattle.flop_base.specs.Counters.{DriveCounts};
+ghost use Rattle.sector_model.specs.Runs.{has_refusal};
+ghost use Rattle.sector_model.specs.Steps.{IsImageOf};
+ghost use Rattle.disk_commands.specs.FlatFiles.{IsFlatFile};
+ghost use Rattle.floppy_words.specs.declared.form.Form.TheVariants as form;
+ghost use Rattle.text_commands.specs.JobRounds.{world};
+ghost use Rattle.floppy_tools.specs.Performed.{Stand, RanOver};
+ghost use Rattle.flop_base.specs.Bays.{both};
+ghost use Rattle.flop_base.specs.Standard.{sectors_at};
+ghost use Rattle.rescue.specs.declared.line.LogLine.{LogLine};
+ghost use Rattle.disk_commands.specs.Logs.{IsLogFound};
+ghost use Rattle.floppy_requests.specs.Texts.{job_of};
+ghost use Rattle.floppy_requests.specs.declared.request.Request.{Request};
+ghost use Rattle.sector_model.specs.Plays.{IsText};
+ghost use Rattle.laws_program.specs.Ends.{EndsByReplies, EndsAnswered};
+ghost use Rattle.laws_program.specs.Inserted.{IsDiskFile, InsertsDisks, requests_among};
+ghost use Rattle.laws_program.specs.Answered.{AnswersCalls};
+ghost use Rattle.floppy_jobs.specs.Texts.{calls_of};
+ghost use Rattle.floppy_jobs.specs.declared.calls.CallLine.{CallLine};
+
+/// A law: `format NAME CYLS` ends with status 1 where some request of its run was refused, and else with 0, unless memory couldn't be
+/// had, or the shelf or the sink failed, and counted it.
+pub fn format_status(_name: &str, _cylinders: u8)
+    ensures { (spares : List DriveCounts) (old new : Stand) (ended : Status)
+        (ran : RanOver (Some (form.Format _name.now _cylinders)) spares old new ended)
+        → EndsByReplies (has_refusal ran.runs.runs.course) old new ended }
+{}
+
+/// A law: so does `formatdd NAME CYLS`.
+pub fn formatdd_status(_name: &str, _cylinders: u8)
+    ensures { (spares : List DriveCounts) (old new : Stand) (ended : Status)
+        (ran : RanOver (Some (form.FormatDd _name.now _cylinders)) spares old new ended)
+        → EndsByReplies (has_refusal ran.runs.runs.course) old new ended }
+{}
+
+/// A law: so does `copy FROM TO`, where FROM is the image of a disk.
+pub fn copy_status(_from: &str, _to: &str)
+    ensures { (spares : List DriveCounts) (old new : Stand) (ended : Status) (files : Files) (disk : Disk)
+        → old.desk.desk.files ≡ Some files → IsImageOf (Some files) _from.now disk
+        → (ran : RanOver (Some (form.Copy _from.now _to.now)) spares old new ended)
+        → EndsByReplies (has_refusal ran.runs.runs.course) old new ended }
+{}
+
+/// A law: so does `verify NAME`, where NAME is the image of a disk.
+pub fn verify_status(_name: &str)
+    ensures { (spares : List DriveCounts) (old new : Stand) (ended : Status) (files : Files) (disk : Disk)
+        → old.desk.desk.files ≡ Some files → IsImageOf (Some files) _name.now disk
+        → (ran : RanOver (Some (form.Verify _name.now)) spares old new ended)
+        → EndsByReplies (has_refusal ran.runs.runs.course) old new ended }
+{}
+
+/// A law: so does `import FLAT NAME`, where FLAT is a flat file.
+pub fn import_status(_flat: &str, _name: &str)
+    ensures { (spares : List DriveCounts) (old new : Stand) (ended : Status) (files : Files) (bytes : List ℕ) (at : Rate)
+        → old.desk.desk.files ≡ Some files → IsFlatFile (Some files) _flat.now bytes at
+        → (ran : RanOver (Some (form.Import _flat.now _name.now)) spares old new ended)
+        → EndsByReplies (has_refusal ran.runs.runs.course) old new ended }
+{}
+
+/// A law: so does `export NAME FLAT`, where NAME is the image of a disk.
+pub fn export_status(_name: &str, _flat: &str)
+    ensures { (spares : List DriveCounts) (old new : Stand) (ended : Status) (files : Files) (disk : Disk)
+        → old.desk.desk.files ≡ Some files → IsImageOf (Some files) _name.now disk
+        → (ran : RanOver (Some (form.Export _name.now _flat.now)) spares old new ended)
+        → EndsByReplies (has_refusal ran.runs.runs.course) old new ended }
+{}
+
+/// A law: so does `exercise SEED COUNT`.
+pub fn exercise_status()
+    ensures { (seed count : ℕ) (spares : List DriveCounts) (old new : Stand) (ended : Status)
+        (ran : RanOver (Some (form.Exercise seed count)) spares old new ended)
+        → EndsByReplies (has_refusal ran.runs.runs.course) old new ended }
+{}
+
+/// A law: so does `rescue FROM TO LOG`, where FROM is the image of a disk, and no file LOG is there.
+pub fn new_rescue_status(_from: &str, _to: &str, _log: &str)
+    ensures { (spares : List DriveCounts) (old new : Stand) (ended : Status) (files : Files) (disk : Disk)
+        → old.desk.desk.files ≡ Some files → IsImageOf (Some files) _from.now disk → file_at files _log.now ≡ None
+        → (ran : RanOver (Some (form.Rescue _from.now _to.now _log.now)) spares old new ended)
+        → EndsByReplies (has_refusal ran.runs.runs.course) old new ended }
+{}
+
+/// A law: so does `rescue FROM TO LOG`, where FROM and TO are images of disks, and LOG is a log of the records of FROM's rate.
+pub fn further_rescue_status(_from: &str, _to: &str, _log: &str)
+    ensures { (spares : List DriveCounts) (old new : Stand) (ended : Status) (files : Files) (disk target : Disk) (lines : List LogLine)
+        → old.desk.desk.files ≡ Some files → IsImageOf (Some files) _from.now disk → IsImageOf (Some files) _to.now target
+        → IsLogFound (Some files) _log.now (sectors_at disk.rate) (Some lines)
+        → (ran : RanOver (Some (form.Rescue _from.now _to.now _log.now)) spares old new ended)
+        → EndsByReplies (has_refusal ran.runs.runs.course) old new ended }
+{}
+
+/// A law: so does `play JOB`, where JOB is a job of at most 4,194,304 bytes, and each file that it inserts, where the insert doesn't have
+/// to be refused, is the file of a disk, or was stored by one of its ejects before.
+pub fn play_status(_job: &str)
+    ensures { (spares : List DriveCounts) (old new : Stand) (ended : Status) (files : Files) (text : List ℕ) (requests : List Request)
+        → old.desk.desk.files ≡ Some files → IsText (Some files) _job.now text → job_of text ≡ Ok requests
+        → InsertsDisks (IsDiskFile (Some files)) (both None) requests
+        → (ran : RanOver (Some (form.Play _job.now)) spares old new ended)
+        → EndsByReplies (has_refusal ran.runs.runs.course) old new ended }
+{}
+
+/// A law: `int13 FILE`, where FILE is a text of calls of at most 4,194,304 bytes, and each file that its requests insert, where that
+/// doesn't have to be refused, is the file of a disk, or was stored by one of their ejects before, ends with status 0 or 1, and then has answered its calls, with status 1 where
+/// something counts as a refusal, unless memory couldn't be had, or the shelf or the sink failed, and counted it.
+pub fn int13_status(_file: &str)
+    ensures { (spares : List DriveCounts) (old new : Stand) (ended : Status) (files : Files) (text : List ℕ) (lines : List CallLine)
+        → old.desk.desk.files ≡ Some files → IsText (Some files) _file.now text → calls_of text ≡ Ok lines
+        → InsertsDisks (IsDiskFile (Some files)) (both None) (requests_among lines)
+        → (ran : RanOver (Some (form.Int13 _file.now)) spares old new ended)
+        → EndsAnswered (AnswersCalls _file.now (world ran.runs.start old.desk.desk.files old.desk.desk.report) ran.runs.runs.course
+        (world ran.runs.last new.desk.desk.files new.desk.desk.report) ended) old new ended }
+{}

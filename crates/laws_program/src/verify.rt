@@ -1,0 +1,44 @@
+// The form that reads all of a disk.
+ghost use Rattle.std.specs.Prelude.{◌≡◌, List, [], Some};
+ghost use Rattle.flop_base.specs.Shelf.{Files};
+ghost use Rattle.flop_base.specs.declared.key.Chrn.{Chrn};
+ghost use Rattle.raw_image.specs.Disk.{Disk};
+ghost use Rattle.flop_base.specs.Counters.{DriveCounts};
+ghost use Rattle.track_model.specs.declared.Look.{Look};
+ghost use Rattle.sector_map.specs.Failing.{AreFailing};
+ghost use Rattle.sector_map.specs.Standard.{standard_keys};
+ghost use Rattle.sector_model.specs.Steps.{IsImageOf};
+ghost use Rattle.pc_bus.specs.Boards.{Board};
+ghost use Rattle.archive_commands.specs.Files.{Desk};
+ghost use Rattle.floppy_words.specs.declared.form.Form.TheVariants as form;
+ghost use Rattle.floppy_tools.specs.Machines.{RunsOver};
+ghost use Rattle.laws_commands.specs.Verified.{IsUnmistaken, all_told_of};
+ghost use Rattle.laws_commands.specs.VerifyRuns.{IsEndStatus};
+ghost use Rattle.laws_program.specs.Disturbed.{HadNoFault, HadNoStall};
+ghost use Rattle.laws_program.specs.Told.{ListsFailing};
+
+use flop_base::Status;
+
+/// A law: where `verify NAME` ends with status 0 or 1, NAME is the image of a disk whose address fields can't be mistaken, the drive
+/// of bay 0 had no fault and no DMA request waited too long, the report grew by a line for each standard key that isn't found, in
+/// their order, with the code of its look, and by a last line that counts the others. The status is 1 where there is such a key,
+/// and else 0.
+pub fn verify_of_a_disk(_name: &str)
+    ensures { (spares : List DriveCounts) (old new : Board) (before after : Desk) (ended : Status) (files : Files) (disk : Disk)
+        (failed : List (Chrn × Look))
+        → RunsOver (Some (form.Verify _name.now)) old spares before new after ended → IsEndStatus ended
+        → before.files ≡ Some files → IsImageOf (Some files) _name.now disk
+        → HadNoFault 0 old new → HadNoStall old new → IsUnmistaken disk
+        → AreFailing disk (standard_keys disk) failed
+        → ListsFailing disk (all_told_of failed) before after ended }
+{}
+
+/// A law: where it ends with status 0, no standard key of the disk fails to be found.
+pub fn verify_finds_all(_name: &str)
+    ensures { (spares : List DriveCounts) (old new : Board) (before after : Desk) (files : Files) (disk : Disk)
+        (failed : List (Chrn × Look))
+        → RunsOver (Some (form.Verify _name.now)) old spares before new after Status.AllOk
+        → before.files ≡ Some files → IsImageOf (Some files) _name.now disk
+        → HadNoFault 0 old new → HadNoStall old new → IsUnmistaken disk
+        → AreFailing disk (standard_keys disk) failed → failed ≡ [] }
+{}

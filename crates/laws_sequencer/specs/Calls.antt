@@ -1,0 +1,118 @@
+-- Calls one after the other, within a command of several sectors.
+use Rattle.std.specs.Prelude.{◌≡◌, ℕ, Bool, true, false, ◌||◌, ◌&&◌, Option, Some, List, [], ◌∷◌, ◌++◌, flat_map}
+use Rattle.fdc_core.specs.Times.{WordTime}
+use Rattle.fdc_commands.specs.Table.{answer}
+use Rattle.fdc_commands.specs.declared.bytes.Accepted.TheVariants.{Ready}
+use Rattle.fdc_commands.specs.declared.command.Command.{Command}
+use Rattle.fdc_commands.specs.declared.results.Results.{Results}
+use Rattle.fdc_core.specs.Whole.{is_idle}
+use Rattle.fdc_core.specs.declared.controller.Fdc.{Fdc}
+use Rattle.fdc_sequencer.specs.Fronts.{Front, GivesFront, KeepsFront, TakesFront, WritesFront, after_reading, told_front}
+use Rattle.fdc_sequencer.specs.Moves.{StepsFront}
+use Rattle.laws_sequencer.specs.Outcomes.{PassesOfSector, ResultsSay}
+use Rattle.laws_sequencer.specs.Serving.{AreMoved, History, Passes, Serves, all_bytes, hears_count, history_counted, history_given, history_stepped, history_taken, nothing_moved, passed_in, passed_out}
+use Rattle.fdc_sequencer.specs.Transfers.{transfer_of}
+use Rattle.fdc_sequencer.specs.declared.opcode.Opcode.{Opcode}
+use Rattle.fdc_sequencer.specs.declared.stage.Stage.{Stage}
+use Rattle.fdc_sequencer.specs.declared.stage.Stage.TheVariants.{Through, Collecting}
+use Rattle.fdc_sequencer.specs.declared.transfer.Transfer.{Transfer}
+
+-- a call: a device step; the channel takes a byte or finds none; it gives one, which is taken or not; it tells the terminal
+-- count; a port is read, or written; a medium is put in or taken out; the strap for seeks is set or not
+pub data Call : Type 0 where
+  Steps : Call
+  Takes : Option ℕ → Call
+  Gives : ℕ → Bool → Call
+  Counts : Call
+  Reads : ℕ → Call
+  Writes : ℕ → ℕ → Call
+  Changes : Call
+  Straps : Bool → Call
+
+-- what it does
+abbrev pub Does : Call → Front → Front → Type 0
+Does Steps old new = StepsFront old new
+Does (Takes byte) old new = TakesFront old byte new
+Does (Gives byte was) old new = GivesFront byte old was new
+Does Counts old new = new ≡ told_front old
+Does (Reads port) old new = new ≡ after_reading port old
+Does (Writes port value) old new = WritesFront port value old new
+Does Changes old new = KeepsFront old new
+Does (Straps on) old new = new ≡ record old { strapped = on }
+
+-- the byte that passed in it
+abbrev pub passed_by : Call → List ℕ
+passed_by (Takes byte) = passed_out byte
+passed_by (Gives byte was) = passed_in was byte
+passed_by _ = []
+
+abbrev pub passed_in_all : List Call → List ℕ
+passed_in_all calls = flat_map passed_by calls
+
+-- it tells the terminal count
+abbrev pub is_count : Call → Bool
+is_count Counts = true
+is_count _ = false
+
+-- while the bytes of a command come the controller takes commands, and none has begun there
+abbrev pub WaitsAt : Stage → Fdc → Type 0
+WaitsAt (Collecting _) fdc = is_idle fdc ≡ true
+WaitsAt _ fdc = Unit {0}
+
+abbrev pub Waits : Front → Type 0
+Waits front = WaitsAt front.stage front.board.controller
+
+-- these calls, behind none of which each access is the controller's again
+abbrev pub AreWithin : List Call → Front → Front → Type 0
+AreWithin [] old new = new ≡ old
+AreWithin (call ∷ calls) old new =
+    (between : Front) × Does call old between × (between.stage ≡ Through → ⊥) × AreWithin calls between new
+
+-- what a call adds to what was heard and moved: a device step the word that the drive gave, or that was written
+abbrev pub Grows : (call : Call) (old new : Front) → Does call old new → History → History → Type 0
+Grows Steps old new step was now =
+    (time : WordTime) × Passes old.stage time old.board step.between × (now ≡ history_stepped old.stage time step.between.controller was)
+Grows (Takes byte) old new does was now = now ≡ history_taken old.stage byte was
+Grows (Gives byte given) old new does was now = now ≡ history_given old.stage byte given was
+Grows Counts old new does was now = now ≡ history_counted old.stage was
+Grows _ old new does was now = now ≡ was
+
+-- what all of them add, one behind the other, each between the fronts that it was made between
+abbrev pub Gather : (calls : List Call) (old new : Front) → AreWithin calls old new → History → History → Type 0
+Gather [] old new same was now = now ≡ was
+Gather (call ∷ calls) old new within was now =
+    (grown : History) × Grows call old within.0 within.1 was grown × Gather calls within.0 new within.3 grown now
+
+-- the terminal count was heard in one of them
+abbrev pub is_counted : (calls : List Call) (old new : Front) → AreWithin calls old new → Bool
+is_counted [] old new same = false
+is_counted (call ∷ calls) old new within = (is_count call && hears_count old.stage) || is_counted calls within.0 new within.3
+
+-- the command is served, and this is what it then heard and moved: what was, and what the calls added to it; behind the bytes that
+-- had passed these did; and the terminal count came where it had come, or was heard in one of these calls
+pub record Behind (first : Transfer) (old : History) (calls : List Call) (start front : Front) (within : AreWithin calls start front) : Type 0 where
+  pub history : History
+  pub gather : Gather calls start front within old history
+  pub serves : Serves first history front
+  pub bytes : all_bytes first.opcode.operation history ≡ all_bytes first.opcode.operation old ++ passed_in_all calls
+  pub told : history.counted ≡ (old.counted || is_counted calls start front within)
+
+-- what passed between the last byte of a command and these results: what the calls added, one behind the other, to nothing; the bytes
+-- that passed are those of its sectors, in order, of which this is known; what the results say of them; those of the last sector are
+-- of that sector; and the terminal count came where one of the calls was heard
+pub record Served (first : Transfer) (calls : List Call) (begun end : Front) (within : AreWithin calls begun end) (results : Results) : Type 0 where
+  pub history : History
+  pub gather : Gather calls begun end within (nothing_moved false) history
+  pub bytes : passed_in_all calls ≡ all_bytes first.opcode.operation history
+  pub moved : AreMoved first.opcode.operation first history.parts
+  pub say : ResultsSay first history results
+  pub of_sector : PassesOfSector first history
+  pub told : history.counted ≡ is_counted calls begun end within
+
+-- with this byte a command of this code is whole, and begins at this sector
+pub record IsLastByte (byte : ℕ) (first : Transfer) (front : Front) : Type 0 where
+  pub opcode : Opcode
+  pub collects : front.stage ≡ Collecting opcode
+  pub command : Command
+  pub whole : answer (front.bytes ++ byte ∷ []) ≡ Ready command
+  pub transfer : transfer_of opcode command ≡ Some first

@@ -1,0 +1,52 @@
+-- How long a command of several sectors lasts, in device steps.
+use Rattle.std.specs.Prelude.{◌≡◌, ◌<◌, ◌+◌, ◌-◌, ◌*◌, ◌%◌, ℕ, Bool, true, false, not, ◌&&◌, List, [], ◌∷◌, if◌then◌else◌}
+use Rattle.fdc_commands.specs.declared.results.Results.{Results}
+use Rattle.fdc_sequencer.specs.Fronts.{Front}
+use Rattle.fdc_sequencer.specs.Transfers.{is_second_head}
+use Rattle.fdc_sequencer.specs.declared.stage.Stage.{Stage}
+use Rattle.fdc_sequencer.specs.declared.stage.Stage.TheVariants.{Seeking, Moving, Telling}
+use Rattle.fdc_sequencer.specs.declared.transfer.Transfer.{Transfer}
+use Rattle.laws_sequencer.specs.Calls.{Call, Steps}
+
+-- ---- sectors
+
+-- the sectors of a head from this record to the last one: behind record FF comes 00
+abbrev pub records_from : ℕ → ℕ → ℕ
+records_from last r = (last + 256 - r) % 256 + 1
+
+-- with MT those of head 1 come behind those of head 0
+abbrev pub goes_to_other : Transfer → Bool
+goes_to_other at = at.opcode.multitrack && not (is_second_head at.head_drive)
+
+-- the sectors of a command from this one on
+abbrev pub sectors_from : Transfer → ℕ
+sectors_from at = records_from at.last_sector at.key.r + (if goes_to_other at then records_from at.last_sector 1 else 0)
+
+-- the numbers of its record and of the last one are bytes
+abbrev pub HasByteRecords : Transfer → Type 0
+HasByteRecords at = (at.key.r < 256) × (at.last_sector < 256)
+
+-- ---- device steps
+
+-- the heads seek, or a sector is moved
+abbrev pub is_under_way : Stage → Bool
+is_under_way (Seeking _ _) = true
+is_under_way (Moving _) = true
+is_under_way _ = false
+
+-- how many of the calls are device steps
+abbrev pub steps_of : Call → ℕ
+steps_of Steps = 1
+steps_of _ = 0
+
+abbrev pub steps_in : List Call → ℕ
+steps_in [] = 0
+steps_in (call ∷ calls) = steps_of call + steps_in calls
+
+-- an implied seek steps over 255 cylinders at most, and ends in one device step more; each sector takes 65,536 at most
+abbrev pub most_steps : Transfer → ℕ
+most_steps first = 256 + 65536 * sectors_from first
+
+-- there are results
+abbrev pub HasResults : Front → Type 0
+HasResults front = (results : Results) × (read : ℕ) × (front.stage ≡ Telling results read)

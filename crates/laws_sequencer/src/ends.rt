@@ -1,0 +1,47 @@
+// That a command of several sectors ends, and how its end is seen. The bodies are empty: the contracts say what follows from what
+// each call does.
+ghost use Rattle.std.specs.Prelude.{◌≡◌, ◌<◌, ◌≤◌, ◌+◌, ◌==◌, ◌&&◌, ℕ, Bool, true, false, List, ◌++◌, nat_le, replicate, slice_index, if◌then◌else◌};
+ghost use Rattle.fdc_commands.specs.Results.{result_bytes};
+ghost use Rattle.fdc_commands.specs.declared.results.Results.{Results};
+ghost use Rattle.fdc_core.specs.Ranges.{IsInRange};
+ghost use Rattle.fdc_core.specs.State.{is_gated};
+ghost use Rattle.fdc_sequencer.specs.Fronts.{Front, WritesFront, after_reading, asks_outside, interrupts_outside, value_outside};
+ghost use Rattle.fdc_sequencer.specs.Transfers.{is_last, next_of};
+ghost use Rattle.fdc_sequencer.specs.declared.stage.Stage.TheVariants.{Through, Telling};
+ghost use Rattle.fdc_sequencer.specs.declared.transfer.Transfer.{Transfer};
+ghost use Rattle.laws_sequencer.specs.Calls.{AreWithin, Call, IsLastByte, Steps};
+ghost use Rattle.laws_sequencer.specs.Lasting.{HasByteRecords, HasResults, is_under_way, most_steps, sectors_from, steps_in};
+
+/// A command of several sectors ends, whatever calls come between: in 256 device steps for an implied seek and 65,536 for each of
+/// its sectors, unless each access is the controller's again before. Then there are results.
+pub fn a_command_ends()
+    ensures within { (byte : ℕ) (first : Transfer) (start begun end : Front) (calls : List Call)
+        → IsLastByte byte first start → HasByteRecords first → WritesFront 0x3F5 byte start begun → (begun.stage ≡ Through → ⊥)
+        → IsInRange begun.board.controller → AreWithin calls begun end → is_under_way end.stage ≡ true → steps_in calls < most_steps first }
+    ensures ends { (byte : ℕ) (first : Transfer) (start begun end : Front) (calls : List Call)
+        → IsLastByte byte first start → HasByteRecords first → WritesFront 0x3F5 byte start begun → (begun.stage ≡ Through → ⊥)
+        → IsInRange begun.board.controller → AreWithin calls begun end → most_steps first ≤ steps_in calls → HasResults end }
+{}
+
+/// A command has 512 sectors at most, and one fewer from each next sector on. A run is as many device steps.
+pub fn sectors_and_steps_are_counted()
+    ensures most { (at : Transfer) → sectors_from at ≤ 512 }
+    ensures next { (at : Transfer) → HasByteRecords at → is_last at ≡ false → sectors_from (next_of at) + 1 ≡ sectors_from at }
+    ensures run { (n : ℕ) → steps_in (replicate n Steps) ≡ n }
+    ensures both { (first second : List Call) → steps_in (first ++ second) ≡ steps_in first + steps_in second }
+{}
+
+/// How the end is seen: while the heads seek or a sector is moved MSR is 10, and INT is down. Then MSR is D0, DRQ is down, INT is
+/// up until the first result byte is read, where DOR lets it out, and the data port gives the seven result bytes in order.
+pub fn results_are_told()
+    ensures busy { (front : Front) → is_under_way front.stage ≡ true → value_outside 0x3F4 front ≡ 0x10 }
+    ensures silent { (front : Front) → is_under_way front.stage ≡ true → interrupts_outside front ≡ false }
+    ensures status { (front : Front) (results : Results) (read : ℕ) → front.stage ≡ Telling results read → value_outside 0x3F4 front ≡ 0xD0 }
+    ensures interrupt { (front : Front) (results : Results) (read : ℕ) → front.stage ≡ Telling results read
+        → interrupts_outside front ≡ ((read == 0) && is_gated front.board.controller) }
+    ensures request { (front : Front) (results : Results) (read : ℕ) → front.stage ≡ Telling results read → asks_outside front ≡ false }
+    ensures byte { (front : Front) (results : Results) (read : ℕ) → front.stage ≡ Telling results read → read < 7
+        → value_outside 0x3F5 front ≡ slice_index (result_bytes results) read }
+    ensures next { (front : Front) (results : Results) (read : ℕ) → front.stage ≡ Telling results read
+        → (after_reading 0x3F5 front).stage ≡ (if nat_le 6 read then Through else Telling results (read + 1)) }
+{}

@@ -1,0 +1,92 @@
+// What is known of a command of several sectors. The bodies are empty: the contracts say what follows from what each call does.
+ghost use Rattle.std.specs.Prelude.{◌≡◌, ◌==◌, ◌&&◌, ℕ, Bool, Option, List, [], ◌++◌, length, replicate};
+ghost use Rattle.fdc_sequencer.specs.Fronts.{Front, IsNewFront, KeepsFront, TakesFront, GivesFront, WritesFront, after_reading, told_front};
+ghost use Rattle.fdc_sequencer.specs.Moves.{RunsFront, StepsFront};
+ghost use Rattle.laws_sequencer.specs.Calls.{AreWithin, Behind, Call, Does, IsLastByte, Gather, Served, Steps, Waits, passed_in_all};
+ghost use Rattle.laws_sequencer.specs.Outcomes.{HasField, PassedWhole, PassesOfSector, ResultsSay};
+ghost use Rattle.laws_sequencer.specs.Serving.{History, IsMoved, KeepsServing, Part, Serves, ServesCounted, ServesStep, ServesUnless, BeginsAt, gives_last, history_given, history_taken, passed_in, passed_out};
+ghost use Rattle.laws_sequencer.specs.Media.{IsReadFrom, Place, StaysIn};
+ghost use Rattle.drive_model.specs.Drive.{DriveState};
+ghost use Rattle.flop_base.specs.declared.key.Chrn.{Chrn};
+ghost use Rattle.track_model.specs.Fields.{content_size};
+ghost use Rattle.fdc_stages.specs.Findings.{FindsSector};
+ghost use Rattle.fdc_stages.specs.History.{Past};
+ghost use Rattle.fdc_core.specs.Ports.{resets};
+ghost use Rattle.fdc_sequencer.specs.declared.opcode.Operation.{Operation};
+ghost use Rattle.fdc_sequencer.specs.declared.opcode.Operation.TheVariants.{Read};
+ghost use Rattle.fdc_commands.specs.declared.results.Results.{Results};
+ghost use Rattle.fdc_sequencer.specs.declared.stage.Stage.TheVariants.{Through, Telling};
+ghost use Rattle.fdc_sequencer.specs.declared.transfer.Transfer.{Transfer};
+
+/// A command that is served goes on through each call. It is over only where the seventh result byte is read or the controller is
+/// reset; and where an implied seek ends while SPECIFY's ND is set, which refuses the first sector.
+pub fn a_served_command_goes_on()
+    ensures steps { (old new : Front) (step : StepsFront old new) → ServesStep old new step }
+    ensures takes { (old : Front) (byte : Option ℕ) (new : Front) → TakesFront old byte new → KeepsServing (passed_out byte) (history_taken old.stage byte) old new }
+    ensures gives { (byte : ℕ) (old : Front) (was : Bool) (new : Front) → GivesFront byte old was new → KeepsServing (passed_in was byte) (history_given old.stage byte was) old new }
+    ensures counts { (old new : Front) → new ≡ told_front old → ServesCounted old new }
+    ensures reads { (port : ℕ) (old new : Front) → new ≡ after_reading port old → ServesUnless ((port == 0x3F5) && gives_last old.stage) old new }
+    ensures writes { (port value : ℕ) (old new : Front) → WritesFront port value old new → ServesUnless (resets port value) old new }
+    ensures changes { (old new : Front) → KeepsFront old new → KeepsServing [] (λ history. history) old new }
+    ensures begins { (port byte : ℕ) (old new : Front) → WritesFront port byte old new → port ≡ 0x3F5 → BeginsAt old.stage byte old new }
+{}
+
+/// A run is as many device steps, and calls behind calls are calls.
+pub fn a_run_is_its_steps()
+    ensures steps { (most : ℕ) (old : Front) (n : ℕ) (new : Front) → RunsFront most old n new → (new.stage ≡ Through → ⊥) → AreWithin (replicate n Steps) old new }
+    ensures both { (first second : List Call) (old between new : Front) → AreWithin first old between → AreWithin second between new → AreWithin (first ++ second) old new }
+{}
+
+/// What the results of a command that is served say of its sectors.
+pub fn results_say()
+    ensures { (first : Transfer) (history : History) (front : Front) (results : Results) (read : ℕ) → Serves first history front
+        → front.stage ≡ Telling results read → ResultsSay first history results }
+{}
+
+/// What passed of a sector that is over is the whole content of a field, or nothing of one that was passed over. As many bytes of the
+/// last one as it has are its content, too.
+pub fn sectors_are_whole()
+    ensures parts { (operation : Operation) (part : Part) → IsMoved operation part → PassedWhole operation part }
+    ensures last { (past : Past) (key : Chrn) (marked : Bool) (given : List ℕ) → FindsSector past key given marked
+        → length given ≡ content_size key.n → HasField past key marked given }
+{}
+
+/// At each time whatever passed of the sector under way is of that sector.
+pub fn bytes_are_of_the_sector()
+    ensures { (first : Transfer) (history : History) (front : Front) → Serves first history front → PassesOfSector first history }
+{}
+
+/// The bytes that pass in calls one after the other are those that the served command moves, in this order.
+pub fn bytes_pass_in_order()
+    ensures { (calls : List Call) (first : Transfer) (history : History) (old new : Front) (within : AreWithin calls old new) → Serves first history old
+        → Behind first history calls old new within }
+{}
+
+/// What passes between the last byte of a command and its results are the bytes of its sectors, in order, and the results say
+/// how it ended.
+pub fn a_command_moves_its_sectors()
+    ensures { (byte : ℕ) (first : Transfer) (start begun end : Front) (calls : List Call) (results : Results) (read : ℕ)
+        → IsLastByte byte first start → WritesFront 0x3F5 byte start begun → (begun.stage ≡ Through → ⊥)
+        → (within : AreWithin calls begun end) → end.stage ≡ Telling results read → Served first calls begun end within results }
+{}
+
+/// What a read gives, from its last byte to its results, while a medium stays in is what stands on that medium under its heads.
+pub fn what_is_read_stands_on_the_medium()
+    ensures { (place : Place) (wanted skip : Bool) (byte : ℕ) (first : Transfer) (start begun end : Front) (calls : List Call) (results : Results) (read : ℕ)
+        → first.opcode.operation ≡ Read wanted skip → IsLastByte byte first start → WritesFront 0x3F5 byte start begun → (begun.stage ≡ Through → ⊥)
+        → (within : AreWithin calls begun end) → end.stage ≡ Telling results read → StaysIn place calls begun end within
+        → (served : Served first calls begun end within results) → IsReadFrom place first served.history }
+{}
+
+/// Once the terminal count was heard no byte passes, and no further sector is moved whole.
+pub fn no_byte_passes_behind_the_count()
+    ensures { (first : Transfer) (was history now : History) (start end : Front) (calls : List Call) → Serves first was start
+        → (within : AreWithin calls (told_front start) end) → Gather calls (told_front start) end within history now
+        → (passed_in_all calls ≡ []) × (now.parts ≡ history.parts) }
+{}
+
+/// While the bytes of a command of several sectors come, the controller takes commands.
+pub fn a_command_that_comes_finds_the_controller_idle()
+    ensures begins { (bay0 bay1 : DriveState) (new : Front) → IsNewFront bay0 bay1 new → Waits new }
+    ensures calls { (call : Call) (old new : Front) → Does call old new → Waits old → Waits new }
+{}

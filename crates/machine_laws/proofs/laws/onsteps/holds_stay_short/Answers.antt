@@ -1,5 +1,0 @@
-use Rattle.machine_laws.proofs.OnSteps.Short as short
-use Rattle.machine_laws.proofs.laws.onsteps.holds_stay_short.Goals as goal
-
-pub returns : goal.returns
-returns c = short.holds_stay_short

@@ -1,5 +1,0 @@
-use Rattle.program_laws.proofs.Archives.{survey_tells}
-use Rattle.program_laws.proofs.archive.survey_of_a_disk.Goals as goal
-
-pub returns : goal.returns
-returns c spares old new before after = survey_tells spares old new before after c.args._name.now

@@ -1,5 +1,0 @@
-use Rattle.program_laws.proofs.OnCounts.{machine_accesses}
-use Rattle.program_laws.proofs.counts.job_accesses.Goals as goal
-
-pub returns : goal.returns
-returns c = machine_accesses c.args._job.now

@@ -1,5 +1,0 @@
-use Rattle.program_laws.proofs.Endings.{export_ends}
-use Rattle.program_laws.proofs.ends.export_ends_well.Goals as goal
-
-pub returns : goal.returns
-returns c = export_ends c.args._name.now c.args._flat.now

@@ -1,5 +1,0 @@
-use Rattle.program_laws.proofs.Endings.{format_ends}
-use Rattle.program_laws.proofs.ends.format_ends_well.Goals as goal
-
-pub returns : goal.returns
-returns c spares old new ended = format_ends c.args._name.now c.args._cylinders spares old new ended

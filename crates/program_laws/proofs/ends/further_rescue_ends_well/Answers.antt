@@ -1,5 +1,0 @@
-use Rattle.program_laws.proofs.Endings.{further_rescue_ends}
-use Rattle.program_laws.proofs.ends.further_rescue_ends_well.Goals as goal
-
-pub returns : goal.returns
-returns c = further_rescue_ends c.args._from.now c.args._to.now c.args._log.now

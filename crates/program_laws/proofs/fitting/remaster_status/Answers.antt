@@ -1,5 +1,0 @@
-use Rattle.program_laws.proofs.Fits.{remaster_ends}
-use Rattle.program_laws.proofs.fitting.remaster_status.Goals as goal
-
-pub returns : goal.returns
-returns c spares old new ended files told = remaster_ends spares old new ended files told c.args._from.now c.args._to.now

@@ -1,5 +1,0 @@
-use Rattle.program_laws.proofs.Fits.{toimd_ends}
-use Rattle.program_laws.proofs.fitting.toimd_status.Goals as goal
-
-pub returns : goal.returns
-returns c spares old new ended files told = toimd_ends spares old new ended files told c.args._name.now c.args._imd.now

@@ -1,5 +1,0 @@
-use Rattle.program_laws.proofs.FlatFiles.{imports_well}
-use Rattle.program_laws.proofs.flat.disk_of_a_flat_file.Goals as goal
-
-pub returns : goal.returns
-returns c = imports_well c.args._flat.now c.args._name.now

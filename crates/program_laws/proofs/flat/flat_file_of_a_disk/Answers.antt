@@ -1,5 +1,0 @@
-use Rattle.program_laws.proofs.FlatFiles.{exports_well}
-use Rattle.program_laws.proofs.flat.flat_file_of_a_disk.Goals as goal
-
-pub returns : goal.returns
-returns c = exports_well c.args._name.now c.args._flat.now

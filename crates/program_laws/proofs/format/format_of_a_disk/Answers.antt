@@ -1,5 +1,0 @@
-use Rattle.program_laws.proofs.Formats.{formats_well}
-use Rattle.program_laws.proofs.format.format_of_a_disk.Goals as goal
-
-pub returns : goal.returns
-returns c = formats_well c.args._name.now c.args._cylinders

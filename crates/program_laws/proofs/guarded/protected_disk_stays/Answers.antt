@@ -1,5 +1,0 @@
-use Rattle.program_laws.proofs.Protected.{play_stays}
-use Rattle.program_laws.proofs.guarded.protected_disk_stays.Goals as goal
-
-pub returns : goal.returns
-returns c = play_stays c.args._name.now c.args._job.now

@@ -1,5 +1,0 @@
-use Rattle.program_laws.proofs.ProtectedCalls.{calls_stay}
-use Rattle.program_laws.proofs.guarded.protected_disk_stays_called.Goals as goal
-
-pub returns : goal.returns
-returns c = calls_stay c.args._name.now c.args._file.now

@@ -1,5 +1,0 @@
-use Rattle.program_laws.proofs.Calls.{int13_answers}
-use Rattle.program_laws.proofs.play.calls_are_answered.Goals as goal
-
-pub returns : goal.returns
-returns c = int13_answers c.args._file.now

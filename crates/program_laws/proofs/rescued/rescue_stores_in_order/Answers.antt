@@ -1,5 +1,0 @@
-use Rattle.program_laws.proofs.Rescues.{rescue_orders}
-use Rattle.program_laws.proofs.rescued.rescue_stores_in_order.Goals as goal
-
-pub returns : goal.returns
-returns c = rescue_orders c.args._from.now c.args._to.now c.args._log.now

@@ -1,5 +1,0 @@
-use Rattle.program_laws.proofs.Replies.{exercise_replies}
-use Rattle.program_laws.proofs.status.exercise_status.Goals as goal
-
-pub returns : goal.returns
-returns c seed count spares old new ended = exercise_replies spares old new ended seed count

@@ -1,5 +1,0 @@
-use Rattle.program_laws.proofs.Replies.{format_dd_replies}
-use Rattle.program_laws.proofs.status.formatdd_status.Goals as goal
-
-pub returns : goal.returns
-returns c spares old new ended = format_dd_replies spares old new ended c.args._name.now c.args._cylinders

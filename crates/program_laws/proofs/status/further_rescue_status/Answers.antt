@@ -1,5 +1,0 @@
-use Rattle.program_laws.proofs.Replies.{rescue_again_replies}
-use Rattle.program_laws.proofs.status.further_rescue_status.Goals as goal
-
-pub returns : goal.returns
-returns c spares old new ended = rescue_again_replies spares old new ended c.args._from.now c.args._to.now c.args._log.now

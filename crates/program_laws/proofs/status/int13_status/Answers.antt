@@ -1,5 +1,0 @@
-use Rattle.program_laws.proofs.CallStatus.{int13_ends}
-use Rattle.program_laws.proofs.status.int13_status.Goals as goal
-
-pub returns : goal.returns
-returns c spares old new ended = int13_ends c.args._file.now spares old new ended

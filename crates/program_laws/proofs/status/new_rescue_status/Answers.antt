@@ -1,5 +1,0 @@
-use Rattle.program_laws.proofs.Replies.{rescue_replies}
-use Rattle.program_laws.proofs.status.new_rescue_status.Goals as goal
-
-pub returns : goal.returns
-returns c spares old new ended = rescue_replies spares old new ended c.args._from.now c.args._to.now c.args._log.now

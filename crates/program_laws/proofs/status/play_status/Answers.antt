@@ -1,5 +1,0 @@
-use Rattle.program_laws.proofs.Replies.{play_replies}
-use Rattle.program_laws.proofs.status.play_status.Goals as goal
-
-pub returns : goal.returns
-returns c spares old new ended = play_replies spares old new ended c.args._job.now

@@ -1,5 +1,0 @@
-use Rattle.program_laws.proofs.Verifies.{verifies_well}
-use Rattle.program_laws.proofs.verify.verify_of_a_disk.Goals as goal
-
-pub returns : goal.returns
-returns c = verifies_well c.args._name.now

@@ -1,5 +1,0 @@
-use Rattle.sequencer_laws.proofs.Whole.{command_served}
-use Rattle.sequencer_laws.proofs.laws.a_command_moves_its_sectors.Goals as goal
-
-pub returns : goal.returns
-returns c = command_served

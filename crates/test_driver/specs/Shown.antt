@@ -1,0 +1,48 @@
+-- What a bench shows of itself.
+use Rattle.std.specs.Prelude.{ℕ, ◌-◌, ◌==◌, [], List, None, if◌then◌else◌}
+use Rattle.flop_base.specs.Counts.{last_count}
+use Rattle.flop_base.specs.Counters.{DriveCounts, Counters}
+use Rattle.single_commands.specs.Rigs.{Rig}
+use Rattle.test_driver.specs.declared.counts.Counts.{Counts}
+use Rattle.test_driver.specs.declared.drive.Drive.{Drive}
+use Rattle.test_driver.specs.declared.drives.Drives.{Drives}
+use Rattle.test_driver.specs.declared.bench.Bench.{Bench}
+
+-- the faults of a drive; it doesn't tell how many are left
+abbrev pub faults_shown : Drive → DriveCounts
+faults_shown drive = record { faults = drive.faults; left = None }
+
+-- no spare drives, and nothing past the driver
+abbrev pub counters_of : Drives → Counts → Counters
+counters_of drives counts = record {
+  drives = record { first = faults_shown drives.first; second = faults_shown drives.second };
+  spares = [];
+  stalls = counts.stalls;
+  stalls_left = last_count - counts.stalls;
+  data_commands = counts.commands;
+  taken = counts.taken;
+  direct = 0;
+}
+
+abbrev pub rig_of : Drives → List ℕ → List ℕ → Counts → Rig
+rig_of drives memory page counts = record {
+  media = record { first = drives.first.medium; second = drives.second.medium };
+  cylinders = record { first = drives.first.cylinder; second = drives.second.cylinder };
+  numbers = record { first = drives.first.number; second = drives.second.number };
+  changes = record { first = drives.first.changed; second = drives.second.changed };
+  spun = record { first = drives.first.at_speed; second = drives.second.at_speed };
+  memory = memory;
+  page = page;
+  counters = counters_of drives counts;
+}
+
+abbrev pub rig_shown : Bench → Rig
+rig_shown bench = rig_of bench.drives bench.memory.items bench.page.items bench.counts
+
+-- the drive of a bay, the second for all but 0
+abbrev pub drive_of : Drives → ℕ → Drive
+drive_of drives bay = if bay == 0 then drives.first else drives.second
+
+-- the same with another drive in a bay
+abbrev pub with_drive : Drives → ℕ → Drive → Drives
+with_drive drives bay drive = if bay == 0 then record drives { first = drive } else record drives { second = drive }

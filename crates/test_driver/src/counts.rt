@@ -1,0 +1,36 @@
+// What the bench counts beside the faults of its drives.
+ghost use Rattle.test_driver.specs.Counted.{HasSent, HasStalled};
+
+/// Data commands, interrupts taken and stalls. Each count stays at its last value.
+#[derive(Clone, Copy)]
+pub(crate) struct Counts {
+    pub commands: u64,
+    pub taken: u64,
+    pub stalls: u64,
+}
+
+impl Counts {
+    /// A data command began, and its interrupt was taken.
+    pub fn send(&mut self)
+        ensures { HasSent self.old self.new }
+    {
+        let Counts {
+            commands,
+            taken,
+            stalls,
+        } = *self;
+        *self = Counts {
+            commands: commands.saturating_add(1),
+            taken: taken.saturating_add(1),
+            stalls,
+        };
+    }
+
+    /// A DMA request waited too long.
+    pub fn stall(&mut self)
+        ensures { HasStalled self.old self.new }
+    {
+        let stalls = self.stalls;
+        self.stalls = stalls.saturating_add(1);
+    }
+}

@@ -1,0 +1,75 @@
+// Pure functions on the bytes of the last file: `of VERB ARGUMENT..`.
+mod bench;
+mod cells;
+mod chips;
+mod images;
+mod layouts;
+mod parts;
+mod print;
+mod records;
+mod services;
+mod texts;
+mod tracks;
+mod turns;
+
+use flop_base::{Chrn, Rate};
+use floppy_jobs::is_verb;
+use raw_image::{ImageError, Medium, read_image};
+use std::alloc::Global;
+use test_files::{Draft, Line, Wrong};
+
+/// The bytes of a file.
+#[derive(Clone, Copy)]
+pub(crate) struct Asked<'a> {
+    pub alloc: Global,
+    pub bytes: &'a [u8],
+}
+
+/// Prints what a function gives for these bytes. Each of the modules passes a verb that it doesn't know on to the next.
+pub(crate) fn answer(asked: Asked, line: &mut Line, out: &mut Draft) -> Result<(), Wrong> {
+    let verb = line.word().as_bytes();
+    cells::answer(verb, asked, line, out)
+}
+
+/// The key that the words `C H R N` are.
+fn key(line: &mut Line) -> Chrn {
+    Chrn {
+        c: line.byte(),
+        h: line.byte(),
+        r: line.byte(),
+        n: line.byte(),
+    }
+}
+
+/// The data rate of so many kbit/s.
+fn rate(line: &mut Line) -> Rate {
+    let word = line.word().as_bytes();
+    if is_verb(word, "500") {
+        return Rate::R500;
+    }
+    if !is_verb(word, "250") {
+        line.refuse();
+    }
+    Rate::R250
+}
+
+/// The words that bytes are, the high byte of each first.
+fn words_of(alloc: Global, bytes: &[u8]) -> Result<Vec<u16>, Wrong> {
+    let mut words = Vec::new(alloc);
+    for pair in bytes.chunks(2) {
+        match pair {
+            [high, low] => words.push(u16::from_be_bytes([*high, *low]))?,
+            _ => return Err(Wrong::Line),
+        }
+    }
+    Ok(words)
+}
+
+/// The medium of an image.
+fn medium_of(asked: Asked) -> Result<Medium, Wrong> {
+    match read_image(asked.alloc, asked.bytes) {
+        Ok(medium) => Ok(medium),
+        Err(ImageError::NoMemory) => Err(Wrong::NoMemory),
+        Err(_) => Err(Wrong::Line),
+    }
+}
