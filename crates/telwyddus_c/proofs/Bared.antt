@@ -1,0 +1,164 @@
+-- A controller whose media are out of its bays, and back.
+use Rattle.std.proofs.Common.{◌≡◌, ◌⊎◌, ℕ, ◌==◌, Bool, true, false, ◌&&◌, List, [], refl, sym, ◌∙◌, ap, subst, inl, inr, eqb}
+use Rattle.std.specs.Prelude.{Option, Some, None, MatchBool, if◌then◌else◌}
+use Rattle.std.proofs.lemmas.Bool.{eqb-true, eq-eqb, and_from}
+use mathlib.Core.Bool.{false≢true}
+use Rattle.flop_base.specs.declared.answers.Rate.{Rate}
+use Rattle.flop_base.specs.declared.answers.Rate.TheVariants.{R500, R250}
+use Rattle.raw_image.specs.Disk.{Disk}
+use Rattle.drive_model.specs.Drive.{same_length}
+use Rattle.fdc_board.specs.declared.board.FdcBoard.{FdcBoard}
+use Rattle.fdc_chip.specs.Chips.{chip_with_drive}
+use Rattle.fdc_chip.specs.declared.chip.Chip.{Chip}
+use Rattle.c_bay_drive.specs.Bays.{bay_state}
+use Rattle.c_bay_drive.specs.WithMedium.{BayWithMedium}
+use Rattle.c_bay_drive.specs.declared.bay.BayDrive.{BayDrive}
+use Rattle.c_bay_drive.proofs.Exchanges.{one_bay, stays_bay, back_bay, medium_in_bay}
+use Rattle.c_slots.specs.Controllers.{ControllerValue}
+use Rattle.telwyddus_c.specs.Bare.{stand_in_for, same_rate, alike, media_alike, medium_in, BareBytes, HasMedium, HasMedia, IsBared, IsRefilled, RestoresBare}
+use Rattle.telwyddus_c.specs.Drives.{held}
+
+-- ---- media that are alike
+
+and_first : (a b : Bool) → (a && b) ≡ true → a ≡ true
+and_first true b both = refl
+and_first false b both = absurd (false≢true both)
+
+same_as_itself : (rate : Rate) → same_rate rate rate ≡ true
+same_as_itself R500 = refl
+same_as_itself R250 = refl
+
+-- a stand-in is like its medium, and the other way round
+pub stand_in_alike : (medium : Option Disk) → alike (stand_in_for medium) medium ≡ true
+stand_in_alike None = refl
+stand_in_alike (Some disk) = and_from _ _ (eq-eqb disk.words_per_track disk.words_per_track refl) (same_as_itself disk.rate)
+
+pub alike_stand_in : (medium : Option Disk) → alike medium (stand_in_for medium) ≡ true
+alike_stand_in None = refl
+alike_stand_in (Some disk) = and_from _ _ (eq-eqb disk.words_per_track disk.words_per_track refl) (same_as_itself disk.rate)
+
+-- their tracks are as long
+pub alike_length : (disk : Disk) (other : Option Disk) → alike (Some disk) other ≡ true → same_length disk other ≡ true
+alike_length disk None is = absurd (false≢true is)
+alike_length disk (Some other) is = and_first (other.words_per_track == disk.words_per_track) (same_rate disk.rate other.rate) is
+
+-- none is like none
+pub alike_none : (other : Option Disk) → alike None other ≡ true → other ≡ None
+alike_none None is = refl
+alike_none (Some other) is = absurd (false≢true is)
+
+-- ---- a drive in a bay
+
+abbrev board_with : (first : Bool) → BayDrive → FdcBoard BayDrive → FdcBoard BayDrive
+board_with first drive board = if first then record board { first = drive } else record board { second = drive }
+
+abbrev drive_on : (first : Bool) → FdcBoard BayDrive → BayDrive
+drive_on first board = if first then board.first else board.second
+
+abbrev on_board : Chip BayDrive → FdcBoard BayDrive → ControllerValue
+on_board chip board = record chip { behind = record chip.behind { board = board } }
+
+board_again : (first : Bool) (drive : BayDrive) (board : FdcBoard BayDrive) → board_with first (drive_on first board) (board_with first drive board) ≡ board
+board_again true drive board = refl
+board_again false drive board = refl
+
+board_itself : (first : Bool) (board : FdcBoard BayDrive) → board ≡ board_with first (drive_on first board) board
+board_itself true board = refl
+board_itself false board = refl
+
+-- the drive that was there is put back
+with_again : (bay : ℕ) (drive : BayDrive) (c : ControllerValue) → chip_with_drive bay (held c bay) (chip_with_drive bay drive c) ≡ c
+with_again bay drive c = ap (on_board c) (board_again (bay == 0) drive c.behind.board)
+
+with_itself : (bay : ℕ) (c : ControllerValue) → c ≡ chip_with_drive bay (held c bay) c
+with_itself bay c = ap (on_board c) (board_itself (bay == 0) c.behind.board)
+
+-- ---- a medium in a bay
+
+-- no medium is put where none is
+pub none_stays : (bay : ℕ) (c : ControllerValue) → medium_in c bay ≡ None → HasMedium None bay c c
+none_stays bay c none = record {
+  drive = subst (λ (medium : Option Disk). BayWithMedium medium (held c bay) (held c bay)) none (stays_bay (held c bay));
+  whole = with_itself bay c;
+}
+
+-- a drive is taken out of a bay, has another medium in, and is put back
+pub exchanged_there : (bay : ℕ) (medium : Option Disk) (spare before after back : BayDrive) (old between new : ControllerValue)
+    → before ≡ held old bay → BayWithMedium medium before after → held new bay ≡ after
+    → between ≡ chip_with_drive bay spare old → new ≡ chip_with_drive bay after between → HasMedium medium bay old new
+exchanged_there bay medium spare before after back old between new taken exchanged put out in_again = ?
+
+-- the medium that was there is put back
+pub put_back : (medium : Option Disk) (bay : ℕ) (old between new : ControllerValue) → HasMedium medium bay old between
+    → HasMedium (medium_in old bay) bay between new → new ≡ old
+put_back medium bay old between new out back =
+    let there : held new bay ≡ held old bay = one_bay (medium_in old bay) (held between bay) (held old bay) (held new bay)
+        (back_bay medium (held old bay) (held between bay) out.drive) back.drive in
+    back.whole
+    ∙ ap (λ (drive : BayDrive). chip_with_drive bay drive between) there
+    ∙ ap (λ (c : ControllerValue). chip_with_drive bay (held old bay) c) out.whole
+    ∙ with_again bay (held between bay) old
+
+-- ---- both bays
+
+pub second_stays : (medium : Option Disk) (old new : ControllerValue) → HasMedium medium 0 old new → held new 1 ≡ held old 1
+second_stays medium old new it = ap (λ (c : ControllerValue). held c 1) it.whole
+
+pub second_medium_stays : (medium : Option Disk) (old new : ControllerValue) → HasMedium medium 0 old new → medium_in new 1 ≡ medium_in old 1
+second_medium_stays medium old new it = ap (λ (drive : BayDrive). (bay_state drive).medium) (second_stays medium old new it)
+
+pub both_bays : (first second : Option Disk) (old between new : ControllerValue) → HasMedium first 0 old between → HasMedium second 1 between new
+    → HasMedia first second old new
+both_bays first second old between new one two =
+    let there : held new 0 ≡ held between 0 = ap (λ (c : ControllerValue). held c 0) two.whole in
+    record {
+      first_drive = subst (λ (drive : BayDrive). BayWithMedium first (held old 0) drive) (sym there) one.drive;
+      second_drive = subst (λ (drive : BayDrive). BayWithMedium second drive (held new 1)) (second_stays first old between one) two.drive;
+      whole =
+          two.whole
+          ∙ ap (λ (c : ControllerValue). chip_with_drive 1 (held new 1) c) one.whole
+          ∙ ap (λ (drive : BayDrive). chip_with_drive 1 (held new 1) (chip_with_drive 0 drive old)) (sym there);
+    }
+
+-- ---- what was saved comes back
+
+bared_alike : (controller bare : ControllerValue) → IsBared controller bare → media_alike controller bare ≡ true
+bared_alike controller bare bares =
+    let first : medium_in bare 0 ≡ stand_in_for (medium_in controller 0) = medium_in_bay _ (held controller 0) (held bare 0) bares.first_drive in
+    let second : medium_in bare 1 ≡ stand_in_for (medium_in controller 1) = medium_in_bay _ (held controller 1) (held bare 1) bares.second_drive in
+    and_from _ _
+    (ap (alike (medium_in controller 0)) first ∙ alike_stand_in (medium_in controller 0))
+    (ap (alike (medium_in controller 1)) second ∙ alike_stand_in (medium_in controller 1))
+
+refilled_again : (controller bare new : ControllerValue) → IsBared controller bare → IsRefilled controller bare new → new ≡ controller
+refilled_again controller bare new bares refills =
+    let first : held new 0 ≡ held controller 0 = one_bay (medium_in controller 0) (held bare 0) (held controller 0) (held new 0)
+        (back_bay (stand_in_for (medium_in controller 0)) (held controller 0) (held bare 0) bares.first_drive) refills.first_drive in
+    let second : held new 1 ≡ held controller 1 = one_bay (medium_in controller 1) (held bare 1) (held controller 1) (held new 1)
+        (back_bay (stand_in_for (medium_in controller 1)) (held controller 1) (held bare 1) bares.second_drive) refills.second_drive in
+    refills.whole
+    ∙ ap (λ (drive : BayDrive). chip_with_drive 1 (held new 1) (chip_with_drive 0 drive bare)) first
+    ∙ ap (λ (drive : BayDrive). chip_with_drive 1 drive (chip_with_drive 0 (held controller 0) bare)) second
+    ∙ ap (λ (c : ControllerValue). chip_with_drive 1 (held controller 1) (chip_with_drive 0 (held controller 0) c)) bares.whole
+
+-- only one of four codes comes
+one_of : (done unfit bad out : Bool) (code : ℕ) (A B C D Same : Type 0) → (done ≡ true → code ≡ 0) → (out ≡ true → code ≡ 3) → (A → Same) → (B → ⊥)
+    → (C → ⊥) → (D → Same) → MatchBool done A (MatchBool unfit B (MatchBool bad C (MatchBool out D ⊥))) → Same × ((code ≡ 0) ⊎ (code ≡ 3))
+one_of true unfit bad out code A B C D Same is_done is_out a b c d h = (a h, inl (is_done refl))
+one_of false true bad out code A B C D Same is_done is_out a b c d h = absurd (b h)
+one_of false false true out code A B C D Same is_done is_out a b c d h = absurd (c h)
+one_of false false false true code A B C D Same is_done is_out a b c d h = (d h, inr (is_out refl))
+one_of false false false false code A B C D Same is_done is_out a b c d h = absurd h
+
+-- the bytes of the bared controller, restored onto its media
+pub comes_back : (controller new : ControllerValue) (bytes : List ℕ) (code : ℕ) → BareBytes (IsBared controller) bytes
+    → RestoresBare bytes code controller new → (new ≡ controller) × ((code ≡ 0) ⊎ (code ≡ 3))
+comes_back controller new bytes code saved restores =
+    one_of (code == 0) (code == 21) (code == 22) (code == 3) code _ _ _ _ (new ≡ controller) (eqb-true code 0) (eqb-true code 3)
+    (λ done. refilled_again controller saved.bare new saved.lacks
+    (subst (λ (state : ControllerValue). IsRefilled controller state new) (sym (done.1.only saved.bare saved.fits saved.spells)) done.3))
+    (λ unfit. false≢true (sym unfit.2 ∙ ap (media_alike controller) (sym (unfit.1.only saved.bare saved.fits saved.spells))
+    ∙ bared_alike controller saved.bare saved.lacks))
+    (λ bad. bad.0 saved.bare saved.fits saved.spells)
+    (λ out. out)
+    restores
