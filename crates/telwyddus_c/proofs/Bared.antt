@@ -66,6 +66,14 @@ board_itself : (first : Bool) (board : FdcBoard BayDrive) → board ≡ board_wi
 board_itself true board = refl
 board_itself false board = refl
 
+board_twice : (first : Bool) (one other : BayDrive) (board : FdcBoard BayDrive) → board_with first other (board_with first one board) ≡ board_with first other board
+board_twice true one other board = refl
+board_twice false one other board = refl
+
+-- one drive behind another
+with_twice : (bay : ℕ) (one other : BayDrive) (c : ControllerValue) → chip_with_drive bay other (chip_with_drive bay one c) ≡ chip_with_drive bay other c
+with_twice bay one other c = ap (on_board c) (board_twice (bay == 0) one other c.behind.board)
+
 -- the drive that was there is put back
 with_again : (bay : ℕ) (drive : BayDrive) (c : ControllerValue) → chip_with_drive bay (held c bay) (chip_with_drive bay drive c) ≡ c
 with_again bay drive c = ap (on_board c) (board_again (bay == 0) drive c.behind.board)
@@ -83,10 +91,18 @@ none_stays bay c none = record {
 }
 
 -- a drive is taken out of a bay, has another medium in, and is put back
-pub exchanged_there : (bay : ℕ) (medium : Option Disk) (spare before after back : BayDrive) (old between new : ControllerValue)
+pub exchanged_there : (bay : ℕ) (medium : Option Disk) (spare before after : BayDrive) (old between new : ControllerValue)
     → before ≡ held old bay → BayWithMedium medium before after → held new bay ≡ after
     → between ≡ chip_with_drive bay spare old → new ≡ chip_with_drive bay after between → HasMedium medium bay old new
-exchanged_there bay medium spare before after back old between new taken exchanged put out in_again = ?
+exchanged_there bay medium spare before after old between new taken exchanged put out back = record {
+  drive = subst (λ (drive : BayDrive). BayWithMedium medium drive (held new bay)) taken
+      (subst (λ (drive : BayDrive). BayWithMedium medium before drive) (sym put) exchanged);
+  whole =
+      back
+      ∙ ap (λ (c : ControllerValue). chip_with_drive bay after c) out
+      ∙ with_twice bay spare after old
+      ∙ ap (λ (drive : BayDrive). chip_with_drive bay drive old) (sym put);
+}
 
 -- the medium that was there is put back
 pub put_back : (medium : Option Disk) (bay : ℕ) (old between new : ControllerValue) → HasMedium medium bay old between

@@ -2,6 +2,8 @@
 ghost use Rattle.std.specs.Prelude.{◌≡◌, ◌≤◌, ◌-◌, true, Some, IfOk, IfErr};
 ghost use Rattle.std.specs.Bool.{OnTrue, OnFalse};
 ghost use Rattle.std.specs.Option.{option_copied};
+ghost use Rattle.c_bay_drive.specs.Bays.{bay_state};
+ghost use Rattle.c_bay_drive.specs.WithMedium.{BayWithMedium};
 ghost use Rattle.drive_model.specs.Drive.{same_length};
 ghost use Rattle.telwyddus_c.specs.Bare.{stand_in, stand_in_for as stand_in_of, alike as alike_of, media_alike, medium_in, BareBytes, HasMedium, IsBared, IsRefilled};
 ghost use Rattle.telwyddus_c.specs.Bare.{same_rate as same_rate_of};
@@ -71,7 +73,19 @@ fn are_alike(one: &WholeController, other: &WholeController) -> bool
     first && second
 }
 
-/// Puts a medium in place of the one in a bay, which is given.
+/// Puts a medium in place of the one in a drive, which is given.
+fn trade(drive: &mut BayDrive, medium: Medium) -> Medium
+    requires { same_length medium (bay_state drive.old).medium ≡ true }
+    ensures has { BayWithMedium (Some medium) drive.old drive.new }
+    ensures before { Some result ≡ (bay_state drive.old).medium }
+{
+    match drive.exchange(medium) {
+        Ok(before) => before,
+        Err(back) => back,
+    }
+}
+
+/// The same of the drive in a bay.
 fn replace_medium(
     alloc: Global,
     controller: &mut WholeController,
@@ -85,12 +99,9 @@ fn replace_medium(
 {
     let mut drive = BayDrive::new(Vec::new(alloc));
     controller.swap_drive(bay, &mut drive);
-    let before = drive.exchange(medium);
+    let before = trade(&mut drive, medium);
     controller.swap_drive(bay, &mut drive);
-    match before {
-        Ok(before) => Some(before),
-        Err(_) => None,
-    }
+    Some(before)
 }
 
 /// The same of a medium or none, where none is in.
