@@ -1,6 +1,6 @@
 -- A controller whose media are out of its bays, and back.
 use Rattle.std.proofs.Common.{◌≡◌, ◌⊎◌, ℕ, ◌==◌, Bool, true, false, ◌&&◌, List, [], refl, sym, ◌∙◌, ap, subst, inl, inr, eqb}
-use Rattle.std.specs.Prelude.{Option, Some, None, MatchBool, if◌then◌else◌}
+use Rattle.std.specs.Prelude.{Option, Some, None, Result, Ok, Err, IfOk, MatchBool, if◌then◌else◌}
 use Rattle.std.proofs.lemmas.Bool.{eqb-true, eq-eqb, and_from}
 use mathlib.Core.Bool.{false≢true}
 use Rattle.flop_base.specs.declared.answers.Rate.{Rate}
@@ -15,14 +15,19 @@ use Rattle.c_bay_drive.specs.WithMedium.{BayWithMedium}
 use Rattle.c_bay_drive.specs.declared.bay.BayDrive.{BayDrive}
 use Rattle.c_bay_drive.proofs.Exchanges.{one_bay, stays_bay, back_bay, medium_in_bay}
 use Rattle.c_slots.specs.Controllers.{ControllerValue}
-use Rattle.telwyddus_c.specs.Bare.{stand_in_for, same_rate, alike, media_alike, medium_in, BareBytes, HasMedium, HasMedia, IsBared, IsRefilled, RestoresBare}
+use Rattle.telwyddus_c.specs.Bare.{stand_in_for, same_rate, alike, media_alike, medium_in, spelled_bare, BareBytes, HasMedium, HasMedia, IsBared, IsRefilled, RestoresBare}
 use Rattle.telwyddus_c.specs.Drives.{held}
+use Rattle.telwyddus_c.specs.States.{ControllerFits}
 
 -- ---- media that are alike
 
 and_first : (a b : Bool) → (a && b) ≡ true → a ≡ true
 and_first true b both = refl
 and_first false b both = absurd (false≢true both)
+
+and_second : (a b : Bool) → (a && b) ≡ true → b ≡ true
+and_second true b both = both
+and_second false b both = absurd (false≢true both)
 
 same_as_itself : (rate : Rate) → same_rate rate rate ≡ true
 same_as_itself R500 = refl
@@ -115,6 +120,18 @@ put_back medium bay old between new out back =
     ∙ ap (λ (c : ControllerValue). chip_with_drive bay (held old bay) c) out.whole
     ∙ with_again bay (held between bay) old
 
+-- so it is where a stand-in is in its place
+pub alike_out : (bay : ℕ) (old between : ControllerValue) (out : Option Disk) → out ≡ medium_in old bay
+    → HasMedium (stand_in_for (medium_in old bay)) bay old between → alike out (medium_in between bay) ≡ true
+alike_out bay old between out is it =
+    let there : medium_in between bay ≡ stand_in_for (medium_in old bay) = medium_in_bay _ (held old bay) (held between bay) it.drive in
+    ap (λ (medium : Option Disk). alike medium (medium_in between bay)) is ∙ ap (alike (medium_in old bay)) there ∙ alike_stand_in (medium_in old bay)
+
+pub back_again : (bay : ℕ) (old between new : ControllerValue) (out : Option Disk) → out ≡ medium_in old bay
+    → HasMedium (stand_in_for (medium_in old bay)) bay old between → HasMedium out bay between new → new ≡ old
+back_again bay old between new out is it back =
+    put_back (stand_in_for (medium_in old bay)) bay old between new it (subst (λ (medium : Option Disk). HasMedium medium bay between new) is back)
+
 -- ---- both bays
 
 pub second_stays : (medium : Option Disk) (old new : ControllerValue) → HasMedium medium 0 old new → held new 1 ≡ held old 1
@@ -135,6 +152,52 @@ both_bays first second old between new one two =
           ∙ ap (λ (c : ControllerValue). chip_with_drive 1 (held new 1) c) one.whole
           ∙ ap (λ (drive : BayDrive). chip_with_drive 1 (held new 1) (chip_with_drive 0 drive old)) (sym there);
     }
+
+-- the stand-in of bay 0, then that of bay 1
+bared_both : (old between bare : ControllerValue) → HasMedium (stand_in_for (medium_in old 0)) 0 old between
+    → HasMedium (stand_in_for (medium_in between 1)) 1 between bare → IsBared old bare
+bared_both old between bare one two =
+    both_bays (stand_in_for (medium_in old 0)) (stand_in_for (medium_in old 1)) old between bare one
+    (subst (λ (medium : Option Disk). HasMedium (stand_in_for medium) 1 between bare) (second_medium_stays _ old between one) two)
+
+bytes_both : (old between : ControllerValue) (bytes : List ℕ) → HasMedium (stand_in_for (medium_in old 0)) 0 old between
+    → BareBytes (HasMedium (stand_in_for (medium_in between 1)) 1 between) bytes → BareBytes (IsBared old) bytes
+bytes_both old between bytes one saved = record {
+  bare = saved.bare;
+  lacks = bared_both old between saved.bare one saved.lacks;
+  fits = saved.fits;
+  spells = saved.spells;
+}
+
+pub ok_both : {A E : Type 0} (bytes_of : A → List ℕ) (result : Result A E) (old between : ControllerValue)
+    → HasMedium (stand_in_for (medium_in old 0)) 0 old between
+    → IfOk result (λ it. BareBytes (HasMedium (stand_in_for (medium_in between 1)) 1 between) (bytes_of it))
+    → IfOk result (λ it. BareBytes (IsBared old) (bytes_of it))
+ok_both bytes_of (Ok it) old between one saved = bytes_both old between (bytes_of it) one saved
+ok_both bytes_of (Err e) old between one saved = tt
+
+-- the bytes of the controller that lacks the second medium
+pub ok_second : {A E : Type 0} (bytes_of : A → List ℕ) (result : Result A E) (Lacks : ControllerValue → Type 0) (bare : ControllerValue)
+    → Lacks bare → ControllerFits bare → IfOk result (λ it. bytes_of it ≡ spelled_bare bare []) → IfOk result (λ it. BareBytes Lacks (bytes_of it))
+ok_second bytes_of (Ok it) Lacks bare lacks fits spells = record { bare = bare; lacks = lacks; fits = fits; spells = spells }
+ok_second bytes_of (Err e) Lacks bare lacks fits spells = tt
+
+-- the media of one controller go to another, the first, then the second
+pub first_alike : (one other : ControllerValue) → media_alike one other ≡ true → alike (medium_in one 0) (medium_in other 0) ≡ true
+first_alike one other is = and_first (alike (medium_in one 0) (medium_in other 0)) (alike (medium_in one 1) (medium_in other 1)) is
+
+pub second_alike : (from left to between : ControllerValue) (first : Option Disk) → media_alike from to ≡ true → held left 1 ≡ held from 1
+    → HasMedium first 0 to between → alike (medium_in left 1) (medium_in between 1) ≡ true
+second_alike from left to between first is stays moved =
+    ap (λ (drive : BayDrive). alike (bay_state drive).medium (medium_in between 1)) stays
+    ∙ ap (alike (medium_in from 1)) (second_medium_stays first to between moved)
+    ∙ and_second (alike (medium_in from 0) (medium_in to 0)) (alike (medium_in from 1) (medium_in to 1)) is
+
+pub refilled_both : (from left to between new : ControllerValue) → held left 1 ≡ held from 1 → HasMedium (medium_in from 0) 0 to between
+    → HasMedium (medium_in left 1) 1 between new → IsRefilled from to new
+refilled_both from left to between new stays one two =
+    both_bays (medium_in from 0) (medium_in from 1) to between new one
+    (subst (λ (drive : BayDrive). HasMedium (bay_state drive).medium 1 between new) stays two)
 
 -- ---- what was saved comes back
 
