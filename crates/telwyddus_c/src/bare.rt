@@ -20,7 +20,7 @@ use std::mem;
 
 /// What stands in for the medium of a bay.
 fn stand_in_for(alloc: Global, medium: Option<&Medium>) -> Result<Option<Medium>, NoMemory>
-    ensures { IfOk result (λ it. it ≡ stand_in_of (option_copied medium)) }
+    ensures { IfOk result (λ it. it ≡ stand_in_of (option_copied medium.entry)) }
 {
     match medium {
         None => Ok(None),
@@ -43,7 +43,7 @@ fn same_rate(one: Rate, other: Rate) -> bool
 
 /// Whether there is none of both, or their tracks have the same length and rate.
 fn alike(one: Option<&Medium>, other: Option<&Medium>) -> bool
-    ensures { result ≡ alike_of (option_copied one) (option_copied other) }
+    ensures { result ≡ alike_of (option_copied one.entry) (option_copied other.entry) }
 {
     match one {
         None => other.is_none(),
