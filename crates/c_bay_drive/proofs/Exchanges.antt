@@ -36,7 +36,7 @@ parts_in s = record {
 same_script : (one other : ScriptDrive) → script_state one ≡ script_state other → script_of one ≡ script_of other → other ≡ one
 same_script one other state script =
     let mechanics : other.mechanics ≡ one.mechanics = same_mechanics one.mechanics (parts_of other.mechanics) other.mechanics.on_a_cylinder
-        other.mechanics.on_the_track other.mechanics.spun_up other.mechanics.at_rest other.mechanics.a_disk (ap parts_in state) in
+    other.mechanics.on_the_track other.mechanics.spun_up other.mechanics.at_rest other.mechanics.a_disk (ap parts_in state) in
     same_script_drive one other.mechanics other.plan other.faults other.counted mechanics (sym script) (ap (λ s. s.faults) state)
 
 abbrev tracked_of : ScriptDrive → Bool → List ℕ → TrackedDrive

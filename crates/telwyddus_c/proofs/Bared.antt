@@ -43,14 +43,21 @@ alike_stand_in None = refl
 alike_stand_in (Some disk) = and_from _ _ (eq-eqb disk.words_per_track disk.words_per_track refl) (same_as_itself disk.rate)
 
 -- their tracks are as long
-pub alike_length : (disk : Disk) (other : Option Disk) → alike (Some disk) other ≡ true → same_length disk other ≡ true
-alike_length disk None is = absurd (false≢true is)
-alike_length disk (Some other) is = and_first (other.words_per_track == disk.words_per_track) (same_rate disk.rate other.rate) is
+disk_length : (disk : Disk) (other : Option Disk) → alike (Some disk) other ≡ true → same_length disk other ≡ true
+disk_length disk None is = absurd (false≢true is)
+disk_length disk (Some other) is = and_first (other.words_per_track == disk.words_per_track) (same_rate disk.rate other.rate) is
+
+pub alike_length : (medium : Option Disk) (disk : Disk) (other : Option Disk) → medium ≡ Some disk → alike medium other ≡ true
+    → same_length disk other ≡ true
+alike_length medium disk other some is = disk_length disk other (subst (λ (it : Option Disk). alike it other ≡ true) some is)
 
 -- none is like none
-pub alike_none : (other : Option Disk) → alike None other ≡ true → other ≡ None
-alike_none None is = refl
-alike_none (Some other) is = absurd (false≢true is)
+none_alike : (other : Option Disk) → alike None other ≡ true → other ≡ None
+none_alike None is = refl
+none_alike (Some other) is = absurd (false≢true is)
+
+pub alike_none : (medium other : Option Disk) → medium ≡ None → alike medium other ≡ true → other ≡ None
+alike_none medium other none is = none_alike other (subst (λ (it : Option Disk). alike it other ≡ true) none is)
 
 -- ---- a drive in a bay
 
@@ -88,10 +95,10 @@ with_itself bay c = ap (on_board c) (board_itself (bay == 0) c.behind.board)
 
 -- ---- a medium in a bay
 
--- no medium is put where none is
-pub none_stays : (bay : ℕ) (c : ControllerValue) → medium_in c bay ≡ None → HasMedium None bay c c
-none_stays bay c none = record {
-  drive = subst (λ (medium : Option Disk). BayWithMedium medium (held c bay) (held c bay)) none (stays_bay (held c bay));
+-- the one that is in
+pub own_stays : (medium : Option Disk) (bay : ℕ) (c : ControllerValue) → medium_in c bay ≡ medium → HasMedium medium bay c c
+own_stays medium bay c own = record {
+  drive = subst (λ (it : Option Disk). BayWithMedium it (held c bay) (held c bay)) own (stays_bay (held c bay));
   whole = with_itself bay c;
 }
 
@@ -114,7 +121,7 @@ pub put_back : (medium : Option Disk) (bay : ℕ) (old between new : ControllerV
     → HasMedium (medium_in old bay) bay between new → new ≡ old
 put_back medium bay old between new out back =
     let there : held new bay ≡ held old bay = one_bay (medium_in old bay) (held between bay) (held old bay) (held new bay)
-        (back_bay medium (held old bay) (held between bay) out.drive) back.drive in
+    (back_bay medium (held old bay) (held between bay) out.drive) back.drive in
     back.whole
     ∙ ap (λ (drive : BayDrive). chip_with_drive bay drive between) there
     ∙ ap (λ (c : ControllerValue). chip_with_drive bay (held old bay) c) out.whole
@@ -169,18 +176,18 @@ bytes_both old between bytes one saved = record {
   spells = saved.spells;
 }
 
-pub ok_both : {A E : Type 0} (bytes_of : A → List ℕ) (result : Result A E) (old between : ControllerValue)
+pub ok_both : {A E : Type 0} (result : Result A E) (bytes_of : A → List ℕ) (old between : ControllerValue)
     → HasMedium (stand_in_for (medium_in old 0)) 0 old between
     → IfOk result (λ it. BareBytes (HasMedium (stand_in_for (medium_in between 1)) 1 between) (bytes_of it))
     → IfOk result (λ it. BareBytes (IsBared old) (bytes_of it))
-ok_both bytes_of (Ok it) old between one saved = bytes_both old between (bytes_of it) one saved
-ok_both bytes_of (Err e) old between one saved = tt
+ok_both (Ok it) bytes_of old between one saved = bytes_both old between (bytes_of it) one saved
+ok_both (Err e) bytes_of old between one saved = tt
 
 -- the bytes of the controller that lacks the second medium
-pub ok_second : {A E : Type 0} (bytes_of : A → List ℕ) (result : Result A E) (Lacks : ControllerValue → Type 0) (bare : ControllerValue)
+pub ok_second : {A E : Type 0} (result : Result A E) (bytes_of : A → List ℕ) (Lacks : ControllerValue → Type 0) (bare : ControllerValue)
     → Lacks bare → ControllerFits bare → IfOk result (λ it. bytes_of it ≡ spelled_bare bare []) → IfOk result (λ it. BareBytes Lacks (bytes_of it))
-ok_second bytes_of (Ok it) Lacks bare lacks fits spells = record { bare = bare; lacks = lacks; fits = fits; spells = spells }
-ok_second bytes_of (Err e) Lacks bare lacks fits spells = tt
+ok_second (Ok it) bytes_of Lacks bare lacks fits spells = record { bare = bare; lacks = lacks; fits = fits; spells = spells }
+ok_second (Err e) bytes_of Lacks bare lacks fits spells = tt
 
 -- the media of one controller go to another, the first, then the second
 pub first_alike : (one other : ControllerValue) → media_alike one other ≡ true → alike (medium_in one 0) (medium_in other 0) ≡ true
@@ -212,9 +219,9 @@ bared_alike controller bare bares =
 refilled_again : (controller bare new : ControllerValue) → IsBared controller bare → IsRefilled controller bare new → new ≡ controller
 refilled_again controller bare new bares refills =
     let first : held new 0 ≡ held controller 0 = one_bay (medium_in controller 0) (held bare 0) (held controller 0) (held new 0)
-        (back_bay (stand_in_for (medium_in controller 0)) (held controller 0) (held bare 0) bares.first_drive) refills.first_drive in
+    (back_bay (stand_in_for (medium_in controller 0)) (held controller 0) (held bare 0) bares.first_drive) refills.first_drive in
     let second : held new 1 ≡ held controller 1 = one_bay (medium_in controller 1) (held bare 1) (held controller 1) (held new 1)
-        (back_bay (stand_in_for (medium_in controller 1)) (held controller 1) (held bare 1) bares.second_drive) refills.second_drive in
+    (back_bay (stand_in_for (medium_in controller 1)) (held controller 1) (held bare 1) bares.second_drive) refills.second_drive in
     refills.whole
     ∙ ap (λ (drive : BayDrive). chip_with_drive 1 (held new 1) (chip_with_drive 0 drive bare)) first
     ∙ ap (λ (drive : BayDrive). chip_with_drive 1 drive (chip_with_drive 0 (held controller 0) bare)) second

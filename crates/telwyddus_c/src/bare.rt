@@ -49,9 +49,7 @@ fn alike(one: Option<&Medium>, other: Option<&Medium>) -> bool
         None => other.is_none(),
         Some(one) => match other {
             None => false,
-            Some(other) => {
-                other.words() == one.words() && same_rate(one.rate(), other.rate())
-            }
+            Some(other) => { other.words() == one.words() && same_rate(one.rate(), other.rate()) }
         },
     }
 }
