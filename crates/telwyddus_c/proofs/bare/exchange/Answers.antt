@@ -4,8 +4,10 @@ use Rattle.telwyddus_c.proofs.Bared.{alike_length, alike_none, own_stays}
 use Rattle.telwyddus_c.proofs.bare.exchange.Goals as goal
 
 pub replace_medium-requires : goal.replace_medium-requires
-replace_medium-requires c =
-    alike_length c.args.medium c.in-Some.medium (medium_in c.args.controller.now c.args.bay) c.in-Some.is c.requires.alike
+replace_medium-requires c = record {
+  bay = c.requires.bay;
+  alike = alike_length c.args.medium c.in-Some.medium (medium_in c.args.controller.now c.args.bay) c.in-Some.is c.requires.alike;
+}
 
 pub returns-in-None : goal.returns-in-None
 returns-in-None c =
