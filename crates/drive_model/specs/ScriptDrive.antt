@@ -1,7 +1,6 @@
 -- What a drive with planned faults shows, and when they come.
 use Rattle.std.specs.Prelude.{◌≡◌, ℕ, ◌+◌, ◌<◌, Bool, false, ◌&&◌, nat_lt, min, if◌then◌else◌, List, Option, Some, None}
 use Rattle.flop_base.specs.Counts.{last_count}
-use Rattle.raw_image.specs.Disk.{Disk}
 use Rattle.drive_model.specs.Drive.{DriveState, at_speed, can_write}
 use Rattle.drive_model.specs.Fault.{comes, spent, total_left}
 use Rattle.drive_model.specs.Mechanics.{state_of}
@@ -21,10 +20,6 @@ told counted left = if nat_lt (counted + left) last_count then Some left else No
 -- its state
 abbrev pub script_state : ScriptDrive → DriveState
 script_state drive = state_of drive.mechanics drive.faults (told drive.faults (total_left drive.plan))
-
--- the drive with this medium in place of the one that is in
-abbrev pub with_medium_in : Disk → ScriptDrive → ScriptDrive
-with_medium_in disk drive = record drive { mechanics = record drive.mechanics { medium = Some disk } }
 
 -- a read of the word that passes under a head
 abbrev pub read_of : DriveState → ℕ → Event

@@ -159,10 +159,9 @@ impl Mechanics {
     pub(crate) fn exchange(&mut self, medium: Medium) -> Result<Medium, Medium>
         ensures refused { IsErr result ↔ (same_length medium self.old.medium ≡ false) }
         ensures ok { OnOk result (faultless self.new ≡ exchanged medium (faultless self.old)) }
-        ensures held { OnOk result (self.new ≡ record self.old { medium = Some medium }) }
         ensures before { IfOk result (λ before. Some before ≡ self.old.medium) }
         ensures back { IfErr result (λ back. back ≡ medium) }
-        ensures err { IfErr result (λ _. self.new ≡ self.old) }
+        ensures err { IfErr result (λ _. faultless self.new ≡ faultless self.old) }
     {
         let Some(inside) = &mut self.medium else {
             return Err(medium);

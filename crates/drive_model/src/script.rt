@@ -314,7 +314,7 @@ impl Drive for ScriptDrive {
 
 impl Inspect for ScriptDrive {
     ghost use Rattle.drive_model.specs.Drive.{with_protection, same_length, exchanged};
-    ghost use Rattle.drive_model.specs.ScriptDrive.{script_state, with_medium_in, NoFault};
+    ghost use Rattle.drive_model.specs.ScriptDrive.{script_state, NoFault};
 
     fn medium(&self) -> Option<&Medium> {
         self.mechanics.medium.as_ref()
@@ -353,9 +353,9 @@ impl Inspect for ScriptDrive {
     fn exchange(&mut self, medium: Medium) -> Result<Medium, Medium>
         ensures refused { IsErr result ↔ (same_length medium (script_state self.old).medium ≡ false) }
         ensures ok { OnOk result (script_state self.new ≡ exchanged medium (script_state self.old)) }
-        ensures held { OnOk result (self.new ≡ with_medium_in medium self.old) }
         ensures before { IfOk result (λ before. Some before ≡ (script_state self.old).medium) }
-        ensures err { IfErr result (λ back. (back ≡ medium) × (self.new ≡ self.old)) }
+        ensures err { IfErr result (λ back. (back ≡ medium)
+            × (script_state self.new ≡ script_state self.old)) }
         ensures no_fault { NoFault self.old self.new }
     {
         self.mechanics.exchange(medium)
