@@ -43,7 +43,7 @@ most-file disk is =
 
 most-medium : (medium : Option Disk) (rest : List ℕ) → ForSome medium IsDisk → length (spelled_medium medium rest) ≤ 9 + medium_most + length rest
 most-medium None rest is = omega arith
-most-medium (Some disk) rest is = omega (arith, length-bytes (file_of disk) rest, most-file disk is)
+most-medium (Some disk) rest is = omega (arith, length-bytes (file_of disk) rest, most-file disk (is disk refl))
 
 -- ---- planned faults
 
