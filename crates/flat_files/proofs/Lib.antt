@@ -2,3 +2,5 @@ pub mod Filed
 pub mod Valid
 pub mod Places
 pub mod FormValid
+pub mod Alike
+pub mod Again

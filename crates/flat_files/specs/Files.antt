@@ -154,3 +154,8 @@ abbrev pub GivesForm : FlatForm → Disk → Result (Vec ℕ) FileFault → Type
 GivesForm form disk (Ok file) = IsForm form × GivesFile form disk (Ok file)
 GivesForm form disk (Err NoForm) = IsForm form → ⊥
 GivesForm form disk (Err (Flat cause)) = IsForm form × GivesFile form disk (Err cause)
+
+-- that is this file again
+abbrev pub IsFileAgain : List ℕ → Result (Vec ℕ) FileFault → Type 0
+IsFileAgain bytes (Ok file) = file.items ≡ bytes
+IsFileAgain bytes (Err cause) = Unit {0}
