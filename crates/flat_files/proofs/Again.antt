@@ -1,7 +1,6 @@
 -- The flat file of a medium that a flat file made is that file.
-use Rattle.std.proofs.Common.{◌≡◌, ◌+◌, ◌-◌, ◌*◌, ◌<◌, ◌≤◌, ◌==◌, ◌&&◌, ◌∷◌, ◌++◌, [], ℕ, zero, suc, Bool, true, false, cond, List, length, map, take, drop, get_or, Option, Some, None, Result, Ok, Err, refl, sym, ap, ◌∙◌, subst, arith, ⊎_elim, eq-eqb, ne_eqb, take-add, take_all}
+use Rattle.std.proofs.Common.{◌≡◌, ◌+◌, ◌-◌, ◌*◌, ◌<◌, ◌≤◌, ◌==◌, ◌&&◌, ◌∷◌, ◌++◌, [], ℕ, zero, suc, Bool, true, false, cond, List, length, map, take, drop, get_or, Option, Some, None, refl, sym, ap, ◌∙◌, subst, arith, ⊎_elim, eq-eqb, ne_eqb, take-add, take_all}
 use Rattle.std.specs.Prelude.{find, slice_range}
-use Rattle.std.specs.Global.{Vec}
 use Rattle.std.specs.List.{range_with_len}
 use Rattle.std.specs.Option.{option_map_or}
 use Rattle.std.proofs.lemmas.Bool.{and_parts, cases_eq, eqb-true}
@@ -12,10 +11,9 @@ use Rattle.imagedisk.specs.declared.image.ImdImage.{ImdImage}
 use Rattle.imagedisk.specs.declared.sector.ImdKind.TheVariants.{Good}
 use Rattle.imagedisk.specs.declared.sector.ImdSector.{ImdSector}
 use Rattle.imagedisk.specs.declared.track.ImdTrack.{ImdTrack}
-use Rattle.flat_files.specs.Files.{AddsRecords, AreOfTracks, GivesForm, IsFileAgain, is_track, is_wanted, sector_on, sectors_on}
+use Rattle.flat_files.specs.Files.{AddsRecords, AreOfTracks, is_track, is_wanted, sector_on, sectors_on}
 use Rattle.flat_files.specs.Forms.{IsForm, cylinder_of, file_length, head_of, sector_bytes, sector_place, tracks_of}
-use Rattle.flat_files.specs.FormMaking.{HasForm, form_image, form_sector, form_track}
-use Rattle.flat_files.specs.declared.file_fault.FileFault.{FileFault}
+use Rattle.flat_files.specs.FormMaking.{form_image, form_sector, form_track}
 use Rattle.flat_files.specs.declared.form.FlatForm.{FlatForm}
 use Rattle.flat_files.proofs.Alike.{AreGood, same_sectors}
 use Rattle.flat_files.proofs.FormValid.{track_is}
@@ -64,11 +62,11 @@ good_sectors form bytes track [] = tt
 good_sectors form bytes track (i ∷ each) = (refl, good_sectors form bytes track each)
 
 -- a track of a medium has these sectors
-record IsOn (disk : Disk) (c h : ℕ) (sectors : List ImdSector) : Type 0 where
-  there : HasTrack disk c h
-  has : HasSectors (track_of disk c h) sectors
+pub record IsOn (disk : Disk) (c h : ℕ) (sectors : List ImdSector) : Type 0 where
+  pub there : HasTrack disk c h
+  pub has : HasSectors (track_of disk c h) sectors
 
-form_on : (form : FlatForm) (bytes : List ℕ) (disk : Disk) (track : ℕ) → HasImage disk (form_image form bytes) → track < tracks_of form
+pub form_on : (form : FlatForm) (bytes : List ℕ) (disk : Disk) (track : ℕ) → HasImage disk (form_image form bytes) → track < tracks_of form
     → IsOn disk (cylinder_of form track) (head_of form track) (form_sectors form bytes track)
 form_on form bytes disk track has below =
     let one = form_track form bytes track in
@@ -77,7 +75,7 @@ form_on form bytes disk track has below =
     subst (λ (it : ImdTrack). IsOn disk it.c it.h it.sectors) (track_is form bytes track one below)
     (record { there = has.there track one within; has = has.tracks track one within })
 
-no_sector : ImdSector
+pub no_sector : ImdSector
 no_sector = record { key = record { c = 0; h = 0; r = 0; n = 0 }; kind = Good; content = [] }
 
 no_track : ImdTrack
@@ -173,10 +171,3 @@ pub file_again : (form : FlatForm) (bytes : List ℕ) (disk : Disk) (image : Imd
 file_again form bytes disk image file valid whole made has are =
     tracks_are form bytes image.tracks (tracks_of form) file (λ track below. sectors_are form bytes disk image track valid made has below) are
     ∙ take_all (tracks_of form * form.sectors * sector_bytes form) bytes (omega (arith, whole))
-
-pub given_again : (form : FlatForm) (bytes : List ℕ) (disk : Disk) (result : Result (Vec ℕ) FileFault) → HasForm form bytes disk → GivesForm form disk result
-    → IsFileAgain bytes result
-given_again form bytes disk (Ok file) made given =
-    let found = given.1.1 in
-    file_again form bytes disk found.0 file.items given.0 made.whole made.found found.2 found.3
-given_again form bytes disk (Err cause) made given = tt

@@ -47,10 +47,10 @@ more_tracks tracks form track before bytes are plain adds =
     subst (λ (k : ℕ). AreOfTracks tracks form k bytes) (more track) (before, are, plain, adds)
 
 -- where a track stands among all, by cylinder, then head
-record IsAt (form : FlatForm) (track c h : ℕ) : Type 0 where
-  cylinder : c < form.cylinders
-  head : h < form.heads
-  place : track ≡ form.heads * c + h
+pub record IsAt (form : FlatForm) (track c h : ℕ) : Type 0 where
+  pub cylinder : c < form.cylinders
+  pub head : h < form.heads
+  pub place : track ≡ form.heads * c + h
 
 at_by : (form : FlatForm) (track : ℕ) (single : Bool) → (form.heads == 1) ≡ single → IsForm form
     → track < (if single then form.cylinders else 2 * form.cylinders)
@@ -62,7 +62,7 @@ at_by form track false is valid there =
     let two : form.heads ≡ 2 = omega (arith, eqb-false form.heads 1 is, valid.some_heads, valid.most_heads) in
     record { cylinder = omega (arith, there); head = omega (arith, two); place = rw two (omega arith) }
 
-at_place : (form : FlatForm) (track : ℕ) → IsForm form → track < tracks_of form → IsAt form track (cylinder_of form track) (head_of form track)
+pub at_place : (form : FlatForm) (track : ℕ) → IsForm form → track < tracks_of form → IsAt form track (cylinder_of form track) (head_of form track)
 at_place form track is there = at_by form track (form.heads == 1) refl is there
 
 -- the tracks are counted by cylinder, then head

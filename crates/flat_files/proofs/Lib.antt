@@ -4,3 +4,5 @@ pub mod Places
 pub mod FormValid
 pub mod Alike
 pub mod Again
+pub mod Refused
+pub mod Fit

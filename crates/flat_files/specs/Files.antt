@@ -155,7 +155,7 @@ GivesForm form disk (Ok file) = IsForm form × GivesFile form disk (Ok file)
 GivesForm form disk (Err NoForm) = IsForm form → ⊥
 GivesForm form disk (Err (Flat cause)) = IsForm form × GivesFile form disk (Err cause)
 
--- that is this file again
+-- that is this file again, unless memory ran out
 abbrev pub IsFileAgain : List ℕ → Result (Vec ℕ) FileFault → Type 0
 IsFileAgain bytes (Ok file) = file.items ≡ bytes
-IsFileAgain bytes (Err cause) = Unit {0}
+IsFileAgain bytes (Err cause) = cause ≡ Flat fault.NoMemory

@@ -17,7 +17,7 @@ pub fn same_or_apart(sectors: u8, c: u8, h: u8, r: u8, other_c: u8, other_h: u8,
         ⊎ AreApart (sector_place sectors c h r) (sector_place sectors other_c other_h other_r) }
 {}
 
-/// The flat file of a medium that a flat file made is that file again, byte for byte.
+/// The flat file of a medium that a flat file made is that file again, byte for byte; want of memory alone refuses it.
 pub fn file_made_again(
     _form: FlatForm,
     _bytes: &[u8],

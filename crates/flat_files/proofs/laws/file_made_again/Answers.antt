@@ -1,4 +1,4 @@
-use Rattle.flat_files.proofs.Again.{given_again}
+use Rattle.flat_files.proofs.Fit.{given_again}
 use Rattle.flat_files.proofs.laws.file_made_again.Goals as goal
 
 pub returns : goal.returns
