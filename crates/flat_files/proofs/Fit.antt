@@ -1,7 +1,6 @@
 -- A medium that a flat file made has a flat file: its tracks are such as an image can have, and nothing but want of memory refuses it.
-use Rattle.std.proofs.Common.{◌≡◌, ◌+◌, ◌*◌, ◌<◌, ◌≤◌, [], ℕ, zero, suc, List, length, map, get_or, Result, Ok, Err, refl, sym, ap, ◌∙◌, subst, arith, ⊎_elim}
+use Rattle.std.proofs.Common.{◌≡◌, ◌+◌, ◌*◌, ◌<◌, ◌≤◌, ℕ, zero, suc, List, length, get_or, Result, Ok, Err, refl, sym, ap, ◌∙◌, subst, arith, ⊎_elim}
 use Rattle.std.specs.Global.{Vec}
-use Rattle.std.specs.List.{range_with_len}
 use Rattle.std.proofs.lemmas.Bool.{cases_eq, cases_lt}
 use Rattle.std.proofs.lemmas.List.FromFn.{get_or-map-range_with_len, length-map-range_with_len}
 use Rattle.flop_base.specs.Standard.{words_at}
@@ -14,11 +13,11 @@ use Rattle.track_model.specs.declared.Field.{Field}
 use Rattle.track_model.proofs.Unique.{one_key}
 use Rattle.imagedisk.specs.Found.{HasSectors}
 use Rattle.imagedisk.specs.Made.{IsMadeTrack}
-use Rattle.imagedisk.specs.Taken.{AreUniform, IsUnfit}
+use Rattle.imagedisk.specs.Taken.{IsUnfit}
 use Rattle.imagedisk.specs.declared.sector.ImdSector.{ImdSector}
 use Rattle.imagedisk.specs.declared.track.ImdTrack.{ImdTrack}
 use Rattle.flat_files.specs.Files.{GivesForm, IsFileAgain}
-use Rattle.flat_files.specs.Forms.{IsForm, cylinder_of, head_of, tracks_of}
+use Rattle.flat_files.specs.Forms.{head_of, tracks_of}
 use Rattle.flat_files.specs.FormMaking.{HasForm, form_sector, form_track}
 use Rattle.flat_files.specs.declared.fault.FlatFault.TheVariants as fault
 use Rattle.flat_files.specs.declared.file_fault.FileFault.{FileFault}

@@ -6,3 +6,4 @@ pub mod Alike
 pub mod Again
 pub mod Refused
 pub mod Fit
+pub mod Standard

@@ -1,8 +1,8 @@
 -- A medium that a flat file made has its geometry, no more sectors, and none that lacks.
-use Rattle.std.proofs.Common.{◌≡◌, ◌+◌, ◌-◌, ◌*◌, ◌/◌, ◌%◌, ◌<◌, ◌≤◌, ◌==◌, ◌&&◌, ◌∷◌, [], ℕ, zero, suc, Bool, true, false, not, leb, List, length, map, get_or, Option, Some, None, refl, sym, ap, ◌∙◌, subst, arith, eq-eqb, ne_eqb, le-leb}
-use Rattle.std.specs.Prelude.{max, if◌then◌else◌}
-use Rattle.std.specs.List.{list_any, range_with_len}
-use Rattle.std.proofs.lemmas.Bool.{cases_eq, eqb-false, eqb-true}
+use Rattle.std.proofs.Common.{◌≡◌, ◌+◌, ◌-◌, ◌*◌, ◌/◌, ◌%◌, ◌<◌, ◌≤◌, ◌==◌, ◌&&◌, ◌∷◌, [], ℕ, zero, suc, Bool, true, false, not, leb, List, length, map, get_or, Some, refl, sym, ap, ◌∙◌, subst, arith, eq-eqb, ne_eqb, le-leb}
+use Rattle.std.specs.Prelude.{if◌then◌else◌}
+use Rattle.std.specs.List.{range_with_len}
+use Rattle.std.proofs.lemmas.Bool.{eqb-false, eqb-true}
 use Rattle.std.proofs.lemmas.List.Folds.{list_any_at}
 use Rattle.std.proofs.lemmas.List.FromFn.{length-map-range_with_len}
 use Rattle.raw_image.specs.Disk.{Disk}
@@ -10,9 +10,9 @@ use Rattle.imagedisk.specs.Made.{cylinder_count, has_other_side, head_count}
 use Rattle.imagedisk.specs.declared.sector.ImdSector.{ImdSector}
 use Rattle.imagedisk.specs.declared.track.ImdTrack.{ImdTrack}
 use Rattle.imagedisk.proofs.OnMedium.{cylinder_in}
-use Rattle.flat_files.specs.Files.{HasMore, IsOfForm, Lack, has_deleted, is_deleted, is_plain, sector_on, sectors_on}
+use Rattle.flat_files.specs.Files.{HasMore, IsOfForm, Lack, has_deleted, sector_on, sectors_on}
 use Rattle.flat_files.specs.Forms.{IsForm, cylinder_of, head_of, tracks_of}
-use Rattle.flat_files.specs.FormMaking.{HasForm, form_image, form_sector, form_track}
+use Rattle.flat_files.specs.FormMaking.{HasForm, form_sector, form_track}
 use Rattle.flat_files.specs.declared.form.FlatForm.{FlatForm}
 use Rattle.flat_files.proofs.Again.{form_sectors, sector_is}
 use Rattle.flat_files.proofs.Filed.{at_place}

@@ -156,6 +156,10 @@ GivesForm form disk (Err NoForm) = IsForm form → ⊥
 GivesForm form disk (Err (Flat cause)) = IsForm form × GivesFile form disk (Err cause)
 
 -- that is this file again, unless memory ran out
+abbrev pub IsFlatAgain : List ℕ → Result (Vec ℕ) FlatFault → Type 0
+IsFlatAgain bytes (Ok file) = file.items ≡ bytes
+IsFlatAgain bytes (Err cause) = cause ≡ fault.NoMemory
+
 abbrev pub IsFileAgain : List ℕ → Result (Vec ℕ) FileFault → Type 0
 IsFileAgain bytes (Ok file) = file.items ≡ bytes
 IsFileAgain bytes (Err cause) = cause ≡ Flat fault.NoMemory

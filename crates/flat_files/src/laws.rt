@@ -1,9 +1,11 @@
 // What follows of the places of sectors, and of files that are made again. The bodies are empty.
 ghost use Rattle.std.specs.Prelude.{◌≡◌, ◌⊎◌};
-ghost use Rattle.flat_files.specs.Files.{GivesForm, IsFileAgain};
+ghost use Rattle.flat_files.specs.Files.{GivesFlat, GivesForm, IsFileAgain, IsFlatAgain};
 ghost use Rattle.flat_files.specs.Flat.{IsDensity, IsSector, sector_place, AreApart};
+ghost use Rattle.flat_files.specs.Flats.{HasFlat};
 ghost use Rattle.flat_files.specs.FormMaking.{HasForm};
 
+use crate::fault::FlatFault;
 use crate::file_fault::FileFault;
 use crate::form::FlatForm;
 use raw_image::Medium;
@@ -27,4 +29,16 @@ pub fn file_made_again(
     requires made { HasForm _form _bytes.now _medium.now }
     requires given { GivesForm _form _medium.now _file.now }
     ensures { IsFileAgain _bytes.now _file.now }
+{}
+
+/// The same of 1.44 MB and 720 KB.
+pub fn flat_made_again(
+    _sectors: u8,
+    _bytes: &[u8],
+    _medium: &Medium,
+    _file: &Result<Vec<u8>, FlatFault>,
+)
+    requires made { HasFlat _bytes.now _sectors _medium.now }
+    requires given { GivesFlat _medium.now _file.now }
+    ensures { IsFlatAgain _bytes.now _file.now }
 {}
