@@ -7,4 +7,4 @@ returns-in-Some-clause-serves c = rw (sym c.in-Some.ensures.taken) (_, c.put.ens
 
 pub returns-in-Some-clause-most : goal.returns-in-Some-clause-most
 returns-in-Some-clause-most c =
-    rw (sym c.in-Some.ensures.taken) (tells_at_most _ _ _ _ _ _ (rw (sym c.deref.ensures) c.save-code.ensures))
+    rw (sym c.in-Some.ensures.taken, sym c.deref.ensures) (tells_at_most _ _ _ _ _ _ c.save-code.ensures)
