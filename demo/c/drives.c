@@ -79,6 +79,25 @@ static void shapes(telwyddus_tray *tray) {
     MUST(telwyddus_tray_protect(tray, 0));
 }
 
+/* The tray's flat file of a geometry is what the tray was made of. */
+static int gives_back(telwyddus_tray *tray, uint8_t cylinders, uint8_t heads, uint8_t sectors, uint8_t n, uint16_t kilobits) {
+    size_t length = 0, wanted = (size_t)cylinders * heads * sectors * (128u << n);
+    uint8_t cylinder = 7, head = 7;
+    memset(again, 0, FLAT);
+    if (telwyddus_tray_write_flat_as(tray, cylinders, heads, sectors, n, kilobits, again, wanted - 1, &length, &cylinder, &head)
+        != TELWYDDUS_TOO_SHORT || length != wanted) return 0;
+    MUST(telwyddus_tray_write_flat_as(tray, cylinders, heads, sectors, n, kilobits, again, wanted, &length, &cylinder, &head));
+    return length == wanted && memcmp(again, flat, wanted) == 0 && cylinder == 7 && head == 7;
+}
+
+/* The tray has no flat file of a geometry: it answers so, and tells a cylinder and a head. */
+static int has_none(telwyddus_tray *tray, uint8_t cylinders, uint8_t heads, uint8_t sectors, uint16_t kilobits, uint32_t code, int place) {
+    size_t length = 5;
+    uint8_t cylinder = 7, head = 7;
+    return telwyddus_tray_write_flat_as(tray, cylinders, heads, sectors, 2, kilobits, again, FLAT, &length, &cylinder, &head) == code
+        && length == 5 && cylinder * 256 + head == place;
+}
+
 /* Flat files of other geometries. */
 static void forms(void) {
     telwyddus_tray tray = {0};
@@ -86,12 +105,27 @@ static void forms(void) {
     MUST(telwyddus_tray_read_flat_as(&tray, flat, 40 * 2 * 9 * SECTOR, 40, 2, 9, 2, 250));
     MUST(telwyddus_tray_shape(&tray, &shape));
     check(shape.cylinders == 40 && shape.heads == 2 && shape.kilobits == 250, "360 KB");
+    check(gives_back(&tray, 40, 2, 9, 2, 250), "and its flat file");
+    check(has_none(&tray, 40, 2, 8, 250, TELWYDDUS_UNFIT, 0), "a ninth sector isn't left out");
+    check(has_none(&tray, 40, 2, 10, 250, TELWYDDUS_UNFIT, 0), "a tenth isn't there");
+    check(has_none(&tray, 40, 1, 9, 250, TELWYDDUS_UNFIT, 0xFFFF), "two heads aren't one");
+    check(has_none(&tray, 80, 2, 9, 250, TELWYDDUS_UNFIT, 0xFFFF), "40 cylinders aren't 80");
+    check(has_none(&tray, 40, 2, 9, 500, TELWYDDUS_UNFIT, 0xFFFF), "250 kbit/s isn't 500");
+    check(has_none(&tray, 40, 2, 9, 300, TELWYDDUS_OUT_OF_RANGE, 0x707), "300 kbit/s is none");
+    check(has_none(&tray, 40, 3, 9, 250, TELWYDDUS_OUT_OF_RANGE, 0x707), "nor are three heads a number");
     MUST(telwyddus_tray_free(&tray));
+    check(has_none(&tray, 40, 2, 9, 250, TELWYDDUS_EMPTY, 0x707), "no tray, no file");
     MUST(telwyddus_tray_read_flat_as(&tray, flat, 40 * 8 * SECTOR, 40, 1, 8, 2, 250));
     MUST(telwyddus_tray_shape(&tray, &shape));
     check(shape.cylinders == 40 && shape.heads == 1, "160 KB");
+    check(gives_back(&tray, 40, 1, 8, 2, 250), "and its flat file");
     MUST(telwyddus_tray_free(&tray));
     MUST(telwyddus_tray_read_flat_as(&tray, flat, 2 * 2 * 20 * SECTOR, 2, 2, 20, 2, 500));
+    check(gives_back(&tray, 2, 2, 20, 2, 500), "20 sectors a track");
+    MUST(telwyddus_tray_free(&tray));
+    MUST(telwyddus_tray_read_flat_as(&tray, flat, 77 * 2 * 8 * 1024, 77, 2, 8, 3, 500));
+    check(gives_back(&tray, 77, 2, 8, 3, 500), "sectors of 1,024 bytes");
+    check(has_none(&tray, 77, 2, 8, 500, TELWYDDUS_UNFIT, 0), "which aren't of 512");
     MUST(telwyddus_tray_free(&tray));
     check(telwyddus_tray_read_flat_as(&tray, flat, 2 * 2 * 21 * SECTOR, 2, 2, 21, 2, 500) == TELWYDDUS_UNFIT, "no room for 21");
     check(telwyddus_tray_read_flat_as(&tray, flat, SECTOR, 81, 2, 18, 2, 500) == TELWYDDUS_OUT_OF_RANGE, "no 81 cylinders");
