@@ -1,5 +1,5 @@
 /* drives - what is done to drives and their media while they turn: the tab, the shape, single tracks, flat files, the tracks that were written,
- * the cable, a plan anew, the reset pin, and the name that a state begins with. It makes its own disk. */
+ * the cable, a plan anew, the reset pin, the name that a state begins with, and its most length. It makes its own disk. */
 #include "common.h"
 
 enum { WORDS = 12500, SECTOR = 512, SIDE = 18, FLAT = 1474560 };
@@ -255,6 +255,29 @@ static void states(void) {
     free(bytes);
 }
 
+/* Two media of the most cylinders, heads and words, and planned faults: the longest state is within what the header says, and near it. */
+static void longest(void) {
+    enum { WHOLE = 14 + 80 * 2 * 16384 * 2 };
+    static const uint8_t head[14] = {'R', 'T', 'I', 'M', 'A', 'G', 'E', '2', 0, 80, 2, 0, 0x40, 0};
+    static const char plan[] = "drop 0 0 0 300 9\ndrop 1 79 1 12000 1\ncut 1 40 0 7 2\n";
+    telwyddus_controller large = {0};
+    telwyddus_tray tray = {0};
+    uint8_t *image = (uint8_t *)calloc(WHOLE, 1);
+    size_t length = 0, line;
+    memcpy(image, head, sizeof head);
+    MUST(telwyddus_controller_new_planned(&large, (const uint8_t *)plan, sizeof plan - 1, &line));
+    for (uint32_t bay = 0; bay < 2; bay++) {
+        MUST(telwyddus_tray_read(&tray, image, WHOLE));
+        MUST(telwyddus_controller_insert(&large, bay, &tray));
+        MUST(telwyddus_tray_free(&tray));
+    }
+    check(telwyddus_controller_save(&large, NULL, 0, &length) == TELWYDDUS_TOO_SHORT, "the longest state's length");
+    check(length <= TELWYDDUS_CONTROLLER_STATE_MOST(3) && length + 1024 > TELWYDDUS_CONTROLLER_STATE_MOST(3), "is within the most, and near it");
+    check(TELWYDDUS_CONTROLLER_STATE_MOST(3) == 2 * (size_t)WHOLE + 1024 + 3 * 10, "two image files, 1,024 bytes, and 10 a fault");
+    MUST(telwyddus_controller_free(&large));
+    free(image);
+}
+
 int main(void) {
     telwyddus_tray tray = {0};
     flat = (uint8_t *)malloc(FLAT);
@@ -273,6 +296,7 @@ int main(void) {
     cables(&tray);
     pin();
     states();
+    longest();
     MUST(telwyddus_tray_free(&tray));
     MUST(telwyddus_controller_free(&controller));
     free(flat);
