@@ -9,8 +9,8 @@ use thiserror::Error;
 /// Why a medium has no flat file.
 #[derive(Clone, Copy, Debug, PartialEq, Eq, Error)]
 pub enum FlatFault {
-    /// It hasn't 80 cylinders of two heads.
-    #[error("not 80 cylinders of 2 heads")]
+    /// It hasn't the cylinders, the heads or the rate of such a file.
+    #[error("another geometry")]
     Shape,
     /// The first track with sectors of several sizes, or of a size that none names.
     #[error("track {c} {h} unfit")]

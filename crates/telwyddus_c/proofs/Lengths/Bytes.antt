@@ -1,5 +1,5 @@
 -- How many bytes numbers and lists have in a state.
-use Rattle.std.proofs.Common.{◌≡◌, ◌+◌, ◌*◌, ◌≤◌, ◌++◌, ◌∷◌, ℕ, Bool, List, [], Option, None, Some, length, arith, length-append}
+use Rattle.std.proofs.Common.{◌≡◌, ◌+◌, ◌*◌, ◌≤◌, ◌∷◌, ℕ, Bool, List, [], Option, None, Some, length, arith, length-append}
 use Rattle.flop_base.specs.declared.key.Chrn.{Chrn}
 use Rattle.saved_state.specs.Saved.{spelled_byte, spelled_word, spelled_double, spelled_count, spelled_cells, spelled_flag, spelled_option, spelled_bytes, spelled_each, spelled_key}
 

@@ -1,5 +1,5 @@
 -- How many bytes the whole controller has in a state, but for its drives.
-use Rattle.std.proofs.Common.{◌≡◌, ◌+◌, ◌≤◌, ℕ, List, length, arith}
+use Rattle.std.proofs.Common.{◌+◌, ◌≤◌, ℕ, List, length, arith}
 use Rattle.fdc_board.specs.Saving.{BoardFits, spelled_board}
 use Rattle.fdc_board.specs.declared.board.FdcBoard.{FdcBoard}
 use Rattle.fdc_chip.specs.Interrupts.{AreFour, Interrupting}

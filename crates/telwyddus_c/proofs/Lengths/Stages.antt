@@ -1,29 +1,18 @@
 -- How many bytes the stages of a data command have in a state.
-use Rattle.std.proofs.Common.{◌≡◌, ◌+◌, ◌≤◌, ℕ, List, length, arith}
+use Rattle.std.proofs.Common.{◌≡◌, ◌+◌, ℕ, List, length, arith}
 use Rattle.track_separator.specs.Saving.{spelled_stage, spelled_separator}
-use Rattle.track_separator.specs.declared.state.Stage.{Stage}
 use Rattle.track_separator.specs.declared.state.Stage.TheVariants.{Hunting, Reading, Addressed, TurnEnded, Waiting, Content}
-use Rattle.track_separator.specs.declared.state.Separator.{Separator}
 use Rattle.track_format.specs.Saving as layout
 use Rattle.track_format.specs.Saving.{spelled_stream}
 use Rattle.track_format.specs.declared.stream.Part.{Part}
 use Rattle.track_format.specs.declared.stream.Part.TheVariants as layouts
-use Rattle.track_format.specs.declared.stream.FormatStream.{FormatStream}
 use Rattle.fdc_stages.specs.Saving.{spelled_ending, spelled_search, spelled_read}
 use Rattle.fdc_stages.specs.WritingSaving.{spelled_part, spelled_window, spelled_write, spelled_format_part, spelled_format}
-use Rattle.fdc_stages.specs.declared.ending.Ending.{Ending}
 use Rattle.fdc_stages.specs.declared.ending.Ending.TheVariants as endings
-use Rattle.fdc_stages.specs.declared.searching.Search.{Search}
-use Rattle.fdc_stages.specs.declared.reading.ReadStage.{ReadStage}
 use Rattle.fdc_stages.specs.declared.reading.ReadStage.TheVariants as reads
-use Rattle.fdc_stages.specs.declared.window.Part.{Part as WindowPart}
 use Rattle.fdc_stages.specs.declared.window.Part.TheVariants as places
-use Rattle.fdc_stages.specs.declared.window.Window.{Window}
-use Rattle.fdc_stages.specs.declared.writing.WriteStage.{WriteStage}
 use Rattle.fdc_stages.specs.declared.writing.WriteStage.TheVariants as writes
-use Rattle.fdc_stages.specs.declared.formatting.FormatPart.{FormatPart}
 use Rattle.fdc_stages.specs.declared.formatting.FormatPart.TheVariants as formats
-use Rattle.fdc_stages.specs.declared.formatting.FormatStage.{FormatStage}
 use Rattle.telwyddus_c.proofs.Lengths.Bytes.{HasMost, length-byte, length-word, length-count, length-cells, length-flag, length-key}
 
 most-stage : HasMost spelled_stage 8

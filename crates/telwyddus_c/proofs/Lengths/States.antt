@@ -21,7 +21,6 @@ use Rattle.raw_image.specs.Image.{file_of}
 use Rattle.raw_image.specs.Words.{bytes_of}
 use Rattle.raw_image.proofs.Pairs.{length-bytes_of}
 use Rattle.saved_state.specs.Saved.{spelled_count, spelled_flag, spelled_list}
-use Rattle.telwyddus_c.specs.Drives.{held}
 use Rattle.telwyddus_c.specs.Lengths.{TellsAtMost, faults_planned, medium_most, state_most}
 use Rattle.telwyddus_c.specs.States.{ControllerFits, WritesState, spelled_controller}
 use Rattle.telwyddus_c.proofs.Lengths.Bytes.{HasMost, length-byte, length-bytes, length-count, length-double, length-flag, length-word}
