@@ -338,6 +338,19 @@ TELWYDDUS_NEWS uint32_t telwyddus_controller_save(telwyddus_controller *controll
  * Where the bytes are no state, all of them, or memory is out, the slot stays as it was. DONE, NO_MEMORY, BAD_STATE. */
 TELWYDDUS_NEWS uint32_t telwyddus_controller_restore(telwyddus_controller *controller, const uint8_t *bytes, size_t length);
 
+/* A BARE STATE: the same without the media, for an emulator that keeps each disk in a file of its own. Of a medium it has the length of its
+ * tracks and its rate, by a stand-in of one empty track: an image file of 25,014 bytes for 1.44 MB, 12,514 for 720 KB. Left out are each cell
+ * and the tab. It begins with "TELWYDB" and 1, so that restore refuses it with BAD_STATE, as restore_bare does a whole state.
+ *
+ * Writes it as save does. The controller is behind it as it was, also where memory is out. DONE, EMPTY, NO_MEMORY, TOO_SHORT. */
+TELWYDDUS_NEWS uint32_t telwyddus_controller_save_bare(telwyddus_controller *controller, uint8_t *out, size_t room, size_t *length);
+
+/* Makes the controller that the slot holds the one that was saved, but for its own media, tabs and all, which stay in their bays and turn on at
+ * the place of the saved ones. They must be those that were in, or equal ones, for the guest not to notice: put them in before. Where one bay
+ * has a medium here and none there, or none here and one there, or the length of their tracks or the rate differs, UNFIT. The slot stays as it
+ * was in each refusal. DONE, EMPTY, NO_MEMORY, UNFIT, BAD_STATE. */
+TELWYDDUS_NEWS uint32_t telwyddus_controller_restore_bare(telwyddus_controller *controller, const uint8_t *bytes, size_t length);
+
 /* ---------------------------------------------------------------------------------------------------------------------------
  * THE MACHINE: a smaller controller, channel 2 of an 8237A (ports 04, 05, 08 to 0F, 81), 1 MiB of memory, and a latch for IRQ 6.
  * The latch looks at the line once a device step. For benches of drivers: its drives may have planned faults, its DMA delays, its
@@ -512,6 +525,10 @@ static inline const uint16_t *telwyddus_words_in_(const uint16_t *words) {
     (telwyddus_controller_save)(controller, telwyddus_out_(out), room, length)
 #define telwyddus_controller_restore(controller, bytes, length) \
     (telwyddus_controller_restore)(controller, telwyddus_in_(bytes), length)
+#define telwyddus_controller_save_bare(controller, out, room, length) \
+    (telwyddus_controller_save_bare)(controller, telwyddus_out_(out), room, length)
+#define telwyddus_controller_restore_bare(controller, bytes, length) \
+    (telwyddus_controller_restore_bare)(controller, telwyddus_in_(bytes), length)
 #define telwyddus_machine_new_planned(machine, plan, length, line) \
     (telwyddus_machine_new_planned)(machine, telwyddus_in_(plan), length, line)
 #define telwyddus_machine_memory_get(machine, address, out, length) \

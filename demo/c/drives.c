@@ -1,5 +1,6 @@
 /* drives - what is done to drives and their media while they turn: the tab, the shape, single tracks, flat files, the tracks that were written,
- * the cable, a plan anew, the reset pin, the name that a state begins with, and its most length. It makes its own disk. */
+ * the cable, a plan anew, the reset pin, the name that a state begins with, its most length, and states without media. It makes its own
+ * disk. */
 #include "common.h"
 
 enum { WORDS = 12500, SECTOR = 512, SIDE = 18, FLAT = 1474560 };
@@ -278,6 +279,83 @@ static void longest(void) {
     free(image);
 }
 
+/* ---- states without media */
+
+static uint8_t *state_of(telwyddus_controller *of, size_t *length) {
+    check(telwyddus_controller_save_bare(of, NULL, 0, length) == TELWYDDUS_TOO_SHORT, "a bare state's length");
+    uint8_t *bytes = (uint8_t *)malloc(*length);
+    MUST(telwyddus_controller_save_bare(of, bytes, *length, length));
+    return bytes;
+}
+
+/* The bytes of a sector under way from one place to another; with the last the results. */
+static void take(uint8_t *data, size_t from, size_t to, uint8_t results[7]) {
+    for (size_t at = from; at < to;) {
+        if (!(lines & TELWYDDUS_DRQ)) {
+            run(100000);
+            continue;
+        }
+        MUST(telwyddus_controller_dack_read(&controller, &data[at++], &lines));
+        if (at == SECTOR) MUST(telwyddus_controller_tc(&controller, &lines));
+    }
+    if (to < SECTOR) return;
+    while (!(lines & TELWYDDUS_INT)) run(100000);
+    for (int i = 0; i < 7; i++) results[i] = in(0x3F5);
+}
+
+static void goes_on_bare(void) {
+    static const uint8_t name[8] = {'T', 'E', 'L', 'W', 'Y', 'D', 'B', 1};
+    uint8_t one[SECTOR], two[SECTOR], first[7], second[7];
+    size_t length;
+    for (int i = 0; i < 9; i++) out(0x3F5, READ[i]);
+    take(one, 0, 200, first);
+    memcpy(two, one, 200);
+    uint8_t *bytes = state_of(&controller, &length);
+    check(memcmp(bytes, name, 8) == 0 && length < 30000, "it has a name of its own, and no cells");
+    take(one, 200, SECTOR, first);
+    check(memcmp(one, flat, SECTOR) == 0 && (first[0] & 0xC0) == 0, "the read ends");
+    MUST(telwyddus_controller_restore_bare(&controller, bytes, length));
+    MUST(telwyddus_controller_lines(&controller, &lines));
+    take(two, 200, SECTOR, second);
+    check(memcmp(one, two, SECTOR) == 0 && memcmp(first, second, 7) == 0, "and ends once more, from its middle");
+    free(bytes);
+}
+
+/* Bytes are refused by a controller, which stays. */
+static void refuses(telwyddus_controller *other, const uint8_t *bytes, size_t length, uint32_t code, const char *what) {
+    size_t before, behind;
+    uint8_t *was = state_of(other, &before);
+    check(telwyddus_controller_restore_bare(other, bytes, length) == code, what);
+    uint8_t *is = state_of(other, &behind);
+    check(before == behind && memcmp(was, is, before) == 0, "and all stays");
+    free(was);
+    free(is);
+}
+
+static void bare(void) {
+    telwyddus_controller other = {0};
+    telwyddus_tray tray = {0};
+    size_t length, whole = 0;
+    goes_on_bare();
+    uint8_t *bytes = state_of(&controller, &length);
+    check(telwyddus_controller_restore_bare(&other, bytes, length) == TELWYDDUS_EMPTY, "there is none to restore it onto");
+    MUST(telwyddus_controller_new(&other));
+    refuses(&other, bytes, length, TELWYDDUS_UNFIT, "no medium is in");
+    MUST(telwyddus_tray_read_flat(&tray, flat, FLAT / 2));
+    MUST(telwyddus_controller_insert(&other, 0, &tray));
+    refuses(&other, bytes, length, TELWYDDUS_UNFIT, "one of 720 KB is in");
+    refuses(&other, bytes, length - 1, TELWYDDUS_BAD_STATE, "a byte too few");
+    check(telwyddus_controller_restore(&other, bytes, length) == TELWYDDUS_BAD_STATE, "a bare state is no whole one");
+    free(bytes);
+    telwyddus_controller_save(&controller, NULL, 0, &whole);
+    bytes = (uint8_t *)malloc(whole);
+    MUST(telwyddus_controller_save(&controller, bytes, whole, &whole));
+    refuses(&other, bytes, whole, TELWYDDUS_BAD_STATE, "a whole state is no bare one");
+    free(bytes);
+    MUST(telwyddus_tray_free(&tray));
+    MUST(telwyddus_controller_free(&other));
+}
+
 int main(void) {
     telwyddus_tray tray = {0};
     flat = (uint8_t *)malloc(FLAT);
@@ -297,6 +375,7 @@ int main(void) {
     pin();
     states();
     longest();
+    bare();
     MUST(telwyddus_tray_free(&tray));
     MUST(telwyddus_controller_free(&controller));
     free(flat);

@@ -98,7 +98,7 @@ static telwyddus_shelf shelves[2];
 static struct { bool is; Medium medium; } tray_is[4];
 static Drives controller_is[2], machine_is[2], disk_is[2];
 static struct { bool is, knows; size_t length; uint8_t first; } shelf_is[2]; /* a file "note", which no run touches, where it is known */
-static State controller_state, machine_state;
+static State controller_state, machine_state, bare_state;
 
 static uint32_t missing(bool is) { return is ? TELWYDDUS_DONE : TELWYDDUS_EMPTY; }
 
@@ -621,10 +621,23 @@ static void restored(const State *state, Drives *drives, bool is_state) {
     if (wanted(state->is && is_state ? TELWYDDUS_DONE : TELWYDDUS_BAD_STATE)) *drives = state->drives;
 }
 
+/* They were one without media that the media in the bays are alike to, or weren't. Rates aren't known here. */
+static void restored_bare(const State *state, Drives *drives, bool is_state) {
+    bool differs = false;
+    for (int bay = 0; bay < 2; bay++) {
+        const Medium *here = &drives->bay[bay], *there = &state->drives.bay[bay];
+        differs |= here->is != there->is || (here->is && here->words > 0 && there->words > 0 && here->words != there->words);
+    }
+    uint32_t want = !drives->is ? TELWYDDUS_EMPTY : !state->is || !is_state ? TELWYDDUS_BAD_STATE : TELWYDDUS_DONE;
+    if (want != TELWYDDUS_DONE ? wanted(want) : differs ? wanted(TELWYDDUS_UNFIT) : AMONG(TELWYDDUS_DONE, TELWYDDUS_UNFIT))
+        memcpy(drives->is_pulled, state->drives.is_pulled, sizeof drives->is_pulled);
+}
+
 static void move_state(void) {
+    static const State *const states[] = {&controller_state, &machine_state, &bare_state};
     unsigned at = below(2), way = below(8);
     size_t room = below(3) ? POOL : below(2000), told = 0;
-    const State *state = below(2) ? &controller_state : &machine_state;
+    const State *state = states[below(3)];
     size_t length = way == 0 ? 0 : way == 1 ? state->length / 2 : state->length;
     const uint8_t *bytes = state->bytes;
     if (way == 2 && length > 0) { /* behind another name */
@@ -632,12 +645,17 @@ static void move_state(void) {
         bytes = pool;
     }
     fill(room);
-    switch (below(4)) {
+    switch (below(6)) {
     case 0: CALL(telwyddus_controller_save(&controllers[at], buffer(room), room, &told)); saved(&controller_state, &controller_is[at], room, told); break;
     case 1: CALL(telwyddus_machine_save(&machines[at], buffer(room), room, &told)); saved(&machine_state, &machine_is[at], room, told); break;
     case 2:
         CALL(telwyddus_controller_restore(&controllers[at], length == 0 ? NULL : bytes, length));
         restored(state, &controller_is[at], state == &controller_state && way > 2);
+        break;
+    case 3: CALL(telwyddus_controller_save_bare(&controllers[at], buffer(room), room, &told)); saved(&bare_state, &controller_is[at], room, told); break;
+    case 4:
+        CALL(telwyddus_controller_restore_bare(&controllers[at], length == 0 ? NULL : bytes, length));
+        restored_bare(state, &controller_is[at], state == &bare_state && way > 2);
         break;
     default:
         CALL(telwyddus_machine_restore(&machines[at], length == 0 ? NULL : bytes, length));

@@ -121,6 +121,39 @@ static void restore(void) {
     MUST(telwyddus_machine_free(&empty));
 }
 
+/* The controller in a slot is as it was saved. */
+static void is_as(telwyddus_controller *controller, const uint8_t *state, size_t length) {
+    static uint8_t now[ROOM];
+    size_t told;
+    TRY(telwyddus_controller_save(controller, now, ROOM, &told));
+    is_so(told == length && memcmp(now, state, told) == 0, "the controller is as it was");
+}
+
+/* A state without its media, which are in both bays. Each medium is in its bay behind a refusal. */
+static void bare(void) {
+    static uint8_t state[ROOM], whole[ROOM];
+    telwyddus_controller controller = {0};
+    telwyddus_tray tray = {0};
+    size_t told, all;
+    TRY(telwyddus_controller_new(&controller));
+    for (uint32_t bay = 0; bay < 2; bay++) {
+        TRY(telwyddus_tray_read(&tray, image, length));
+        MUST(telwyddus_controller_insert(&controller, bay, &tray));
+        MUST(telwyddus_tray_free(&tray));
+    }
+    TRY(telwyddus_controller_save(&controller, whole, ROOM, &all));
+    if (REFUSED(telwyddus_controller_save_bare(&controller, state, ROOM, &told))) {
+        is_as(&controller, whole, all);
+        MUST(telwyddus_controller_save_bare(&controller, state, ROOM, &told));
+    }
+    if (REFUSED(telwyddus_controller_restore_bare(&controller, state, told))) {
+        is_as(&controller, whole, all);
+        MUST(telwyddus_controller_restore_bare(&controller, state, told));
+    }
+    is_as(&controller, whole, all);
+    MUST(telwyddus_controller_free(&controller));
+}
+
 /* A machine, and the program on a shelf. */
 static void run(void) {
     static const char name[] = "a.img", words[] = "survey\na.img";
@@ -239,6 +272,7 @@ int main(int count, char **words) {
     if (out == NULL || other == NULL) return 1;
     rounds(move, "a controller", 1);
     rounds(restore, "states", 1);
+    rounds(bare, "states without media", 1);
     rounds(run, "a machine and a shelf", 1);
     rounds(sectors, "a desk", 1);
     rounds(blank, "a blank medium", 1);

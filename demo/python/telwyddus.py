@@ -303,6 +303,14 @@ class Controller(Planned):
     kind = "controller"
     behind = Lines(0)
 
+    def save_bare(self):
+        """Its state without the media."""
+        return self._bytes("save_bare")
+
+    def restore_bare(self, state):
+        """Becomes what was saved so, but for its own media. Unfit where they have other tracks."""
+        self._call("restore_bare", *given(state))
+
     def _telling(self, name, *values):
         """A call whose last pointer takes the lines behind it; a byte that isn't asked for has them too."""
         lines = ctypes.c_uint8(self.behind)

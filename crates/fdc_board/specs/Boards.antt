@@ -37,6 +37,10 @@ drive_at board bay = if bay == 0 then board.first else board.second
 abbrev pub drive_held : {D : Type 0} → FdcBoard D → ℕ → D
 drive_held board bay = if bay == 0 then board.first else board.second
 
+-- with this drive in a bay
+abbrev pub board_with_drive : {D : Type 0} → ℕ → D → FdcBoard D → FdcBoard D
+board_with_drive bay drive board = if bay == 0 then record board { first = drive } else record board { second = drive }
+
 -- the drive that DOR selects: those of bays 2 and 3 are absent
 abbrev pub selected_at : BoardState → ℕ
 selected_at board = selected_by board.controller

@@ -9,7 +9,7 @@ use raw_image::Medium;
 use std::mem;
 
 impl<D: Inspect> FdcBoard<D> {
-    ghost use Rattle.fdc_board.specs.Boards.{board_state, controller_of, drive_at, drive_held};
+    ghost use Rattle.fdc_board.specs.Boards.{board_state, board_with_drive, controller_of, drive_at, drive_held};
 
     /// Moves the tab of the medium in a bay, so that it is write-protected, or not. Where none is in, nothing changes.
     pub fn set_protected(&mut self, bay: u8, on: bool)
@@ -45,6 +45,7 @@ impl<D: Inspect> FdcBoard<D> {
         ensures other { drive_held self.new (1 - bay) ≡ drive_held self.old (1 - bay) }
         ensures taken { drive.new ≡ drive_held self.old bay }
         ensures put { drive_held self.new bay ≡ drive.old }
+        ensures whole { self.new ≡ board_with_drive bay drive.old self.old }
     {
         if bay == 0 {
             mem::swap(&mut self.first, drive);

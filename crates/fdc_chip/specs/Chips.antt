@@ -8,7 +8,7 @@ use Rattle.fdc_board.specs.Boards.{drive_at, selected_at}
 use Rattle.fdc_registers.specs.Dor.{gate}
 use Rattle.fdc_registers.specs.Msr.{rqm, dio, non_dma, busy}
 use Rattle.fdc_core.specs.Dma.{to_memory_of}
-use Rattle.fdc_sequencer.specs.Fronts.{Front, front_state, IsNewFront, KeepsFront, interrupts_outside, asks_outside, value_outside}
+use Rattle.fdc_sequencer.specs.Fronts.{Front, front_state, front_with_drive, IsNewFront, KeepsFront, interrupts_outside, asks_outside, value_outside}
 use Rattle.fdc_sequencer.specs.declared.sequencer.Sequencer.{Sequencer}
 use Rattle.fdc_chip.specs.Interrupts.{Interrupting, at_rest, seek_bits}
 use Rattle.fdc_chip.specs.Orders.{blank, is_format}
@@ -58,6 +58,10 @@ chip_state state chip = record {
 -- what stands behind
 abbrev pub behind_of : {D : Type 0} → Chip D → Sequencer D
 behind_of chip = chip.behind
+
+-- with this drive in a bay
+abbrev pub chip_with_drive : {D : Type 0} → ℕ → D → Chip D → Chip D
+chip_with_drive bay drive chip = record chip { behind = front_with_drive bay drive chip.behind }
 
 -- all but what stands behind is as it was
 abbrev pub with_front : Front → ChipState → ChipState

@@ -4,7 +4,7 @@ ghost use Rattle.drive_model.specs.Drive.{with_protection};
 ghost use Rattle.fdc_board.specs.Boards.{drive_held};
 ghost use Rattle.fdc_board.specs.Handling.{Exchanges, Sets};
 ghost use Rattle.fdc_sequencer.specs.Fronts.{board_of};
-ghost use Rattle.fdc_chip.specs.Chips.{chip_state, behind_of, KeepsChip};
+ghost use Rattle.fdc_chip.specs.Chips.{chip_state, chip_with_drive, behind_of, KeepsChip};
 
 use crate::chip::Chip;
 use drive_model::Inspect;
@@ -37,6 +37,7 @@ impl<D: Inspect> Chip<D> {
         ensures other { drive_held (board_of (behind_of self.new)) (1 - bay) ≡ drive_held (board_of (behind_of self.old)) (1 - bay) }
         ensures taken { drive.new ≡ drive_held (board_of (behind_of self.old)) bay }
         ensures put { drive_held (board_of (behind_of self.new)) bay ≡ drive.old }
+        ensures whole { self.new ≡ chip_with_drive bay drive.old self.old }
     {
         self.behind.swap_drive(bay, drive);
     }

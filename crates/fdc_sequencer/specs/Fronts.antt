@@ -15,7 +15,7 @@ use Rattle.fdc_core.specs.Ports.{value_read, main_status, result_byte, given, re
 use Rattle.fdc_core.specs.State.{asks, interrupts, is_gated}
 use Rattle.fdc_core.specs.Whole.{is_idle, options_with, TakesWhole}
 use Rattle.fdc_core.specs.declared.controller.Fdc.{Fdc}
-use Rattle.fdc_board.specs.Boards.{BoardState, board_state, lines_at, IsNewBoard, WritesBoard, Takes, Gives}
+use Rattle.fdc_board.specs.Boards.{BoardState, board_state, board_with_drive, lines_at, IsNewBoard, WritesBoard, Takes, Gives}
 use Rattle.fdc_board.specs.declared.board.FdcBoard.{FdcBoard}
 use Rattle.fdc_sequencer.specs.Opcodes.{opcode_of, plain_code}
 use Rattle.fdc_sequencer.specs.Transfers.{transfer_of, command_of, size_of}
@@ -47,6 +47,10 @@ front_state state front = record {
 -- the board behind
 abbrev pub board_of : {D : Type 0} → Sequencer D → FdcBoard D
 board_of front = front.board
+
+-- with this drive in a bay
+abbrev pub front_with_drive : {D : Type 0} → ℕ → D → Sequencer D → Sequencer D
+front_with_drive bay drive front = record front { board = board_with_drive bay drive front.board }
 
 -- a new one with these drives
 pub record IsNewFront (bay0 bay1 : DriveState) (new : Front) : Type 0 where

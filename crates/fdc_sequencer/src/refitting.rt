@@ -3,7 +3,7 @@ ghost use Rattle.std.specs.Prelude.{◌≡◌, ◌≤◌, ◌-◌};
 ghost use Rattle.drive_model.specs.Drive.{with_protection};
 ghost use Rattle.fdc_board.specs.Boards.{drive_held};
 ghost use Rattle.fdc_board.specs.Handling.{Exchanges, Sets};
-ghost use Rattle.fdc_sequencer.specs.Fronts.{front_state, board_of, KeepsFront};
+ghost use Rattle.fdc_sequencer.specs.Fronts.{front_state, front_with_drive, board_of, KeepsFront};
 
 use crate::sequencer::Sequencer;
 use drive_model::Inspect;
@@ -36,6 +36,7 @@ impl<D: Inspect> Sequencer<D> {
         ensures other { drive_held (board_of self.new) (1 - bay) ≡ drive_held (board_of self.old) (1 - bay) }
         ensures taken { drive.new ≡ drive_held (board_of self.old) bay }
         ensures put { drive_held (board_of self.new) bay ≡ drive.old }
+        ensures whole { self.new ≡ front_with_drive bay drive.old self.old }
     {
         self.board.swap_drive(bay, drive);
     }

@@ -1,3 +1,4 @@
+pub mod Bare
 pub mod Blanks
 pub mod Blocks
 pub mod Buffers

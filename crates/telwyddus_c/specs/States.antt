@@ -15,9 +15,13 @@ use Rattle.telwyddus_c.specs.Buffers.{WritesOr}
 abbrev pub state_name : List ℕ
 state_name = 0x54 ∷ 0x45 ∷ 0x4C ∷ 0x57 ∷ 0x59 ∷ 0x44 ∷ 0x44 ∷ 0x01 ∷ []
 
--- the bytes of a value behind that
+-- the bytes of a value behind a name
+abbrev pub behind : {V : Type 0} → (name : List ℕ) → (V → List ℕ → List ℕ) → V → List ℕ → List ℕ
+behind name spelled value rest = name ++ spelled value rest
+
+-- behind that name
 abbrev pub named : {V : Type 0} → (V → List ℕ → List ℕ) → V → List ℕ → List ℕ
-named spelled value rest = state_name ++ spelled value rest
+named = behind state_name
 
 -- the bytes of a controller with its drives and their media, and what is so of each that code holds
 abbrev pub spelled_controller : ControllerValue → List ℕ → List ℕ

@@ -1,4 +1,5 @@
 // The controller with its drives, for a bus of C's own.
+mod bare;
 mod bays;
 mod blocks;
 mod dack;

@@ -3,6 +3,7 @@
 //! C keeps slots, all 0 at first, and calls these functions with their addresses. Each answers a code.
 #![tactic(auto)]
 
+mod bare;
 mod blank;
 mod buffer;
 mod code;
@@ -12,6 +13,7 @@ mod flat;
 mod flat_as;
 mod image;
 mod imd;
+pub mod laws;
 mod machine;
 mod rate;
 mod shape;

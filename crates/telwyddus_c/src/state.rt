@@ -1,7 +1,7 @@
 // Saved states in buffers of C.
 ghost use Rattle.std.specs.Prelude.{◌≡◌, ◌⊎◌, [], IfOk, Ok, Err};
 ghost use Rattle.saved_state.specs.declared.whole.RestoreError.TheVariants as cause;
-ghost use Rattle.telwyddus_c.specs.States.{WritesState, FindsState, named};
+ghost use Rattle.telwyddus_c.specs.States.{WritesState, FindsState, behind, named};
 
 use crate::buffer::write_bytes;
 use crate::code::NO_MEMORY;
@@ -12,27 +12,38 @@ use std::alloc::Global;
 /// What each state begins with: a name, and the number of the form that the bytes behind it have.
 const NAME: [u8; 8] = *b"TELWYDD\x01";
 
-/// The bytes of a state, behind its name.
-fn save_named<T: SavedWhole>(alloc: Global, state: &T) -> Result<Vec<u8>, NoMemory>
+/// The same of a controller without its media.
+pub(crate) const BARE: [u8; 8] = *b"TELWYDB\x01";
+
+/// The bytes of a state, behind a name.
+pub(crate) fn save_behind<T: SavedWhole>(
+    alloc: Global,
+    name: &[u8],
+    state: &T,
+) -> Result<Vec<u8>, NoMemory>
     ensures fits { T.Fits state.now }
-    ensures spelled { IfOk result (λ bytes. bytes.items ≡ named T.spelled state.now []) }
+    ensures spelled { IfOk result (λ bytes. bytes.items ≡ behind name.now T.spelled state.now []) }
 {
     let mut sink = Sink::new(alloc);
-    sink.part(&NAME);
+    sink.part(name);
     state.save(alloc, &mut sink);
     sink.finish()
 }
 
-/// The state whose bytes these are behind its name, all of them. Another name is none.
-fn restore_named<T: SavedWhole + Drop>(alloc: Global, bytes: &[u8]) -> Result<T, RestoreError>
-    ensures found { IfOk result (λ state. T.Fits state × (bytes.now ≡ named T.spelled state [])) }
-    ensures only { (state : T) → T.Fits state → bytes.now ≡ named T.spelled state []
+/// The state whose bytes these are behind a name, all of them. Another name is none.
+fn restore_behind<T: SavedWhole + Drop>(
+    alloc: Global,
+    name: &[u8],
+    bytes: &[u8],
+) -> Result<T, RestoreError>
+    ensures found { IfOk result (λ state. T.Fits state × (bytes.now ≡ behind name.now T.spelled state [])) }
+    ensures only { (state : T) → T.Fits state → bytes.now ≡ behind name.now T.spelled state []
         → (result ≡ Ok state) ⊎ (result ≡ Err cause.NoMemory) }
 {
     let mut from = Source::new(bytes);
-    from.part(NAME.len());
+    from.part(name.len());
     let state = T::load(alloc, &mut from)?;
-    let again = save_named(alloc, &state)?;
+    let again = save_behind(alloc, name, &state)?;
     if again.as_slice() == bytes {
         Ok(state)
     } else {
@@ -50,7 +61,7 @@ pub(crate) fn write_state<T: SavedWhole>(
 ) -> u32
     ensures { WritesState T.Fits (named T.spelled) state.now result out.old out.new length.old length.new }
 {
-    match save_named(alloc, state) {
+    match save_behind(alloc, &NAME, state) {
         Err(_) => NO_MEMORY,
         Ok(bytes) => write_bytes(bytes.as_slice(), out, length),
     }
@@ -63,7 +74,18 @@ pub(crate) fn read_state<T: SavedWhole + Drop>(
 ) -> Result<Box<T>, RestoreError>
     ensures { FindsState T.Fits (named T.spelled) bytes.now result }
 {
-    match restore_named(alloc, bytes) {
+    read_behind(alloc, &NAME, bytes)
+}
+
+/// The same behind a name.
+pub(crate) fn read_behind<T: SavedWhole + Drop>(
+    alloc: Global,
+    name: &[u8],
+    bytes: &[u8],
+) -> Result<Box<T>, RestoreError>
+    ensures { FindsState T.Fits (behind name.now T.spelled) bytes.now result }
+{
+    match restore_behind(alloc, name, bytes) {
         Err(error) => Err(error),
         Ok(state) => match Box::new(alloc, state) {
             Err(_) => Err(RestoreError::NoMemory),

@@ -1,9 +1,15 @@
 // What can be looked at.
+ghost use Rattle.std.specs.Prelude.{◌≡◌, ◌↔◌, Some, IsErr, OnOk, IfOk, IfErr, false};
+ghost use Rattle.drive_model.specs.Drive.{same_length, exchanged};
+
 use super::BayDrive;
 use drive_model::{Drive, Inspect};
 use raw_image::Medium;
 
 impl Inspect for BayDrive {
+    ghost use Rattle.c_bay_drive.specs.Bays.{bay_state};
+    ghost use Rattle.c_bay_drive.specs.WithMedium.{BayWithMedium};
+
     fn medium(&self) -> Option<&Medium> {
         match self {
             BayDrive::Attached(drive) => drive.medium(),
@@ -53,7 +59,13 @@ impl Inspect for BayDrive {
         }
     }
 
-    fn exchange(&mut self, medium: Medium) -> Result<Medium, Medium> {
+    fn exchange(&mut self, medium: Medium) -> Result<Medium, Medium>
+        ensures refused { IsErr result ↔ (same_length medium (bay_state self.old).medium ≡ false) }
+        ensures ok { OnOk result (bay_state self.new ≡ exchanged medium (bay_state self.old)) }
+        ensures held { OnOk result (BayWithMedium (Some medium) self.old self.new) }
+        ensures before { IfOk result (λ before. Some before ≡ (bay_state self.old).medium) }
+        ensures err { IfErr result (λ back. (back ≡ medium) × (bay_state self.new ≡ bay_state self.old)) }
+    {
         match self {
             BayDrive::Attached(drive) => drive.exchange(medium),
             BayDrive::Detached(drive) => drive.exchange(medium),

@@ -1,4 +1,7 @@
 // What can be looked at. Where the heads stand isn't known.
+ghost use Rattle.std.specs.Prelude.{◌≡◌, ◌↔◌, Some, IsErr, OnOk, IfOk, IfErr, false};
+ghost use Rattle.drive_model.specs.Drive.{same_length, exchanged};
+
 use super::LooseDrive;
 use drive_model::{Drive, Inspect};
 use raw_image::Medium;
@@ -7,6 +10,9 @@ use raw_image::Medium;
 const BEYOND: u8 = 82;
 
 impl Inspect for LooseDrive {
+    ghost use Rattle.c_bay_drive.specs.Loose.{loose_state};
+    ghost use Rattle.c_bay_drive.specs.WithMedium.{LooseWithMedium};
+
     fn medium(&self) -> Option<&Medium> {
         self.inside.medium()
     }
@@ -35,7 +41,13 @@ impl Inspect for LooseDrive {
         self.inside.set_protected(on);
     }
 
-    fn exchange(&mut self, medium: Medium) -> Result<Medium, Medium> {
+    fn exchange(&mut self, medium: Medium) -> Result<Medium, Medium>
+        ensures refused { IsErr result ↔ (same_length medium (loose_state self.old).medium ≡ false) }
+        ensures ok { OnOk result (loose_state self.new ≡ exchanged medium (loose_state self.old)) }
+        ensures held { OnOk result (LooseWithMedium (Some medium) self.old self.new) }
+        ensures before { IfOk result (λ before. Some before ≡ (loose_state self.old).medium) }
+        ensures err { IfErr result (λ back. (back ≡ medium) × (loose_state self.new ≡ loose_state self.old)) }
+    {
         self.inside.exchange(medium)
     }
 }

@@ -1,0 +1,92 @@
+-- Saved states of a controller without its media.
+use Rattle.std.specs.Prelude.{◌≡◌, ◌⊎◌, ◌==◌, ◌&&◌, ℕ, Bool, true, false, List, [], ◌∷◌, Option, Some, None, MatchBool}
+use Rattle.c_bay_drive.specs.Bays.{bay_state}
+use Rattle.c_bay_drive.specs.Saving.{spelled_bay}
+use Rattle.c_bay_drive.specs.WithMedium.{BayWithMedium}
+use Rattle.c_slots.specs.Controllers.{ControllerValue}
+use Rattle.fdc_chip.specs.Chips.{chip_with_drive}
+use Rattle.fdc_chip.specs.Saving.{spelled_chip}
+use Rattle.flop_base.specs.declared.answers.Rate.{Rate}
+use Rattle.flop_base.specs.declared.answers.Rate.TheVariants.{R500, R250}
+use Rattle.raw_image.specs.Disk.{Disk, blank_disk}
+use Rattle.telwyddus_c.specs.Buffers.{WritesBytes}
+use Rattle.telwyddus_c.specs.Drives.{held}
+use Rattle.telwyddus_c.specs.States.{behind, ControllerFits, HasBytes, HasNone}
+
+-- what such a state begins with: the name TELWYDB, and the number of the form of what comes behind it, 1
+abbrev pub bare_name : List ℕ
+bare_name = 0x54 ∷ 0x45 ∷ 0x4C ∷ 0x57 ∷ 0x59 ∷ 0x44 ∷ 0x42 ∷ 0x01 ∷ []
+
+-- the bytes of a controller behind that name
+abbrev pub spelled_bare : ControllerValue → List ℕ → List ℕ
+spelled_bare = behind bare_name (spelled_chip spelled_bay)
+
+-- the medium in a bay
+abbrev pub medium_in : ControllerValue → ℕ → Option Disk
+medium_in controller bay = (bay_state (held controller bay)).medium
+
+-- what stands in for a medium: one track of its length at its rate, on which nothing is recorded
+abbrev pub stand_in : Disk → Disk
+stand_in disk = blank_disk 1 1 disk.words_per_track disk.rate
+
+abbrev pub stand_in_for : Option Disk → Option Disk
+stand_in_for None = None
+stand_in_for (Some disk) = Some (stand_in disk)
+
+-- both rates are the same
+abbrev pub same_rate : Rate → Rate → Bool
+same_rate R500 R500 = true
+same_rate R250 R250 = true
+same_rate _ _ = false
+
+-- there is none of both, or their tracks have the same length and rate
+abbrev pub alike : Option Disk → Option Disk → Bool
+alike None None = true
+alike (Some one) (Some other) = other.words_per_track == one.words_per_track && same_rate one.rate other.rate
+alike _ _ = false
+
+-- it is so in both bays
+abbrev pub media_alike : ControllerValue → ControllerValue → Bool
+media_alike one other = alike (medium_in one 0) (medium_in other 0) && alike (medium_in one 1) (medium_in other 1)
+
+-- a bay has this medium in, and all else is as it was
+pub record HasMedium (medium : Option Disk) (bay : ℕ) (old new : ControllerValue) : Type 0 where
+  pub drive : BayWithMedium medium (held old bay) (held new bay)
+  pub whole : new ≡ chip_with_drive bay (held new bay) old
+
+-- both bays have these media in, and all else is as it was
+pub record HasMedia (first second : Option Disk) (old new : ControllerValue) : Type 0 where
+  pub first_drive : BayWithMedium first (held old 0) (held new 0)
+  pub second_drive : BayWithMedium second (held old 1) (held new 1)
+  pub whole : new ≡ chip_with_drive 1 (held new 1) (chip_with_drive 0 (held new 0) old)
+
+-- the controller without its media: each has its stand-in
+abbrev pub IsBared : ControllerValue → ControllerValue → Type 0
+IsBared old bare = HasMedia (stand_in_for (medium_in old 0)) (stand_in_for (medium_in old 1)) old bare
+
+-- what was saved, with the media that are in the bays of this controller, tabs and all
+abbrev pub IsRefilled : (media state new : ControllerValue) → Type 0
+IsRefilled media state new = HasMedia (medium_in media 0) (medium_in media 1) state new
+
+-- the bytes of a controller that lacks media so
+pub record BareBytes (Lacks : ControllerValue → Type 0) (bytes : List ℕ) : Type 0 where
+  pub bare : ControllerValue
+  pub lacks : Lacks bare
+  pub fits : ControllerFits bare
+  pub spells : bytes ≡ spelled_bare bare []
+
+-- the bytes of the bared controller are written to a buffer, and their number told: 0; the buffer is too short, 10: it stays, and the number is told. Or memory is out,
+-- 3: the buffer and what was told stay
+abbrev pub WritesBare : ControllerValue → (code : ℕ) → (old new : List ℕ) → (was told : ℕ) → Type 0
+WritesBare controller code old new was told =
+    ((bytes : List ℕ) × BareBytes (IsBared controller) bytes × WritesBytes bytes code old new told)
+    ⊎ ((code ≡ 3) × (new ≡ old) × (told ≡ was))
+
+-- the controller is the one whose state the bytes are, but for its media, which stay: 0. The state is of other media, 21, no state has
+-- these bytes, 22, or memory is out, 3: it stays
+abbrev pub RestoresBare : List ℕ → (code : ℕ) → ControllerValue → ControllerValue → Type 0
+RestoresBare bytes code old new =
+    MatchBool (code == 0) ((state : ControllerValue) × HasBytes ControllerFits spelled_bare bytes state × (media_alike old state ≡ true) × IsRefilled old state new)
+    (MatchBool (code == 21) ((state : ControllerValue) × HasBytes ControllerFits spelled_bare bytes state × (media_alike old state ≡ false) × (new ≡ old))
+    (MatchBool (code == 22) (HasNone ControllerFits spelled_bare bytes × (new ≡ old))
+    (MatchBool (code == 3) (new ≡ old) ⊥)))

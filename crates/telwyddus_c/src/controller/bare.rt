@@ -1,0 +1,86 @@
+// The controller's state without its media as bytes, and back onto the media that are in its bays.
+ghost use Rattle.std.specs.Prelude.{◌≡◌, ⊤};
+ghost use Rattle.telwyddus_c.specs.Bare.{WritesBare, RestoresBare};
+ghost use Rattle.telwyddus_c.specs.Slots.{Serves};
+
+use crate::bare::{bare_bytes, refill};
+use crate::buffer::write_bytes;
+use crate::code::{BAD_STATE, DONE, EMPTY, NO_MEMORY, UNFIT};
+use crate::state::{BARE, read_behind};
+use c_slots::{ControllerSlot, WholeController};
+use saved_state::RestoreError;
+use std::alloc::Global;
+
+/// Writes the controller's state with its drives to the beginning of a buffer, and tells its length. Of the media in them it has the length
+/// of their tracks and their rates alone. The controller goes on.
+#[unsafe(no_mangle)]
+pub extern "C" fn telwyddus_controller_save_bare(
+    alloc: Global,
+    slot: &mut ControllerSlot,
+    out: &mut [u8],
+    length: &mut usize,
+) -> u32
+    ensures { Serves (λ code old new. (new ≡ old) × WritesBare old code out.old out.new length.old length.new)
+        ((out.new ≡ out.old) × (length.new ≡ length.old)) result slot.old.held.controller slot.new.held.controller }
+{
+    match slot.take(alloc) {
+        None => EMPTY,
+        Some(mut controller) => {
+            let code = save_bare(alloc, &mut controller, out, length);
+            slot.put(controller);
+            code
+        }
+    }
+}
+
+/// The same of a controller, which has its media again behind it.
+fn save_bare(
+    alloc: Global,
+    controller: &mut WholeController,
+    out: &mut [u8],
+    length: &mut usize,
+) -> u32
+    ensures same { controller.new ≡ controller.old }
+    ensures writes { WritesBare controller.old result out.old out.new length.old length.new }
+{
+    match bare_bytes(alloc, controller) {
+        Err(_) => NO_MEMORY,
+        Ok(bytes) => write_bytes(bytes.as_slice(), out, length),
+    }
+}
+
+/// Makes the controller that a slot holds the one whose state the bytes are, but for its media, which stay in its bays.
+#[unsafe(no_mangle)]
+pub extern "C" fn telwyddus_controller_restore_bare(
+    alloc: Global,
+    slot: &mut ControllerSlot,
+    bytes: &[u8],
+) -> u32
+    ensures { Serves (RestoresBare bytes.now) ⊤ result slot.old.held.controller slot.new.held.controller }
+{
+    match slot.take(alloc) {
+        None => EMPTY,
+        Some(mut controller) => {
+            let code = restore_bare(alloc, &mut controller, bytes);
+            slot.put(controller);
+            code
+        }
+    }
+}
+
+/// The same of a controller.
+fn restore_bare(alloc: Global, controller: &mut WholeController, bytes: &[u8]) -> u32
+    ensures { RestoresBare bytes.now result controller.old controller.new }
+{
+    match read_behind::<WholeController>(alloc, &BARE, bytes) {
+        Err(RestoreError::NoState) => BAD_STATE,
+        Err(RestoreError::NoMemory) => NO_MEMORY,
+        Ok(mut state) => {
+            if refill(alloc, controller, &mut state) {
+                DONE
+            } else {
+                UNFIT
+            }
+        }
+    }
+}
