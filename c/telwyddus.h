@@ -135,6 +135,13 @@ TELWYDDUS_NEWS uint32_t telwyddus_tray_read_flat_as(telwyddus_tray *tray, const 
 TELWYDDUS_NEWS uint32_t telwyddus_tray_write_flat(telwyddus_tray *tray, uint8_t *out, size_t room, size_t *length,
     uint8_t *cylinder, uint8_t *head);
 
+/* Writes the flat sector file of another geometry, by the numbers of read_flat_as, of its medium: of each track the records 1 to `sectors`, each
+ * of 128 << n bytes. It has each sector of the medium, or there is none, as of write_flat: both are 255 where the medium hasn't so many cylinders
+ * and heads, or that rate. What read_flat_as makes of a file gives that file back. DONE, EMPTY, NO_MEMORY, OUT_OF_RANGE for no such geometry,
+ * NO_MEDIUM, TOO_SHORT, UNFIT. */
+TELWYDDUS_NEWS uint32_t telwyddus_tray_write_flat_as(telwyddus_tray *tray, uint8_t cylinders, uint8_t heads, uint8_t sectors, uint8_t n,
+    uint16_t kilobits, uint8_t *out, size_t room, size_t *length, uint8_t *cylinder, uint8_t *head);
+
 /* Makes a tray with the medium of an ImageDisk file (MFM at 500 or 250 kbit/s): all its sectors, and no others. UNFIT where a track
  * has no room for its sectors: its cylinder and head are told. DONE, FULL, NO_MEMORY, BAD_IMAGE, UNFIT. */
 TELWYDDUS_NEWS uint32_t telwyddus_tray_read_imd(telwyddus_tray *tray, const uint8_t *bytes, size_t length, uint8_t *cylinder,
@@ -323,6 +330,10 @@ TELWYDDUS_NEWS uint32_t telwyddus_controller_plan(telwyddus_controller *controll
  * too. DONE, EMPTY, NO_MEMORY, TOO_SHORT. */
 TELWYDDUS_NEWS uint32_t telwyddus_controller_save(telwyddus_controller *controller, uint8_t *out, size_t room, size_t *length);
 
+/* The most bytes that a controller's state has, whatever media are in: a buffer of so many is never too short. `faults` is how many faults the
+ * plans of both bays have, a line each, with those that came; 0 without plans. */
+#define TELWYDDUS_CONTROLLER_STATE_MOST(faults) ((size_t)10486812 + (size_t)10 * (size_t)(faults))
+
 /* Makes the slot hold the controller that was saved, in place of what it holds, which is freed; a slot that holds nothing is filled.
  * Where the bytes are no state, all of them, or memory is out, the slot stays as it was. DONE, NO_MEMORY, BAD_STATE. */
 TELWYDDUS_NEWS uint32_t telwyddus_controller_restore(telwyddus_controller *controller, const uint8_t *bytes, size_t length);
@@ -484,6 +495,8 @@ static inline const uint16_t *telwyddus_words_in_(const uint16_t *words) {
     (telwyddus_tray_read_flat_as)(tray, telwyddus_in_(bytes), length, cylinders, heads, sectors, n, kilobits)
 #define telwyddus_tray_write_flat(tray, out, room, length, cylinder, head) \
     (telwyddus_tray_write_flat)(tray, telwyddus_out_(out), room, length, cylinder, head)
+#define telwyddus_tray_write_flat_as(tray, cylinders, heads, sectors, n, kilobits, out, room, length, cylinder, head) \
+    (telwyddus_tray_write_flat_as)(tray, cylinders, heads, sectors, n, kilobits, telwyddus_out_(out), room, length, cylinder, head)
 #define telwyddus_tray_read_imd(tray, bytes, length, cylinder, head) \
     (telwyddus_tray_read_imd)(tray, telwyddus_in_(bytes), length, cylinder, head)
 #define telwyddus_tray_write_imd(tray, out, room, length, cylinder, head) \

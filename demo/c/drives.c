@@ -1,5 +1,6 @@
 /* drives - what is done to drives and their media while they turn: the tab, the shape, single tracks, flat files, the tracks that were written,
- * the cable, a plan anew, the reset pin, the name that a state begins with, and states without media. It makes its own disk. */
+ * the cable, a plan anew, the reset pin, the name that a state begins with, its most length, and states without media. It makes its own
+ * disk. */
 #include "common.h"
 
 enum { WORDS = 12500, SECTOR = 512, SIDE = 18, FLAT = 1474560 };
@@ -79,6 +80,25 @@ static void shapes(telwyddus_tray *tray) {
     MUST(telwyddus_tray_protect(tray, 0));
 }
 
+/* The tray's flat file of a geometry is what the tray was made of. */
+static int gives_back(telwyddus_tray *tray, uint8_t cylinders, uint8_t heads, uint8_t sectors, uint8_t n, uint16_t kilobits) {
+    size_t length = 0, wanted = (size_t)cylinders * heads * sectors * (128u << n);
+    uint8_t cylinder = 7, head = 7;
+    memset(again, 0, FLAT);
+    if (telwyddus_tray_write_flat_as(tray, cylinders, heads, sectors, n, kilobits, again, wanted - 1, &length, &cylinder, &head)
+        != TELWYDDUS_TOO_SHORT || length != wanted) return 0;
+    MUST(telwyddus_tray_write_flat_as(tray, cylinders, heads, sectors, n, kilobits, again, wanted, &length, &cylinder, &head));
+    return length == wanted && memcmp(again, flat, wanted) == 0 && cylinder == 7 && head == 7;
+}
+
+/* The tray has no flat file of a geometry: it answers so, and tells a cylinder and a head. */
+static int has_none(telwyddus_tray *tray, uint8_t cylinders, uint8_t heads, uint8_t sectors, uint16_t kilobits, uint32_t code, int place) {
+    size_t length = 5;
+    uint8_t cylinder = 7, head = 7;
+    return telwyddus_tray_write_flat_as(tray, cylinders, heads, sectors, 2, kilobits, again, FLAT, &length, &cylinder, &head) == code
+        && length == 5 && cylinder * 256 + head == place;
+}
+
 /* Flat files of other geometries. */
 static void forms(void) {
     telwyddus_tray tray = {0};
@@ -86,12 +106,27 @@ static void forms(void) {
     MUST(telwyddus_tray_read_flat_as(&tray, flat, 40 * 2 * 9 * SECTOR, 40, 2, 9, 2, 250));
     MUST(telwyddus_tray_shape(&tray, &shape));
     check(shape.cylinders == 40 && shape.heads == 2 && shape.kilobits == 250, "360 KB");
+    check(gives_back(&tray, 40, 2, 9, 2, 250), "and its flat file");
+    check(has_none(&tray, 40, 2, 8, 250, TELWYDDUS_UNFIT, 0), "a ninth sector isn't left out");
+    check(has_none(&tray, 40, 2, 10, 250, TELWYDDUS_UNFIT, 0), "a tenth isn't there");
+    check(has_none(&tray, 40, 1, 9, 250, TELWYDDUS_UNFIT, 0xFFFF), "two heads aren't one");
+    check(has_none(&tray, 80, 2, 9, 250, TELWYDDUS_UNFIT, 0xFFFF), "40 cylinders aren't 80");
+    check(has_none(&tray, 40, 2, 9, 500, TELWYDDUS_UNFIT, 0xFFFF), "250 kbit/s isn't 500");
+    check(has_none(&tray, 40, 2, 9, 300, TELWYDDUS_OUT_OF_RANGE, 0x707), "300 kbit/s is none");
+    check(has_none(&tray, 40, 3, 9, 250, TELWYDDUS_OUT_OF_RANGE, 0x707), "nor are three heads a number");
     MUST(telwyddus_tray_free(&tray));
+    check(has_none(&tray, 40, 2, 9, 250, TELWYDDUS_EMPTY, 0x707), "no tray, no file");
     MUST(telwyddus_tray_read_flat_as(&tray, flat, 40 * 8 * SECTOR, 40, 1, 8, 2, 250));
     MUST(telwyddus_tray_shape(&tray, &shape));
     check(shape.cylinders == 40 && shape.heads == 1, "160 KB");
+    check(gives_back(&tray, 40, 1, 8, 2, 250), "and its flat file");
     MUST(telwyddus_tray_free(&tray));
     MUST(telwyddus_tray_read_flat_as(&tray, flat, 2 * 2 * 20 * SECTOR, 2, 2, 20, 2, 500));
+    check(gives_back(&tray, 2, 2, 20, 2, 500), "20 sectors a track");
+    MUST(telwyddus_tray_free(&tray));
+    MUST(telwyddus_tray_read_flat_as(&tray, flat, 77 * 2 * 8 * 1024, 77, 2, 8, 3, 500));
+    check(gives_back(&tray, 77, 2, 8, 3, 500), "sectors of 1,024 bytes");
+    check(has_none(&tray, 77, 2, 8, 500, TELWYDDUS_UNFIT, 0), "which aren't of 512");
     MUST(telwyddus_tray_free(&tray));
     check(telwyddus_tray_read_flat_as(&tray, flat, 2 * 2 * 21 * SECTOR, 2, 2, 21, 2, 500) == TELWYDDUS_UNFIT, "no room for 21");
     check(telwyddus_tray_read_flat_as(&tray, flat, SECTOR, 81, 2, 18, 2, 500) == TELWYDDUS_OUT_OF_RANGE, "no 81 cylinders");
@@ -221,6 +256,29 @@ static void states(void) {
     free(bytes);
 }
 
+/* Two media of the most cylinders, heads and words, and planned faults: the longest state is within what the header says, and near it. */
+static void longest(void) {
+    enum { WHOLE = 14 + 80 * 2 * 16384 * 2 };
+    static const uint8_t head[14] = {'R', 'T', 'I', 'M', 'A', 'G', 'E', '2', 0, 80, 2, 0, 0x40, 0};
+    static const char plan[] = "drop 0 0 0 300 9\ndrop 1 79 1 12000 1\ncut 1 40 0 7 2\n";
+    telwyddus_controller large = {0};
+    telwyddus_tray tray = {0};
+    uint8_t *image = (uint8_t *)calloc(WHOLE, 1);
+    size_t length = 0, line;
+    memcpy(image, head, sizeof head);
+    MUST(telwyddus_controller_new_planned(&large, (const uint8_t *)plan, sizeof plan - 1, &line));
+    for (uint32_t bay = 0; bay < 2; bay++) {
+        MUST(telwyddus_tray_read(&tray, image, WHOLE));
+        MUST(telwyddus_controller_insert(&large, bay, &tray));
+        MUST(telwyddus_tray_free(&tray));
+    }
+    check(telwyddus_controller_save(&large, NULL, 0, &length) == TELWYDDUS_TOO_SHORT, "the longest state's length");
+    check(length <= TELWYDDUS_CONTROLLER_STATE_MOST(3) && length + 1024 > TELWYDDUS_CONTROLLER_STATE_MOST(3), "is within the most, and near it");
+    check(TELWYDDUS_CONTROLLER_STATE_MOST(3) == 2 * (size_t)WHOLE + 1024 + 3 * 10, "two image files, 1,024 bytes, and 10 a fault");
+    MUST(telwyddus_controller_free(&large));
+    free(image);
+}
+
 /* ---- states without media */
 
 static uint8_t *state_of(telwyddus_controller *of, size_t *length) {
@@ -316,6 +374,7 @@ int main(void) {
     cables(&tray);
     pin();
     states();
+    longest();
     bare();
     MUST(telwyddus_tray_free(&tray));
     MUST(telwyddus_controller_free(&controller));

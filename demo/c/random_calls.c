@@ -217,17 +217,20 @@ static void tray_free(void) {
 
 /* The image file, or what is made of it. */
 static void tray_write(void) {
-    unsigned at = below(4), way = below(8);
+    unsigned at = below(4), way = below(9);
+    bool no_form = way == 8 && below(4) == 0;
     const Medium medium = tray_is[at].is ? tray_is[at].medium : (Medium){.is = false};
-    uint32_t want = !tray_is[at].is ? TELWYDDUS_EMPTY : medium.is ? TELWYDDUS_DONE : TELWYDDUS_NO_MEDIUM;
-    size_t size = way > 2 ? medium.image : 0, room = draw_room(size != 0 ? size : below(60000)), told = (size_t)-1;
-    uint8_t cylinder = 0, head = 0;
+    uint32_t done = no_form ? TELWYDDUS_OUT_OF_RANGE : TELWYDDUS_DONE;
+    uint32_t want = !tray_is[at].is ? TELWYDDUS_EMPTY : medium.is ? done : TELWYDDUS_NO_MEDIUM;
+    size_t size = way > 2 && way < 8 ? medium.image : 0, room = draw_room(size != 0 ? size : below(60000)), told = (size_t)-1;
+    uint8_t cylinder = 0, head = 0, cylinders = no_form ? 81 : below(2) ? 1 : 80, heads = (uint8_t)(1 + below(2)), sectors = (uint8_t)(1 + below(9));
     fill(room);
     if (way == 0) CALL(telwyddus_tray_write_flat(&trays[at], buffer(room), room, &told, &cylinder, &head));
     else if (way == 1) CALL(telwyddus_tray_write_imd(&trays[at], buffer(room), room, &told, &cylinder, &head));
     else if (way == 2) CALL(telwyddus_tray_survey(&trays[at], buffer(room), room, &told));
+    else if (way == 8) CALL(telwyddus_tray_write_flat_as(&trays[at], cylinders, heads, sectors, 2, 250, buffer(room), room, &told, &cylinder, &head));
     else CALL(telwyddus_tray_write(&trays[at], buffer(room), room, &told));
-    so(way < 2 || the_code != TELWYDDUS_UNFIT, "no UNFIT here");
+    so(way < 2 || way == 8 || the_code != TELWYDDUS_UNFIT, "no UNFIT here");
     wrote(want, room, told, size);
 }
 

@@ -236,6 +236,9 @@ static void flat(void) {
     TRY(telwyddus_tray_read_flat(&tray, file, sizeof file));
     TRY(telwyddus_tray_write_flat(&tray, again, sizeof again, &told, &cylinder, &head));
     is_so(told == sizeof file && memcmp(again, file, sizeof file) == 0, "the flat file of the medium is the same");
+    memset(again, 0, sizeof again);
+    TRY(telwyddus_tray_write_flat_as(&tray, 80, 2, 9, 2, 250, again, sizeof again, &told, &cylinder, &head));
+    is_so(told == sizeof file && memcmp(again, file, sizeof file) == 0, "so is that of its geometry");
     TRY(telwyddus_disk_new(&disk));
     MUST(telwyddus_disk_insert(&disk, 0, &tray));
     MUST(telwyddus_disk_acknowledge(&disk, 0));

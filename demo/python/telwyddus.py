@@ -219,6 +219,11 @@ class Tray(Holder):
         """Its flat sector file."""
         return self._fitting_bytes("write_flat")
 
+    def flat_as(self, cylinders, heads, sectors, n=2, kilobits=500):
+        """Its flat sector file of another geometry."""
+        place, form = (ctypes.c_uint8 * 2)(), (byte(cylinders), byte(heads), byte(sectors), byte(n), port(kilobits))
+        return self._fitting(place, lambda: self._bytes("write_flat_as", *form, behind=self._places(place)))
+
     def survey(self):
         """Its address fields: cylinder and head of the track, the first cell, (C, H, R, N), and what was found."""
         data = self._bytes("survey")

@@ -15,26 +15,26 @@ use Rattle.sector_model.specs.Faults.{Blames}
 use Rattle.sector_model.specs.Steps.{most_image_bytes, IsAbsent, IsLonger}
 
 -- all that a command may change: the told files, and the told report
-pub record Desk : Type 0 where
+pub record Outside : Type 0 where
   pub files : Option Files
   pub report : Option (List (List ℕ))
 
-abbrev pub desk_of : {S K : Type 0} → (S → Option Files) → (K → Option (List (List ℕ))) → S → K → Desk
-desk_of files report shelf out = record { files = files shelf; report = report out }
+abbrev pub outside_of : {S K : Type 0} → (S → Option Files) → (K → Option (List (List ℕ))) → S → K → Outside
+outside_of files report shelf out = record { files = files shelf; report = report out }
 
--- a desk, with the faults that its shelf and its sink counted
-pub record FaultyDesk : Type 0 where
-  pub desk : Desk
+-- an outside, with the faults that its shelf and its sink counted
+pub record FaultyOutside : Type 0 where
+  pub outside : Outside
   pub shelf_faults : ℕ
   pub sink_faults : ℕ
 
-abbrev pub faulty_desk_of : {S K : Type 0} → (S → Option Files) → (S → ℕ) → (K → Option (List (List ℕ))) → (K → ℕ) → S → K → FaultyDesk
-faulty_desk_of files shelf_count report sink_count shelf out =
-    record { desk = desk_of files report shelf out; shelf_faults = shelf_count shelf; sink_faults = sink_count out }
+abbrev pub faulty_outside_of : {S K : Type 0} → (S → Option Files) → (S → ℕ) → (K → Option (List (List ℕ))) → (K → ℕ) → S → K → FaultyOutside
+faulty_outside_of files shelf_count report sink_count shelf out =
+    record { outside = outside_of files report shelf out; shelf_faults = shelf_count shelf; sink_faults = sink_count out }
 
 -- a command that takes shelf and sink through did this, its words were a form, and one fault was counted where its status tells it, and else none
-pub record RanOnFiles (Does : Desk → Desk → Status → Type 0) (old new : FaultyDesk) (ended : Status) : Type 0 where
-  pub does : Does old.desk new.desk ended
+pub record RanOnFiles (Does : Outside → Outside → Status → Type 0) (old new : FaultyOutside) (ended : Status) : Type 0 where
+  pub does : Does old.outside new.outside ended
   pub is_form : ended ≢ status.BadWords
   pub shelf_faults : Blames (ended ≡ status.FileFault) old.shelf_faults new.shelf_faults
   pub sink_faults : Blames (ended ≡ status.SinkFault) old.sink_faults new.sink_faults

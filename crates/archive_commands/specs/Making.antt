@@ -21,7 +21,7 @@ use Rattle.sector_model.specs.Plays.{Prints}
 use Rattle.commands.specs.LastLines.{unfit_text}
 use Rattle.archive_commands.specs.declared.halt.Halt.{Halt}
 use Rattle.archive_commands.specs.declared.halt.Halt.TheVariants as halt
-use Rattle.archive_commands.specs.Files.{Desk, ReadsAs, StopsAt}
+use Rattle.archive_commands.specs.Files.{Outside, ReadsAs, StopsAt}
 use Rattle.archive_commands.specs.Surveys.{IsSectorCount}
 
 -- what comes of the file `from`: it is stored under `to` as what it becomes, with the number that is told; or one of its tracks
@@ -63,7 +63,7 @@ HasNoDisk image c h = MakesDisk image (Err (imd.Unfit c h))
 abbrev pub MakesFromImd : List ℕ → List ℕ → Option Files → Result ℕ Halt → Option Files → Type 0
 MakesFromImd imd name told outcome after = Makes imd_of IsDiskFile HasNoDisk imd name told outcome after
 
-abbrev pub FromImd : List ℕ → List ℕ → Desk → Desk → Status → Type 0
+abbrev pub FromImd : List ℕ → List ℕ → Outside → Outside → Status → Type 0
 FromImd imd name old new ended =
     (outcome : Result ℕ Halt) × MakesFromImd imd name old.files outcome new.files × Tells (codes "fromimd") outcome old.report new.report ended
 
@@ -80,7 +80,7 @@ HasNoImd disk c h = TakesDisk disk (Err (imd.Unfit c h))
 abbrev pub MakesToImd : List ℕ → List ℕ → Option Files → Result ℕ Halt → Option Files → Type 0
 MakesToImd name imd told outcome after = Makes image_of IsImdFile HasNoImd name imd told outcome after
 
-abbrev pub ToImd : List ℕ → List ℕ → Desk → Desk → Status → Type 0
+abbrev pub ToImd : List ℕ → List ℕ → Outside → Outside → Status → Type 0
 ToImd name imd old new ended =
     (outcome : Result ℕ Halt) × MakesToImd name imd old.files outcome new.files × Tells (codes "toimd") outcome old.report new.report ended
 
@@ -96,6 +96,6 @@ HasNoRemaster disk c h = Remasters disk (Err (remaster.Unfit c h))
 abbrev pub MakesRemaster : List ℕ → List ℕ → Option Files → Result ℕ Halt → Option Files → Type 0
 MakesRemaster from to told outcome after = Makes image_of IsRemasterFile HasNoRemaster from to told outcome after
 
-abbrev pub Remaster : List ℕ → List ℕ → Desk → Desk → Status → Type 0
+abbrev pub Remaster : List ℕ → List ℕ → Outside → Outside → Status → Type 0
 Remaster from to old new ended =
     (outcome : Result ℕ Halt) × MakesRemaster from to old.files outcome new.files × Tells (codes "remaster") outcome old.report new.report ended

@@ -13,7 +13,7 @@ use Rattle.remaster.specs.Survey.{IsSurvey, line_text, end_text}
 use Rattle.sector_model.specs.declared.reply.Stop.{Stop}
 use Rattle.sector_model.specs.Texts.{stop_lines, stop_status, line_end}
 use Rattle.sector_model.specs.Plays.{Prints}
-use Rattle.archive_commands.specs.Files.{Desk, ReadsAs, StopsAt}
+use Rattle.archive_commands.specs.Files.{Outside, ReadsAs, StopsAt}
 
 -- a line for each address field
 abbrev pub field_line : SurveyLine → List ℕ
@@ -44,7 +44,7 @@ TellsSurvey (Ok lines) old new ended = Prints (survey_lines lines) status.AllOk 
 TellsSurvey (Err cause) old new ended = Prints (stop_lines cause) (stop_status cause) old new ended
 
 -- a survey: it stores nothing
-abbrev pub Surveys : List ℕ → Desk → Desk → Status → Type 0
+abbrev pub Surveys : List ℕ → Outside → Outside → Status → Type 0
 Surveys name old new ended =
     (outcome : Result (List SurveyLine) Stop) × SurveysFile old.files name outcome × (new.files ≡ old.files)
     × TellsSurvey outcome old.report new.report ended

@@ -1,7 +1,7 @@
 // The commands that make a file of another.
 ghost use Rattle.std.specs.Prelude.{IsErrOf};
 ghost use Rattle.sector_model.specs.Faults.{Blames};
-ghost use Rattle.archive_commands.specs.Files.{faulty_desk_of, RanOnFiles};
+ghost use Rattle.archive_commands.specs.Files.{faulty_outside_of, RanOnFiles};
 ghost use Rattle.archive_commands.specs.Making.{MakesFromImd, MakesToImd, MakesRemaster, FromImd, ToImd, Remaster};
 
 use crate::files::{load_imd, load_medium, store};
@@ -66,8 +66,8 @@ pub fn from_imd<S: Shelf, K: Sink>(
     shelf: &mut S,
     out: &mut K,
 ) -> Status
-    ensures { RanOnFiles (FromImd imd name) (faulty_desk_of S.told S.fault_count K.told K.fault_count shelf.old out.old)
-        (faulty_desk_of S.told S.fault_count K.told K.fault_count shelf.new out.new) result }
+    ensures { RanOnFiles (FromImd imd name) (faulty_outside_of S.told S.fault_count K.told K.fault_count shelf.old out.old)
+        (faulty_outside_of S.told S.fault_count K.told K.fault_count shelf.new out.new) result }
 {
     let outcome = make_disk(alloc, shelf, &imd, &name);
     tell(alloc, out, "fromimd", &outcome)
@@ -82,8 +82,8 @@ pub fn to_imd<S: Shelf, K: Sink>(
     shelf: &mut S,
     out: &mut K,
 ) -> Status
-    ensures { RanOnFiles (ToImd name imd) (faulty_desk_of S.told S.fault_count K.told K.fault_count shelf.old out.old)
-        (faulty_desk_of S.told S.fault_count K.told K.fault_count shelf.new out.new) result }
+    ensures { RanOnFiles (ToImd name imd) (faulty_outside_of S.told S.fault_count K.told K.fault_count shelf.old out.old)
+        (faulty_outside_of S.told S.fault_count K.told K.fault_count shelf.new out.new) result }
 {
     let outcome = make_imd(alloc, shelf, &name, &imd);
     tell(alloc, out, "toimd", &outcome)
@@ -98,8 +98,8 @@ pub fn remaster_disk<S: Shelf, K: Sink>(
     shelf: &mut S,
     out: &mut K,
 ) -> Status
-    ensures { RanOnFiles (Remaster from to) (faulty_desk_of S.told S.fault_count K.told K.fault_count shelf.old out.old)
-        (faulty_desk_of S.told S.fault_count K.told K.fault_count shelf.new out.new) result }
+    ensures { RanOnFiles (Remaster from to) (faulty_outside_of S.told S.fault_count K.told K.fault_count shelf.old out.old)
+        (faulty_outside_of S.told S.fault_count K.told K.fault_count shelf.new out.new) result }
 {
     let outcome = make_remaster(alloc, shelf, &from, &to);
     tell(alloc, out, "remaster", &outcome)

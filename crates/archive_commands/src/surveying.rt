@@ -1,7 +1,7 @@
 // The survey of a disk.
 ghost use Rattle.std.specs.Prelude.{◌≡◌, IfOk, string_bytes};
 ghost use Rattle.commands.specs.Puts.{Puts, PutsLast, printed_of};
-ghost use Rattle.archive_commands.specs.Files.{faulty_desk_of, faulty_files_of, Loaded, RanOnFiles};
+ghost use Rattle.archive_commands.specs.Files.{faulty_outside_of, faulty_files_of, Loaded, RanOnFiles};
 ghost use Rattle.archive_commands.specs.Surveys.{field_line, field_lines, survey_lines, end_line, is_found, found_count, IsSectorCount, GivesSurvey, Surveys};
 
 use crate::files::load_medium;
@@ -89,8 +89,8 @@ pub fn survey_disk<S: Shelf, K: Sink>(
     shelf: &mut S,
     out: &mut K,
 ) -> Status
-    ensures { RanOnFiles (Surveys name) (faulty_desk_of S.told S.fault_count K.told K.fault_count shelf.old out.old)
-        (faulty_desk_of S.told S.fault_count K.told K.fault_count shelf.new out.new) result }
+    ensures { RanOnFiles (Surveys name) (faulty_outside_of S.told S.fault_count K.told K.fault_count shelf.old out.old)
+        (faulty_outside_of S.told S.fault_count K.told K.fault_count shelf.new out.new) result }
 {
     match survey_file(alloc, shelf, &name) {
         Ok(lines) => put_survey(alloc, out, &lines),

@@ -1,5 +1,6 @@
 pub mod WordTimes
 pub mod Boards
+pub mod Handling
 pub mod History
 pub mod Senses
 pub mod Saving

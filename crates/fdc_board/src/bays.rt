@@ -1,7 +1,8 @@
 // The bays: media in and out, and what a front end shows of the drives.
-ghost use Rattle.std.specs.Prelude.{◌≡◌, ◌≤◌, ◌+◌, ◌-◌, ◌↔◌, IfErr, OnOk, IsErr, IsSome, IsTrue, IsBitSet};
+ghost use Rattle.std.specs.Prelude.{◌≡◌, ◌≤◌, ◌+◌, ◌↔◌, IsTrue, IsBitSet};
 ghost use Rattle.std.specs.Option.{option_copied};
-ghost use Rattle.drive_model.specs.Drive.{Becomes, loaded, unloaded, forgotten, place_under};
+ghost use Rattle.drive_model.specs.Drive.{forgotten, place_under};
+ghost use Rattle.fdc_board.specs.Handling.{PutsIn, TakesOut, Sets};
 ghost use Rattle.fdc_core.specs.State.{dor_of};
 
 use crate::board::FdcBoard;
@@ -15,12 +16,7 @@ impl<D: Inspect> FdcBoard<D> {
     pub fn insert(&mut self, bay: u8, medium: Medium) -> Result<(), Medium>
         requires { bay ≤ 1 }
         ensures controller { controller_of self.new ≡ controller_of self.old }
-        ensures other { drive_at (board_state D.state self.new) (1 - bay) ≡ drive_at (board_state D.state self.old) (1 - bay) }
-        ensures refused { IsErr result ↔ IsSome (drive_at (board_state D.state self.old) bay).medium }
-        ensures ok { OnOk result (Becomes (loaded medium (drive_at (board_state D.state self.old) bay))
-            (drive_at (board_state D.state self.old) bay) (drive_at (board_state D.state self.new) bay)) }
-        ensures err { IfErr result (λ back. (back ≡ medium)
-            × Becomes (drive_at (board_state D.state self.old) bay) (drive_at (board_state D.state self.old) bay) (drive_at (board_state D.state self.new) bay)) }
+        ensures puts { PutsIn bay medium (board_state D.state self.old) (board_state D.state self.new) result }
     {
         if bay == 0 {
             self.first.insert(medium)
@@ -33,10 +29,7 @@ impl<D: Inspect> FdcBoard<D> {
     pub fn eject(&mut self, bay: u8) -> Option<Medium>
         requires { bay ≤ 1 }
         ensures controller { controller_of self.new ≡ controller_of self.old }
-        ensures other { drive_at (board_state D.state self.new) (1 - bay) ≡ drive_at (board_state D.state self.old) (1 - bay) }
-        ensures medium { result ≡ (drive_at (board_state D.state self.old) bay).medium }
-        ensures becomes { Becomes (unloaded (drive_at (board_state D.state self.old) bay))
-            (drive_at (board_state D.state self.old) bay) (drive_at (board_state D.state self.new) bay) }
+        ensures takes { TakesOut bay (board_state D.state self.old) (board_state D.state self.new) result }
     {
         if bay == 0 {
             self.first.eject()
@@ -50,11 +43,7 @@ impl<D: Inspect> FdcBoard<D> {
         requires { bay ≤ 1 }
         ensures { option_copied result ≡ (drive_at (board_state D.state self.now) bay).medium }
     {
-        if bay == 0 {
-            self.first.medium()
-        } else {
-            self.second.medium()
-        }
+        self.drive(bay).medium()
     }
 
     /// Whether a word of the medium in a bay was replaced since it was put in, or since that was last forgotten. Of a medium
@@ -63,19 +52,14 @@ impl<D: Inspect> FdcBoard<D> {
         requires { bay ≤ 1 }
         ensures { result ≡ (drive_at (board_state D.state self.now) bay).replaced }
     {
-        if bay == 0 {
-            self.first.is_written()
-        } else {
-            self.second.is_written()
-        }
+        self.drive(bay).is_written()
     }
 
     /// Forgets that a word of the medium in a bay was replaced, as a front end does once it has stored the medium.
     pub fn forget_written(&mut self, bay: u8)
         requires { bay ≤ 1 }
         ensures controller { controller_of self.new ≡ controller_of self.old }
-        ensures other { drive_at (board_state D.state self.new) (1 - bay) ≡ drive_at (board_state D.state self.old) (1 - bay) }
-        ensures forgotten { drive_at (board_state D.state self.new) bay ≡ forgotten (drive_at (board_state D.state self.old) bay) }
+        ensures forgets { Sets bay forgotten (board_state D.state self.old) (board_state D.state self.new) }
     {
         if bay == 0 {
             self.first.forget_written();
@@ -89,8 +73,7 @@ impl<D: Inspect> FdcBoard<D> {
         requires { bay ≤ 1 }
         ensures was { result ≡ (drive_at (board_state D.state self.old) bay).replaced }
         ensures controller { controller_of self.new ≡ controller_of self.old }
-        ensures other { drive_at (board_state D.state self.new) (1 - bay) ≡ drive_at (board_state D.state self.old) (1 - bay) }
-        ensures forgotten { drive_at (board_state D.state self.new) bay ≡ forgotten (drive_at (board_state D.state self.old) bay) }
+        ensures forgets { Sets bay forgotten (board_state D.state self.old) (board_state D.state self.new) }
     {
         let written = self.is_written(bay);
         self.forget_written(bay);
@@ -102,11 +85,7 @@ impl<D: Inspect> FdcBoard<D> {
         requires { bay ≤ 1 }
         ensures { result ≡ (drive_at (board_state D.state self.now) bay).cylinder }
     {
-        if bay == 0 {
-            self.first.cylinder()
-        } else {
-            self.second.cylinder()
-        }
+        self.drive(bay).cylinder()
     }
 
     /// The place of the word that passes next under the heads of the drive in a bay, in words behind the index; none where
@@ -115,11 +94,7 @@ impl<D: Inspect> FdcBoard<D> {
         requires { bay ≤ 1 }
         ensures { result ≡ place_under (drive_at (board_state D.state self.now) bay) }
     {
-        if bay == 0 {
-            self.first.place()
-        } else {
-            self.second.place()
-        }
+        self.drive(bay).place()
     }
 
     /// Whether the write gate of the drive in a bay is open.
@@ -127,11 +102,7 @@ impl<D: Inspect> FdcBoard<D> {
         requires { bay ≤ 1 }
         ensures { result ≡ (drive_at (board_state D.state self.now) bay).gate }
     {
-        if bay == 0 {
-            self.first.is_gate_open()
-        } else {
-            self.second.is_gate_open()
-        }
+        self.drive(bay).is_gate_open()
     }
 
     /// Whether DOR turns the motor of the drive in a bay on.

@@ -1,6 +1,7 @@
 // What is done to a drive by hand: to the tab of its medium, to the medium itself, and to the whole drive.
-ghost use Rattle.std.specs.Prelude.{◌≡◌, ◌≤◌, ◌-◌, ◌↔◌, Some, IsErr, OnOk, IfOk, IfErr, false};
-ghost use Rattle.drive_model.specs.Drive.{with_protection, same_length, exchanged};
+ghost use Rattle.std.specs.Prelude.{◌≡◌, ◌≤◌, ◌-◌};
+ghost use Rattle.drive_model.specs.Drive.{with_protection};
+ghost use Rattle.fdc_board.specs.Handling.{Exchanges, Sets};
 
 use crate::board::FdcBoard;
 use drive_model::Inspect;
@@ -14,8 +15,7 @@ impl<D: Inspect> FdcBoard<D> {
     pub fn set_protected(&mut self, bay: u8, on: bool)
         requires { bay ≤ 1 }
         ensures controller { controller_of self.new ≡ controller_of self.old }
-        ensures other { drive_at (board_state D.state self.new) (1 - bay) ≡ drive_at (board_state D.state self.old) (1 - bay) }
-        ensures becomes { drive_at (board_state D.state self.new) bay ≡ with_protection on (drive_at (board_state D.state self.old) bay) }
+        ensures sets { Sets bay (with_protection on) (board_state D.state self.old) (board_state D.state self.new) }
     {
         if bay == 0 {
             self.first.set_protected(on);
@@ -29,11 +29,7 @@ impl<D: Inspect> FdcBoard<D> {
     pub fn exchange(&mut self, bay: u8, medium: Medium) -> Result<Medium, Medium>
         requires { bay ≤ 1 }
         ensures controller { controller_of self.new ≡ controller_of self.old }
-        ensures other { drive_at (board_state D.state self.new) (1 - bay) ≡ drive_at (board_state D.state self.old) (1 - bay) }
-        ensures refused { IsErr result ↔ (same_length medium (drive_at (board_state D.state self.old) bay).medium ≡ false) }
-        ensures ok { OnOk result (drive_at (board_state D.state self.new) bay ≡ exchanged medium (drive_at (board_state D.state self.old) bay)) }
-        ensures before { IfOk result (λ before. Some before ≡ (drive_at (board_state D.state self.old) bay).medium) }
-        ensures err { IfErr result (λ back. (back ≡ medium) × (drive_at (board_state D.state self.new) bay ≡ drive_at (board_state D.state self.old) bay)) }
+        ensures exchanges { Exchanges bay medium (board_state D.state self.old) (board_state D.state self.new) result }
     {
         if bay == 0 {
             self.first.exchange(medium)
@@ -61,7 +57,8 @@ impl<D: Inspect> FdcBoard<D> {
     /// The drive in a bay.
     pub fn drive(&self, bay: u8) -> &D
         requires { bay ≤ 1 }
-        ensures { result.now ≡ drive_held self.now bay }
+        ensures held { result.now ≡ drive_held self.now bay }
+        ensures shown { D.state result.now ≡ drive_at (board_state D.state self.now) bay }
     {
         if bay == 0 { &self.first } else { &self.second }
     }

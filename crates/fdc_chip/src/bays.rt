@@ -1,8 +1,9 @@
 // The bays, and what a front end shows: as behind.
-ghost use Rattle.std.specs.Prelude.{◌≡◌, ◌≤◌, ◌-◌, ◌+◌, ◌%◌, ◌↔◌, IfErr, OnOk, IsErr, IsSome, IsTrue, IsBitSet};
+ghost use Rattle.std.specs.Prelude.{◌≡◌, ◌≤◌, ◌+◌, ◌%◌, ◌↔◌, IsTrue, IsBitSet};
 ghost use Rattle.std.specs.Option.{option_copied};
-ghost use Rattle.drive_model.specs.Drive.{Becomes, loaded, unloaded, forgotten, rate_of};
+ghost use Rattle.drive_model.specs.Drive.{forgotten, rate_of};
 ghost use Rattle.fdc_board.specs.Boards.{controller_of, drive_at};
+ghost use Rattle.fdc_board.specs.Handling.{PutsIn, TakesOut, Sets};
 ghost use Rattle.fdc_board.specs.WordTimes.{nanoseconds};
 ghost use Rattle.fdc_core.specs.State.{dor_of, data_rate};
 ghost use Rattle.fdc_sequencer.specs.Fronts.{board_of};
@@ -28,12 +29,7 @@ impl<D: Inspect> Chip<D> {
     pub fn insert(&mut self, bay: u8, medium: Medium) -> Result<(), Medium>
         requires { bay ≤ 1 }
         ensures keeps { KeepsChip (chip_state D.state self.old) (chip_state D.state self.new) }
-        ensures other { drive_at (chip_state D.state self.new).front.board (1 - bay) ≡ drive_at (chip_state D.state self.old).front.board (1 - bay) }
-        ensures refused { IsErr result ↔ IsSome (drive_at (chip_state D.state self.old).front.board bay).medium }
-        ensures ok { OnOk result (Becomes (loaded medium (drive_at (chip_state D.state self.old).front.board bay))
-            (drive_at (chip_state D.state self.old).front.board bay) (drive_at (chip_state D.state self.new).front.board bay)) }
-        ensures err { IfErr result (λ back. (back ≡ medium)
-            × Becomes (drive_at (chip_state D.state self.old).front.board bay) (drive_at (chip_state D.state self.old).front.board bay) (drive_at (chip_state D.state self.new).front.board bay)) }
+        ensures puts { PutsIn bay medium (chip_state D.state self.old).front.board (chip_state D.state self.new).front.board result }
     {
         self.behind.insert(bay, medium)
     }
@@ -42,10 +38,7 @@ impl<D: Inspect> Chip<D> {
     pub fn eject(&mut self, bay: u8) -> Option<Medium>
         requires { bay ≤ 1 }
         ensures keeps { KeepsChip (chip_state D.state self.old) (chip_state D.state self.new) }
-        ensures other { drive_at (chip_state D.state self.new).front.board (1 - bay) ≡ drive_at (chip_state D.state self.old).front.board (1 - bay) }
-        ensures medium { result ≡ (drive_at (chip_state D.state self.old).front.board bay).medium }
-        ensures becomes { Becomes (unloaded (drive_at (chip_state D.state self.old).front.board bay))
-            (drive_at (chip_state D.state self.old).front.board bay) (drive_at (chip_state D.state self.new).front.board bay) }
+        ensures takes { TakesOut bay (chip_state D.state self.old).front.board (chip_state D.state self.new).front.board result }
     {
         self.behind.eject(bay)
     }
@@ -71,8 +64,7 @@ impl<D: Inspect> Chip<D> {
     pub fn forget_written(&mut self, bay: u8)
         requires { bay ≤ 1 }
         ensures keeps { KeepsChip (chip_state D.state self.old) (chip_state D.state self.new) }
-        ensures other { drive_at (chip_state D.state self.new).front.board (1 - bay) ≡ drive_at (chip_state D.state self.old).front.board (1 - bay) }
-        ensures forgotten { drive_at (chip_state D.state self.new).front.board bay ≡ forgotten (drive_at (chip_state D.state self.old).front.board bay) }
+        ensures forgets { Sets bay forgotten (chip_state D.state self.old).front.board (chip_state D.state self.new).front.board }
     {
         self.behind.forget_written(bay);
     }
@@ -82,8 +74,7 @@ impl<D: Inspect> Chip<D> {
         requires { bay ≤ 1 }
         ensures was { result ≡ (drive_at (chip_state D.state self.old).front.board bay).replaced }
         ensures keeps { KeepsChip (chip_state D.state self.old) (chip_state D.state self.new) }
-        ensures other { drive_at (chip_state D.state self.new).front.board (1 - bay) ≡ drive_at (chip_state D.state self.old).front.board (1 - bay) }
-        ensures forgotten { drive_at (chip_state D.state self.new).front.board bay ≡ forgotten (drive_at (chip_state D.state self.old).front.board bay) }
+        ensures forgets { Sets bay forgotten (chip_state D.state self.old).front.board (chip_state D.state self.new).front.board }
     {
         self.behind.take_written(bay)
     }

@@ -1,7 +1,8 @@
 // What is done to a drive by hand: to the tab of its medium, to the medium itself, and to the whole drive.
-ghost use Rattle.std.specs.Prelude.{◌≡◌, ◌≤◌, ◌-◌, ◌↔◌, Some, IsErr, OnOk, IfOk, IfErr, false};
-ghost use Rattle.drive_model.specs.Drive.{with_protection, same_length, exchanged};
-ghost use Rattle.fdc_board.specs.Boards.{drive_at, drive_held};
+ghost use Rattle.std.specs.Prelude.{◌≡◌, ◌≤◌, ◌-◌};
+ghost use Rattle.drive_model.specs.Drive.{with_protection};
+ghost use Rattle.fdc_board.specs.Boards.{drive_held};
+ghost use Rattle.fdc_board.specs.Handling.{Exchanges, Sets};
 ghost use Rattle.fdc_sequencer.specs.Fronts.{board_of};
 ghost use Rattle.fdc_chip.specs.Chips.{chip_state, chip_with_drive, behind_of, KeepsChip};
 
@@ -14,8 +15,7 @@ impl<D: Inspect> Chip<D> {
     pub fn set_protected(&mut self, bay: u8, on: bool)
         requires { bay ≤ 1 }
         ensures keeps { KeepsChip (chip_state D.state self.old) (chip_state D.state self.new) }
-        ensures other { drive_at (chip_state D.state self.new).front.board (1 - bay) ≡ drive_at (chip_state D.state self.old).front.board (1 - bay) }
-        ensures becomes { drive_at (chip_state D.state self.new).front.board bay ≡ with_protection on (drive_at (chip_state D.state self.old).front.board bay) }
+        ensures sets { Sets bay (with_protection on) (chip_state D.state self.old).front.board (chip_state D.state self.new).front.board }
     {
         self.behind.set_protected(bay, on);
     }
@@ -25,11 +25,7 @@ impl<D: Inspect> Chip<D> {
     pub fn exchange(&mut self, bay: u8, medium: Medium) -> Result<Medium, Medium>
         requires { bay ≤ 1 }
         ensures keeps { KeepsChip (chip_state D.state self.old) (chip_state D.state self.new) }
-        ensures other { drive_at (chip_state D.state self.new).front.board (1 - bay) ≡ drive_at (chip_state D.state self.old).front.board (1 - bay) }
-        ensures refused { IsErr result ↔ (same_length medium (drive_at (chip_state D.state self.old).front.board bay).medium ≡ false) }
-        ensures ok { OnOk result (drive_at (chip_state D.state self.new).front.board bay ≡ exchanged medium (drive_at (chip_state D.state self.old).front.board bay)) }
-        ensures before { IfOk result (λ before. Some before ≡ (drive_at (chip_state D.state self.old).front.board bay).medium) }
-        ensures err { IfErr result (λ back. (back ≡ medium) × (drive_at (chip_state D.state self.new).front.board bay ≡ drive_at (chip_state D.state self.old).front.board bay)) }
+        ensures exchanges { Exchanges bay medium (chip_state D.state self.old).front.board (chip_state D.state self.new).front.board result }
     {
         self.behind.exchange(bay, medium)
     }

@@ -1,8 +1,9 @@
 // The bays, and what a front end shows: the board's.
-ghost use Rattle.std.specs.Prelude.{◌≡◌, ◌≤◌, ◌-◌, ◌+◌, ◌%◌, ◌↔◌, IfErr, OnOk, IsErr, IsSome, IsTrue, IsBitSet};
+ghost use Rattle.std.specs.Prelude.{◌≡◌, ◌≤◌, ◌+◌, ◌%◌, ◌↔◌, IsTrue, IsBitSet};
 ghost use Rattle.std.specs.Option.{option_copied};
-ghost use Rattle.drive_model.specs.Drive.{Becomes, loaded, unloaded, forgotten, place_under};
+ghost use Rattle.drive_model.specs.Drive.{forgotten, place_under};
 ghost use Rattle.fdc_board.specs.Boards.{controller_of, drive_at};
+ghost use Rattle.fdc_board.specs.Handling.{PutsIn, TakesOut, Sets};
 ghost use Rattle.fdc_board.specs.WordTimes.{nanoseconds};
 ghost use Rattle.fdc_core.specs.State.{dor_of, data_rate};
 ghost use Rattle.fdc_sequencer.specs.Fronts.{front_state, board_of, KeepsFront};
@@ -16,12 +17,7 @@ impl<D: Inspect> Sequencer<D> {
     pub fn insert(&mut self, bay: u8, medium: Medium) -> Result<(), Medium>
         requires { bay ≤ 1 }
         ensures keeps { KeepsFront (front_state D.state self.old) (front_state D.state self.new) }
-        ensures other { drive_at (front_state D.state self.new).board (1 - bay) ≡ drive_at (front_state D.state self.old).board (1 - bay) }
-        ensures refused { IsErr result ↔ IsSome (drive_at (front_state D.state self.old).board bay).medium }
-        ensures ok { OnOk result (Becomes (loaded medium (drive_at (front_state D.state self.old).board bay))
-            (drive_at (front_state D.state self.old).board bay) (drive_at (front_state D.state self.new).board bay)) }
-        ensures err { IfErr result (λ back. (back ≡ medium)
-            × Becomes (drive_at (front_state D.state self.old).board bay) (drive_at (front_state D.state self.old).board bay) (drive_at (front_state D.state self.new).board bay)) }
+        ensures puts { PutsIn bay medium (front_state D.state self.old).board (front_state D.state self.new).board result }
     {
         self.board.insert(bay, medium)
     }
@@ -30,10 +26,7 @@ impl<D: Inspect> Sequencer<D> {
     pub fn eject(&mut self, bay: u8) -> Option<Medium>
         requires { bay ≤ 1 }
         ensures keeps { KeepsFront (front_state D.state self.old) (front_state D.state self.new) }
-        ensures other { drive_at (front_state D.state self.new).board (1 - bay) ≡ drive_at (front_state D.state self.old).board (1 - bay) }
-        ensures medium { result ≡ (drive_at (front_state D.state self.old).board bay).medium }
-        ensures becomes { Becomes (unloaded (drive_at (front_state D.state self.old).board bay))
-            (drive_at (front_state D.state self.old).board bay) (drive_at (front_state D.state self.new).board bay) }
+        ensures takes { TakesOut bay (front_state D.state self.old).board (front_state D.state self.new).board result }
     {
         self.board.eject(bay)
     }
@@ -59,8 +52,7 @@ impl<D: Inspect> Sequencer<D> {
     pub fn forget_written(&mut self, bay: u8)
         requires { bay ≤ 1 }
         ensures keeps { KeepsFront (front_state D.state self.old) (front_state D.state self.new) }
-        ensures other { drive_at (front_state D.state self.new).board (1 - bay) ≡ drive_at (front_state D.state self.old).board (1 - bay) }
-        ensures forgotten { drive_at (front_state D.state self.new).board bay ≡ forgotten (drive_at (front_state D.state self.old).board bay) }
+        ensures forgets { Sets bay forgotten (front_state D.state self.old).board (front_state D.state self.new).board }
     {
         self.board.forget_written(bay);
     }
@@ -70,8 +62,7 @@ impl<D: Inspect> Sequencer<D> {
         requires { bay ≤ 1 }
         ensures was { result ≡ (drive_at (front_state D.state self.old).board bay).replaced }
         ensures keeps { KeepsFront (front_state D.state self.old) (front_state D.state self.new) }
-        ensures other { drive_at (front_state D.state self.new).board (1 - bay) ≡ drive_at (front_state D.state self.old).board (1 - bay) }
-        ensures forgotten { drive_at (front_state D.state self.new).board bay ≡ forgotten (drive_at (front_state D.state self.old).board bay) }
+        ensures forgets { Sets bay forgotten (front_state D.state self.old).board (front_state D.state self.new).board }
     {
         self.board.take_written(bay)
     }

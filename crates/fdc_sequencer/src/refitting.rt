@@ -1,7 +1,8 @@
 // What is done to a drive by hand: to the tab of its medium, to the medium itself, and to the whole drive.
-ghost use Rattle.std.specs.Prelude.{◌≡◌, ◌≤◌, ◌-◌, ◌↔◌, Some, IsErr, OnOk, IfOk, IfErr, false};
-ghost use Rattle.drive_model.specs.Drive.{with_protection, same_length, exchanged};
-ghost use Rattle.fdc_board.specs.Boards.{drive_at, drive_held};
+ghost use Rattle.std.specs.Prelude.{◌≡◌, ◌≤◌, ◌-◌};
+ghost use Rattle.drive_model.specs.Drive.{with_protection};
+ghost use Rattle.fdc_board.specs.Boards.{drive_held};
+ghost use Rattle.fdc_board.specs.Handling.{Exchanges, Sets};
 ghost use Rattle.fdc_sequencer.specs.Fronts.{front_state, front_with_drive, board_of, KeepsFront};
 
 use crate::sequencer::Sequencer;
@@ -13,8 +14,7 @@ impl<D: Inspect> Sequencer<D> {
     pub fn set_protected(&mut self, bay: u8, on: bool)
         requires { bay ≤ 1 }
         ensures keeps { KeepsFront (front_state D.state self.old) (front_state D.state self.new) }
-        ensures other { drive_at (front_state D.state self.new).board (1 - bay) ≡ drive_at (front_state D.state self.old).board (1 - bay) }
-        ensures becomes { drive_at (front_state D.state self.new).board bay ≡ with_protection on (drive_at (front_state D.state self.old).board bay) }
+        ensures sets { Sets bay (with_protection on) (front_state D.state self.old).board (front_state D.state self.new).board }
     {
         self.board.set_protected(bay, on);
     }
@@ -24,11 +24,7 @@ impl<D: Inspect> Sequencer<D> {
     pub fn exchange(&mut self, bay: u8, medium: Medium) -> Result<Medium, Medium>
         requires { bay ≤ 1 }
         ensures keeps { KeepsFront (front_state D.state self.old) (front_state D.state self.new) }
-        ensures other { drive_at (front_state D.state self.new).board (1 - bay) ≡ drive_at (front_state D.state self.old).board (1 - bay) }
-        ensures refused { IsErr result ↔ (same_length medium (drive_at (front_state D.state self.old).board bay).medium ≡ false) }
-        ensures ok { OnOk result (drive_at (front_state D.state self.new).board bay ≡ exchanged medium (drive_at (front_state D.state self.old).board bay)) }
-        ensures before { IfOk result (λ before. Some before ≡ (drive_at (front_state D.state self.old).board bay).medium) }
-        ensures err { IfErr result (λ back. (back ≡ medium) × (drive_at (front_state D.state self.new).board bay ≡ drive_at (front_state D.state self.old).board bay)) }
+        ensures exchanges { Exchanges bay medium (front_state D.state self.old).board (front_state D.state self.new).board result }
     {
         self.board.exchange(bay, medium)
     }

@@ -1,72 +1,95 @@
 -- The contents of a medium's sectors, one behind the other.
-use Rattle.std.proofs.Common.{◌≡◌, ◌∙◌, ◌+◌, ◌*◌, ◌/◌, ◌%◌, ◌<◌, ◌≤◌, ◌++◌, [], ℕ, zero, suc, true, List, refl, ap, sym, subst, arith, ⊎_elim}
-use Rattle.std.specs.Prelude.{Some, None, Option, IsSome}
-use Rattle.std.proofs.lemmas.Bool.{cases_lt}
+use Rattle.std.proofs.Common.{◌≡◌, ◌∙◌, ◌+◌, ◌*◌, ◌/◌, ◌%◌, ◌<◌, ◌≤◌, ◌==◌, ◌++◌, [], ℕ, zero, suc, Bool, true, false, List, refl, ap, sym, subst, arith, ⊎_elim}
+use Rattle.std.specs.Prelude.{Some, None, Option, IsSome, if◌then◌else◌}
+use Rattle.std.proofs.lemmas.Bool.{cases_lt, eqb-false, eqb-true}
 use Rattle.imagedisk.specs.declared.sector.ImdSector.{ImdSector}
 use Rattle.imagedisk.specs.declared.track.ImdTrack.{ImdTrack}
 use Rattle.flat_files.specs.Files.{AddsRecords, AreOfTracks, IsReached, Lack, is_plain, sector_on}
+use Rattle.flat_files.specs.Forms.{IsForm, cylinder_of, head_of, tracks_of}
+use Rattle.flat_files.specs.declared.form.FlatForm.{FlatForm}
 
 more : (n : ℕ) → suc n ≡ n + 1
 more n = omega arith
 
-pub no_records : (tracks : List ImdTrack) (c h : ℕ) (bytes : List ℕ) → AddsRecords tracks c h 0 bytes bytes
+pub no_records : (tracks : List ImdTrack) (n c h : ℕ) (bytes : List ℕ) → AddsRecords tracks n c h 0 bytes bytes
 unfolding AddsRecords
-no_records tracks c h bytes = refl
+no_records tracks n c h bytes = refl
 
-pub more_records : (tracks : List ImdTrack) (c h n : ℕ) (old between new content : List ℕ) → AddsRecords tracks c h n old between
-    → (sector : ImdSector) × (sector_on tracks c h (n + 1) ≡ Some sector) × (content ≡ sector.content) → new ≡ between ++ content
-    → AddsRecords tracks c h (n + 1) old new
+pub more_records : (tracks : List ImdTrack) (n c h count : ℕ) (old between new content : List ℕ) → AddsRecords tracks n c h count old between
+    → (sector : ImdSector) × (sector_on tracks n c h (count + 1) ≡ Some sector) × (content ≡ sector.content) → new ≡ between ++ content
+    → AddsRecords tracks n c h (count + 1) old new
 unfolding AddsRecords
-more_records tracks c h n old between new content adds found added =
-    subst (λ (k : ℕ). AddsRecords tracks c h k old new) (more n)
+more_records tracks n c h count old between new content adds found added =
+    subst (λ (k : ℕ). AddsRecords tracks n c h k old new) (more count)
     (between, adds, (found.0, found.1, added ∙ ap (λ (bytes : List ℕ). between ++ bytes) found.2))
 
 -- so each of these records is there
-records_there : (tracks : List ImdTrack) (c h n : ℕ) (old new : List ℕ) → AddsRecords tracks c h n old new → (k : ℕ) → 1 ≤ k → k ≤ n
-    → IsSome (sector_on tracks c h k)
+records_there : (tracks : List ImdTrack) (n c h count : ℕ) (old new : List ℕ) → AddsRecords tracks n c h count old new → (k : ℕ) → 1 ≤ k → k ≤ count
+    → IsSome (sector_on tracks n c h k)
 unfolding AddsRecords
-records_there tracks c h zero old new adds k least most = absurd (omega (arith, least, most))
-records_there tracks c h (suc n) old new adds k least most =
-    ⊎_elim (λ (early : k < n + 1). records_there tracks c h n old adds.0 adds.1 k least (omega (arith, early)))
-    (λ (late : n + 1 ≤ k). let last : n + 1 ≡ k = omega (arith, late, most) in
-    subst (λ (j : ℕ). IsSome (sector_on tracks c h j)) last (subst (λ (o : Option ImdSector). IsSome o) (sym adds.2.1) refl))
-    (cases_lt k (n + 1))
+records_there tracks n c h zero old new adds k least most = absurd (omega (arith, least, most))
+records_there tracks n c h (suc count) old new adds k least most =
+    ⊎_elim (λ (early : k < count + 1). records_there tracks n c h count old adds.0 adds.1 k least (omega (arith, early)))
+    (λ (late : count + 1 ≤ k). let last : count + 1 ≡ k = omega (arith, late, most) in
+    subst (λ (j : ℕ). IsSome (sector_on tracks n c h j)) last (subst (λ (o : Option ImdSector). IsSome o) (sym adds.2.1) refl))
+    (cases_lt k (count + 1))
 
-pub no_tracks : (tracks : List ImdTrack) (sectors : ℕ) → AreOfTracks tracks sectors 0 []
+pub no_tracks : (tracks : List ImdTrack) (form : FlatForm) → AreOfTracks tracks form 0 []
 unfolding AreOfTracks
-no_tracks tracks sectors = refl
+no_tracks tracks form = refl
 
-pub more_tracks : (tracks : List ImdTrack) (sectors n : ℕ) (before bytes : List ℕ) → AreOfTracks tracks sectors n before
-    → is_plain tracks sectors (n / 2) (n % 2) ≡ true → AddsRecords tracks (n / 2) (n % 2) sectors before bytes
-    → AreOfTracks tracks sectors (n + 1) bytes
+pub more_tracks : (tracks : List ImdTrack) (form : FlatForm) (track : ℕ) (before bytes : List ℕ) → AreOfTracks tracks form track before
+    → is_plain tracks form.sectors (cylinder_of form track) (head_of form track) ≡ true
+    → AddsRecords tracks form.n (cylinder_of form track) (head_of form track) form.sectors before bytes
+    → AreOfTracks tracks form (track + 1) bytes
 unfolding AreOfTracks
-more_tracks tracks sectors n before bytes are plain adds =
-    subst (λ (k : ℕ). AreOfTracks tracks sectors k bytes) (more n) (before, are, plain, adds)
+more_tracks tracks form track before bytes are plain adds =
+    subst (λ (k : ℕ). AreOfTracks tracks form k bytes) (more track) (before, are, plain, adds)
+
+-- where a track stands among all, by cylinder, then head
+pub record IsAt (form : FlatForm) (track c h : ℕ) : Type 0 where
+  pub cylinder : c < form.cylinders
+  pub head : h < form.heads
+  pub place : track ≡ form.heads * c + h
+
+at_by : (form : FlatForm) (track : ℕ) (single : Bool) → (form.heads == 1) ≡ single → IsForm form
+    → track < (if single then form.cylinders else 2 * form.cylinders)
+    → IsAt form track (if single then track else track / 2) (if single then 0 else track % 2)
+at_by form track true is valid there =
+    let one : form.heads ≡ 1 = eqb-true form.heads 1 is in
+    record { cylinder = there; head = omega (arith, one); place = rw one (omega arith) }
+at_by form track false is valid there =
+    let two : form.heads ≡ 2 = omega (arith, eqb-false form.heads 1 is, valid.some_heads, valid.most_heads) in
+    record { cylinder = omega (arith, there); head = omega (arith, two); place = rw two (omega arith) }
+
+pub at_place : (form : FlatForm) (track : ℕ) → IsForm form → track < tracks_of form → IsAt form track (cylinder_of form track) (head_of form track)
+at_place form track is there = at_by form track (form.heads == 1) refl is there
 
 -- the tracks are counted by cylinder, then head
-pub reached : (tracks : List ImdTrack) (sectors track : ℕ) (before : List ℕ) → track < 160 → AreOfTracks tracks sectors track before
-    → IsReached tracks sectors (track / 2) (track % 2)
-reached tracks sectors track before there are =
-    let place : track ≡ 2 * (track / 2) + track % 2 = omega arith in
+pub reached : (tracks : List ImdTrack) (form : FlatForm) (track : ℕ) (before : List ℕ) → IsForm form → track < tracks_of form
+    → AreOfTracks tracks form track before → IsReached tracks form (cylinder_of form track) (head_of form track)
+reached tracks form track before is there are =
+    let at = at_place form track is there in
     record {
-      cylinder = omega (arith, there);
-      head = omega arith;
+      cylinder = at.cylinder;
+      head = at.head;
       before = before;
-      are = subst (λ (n : ℕ). AreOfTracks tracks sectors n before) place are;
+      are = subst (λ (n : ℕ). AreOfTracks tracks form n before) at.place are;
     }
 
 -- behind so many records the next one isn't there
-pub next_lacks : (tracks : List ImdTrack) (sectors track i : ℕ) (before between : List ℕ) → track < 160 → i < sectors
-    → AreOfTracks tracks sectors track before → is_plain tracks sectors (track / 2) (track % 2) ≡ true
-    → AddsRecords tracks (track / 2) (track % 2) i before between → sector_on tracks (track / 2) (track % 2) (i + 1) ≡ None
-    → Lack tracks sectors (track / 2) (track % 2) (i + 1)
-next_lacks tracks sectors track i before between there below are plain adds none = (
-  reached tracks sectors track before there are,
+pub next_lacks : (tracks : List ImdTrack) (form : FlatForm) (track i : ℕ) (before between : List ℕ) → IsForm form → track < tracks_of form → i < form.sectors
+    → AreOfTracks tracks form track before → is_plain tracks form.sectors (cylinder_of form track) (head_of form track) ≡ true
+    → AddsRecords tracks form.n (cylinder_of form track) (head_of form track) i before between
+    → sector_on tracks form.n (cylinder_of form track) (head_of form track) (i + 1) ≡ None
+    → Lack tracks form (cylinder_of form track) (head_of form track) (i + 1)
+next_lacks tracks form track i before between is there below are plain adds none = (
+  reached tracks form track before is there are,
   plain,
   record {
     from_first = omega arith;
     to_last = omega (arith, below);
-    there_before = λ k least less. records_there tracks (track / 2) (track % 2) i before between adds k least (omega (arith, less));
+    there_before = λ k least less. records_there tracks form.n (cylinder_of form track) (head_of form track) i before between adds k least (omega (arith, less));
     lacks = none;
   },
 )

@@ -21,7 +21,7 @@ pushed_more f kept new n x is at pushed =
 pub length-part : (bytes : List ℕ) (from size : ℕ) → from + size ≤ length bytes → length (slice_range bytes from (from + size)) ≡ size
 length-part bytes from size fits = omega (arith, length-take (from + size - from) (drop from bytes), length-drop from bytes)
 
-track_is : (form : FlatForm) (bytes : List ℕ) (i : ℕ) (d : ImdTrack) → i < tracks_of form
+pub track_is : (form : FlatForm) (bytes : List ℕ) (i : ℕ) (d : ImdTrack) → i < tracks_of form
     → get_or (map (form_track form bytes) (range_with_len 0 (tracks_of form))) i d ≡ form_track form bytes i
 track_is form bytes i d below = get_or-map-range_with_len (form_track form bytes) 0 (tracks_of form) i i d below (omega arith)
 

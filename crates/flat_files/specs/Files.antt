@@ -1,5 +1,5 @@
 -- The flat file of a medium.
-use Rattle.std.specs.Prelude.{◌≡◌, ℕ, zero, suc, ◌+◌, ◌*◌, ◌/◌, ◌%◌, ◌<◌, ◌≤◌, ◌==◌, ◌&&◌, nat_le, Bool, true, false, not, List, [], ◌++◌, length, find, Option, Some, None, IsSome, Result, Ok, Err}
+use Rattle.std.specs.Prelude.{◌≡◌, ℕ, zero, suc, ◌+◌, ◌*◌, ◌<◌, ◌≤◌, ◌==◌, ◌&&◌, nat_le, Bool, true, false, not, List, [], ◌++◌, length, find, Option, Some, None, IsSome, Result, Ok, Err}
 use Rattle.std.specs.List.{list_any}
 use Rattle.std.specs.Option.{option_map_or}
 use Rattle.std.specs.Global.{Vec}
@@ -14,17 +14,27 @@ use Rattle.imagedisk.specs.declared.sector.ImdKind.{ImdKind}
 use Rattle.imagedisk.specs.declared.sector.ImdKind.TheVariants.{Absent, Good, Deleted, Bad, BadDeleted}
 use Rattle.imagedisk.specs.declared.sector.ImdSector.{ImdSector}
 use Rattle.imagedisk.specs.declared.track.ImdTrack.{ImdTrack}
+use Rattle.flat_files.specs.Forms.{IsForm, cylinder_of, head_of, tracks_of}
 use Rattle.flat_files.specs.declared.fault.FlatFault.{FlatFault}
 use Rattle.flat_files.specs.declared.fault.FlatFault.TheVariants as fault
+use Rattle.flat_files.specs.declared.file_fault.FileFault.{FileFault}
+use Rattle.flat_files.specs.declared.file_fault.FileFault.TheVariants.{NoForm, Flat}
+use Rattle.flat_files.specs.declared.form.FlatForm.{FlatForm}
 
--- a diskette of 80 cylinders of 2 heads
-abbrev pub IsFlatShape : Disk → Type 0
-IsFlatShape disk = (disk.cylinders ≡ 80) × (disk.heads ≡ 2)
+-- a diskette of this geometry
+pub record IsOfForm (form : FlatForm) (disk : Disk) : Type 0 where
+  pub cylinders : disk.cylinders ≡ form.cylinders
+  pub heads : disk.heads ≡ form.heads
+  pub rate : disk.rate ≡ form.rate
 
 -- at 500 kbit/s 18 sectors stand on a track, at 250 9
 abbrev pub sectors_at_rate : Rate → ℕ
 sectors_at_rate R500 = 18
 sectors_at_rate R250 = 9
+
+-- the geometry of 1.44 MB and of 720 KB: 80 cylinders of 2 heads, and sectors of 512 bytes
+abbrev pub standard_form : Rate → FlatForm
+standard_form rate = record { cylinders = 80; heads = 2; sectors = sectors_at_rate rate; n = 2; rate = rate }
 
 -- the data are there and whole, and not marked as deleted
 abbrev pub is_whole : ImdKind → Bool
@@ -42,9 +52,9 @@ is_deleted Deleted = true
 is_deleted Bad = false
 is_deleted BadDeleted = true
 
--- a whole sector of 512 bytes with this cylinder, head and record in its key
-abbrev pub is_wanted : (c h r : ℕ) → ImdSector → Bool
-is_wanted c h r sector = is_whole sector.kind && ((sector.key.c == c) && ((sector.key.h == h) && ((sector.key.r == r) && (sector.key.n == 2))))
+-- a whole sector of size code n with this cylinder, head and record in its key
+abbrev pub is_wanted : (n c h r : ℕ) → ImdSector → Bool
+is_wanted n c h r sector = is_whole sector.kind && ((sector.key.c == c) && ((sector.key.h == h) && ((sector.key.r == r) && (sector.key.n == n))))
 
 -- a track of this cylinder and head
 abbrev pub is_track : (c h : ℕ) → ImdTrack → Bool
@@ -55,8 +65,8 @@ abbrev pub sectors_on : List ImdTrack → (c h : ℕ) → List ImdSector
 sectors_on tracks c h = option_map_or (λ (track : ImdTrack). track.sectors) (find (is_track c h) tracks) []
 
 -- the first whole one of this record
-abbrev pub sector_on : List ImdTrack → (c h r : ℕ) → Option ImdSector
-sector_on tracks c h r = find (is_wanted c h r) (sectors_on tracks c h)
+abbrev pub sector_on : List ImdTrack → (n c h r : ℕ) → Option ImdSector
+sector_on tracks n c h r = find (is_wanted n c h r) (sectors_on tracks c h)
 
 -- one of them is marked as deleted
 abbrev pub has_deleted : List ImdSector → Bool
@@ -66,70 +76,90 @@ has_deleted sectors = list_any (λ (sector : ImdSector). is_deleted sector.kind)
 abbrev pub is_plain : List ImdTrack → (most c h : ℕ) → Bool
 is_plain tracks most c h = nat_le (length (sectors_on tracks c h)) most && not (has_deleted (sectors_on tracks c h))
 
--- behind the bytes `old` stand the contents of the records 1 to n of a track
-unfoldable pub AddsRecords : List ImdTrack → (c h : ℕ) → ℕ → List ℕ → List ℕ → Type 0
-AddsRecords tracks c h zero old new = new ≡ old
-AddsRecords tracks c h (suc n) old new =
-    (between : List ℕ) × AddsRecords tracks c h n old between
-    × ((sector : ImdSector) × (sector_on tracks c h (n + 1) ≡ Some sector) × (new ≡ between ++ sector.content))
+-- behind the bytes `old` stand the contents of the first records of a track, each of size code n
+unfoldable pub AddsRecords : List ImdTrack → (n c h : ℕ) → ℕ → List ℕ → List ℕ → Type 0
+AddsRecords tracks n c h zero old new = new ≡ old
+AddsRecords tracks n c h (suc count) old new =
+    (between : List ℕ) × AddsRecords tracks n c h count old between
+    × ((sector : ImdSector) × (sector_on tracks n c h (count + 1) ≡ Some sector) × (new ≡ between ++ sector.content))
 
--- the bytes are those of the first n tracks, by cylinder, then head. Each has so many records and nothing besides: no sector is left out, and
--- no mark
-unfoldable pub AreOfTracks : List ImdTrack → (sectors : ℕ) → ℕ → List ℕ → Type 0
-AreOfTracks tracks sectors zero bytes = bytes ≡ []
-AreOfTracks tracks sectors (suc n) bytes =
-    (before : List ℕ) × AreOfTracks tracks sectors n before × (is_plain tracks sectors (n / 2) (n % 2) ≡ true)
-    × AddsRecords tracks (n / 2) (n % 2) sectors before bytes
+-- the bytes are those of the first tracks, by cylinder, then head. Each has the records of the form and nothing besides: no sector is left out,
+-- and no mark
+unfoldable pub AreOfTracks : List ImdTrack → FlatForm → ℕ → List ℕ → Type 0
+AreOfTracks tracks form zero bytes = bytes ≡ []
+AreOfTracks tracks form (suc track) bytes =
+    (before : List ℕ) × AreOfTracks tracks form track before
+    × (is_plain tracks form.sectors (cylinder_of form track) (head_of form track) ≡ true)
+    × AddsRecords tracks form.n (cylinder_of form track) (head_of form track) form.sectors before bytes
 
 -- the tracks before this one, by cylinder, then head, are as a flat file has them
-pub record IsReached (tracks : List ImdTrack) (sectors c h : ℕ) : Type 0 where
-  pub cylinder : c < 80
-  pub head : h < 2
+pub record IsReached (tracks : List ImdTrack) (form : FlatForm) (c h : ℕ) : Type 0 where
+  pub cylinder : c < form.cylinders
+  pub head : h < form.heads
   pub before : List ℕ
-  pub are : AreOfTracks tracks sectors (2 * c + h) before
+  pub are : AreOfTracks tracks form (form.heads * c + h) before
 
 -- this is the first record of a track that lacks, or has no whole data
-pub record IsFirstLacking (tracks : List ImdTrack) (sectors c h r : ℕ) : Type 0 where
+pub record IsFirstLacking (tracks : List ImdTrack) (form : FlatForm) (c h r : ℕ) : Type 0 where
   pub from_first : 1 ≤ r
-  pub to_last : r ≤ sectors
-  pub there_before : (k : ℕ) → 1 ≤ k → k < r → IsSome (sector_on tracks c h k)
-  pub lacks : sector_on tracks c h r ≡ None
+  pub to_last : r ≤ form.sectors
+  pub there_before : (k : ℕ) → 1 ≤ k → k < r → IsSome (sector_on tracks form.n c h k)
+  pub lacks : sector_on tracks form.n c h r ≡ None
 
 -- the first track that isn't as a flat file has them has more sectors, or one that is marked as deleted
-abbrev pub HasMore : List ImdTrack → (sectors c h : ℕ) → Type 0
-HasMore tracks sectors c h = IsReached tracks sectors c h × (is_plain tracks sectors c h ≡ false)
+abbrev pub HasMore : List ImdTrack → FlatForm → (c h : ℕ) → Type 0
+HasMore tracks form c h = IsReached tracks form c h × (is_plain tracks form.sectors c h ≡ false)
 
 -- it has no more, and lacks this record, the first one
-abbrev pub Lack : List ImdTrack → (sectors c h r : ℕ) → Type 0
-Lack tracks sectors c h r = IsReached tracks sectors c h × (is_plain tracks sectors c h ≡ true) × IsFirstLacking tracks sectors c h r
+abbrev pub Lack : List ImdTrack → FlatForm → (c h r : ℕ) → Type 0
+Lack tracks form c h r = IsReached tracks form c h × (is_plain tracks form.sectors c h ≡ true) × IsFirstLacking tracks form c h r
 
 -- why there is no flat file of these tracks, unless memory ran out
-abbrev pub IsFirstFault : List ImdTrack → ℕ → FlatFault → Type 0
-IsFirstFault tracks sectors (fault.More c h) = HasMore tracks sectors c h
-IsFirstFault tracks sectors (fault.Lacks c h r) = Lack tracks sectors c h r
-IsFirstFault tracks sectors (fault.Unfit c h) = ⊥
-IsFirstFault tracks sectors fault.Shape = ⊥
-IsFirstFault tracks sectors fault.NoMemory = Unit {0}
+abbrev pub IsFirstFault : List ImdTrack → FlatForm → FlatFault → Type 0
+IsFirstFault tracks form (fault.More c h) = HasMore tracks form c h
+IsFirstFault tracks form (fault.Lacks c h r) = Lack tracks form c h r
+IsFirstFault tracks form (fault.Unfit c h) = ⊥
+IsFirstFault tracks form fault.Shape = ⊥
+IsFirstFault tracks form fault.NoMemory = Unit {0}
 
 -- what comes of a track behind those before it
-abbrev pub AddsTrack : List ImdTrack → (sectors track : ℕ) → List ℕ → Result (Unit {0}) FlatFault → Type 0
-AddsTrack tracks sectors track bytes (Ok done) = AreOfTracks tracks sectors (track + 1) bytes
-AddsTrack tracks sectors track bytes (Err cause) = IsFirstFault tracks sectors cause
+abbrev pub AddsTrack : List ImdTrack → FlatForm → (track : ℕ) → List ℕ → Result (Unit {0}) FlatFault → Type 0
+AddsTrack tracks form track bytes (Ok done) = AreOfTracks tracks form (track + 1) bytes
+AddsTrack tracks form track bytes (Err cause) = IsFirstFault tracks form cause
 
 -- what comes of all tracks
-abbrev pub GivesTracks : List ImdTrack → ℕ → Result (Vec ℕ) FlatFault → Type 0
-GivesTracks tracks sectors (Ok file) = AreOfTracks tracks sectors 160 file.items
-GivesTracks tracks sectors (Err cause) = IsFirstFault tracks sectors cause
+abbrev pub GivesTracks : List ImdTrack → FlatForm → Result (Vec ℕ) FlatFault → Type 0
+GivesTracks tracks form (Ok file) = AreOfTracks tracks form (tracks_of form) file.items
+GivesTracks tracks form (Err cause) = IsFirstFault tracks form cause
 
--- a diskette of that shape has an image, of whose tracks this is so
-abbrev pub OfImage : Disk → (List ImdTrack → Type 0) → Type 0
-OfImage disk told = IsFlatShape disk × ((image : ImdImage) × TakesDisk disk (Ok image) × HasImage disk image × told image.tracks)
+-- a diskette of that geometry has an image, of whose tracks this is so
+abbrev pub OfImage : FlatForm → Disk → (List ImdTrack → Type 0) → Type 0
+OfImage form disk told = IsOfForm form disk × ((image : ImdImage) × TakesDisk disk (Ok image) × HasImage disk image × told image.tracks)
 
 -- the flat file of a medium: each sector of its image, and none is left out; or why it has none, unless memory ran out
+abbrev pub GivesFile : FlatForm → Disk → Result (Vec ℕ) FlatFault → Type 0
+GivesFile form disk (Ok file) = OfImage form disk (λ tracks. AreOfTracks tracks form (tracks_of form) file.items)
+GivesFile form disk (Err (fault.More c h)) = OfImage form disk (λ tracks. HasMore tracks form c h)
+GivesFile form disk (Err (fault.Lacks c h r)) = OfImage form disk (λ tracks. Lack tracks form c h r)
+GivesFile form disk (Err (fault.Unfit c h)) = IsOfForm form disk × TakesDisk disk (Err (Unfit c h))
+GivesFile form disk (Err fault.Shape) = IsOfForm form disk → ⊥
+GivesFile form disk (Err fault.NoMemory) = Unit {0}
+
+-- the one of 1.44 MB or 720 KB, by the medium's rate
 abbrev pub GivesFlat : Disk → Result (Vec ℕ) FlatFault → Type 0
-GivesFlat disk (Ok file) = OfImage disk (λ tracks. AreOfTracks tracks (sectors_at_rate disk.rate) 160 file.items)
-GivesFlat disk (Err (fault.More c h)) = OfImage disk (λ tracks. HasMore tracks (sectors_at_rate disk.rate) c h)
-GivesFlat disk (Err (fault.Lacks c h r)) = OfImage disk (λ tracks. Lack tracks (sectors_at_rate disk.rate) c h r)
-GivesFlat disk (Err (fault.Unfit c h)) = IsFlatShape disk × TakesDisk disk (Err (Unfit c h))
-GivesFlat disk (Err fault.Shape) = IsFlatShape disk → ⊥
-GivesFlat disk (Err fault.NoMemory) = Unit {0}
+GivesFlat disk result = GivesFile (standard_form disk.rate) disk result
+
+-- the one of any geometry that there is
+abbrev pub GivesForm : FlatForm → Disk → Result (Vec ℕ) FileFault → Type 0
+GivesForm form disk (Ok file) = IsForm form × GivesFile form disk (Ok file)
+GivesForm form disk (Err NoForm) = IsForm form → ⊥
+GivesForm form disk (Err (Flat cause)) = IsForm form × GivesFile form disk (Err cause)
+
+-- that is this file again, unless memory ran out
+abbrev pub IsFlatAgain : List ℕ → Result (Vec ℕ) FlatFault → Type 0
+IsFlatAgain bytes (Ok file) = file.items ≡ bytes
+IsFlatAgain bytes (Err cause) = cause ≡ fault.NoMemory
+
+abbrev pub IsFileAgain : List ℕ → Result (Vec ℕ) FileFault → Type 0
+IsFileAgain bytes (Ok file) = file.items ≡ bytes
+IsFileAgain bytes (Err cause) = cause ≡ Flat fault.NoMemory

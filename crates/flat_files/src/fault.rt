@@ -3,14 +3,14 @@ ghost use Rattle.std.specs.Prelude.{◌≡◌};
 ghost use Rattle.flat_files.specs.declared.fault.FlatFault.TheVariants as cause;
 
 use flop_base::NoMemory;
-use std::alloc::{AllocError, AllocFailed};
+use std::alloc::AllocError;
 use thiserror::Error;
 
 /// Why a medium has no flat file.
 #[derive(Clone, Copy, Debug, PartialEq, Eq, Error)]
 pub enum FlatFault {
-    /// It hasn't 80 cylinders of two heads.
-    #[error("not 80 cylinders of 2 heads")]
+    /// It hasn't the cylinders, the heads or the rate of such a file.
+    #[error("another geometry")]
     Shape,
     /// The first track with sectors of several sizes, or of a size that none names.
     #[error("track {c} {h} unfit")]
@@ -38,14 +38,6 @@ impl From<AllocError> for FlatFault {
     ghost from_gives = { λ _ e. e ≡ cause.NoMemory };
 
     fn from(_: AllocError) -> FlatFault {
-        FlatFault::NoMemory
-    }
-}
-
-impl<T: Drop> From<AllocFailed<T>> for FlatFault {
-    ghost from_gives = { λ _ e. e ≡ cause.NoMemory };
-
-    fn from(_: AllocFailed<T>) -> FlatFault {
         FlatFault::NoMemory
     }
 }

@@ -1,25 +1,33 @@
 // The flat file of a medium.
-ghost use Rattle.std.specs.Prelude.{◌≡◌, ◌<◌, ◌≤◌, ◌/◌, ◌%◌, true};
-ghost use Rattle.flat_files.specs.Files.{AddsTrack, AreOfTracks, GivesFlat, GivesTracks, is_plain as is_plain_track, sectors_at_rate};
+ghost use Rattle.std.specs.Prelude.{◌≡◌, ◌<◌, true};
+ghost use Rattle.flat_files.specs.Files.{AddsTrack, AreOfTracks, GivesFile, GivesFlat, GivesForm, GivesTracks, is_plain as is_plain_track, sectors_at_rate, standard_form as standard_form_at};
+ghost use Rattle.flat_files.specs.Forms.{IsForm, cylinder_of, head_of, tracks_of};
 
 use crate::fault::FlatFault;
+use crate::file_fault::FileFault;
 use crate::finding::{content, is_plain};
+use crate::form::FlatForm;
 use flop_base::Rate;
+use flop_base::standard::SIZE_CODE;
 use imagedisk::{ImdError, ImdTrack, from_medium};
 use raw_image::Medium;
 use std::alloc::Global;
 
-/// The tracks of a file: 80 cylinders of 2 heads.
-const TRACKS: u8 = 160;
-
-/// The sectors that stand on a track at this rate.
-fn sectors_at(rate: Rate) -> u8
-    ensures value { result ≡ sectors_at_rate rate }
-    ensures most { result ≤ 18 }
+/// The geometry of 1.44 MB, at 500 kbit/s, and of 720 KB, at 250.
+fn standard_form(rate: Rate) -> FlatForm
+    ensures value { result ≡ standard_form_at rate }
+    ensures form { IsForm result }
 {
-    match rate {
+    let sectors = match rate {
         Rate::R500 => 18,
         Rate::R250 => 9,
+    };
+    FlatForm {
+        cylinders: 80,
+        heads: 2,
+        sectors,
+        n: SIZE_CODE,
+        rate,
     }
 }
 
@@ -27,20 +35,20 @@ fn sectors_at(rate: Rate) -> u8
 fn add_records(
     bytes: &mut Vec<u8>,
     tracks: &[ImdTrack],
-    sectors: u8,
+    form: FlatForm,
     track: u8,
 ) -> Result<(), FlatFault>
-    requires most { sectors ≤ 18 }
-    requires there { track < 160 }
-    requires before { AreOfTracks tracks.now sectors track bytes.old.items }
-    requires plain { is_plain_track tracks.now sectors (track / 2) (track % 2) ≡ true }
-    ensures { AddsTrack tracks.now sectors track bytes.new.items result }
+    requires form { IsForm form }
+    requires there { track < tracks_of form }
+    requires before { AreOfTracks tracks.now form track bytes.old.items }
+    requires plain { is_plain_track tracks.now form.sectors (cylinder_of form track) (head_of form track) ≡ true }
+    ensures { AddsTrack tracks.now form track bytes.new.items result }
 {
-    let c = track / 2;
-    let h = track % 2;
-    for i in 0..sectors {
+    let c = form.cylinder(track);
+    let h = form.head(track);
+    for i in 0..form.sectors {
         let r = i + 1;
-        let Some(added) = content(tracks, c, h, r) else {
+        let Some(added) = content(tracks, form.n, c, h, r) else {
             return Err(FlatFault::Lacks { c, h, r });
         };
         bytes.extend_from_slice(added)?;
@@ -53,33 +61,54 @@ fn add_records(
 fn add_track(
     bytes: &mut Vec<u8>,
     tracks: &[ImdTrack],
-    sectors: u8,
+    form: FlatForm,
     track: u8,
 ) -> Result<(), FlatFault>
-    requires most { sectors ≤ 18 }
-    requires there { track < 160 }
-    requires before { AreOfTracks tracks.now sectors track bytes.old.items }
-    ensures { AddsTrack tracks.now sectors track bytes.new.items result }
+    requires form { IsForm form }
+    requires there { track < tracks_of form }
+    requires before { AreOfTracks tracks.now form track bytes.old.items }
+    ensures { AddsTrack tracks.now form track bytes.new.items result }
 {
-    let c = track / 2;
-    let h = track % 2;
-    if is_plain(tracks, sectors, c, h) {
-        add_records(bytes, tracks, sectors, track)
+    let c = form.cylinder(track);
+    let h = form.head(track);
+    if is_plain(tracks, form.sectors, c, h) {
+        add_records(bytes, tracks, form, track)
     } else {
         Err(FlatFault::More { c, h })
     }
 }
 
 /// The contents of all tracks.
-fn file_of(alloc: Global, tracks: &[ImdTrack], sectors: u8) -> Result<Vec<u8>, FlatFault>
-    requires most { sectors ≤ 18 }
-    ensures { GivesTracks tracks.now sectors result }
+fn file_of(alloc: Global, tracks: &[ImdTrack], form: FlatForm) -> Result<Vec<u8>, FlatFault>
+    requires { IsForm form }
+    ensures { GivesTracks tracks.now form result }
 {
     let mut bytes = Vec::new(alloc);
-    for track in 0..TRACKS {
-        add_track(&mut bytes, tracks, sectors, track)?;
+    for track in 0..form.tracks() {
+        add_track(&mut bytes, tracks, form, track)?;
     }
     Ok(bytes)
+}
+
+/// The flat file of a medium of this geometry.
+fn file_as(alloc: Global, medium: &Medium, form: FlatForm) -> Result<Vec<u8>, FlatFault>
+    requires { IsForm form }
+    ensures { GivesFile form medium.now result }
+{
+    if medium.cylinders() != form.cylinders {
+        return Err(FlatFault::Shape);
+    }
+    if medium.heads() != form.heads {
+        return Err(FlatFault::Shape);
+    }
+    if medium.rate() != form.rate {
+        return Err(FlatFault::Shape);
+    }
+    match from_medium(alloc, medium) {
+        Ok(image) => file_of(alloc, image.tracks.as_slice(), form),
+        Err(ImdError::Unfit { c, h }) => Err(FlatFault::Unfit { c, h }),
+        Err(ImdError::NoMemory) => Err(FlatFault::NoMemory),
+    }
 }
 
 /// The flat file of a medium of 80 cylinders of two heads, which has no sector beyond it: of each track the records 1 to 18 at
@@ -87,15 +116,16 @@ fn file_of(alloc: Global, tracks: &[ImdTrack], sectors: u8) -> Result<Vec<u8>, F
 pub fn flat_file(alloc: Global, medium: &Medium) -> Result<Vec<u8>, FlatFault>
     ensures { GivesFlat medium.now result }
 {
-    if medium.cylinders() != 80 {
-        return Err(FlatFault::Shape);
+    file_as(alloc, medium, standard_form(medium.rate()))
+}
+
+/// The same of a medium of this geometry: of each track its records, each of its size code.
+pub fn flat_file_as(alloc: Global, medium: &Medium, form: FlatForm) -> Result<Vec<u8>, FileFault>
+    ensures { GivesForm form medium.now result }
+{
+    if !form.is_one() {
+        return Err(FileFault::NoForm);
     }
-    if medium.heads() != 2 {
-        return Err(FlatFault::Shape);
-    }
-    match from_medium(alloc, medium) {
-        Ok(image) => file_of(alloc, image.tracks.as_slice(), sectors_at(medium.rate())),
-        Err(ImdError::Unfit { c, h }) => Err(FlatFault::Unfit { c, h }),
-        Err(ImdError::NoMemory) => Err(FlatFault::NoMemory),
-    }
+    let file = file_as(alloc, medium, form)?;
+    Ok(file)
 }

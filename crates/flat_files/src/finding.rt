@@ -3,7 +3,6 @@ ghost use Rattle.std.specs.Prelude.{◌≡◌, MatchOption, Some, None, find};
 ghost use Rattle.imagedisk.specs.declared.sector.ImdSector.{ImdSector};
 ghost use Rattle.flat_files.specs.Files.{has_deleted as has_deleted_of, is_deleted as is_deleted_kind, is_plain as is_plain_track, is_track as is_track_of, is_wanted as is_wanted_of, is_whole as is_whole_kind, sector_on, sectors_on as sectors_of_track};
 
-use flop_base::standard::SIZE_CODE;
 use imagedisk::{ImdKind, ImdSector, ImdTrack};
 
 /// Whether data are there and whole, and not marked as deleted.
@@ -20,15 +19,15 @@ fn is_deleted(kind: ImdKind) -> bool
     matches!(kind, ImdKind::Deleted | ImdKind::BadDeleted)
 }
 
-/// Whether it is a whole sector of 512 bytes with this key.
-fn is_wanted(sector: &ImdSector, c: u8, h: u8, r: u8) -> bool
-    ensures { result ≡ is_wanted_of c h r sector.now }
+/// Whether it is a whole sector of this size code with this key.
+fn is_wanted(sector: &ImdSector, n: u8, c: u8, h: u8, r: u8) -> bool
+    ensures { result ≡ is_wanted_of n c h r sector.now }
 {
     is_whole(sector.kind)
         && sector.key.c == c
         && sector.key.h == h
         && sector.key.r == r
-        && sector.key.n == SIZE_CODE
+        && sector.key.n == n
 }
 
 /// Whether it is the track of this cylinder and head.
@@ -66,12 +65,12 @@ pub(crate) fn is_plain(tracks: &[ImdTrack], most: u8, c: u8, h: u8) -> bool
 }
 
 /// The first whole one of these with this key.
-fn wanted(sectors: &[ImdSector], c: u8, h: u8, r: u8) -> Option<&ImdSector>
-    ensures { MatchOption result (find (is_wanted_of c h r) sectors.now ≡ None)
-        (λ sector. find (is_wanted_of c h r) sectors.now ≡ Some sector.now) }
+fn wanted(sectors: &[ImdSector], n: u8, c: u8, h: u8, r: u8) -> Option<&ImdSector>
+    ensures { MatchOption result (find (is_wanted_of n c h r) sectors.now ≡ None)
+        (λ sector. find (is_wanted_of n c h r) sectors.now ≡ Some sector.now) }
 {
     for sector in sectors {
-        if is_wanted(sector, c, h, r) {
+        if is_wanted(sector, n, c, h, r) {
             return Some(sector);
         }
     }
@@ -79,10 +78,10 @@ fn wanted(sectors: &[ImdSector], c: u8, h: u8, r: u8) -> Option<&ImdSector>
 }
 
 /// The content of the sector with this key.
-pub(crate) fn content(tracks: &[ImdTrack], c: u8, h: u8, r: u8) -> Option<&[u8]>
-    ensures { MatchOption result (sector_on tracks.now c h r ≡ None)
-        (λ content. (sector : ImdSector) × (sector_on tracks.now c h r ≡ Some sector) × (content.now ≡ sector.content)) }
+pub(crate) fn content(tracks: &[ImdTrack], n: u8, c: u8, h: u8, r: u8) -> Option<&[u8]>
+    ensures { MatchOption result (sector_on tracks.now n c h r ≡ None)
+        (λ content. (sector : ImdSector) × (sector_on tracks.now n c h r ≡ Some sector) × (content.now ≡ sector.content)) }
 {
-    let sector = wanted(sectors_on(tracks, c, h), c, h, r)?;
+    let sector = wanted(sectors_on(tracks, c, h), n, c, h, r)?;
     Some(sector.content.as_slice())
 }

@@ -1,11 +1,12 @@
 //! Flat files: the sectors of a diskette and nothing else, by cylinder, then head, then record, 512 bytes each. And media of flat
 //! files, without a drive: each sector of the file under its key on a formatted medium, and back.
 //!
-//! A flat file has 80 cylinders of 2 heads. Its tracks have 9 sectors (720 KB) or 18 (1.44 MB). Media of flat files of any other
-//! geometry are made too, as far as tracks have room.
+//! A flat file has 80 cylinders of 2 heads. Its tracks have 9 sectors (720 KB) or 18 (1.44 MB). Flat files of any other geometry
+//! make media too, as far as tracks have room, and are made of them.
 #![tactic(auto)]
 
 mod fault;
+mod file_fault;
 mod filing;
 mod finding;
 mod form;
@@ -19,7 +20,8 @@ mod sectors;
 mod whole;
 
 pub use fault::FlatFault;
-pub use filing::flat_file;
+pub use file_fault::FileFault;
+pub use filing::{flat_file, flat_file_as};
 pub use form::FlatForm;
 pub use form_fault::FormFault;
 pub use form_making::flat_medium_as;

@@ -39,11 +39,10 @@ impl<T> Two<T> {
         ensures was { result ≡ in_bay self.old bay }
         ensures is { self.new ≡ with_bay self.old bay value }
     {
-        let place = if bay == 0 {
-            &mut self.first
+        if bay == 0 {
+            mem::replace(&mut self.first, value)
         } else {
-            &mut self.second
-        };
-        mem::replace(place, value)
+            mem::replace(&mut self.second, value)
+        }
     }
 }

@@ -18,7 +18,7 @@ use Rattle.sector_model.specs.States.{State, IsNamed}
 use Rattle.floppy_session.specs.declared.shape.Shape.{Shape}
 use Rattle.floppy_session.specs.Shapes.{shape_of, shape_in, AreShapes}
 use Rattle.floppy_session.specs.declared.labels.Labels.{Labels}
-use Rattle.floppy_session.specs.Session.{IsRunning, shapes_of, state_of}
+use Rattle.floppy_session.specs.Session.{IsRunning, state_of}
 
 -- a bay has a medium of some shape exactly where it had one
 pub record KeepsShapes (old new : Two Bay) : Type 0 where
@@ -140,5 +140,5 @@ pub runs_on : {Before After : Type 0} (labels : Labels) (old new : StationState)
 runs_on labels old new keeps running ready = record {
   ready = ready;
   named = named_still (state_of old labels) (state_of new labels) refl keeps running.named;
-  shaped = shaped_still (shapes_of labels) old.bays new.bays keeps running.shaped;
+  shaped = shaped_still labels.shapes old.bays new.bays keeps running.shaped;
 }

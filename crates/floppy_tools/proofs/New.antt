@@ -9,7 +9,7 @@ use Rattle.drive_model.specs.declared.script.ScriptDrive.{ScriptDrive}
 use Rattle.fault_plan.specs.Plan.{Plan, plan_spelled}
 use Rattle.pc_bus.specs.declared.machine.MachineOf.{MachineOf}
 use Rattle.machine_station.specs.Shown.{all_counts}
-use Rattle.archive_commands.specs.Files.{Desk}
+use Rattle.archive_commands.specs.Files.{Outside}
 use Rattle.floppy_tools.specs.Runs.{parts_of, RunsNew, RunsPlanned}
 
 -- what is counted of two spare drives
@@ -17,7 +17,7 @@ pub counts_of_spares : {D : Type 0} (state : D → DriveState) (drives : List D)
 counts_of_spares state drives first second same = ap (all_counts state) same
 
 -- reading the plan left the files and the report
-pub as_planned : (name : List ℕ) (words : List (List ℕ)) (plan : Plan) (told mid_told : Option Files) (report mid_report : Option (List (List ℕ))) (machine : Option (MachineOf ScriptDrive)) (after : Desk) (ended : Status) → IfSome told (λ files. IsSomeAnd (file_at files name) (λ text. plan_spelled text ≡ Ok plan)) → mid_told ≡ told → mid_report ≡ report → IfSome machine (λ left. RunsNew script_state (parts_of plan) words (record { files = mid_told; report = mid_report }) left after ended) → IfSome machine (λ left. RunsPlanned name words (record { files = told; report = report }) left after ended)
+pub as_planned : (name : List ℕ) (words : List (List ℕ)) (plan : Plan) (told mid_told : Option Files) (report mid_report : Option (List (List ℕ))) (machine : Option (MachineOf ScriptDrive)) (after : Outside) (ended : Status) → IfSome told (λ files. IsSomeAnd (file_at files name) (λ text. plan_spelled text ≡ Ok plan)) → mid_told ≡ told → mid_report ≡ report → IfSome machine (λ left. RunsNew script_state (parts_of plan) words (record { files = mid_told; report = mid_report }) left after ended) → IfSome machine (λ left. RunsPlanned name words (record { files = told; report = report }) left after ended)
 as_planned name words plan told mid_told report mid_report None after ended spelled same_files same_report runs = tt
 as_planned name words plan told mid_told report mid_report (Some left) after ended spelled same_files same_report runs = record {
   plan = plan;

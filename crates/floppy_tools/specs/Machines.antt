@@ -10,7 +10,7 @@ use Rattle.machine_station.specs.Shown.{ShowsStation}
 use Rattle.machine_station.specs.Started.{Starts}
 use Rattle.floppy_words.specs.declared.form.Form.{Form}
 use Rattle.commands.specs.Leading.{Runs}
-use Rattle.archive_commands.specs.Files.{Desk}
+use Rattle.archive_commands.specs.Files.{Outside}
 use Rattle.text_commands.specs.JobRounds.{world}
 use Rattle.floppy_tools.specs.Programs.{Does}
 
@@ -22,7 +22,7 @@ pub record IsSetUp (board : Board) (spares : List DriveCounts) (state : State) :
 
 -- the program ran over a machine: its run begins with the session that was set up, and the machine that comes back shows the
 -- station at its end
-pub record RunsOver (asked : Option Form) (old : Board) (spares : List DriveCounts) (before : Desk) (new : Board) (after : Desk) (ended : Status) : Type 0 where
+pub record RunsOver (asked : Option Form) (old : Board) (spares : List DriveCounts) (before : Outside) (new : Board) (after : Outside) (ended : Status) : Type 0 where
   pub start : State
   pub last : State
   pub set_up : IsSetUp old spares start

@@ -19,7 +19,7 @@ use Rattle.commands.specs.Leading.{Runs}
 use Rattle.disk_commands.specs.Format.{format_script}
 use Rattle.disk_commands.specs.Verify.{verify_script}
 use Rattle.disk_commands.specs.Copy.{copy_script}
-use Rattle.archive_commands.specs.Files.{Desk, FaultyDesk}
+use Rattle.archive_commands.specs.Files.{Outside, FaultyOutside}
 use Rattle.archive_commands.specs.Making.{FromImd, ToImd, Remaster}
 use Rattle.archive_commands.specs.Surveys.{Surveys}
 use Rattle.disk_commands.specs.Import.{Imports}
@@ -29,13 +29,13 @@ use Rattle.text_commands.specs.CallCourses.{ServesCalls}
 use Rattle.disk_commands.specs.Rescue.{Rescues}
 
 -- what a form on files alone leaves as it is: no request is asked, and the session stays as it was
-abbrev pub desk : World → Desk
-desk world = record { files = world.files; report = world.report }
+abbrev pub outside : World → Outside
+outside world = record { files = world.files; report = world.report }
 
-pub record OnFiles (Does : Desk → Desk → Status → Type 0) (old : World) (course : List Taken) (new : World) (ended : Status) : Type 0 where
+pub record OnFiles (Does : Outside → Outside → Status → Type 0) (old : World) (course : List Taken) (new : World) (ended : Status) : Type 0 where
   pub nothing : course ≡ []
   pub state : new.state ≡ old.state
-  pub does : Does (desk old) (desk new) ended
+  pub does : Does (outside old) (outside new) ended
 
 -- what a form asks for
 abbrev pub DoesForm : Form → World → List Taken → World → Status → Type 0
@@ -86,16 +86,16 @@ pub record Performed (Does : World → World → Status → Type 0) (NoForm : Ty
   pub shelf_faults : Blames (ended ≡ status.FileFault) old.shelf_faults new.shelf_faults
   pub sink_faults : Blames (ended ≡ status.SinkFault) old.sink_faults new.sink_faults
 
--- a world of a station, under whose media no names are told, and of a desk
-abbrev pub begun_on : StationState → Desk → World
-begun_on station desk = record { state = start_of station; files = desk.files; report = desk.report }
+-- a world of a station, under whose media no names are told, and of an outside
+abbrev pub begun_on : StationState → Outside → World
+begun_on station outside = record { state = start_of station; files = outside.files; report = outside.report }
 
-abbrev pub left_on : StationState → Two (Option (List ℕ)) → Desk → World
-left_on station names desk = record { state = record { station = station; names = names }; files = desk.files; report = desk.report }
+abbrev pub left_on : StationState → Two (Option (List ℕ)) → Outside → World
+left_on station names outside = record { state = record { station = station; names = names }; files = outside.files; report = outside.report }
 
 -- words were done on a station that came fresh, and one fault was counted where the status tells it, and else none
-pub record RanWords (words : List (List ℕ)) (old : StationState) (before : FaultyDesk) (new : StationState) (after : FaultyDesk) (ended : Status) : Type 0 where
-  pub runs : (names : Two (Option (List ℕ))) × Runs (Does (form_of words)) (begun_on old before.desk) (left_on new names after.desk) ended
+pub record RanWords (words : List (List ℕ)) (old : StationState) (before : FaultyOutside) (new : StationState) (after : FaultyOutside) (ended : Status) : Type 0 where
+  pub runs : (names : Two (Option (List ℕ))) × Runs (Does (form_of words)) (begun_on old before.outside) (left_on new names after.outside) ended
   pub bad_words : ended ≡ status.BadWords → form_of words ≡ None
   pub shelf_faults : Blames (ended ≡ status.FileFault) before.shelf_faults after.shelf_faults
   pub sink_faults : Blames (ended ≡ status.SinkFault) before.sink_faults after.sink_faults

@@ -15,7 +15,7 @@ use Rattle.pc_bus.specs.Boards.{Board, board, IsNew}
 use Rattle.pc_bus.specs.declared.machine.MachineOf.{MachineOf}
 use Rattle.machine_station.specs.Shown.{all_counts}
 use Rattle.sector_model.specs.Faults.{Blames}
-use Rattle.archive_commands.specs.Files.{Desk, FaultyDesk}
+use Rattle.archive_commands.specs.Files.{Outside, FaultyOutside}
 use Rattle.floppy_tools.specs.Performed.{DoesWords}
 use Rattle.floppy_tools.specs.Plans.{EndsWithoutPlan, Silent}
 
@@ -64,31 +64,31 @@ pub record IsMadeOf (parts : Parts) (new : Board) : Type 0 where
 
 -- the program ran on a new machine of these parts: what the words say ran over it, with a driver or at its ports, up to the
 -- machine that comes back
-pub record RunsNew {D : Type 0} (state : D → DriveState) (parts : Parts) (words : List (List ℕ)) (before : Desk) (left : MachineOf D) (after : Desk) (ended : Status) : Type 0 where
+pub record RunsNew {D : Type 0} (state : D → DriveState) (parts : Parts) (words : List (List ℕ)) (before : Outside) (left : MachineOf D) (after : Outside) (ended : Status) : Type 0 where
   pub new : Board
   pub made : IsMadeOf parts new
   pub does : DoesWords words new (all_counts (λ drive. drive) parts.spares) before (board state left) after ended
 
 -- the same on what the plan of this name asks for
-pub record RunsPlanned (name : List ℕ) (words : List (List ℕ)) (before : Desk) (left : MachineOf ScriptDrive) (after : Desk) (ended : Status) : Type 0 where
+pub record RunsPlanned (name : List ℕ) (words : List (List ℕ)) (before : Outside) (left : MachineOf ScriptDrive) (after : Outside) (ended : Status) : Type 0 where
   pub plan : Plan
   pub spelled : IfSome before.files (λ files. IsSomeAnd (file_at files name) (λ text. plan_spelled text ≡ Ok plan))
   pub runs : RunsNew script_state (parts_of plan) words before left after ended
 
 -- how a run ended that needs a machine: what it did where one was made, how it ended without one, which changed no file; and one
 -- fault was counted where the status tells it, and else none
-pub record EndsRun {Machine : Type 0} (Does : Desk → Machine → Desk → Status → Type 0) (Without : Desk → Option (List (List ℕ)) → Status → Type 0) (old new : FaultyDesk) (machine : Option Machine) (ended : Status) : Type 0 where
-  pub runs : IfSome machine (λ left. Does old.desk left new.desk ended)
-  pub no_machine : machine ≡ None → Without old.desk new.desk.report ended
-  pub untouched : machine ≡ None → new.desk.files ≡ old.desk.files
+pub record EndsRun {Machine : Type 0} (Does : Outside → Machine → Outside → Status → Type 0) (Without : Outside → Option (List (List ℕ)) → Status → Type 0) (old new : FaultyOutside) (machine : Option Machine) (ended : Status) : Type 0 where
+  pub runs : IfSome machine (λ left. Does old.outside left new.outside ended)
+  pub no_machine : machine ≡ None → Without old.outside new.outside.report ended
+  pub untouched : machine ≡ None → new.outside.files ≡ old.outside.files
   pub shelf_faults : Blames (ended ≡ status.FileFault) old.shelf_faults new.shelf_faults
   pub sink_faults : Blames (ended ≡ status.SinkFault) old.sink_faults new.sink_faults
 
 -- memory for a machine couldn't be had
-abbrev pub Starves : Desk → Option (List (List ℕ)) → Status → Type 0
+abbrev pub Starves : Outside → Option (List (List ℕ)) → Status → Type 0
 Starves before report ended = Silent status.NoMemory before.report report ended
 
 -- or for the one that a plan asks for, or the plan of this name couldn't be
-abbrev pub LacksPlan : List ℕ → Desk → Option (List (List ℕ)) → Status → Type 0
+abbrev pub LacksPlan : List ℕ → Outside → Option (List (List ℕ)) → Status → Type 0
 LacksPlan plan before report ended =
     EndsWithoutPlan before.files plan before.report report ended ⊎ Silent status.NoMemory before.report report ended

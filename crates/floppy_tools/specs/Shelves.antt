@@ -7,7 +7,7 @@ use Rattle.flop_base.specs.declared.answers.Status.{Status}
 use Rattle.drive_model.specs.PlainDrive.{plain_state}
 use Rattle.drive_model.specs.declared.plain.PlainDrive.{PlainDrive}
 use Rattle.pc_bus.specs.declared.machine.MachineOf.{MachineOf}
-use Rattle.archive_commands.specs.Files.{Desk}
+use Rattle.archive_commands.specs.Files.{Outside}
 use Rattle.floppy_tools.specs.Runs.{plain_parts, RunsNew}
 use Rattle.floppy_tools.specs.declared.shelf.RunShelf.{RunShelf}
 
@@ -20,9 +20,9 @@ abbrev pub report_in : RunShelf → List (List ℕ)
 report_in shelf = lines_of shelf.sink
 
 -- both, as a command sees them
-abbrev pub desk_in : RunShelf → Desk
-desk_in shelf = record { files = Some (files_in shelf); report = Some (report_in shelf) }
+abbrev pub outside_in : RunShelf → Outside
+outside_in shelf = record { files = Some (files_in shelf); report = Some (report_in shelf) }
 
 -- the program ran with these words on a new machine, whose drives have no faults and which nothing delays, and ended so
-abbrev pub RanPlain : List (List ℕ) → Desk → Desk → Status → Type 0
+abbrev pub RanPlain : List (List ℕ) → Outside → Outside → Status → Type 0
 RanPlain words before after ended = (left : MachineOf PlainDrive) × RunsNew plain_state plain_parts words before left after ended

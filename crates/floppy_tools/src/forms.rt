@@ -6,7 +6,7 @@ ghost use Rattle.floppy_words.specs.declared.form.Form.{Form};
 ghost use Rattle.floppy_words.specs.Forms.{form_of, Reads};
 ghost use Rattle.commands.specs.Hands.{hand_of};
 ghost use Rattle.commands.specs.Leading.{Ran, Runs};
-ghost use Rattle.archive_commands.specs.Files.{faulty_desk_of};
+ghost use Rattle.archive_commands.specs.Files.{faulty_outside_of};
 ghost use Rattle.floppy_tools.specs.Programs.{Does, DoesForm, Performed, RanWords, faulty_of, world_of};
 
 use archive_commands::{from_imd, remaster_disk, survey_disk, to_imd};
@@ -35,8 +35,8 @@ pub fn run_words<S: Shelf, K: Sink, D: Station>(
     requires ready { D.is_ready station }
     // The headline: what is printed and stored is a run of the sector model.
     ensures ran { RanWords (map string_bytes words.now)
-        (D.shown station) (faulty_desk_of S.told S.fault_count K.told K.fault_count shelf.old out.old)
-        (D.shown result.1) (faulty_desk_of S.told S.fault_count K.told K.fault_count shelf.new out.new) result.0 }
+        (D.shown station) (faulty_outside_of S.told S.fault_count K.told K.fault_count shelf.old out.old)
+        (D.shown result.1) (faulty_outside_of S.told S.fault_count K.told K.fault_count shelf.new out.new) result.0 }
     ensures ready { D.is_ready result.1 }
 {
     let mut session = Session::new(alloc, station);

@@ -3,7 +3,7 @@ ghost use Rattle.std.specs.Prelude.{◌≡◌, ◌≢◌, ◌∷◌, [], codes, 
 ghost use Rattle.sector_model.specs.Plays.{Prints};
 ghost use Rattle.sector_model.specs.Texts.{absent_text};
 ghost use Rattle.sector_model.specs.Faults.{Blames};
-ghost use Rattle.archive_commands.specs.Files.{faulty_desk_of};
+ghost use Rattle.archive_commands.specs.Files.{faulty_outside_of};
 ghost use Rattle.floppy_tools.specs.Runs.{EndsRun};
 ghost use Rattle.floppy_tools.specs.PlanVariable.{EndsProgram, LacksName, RunsUnplanned, status_of};
 
@@ -47,7 +47,7 @@ pub fn run_program<S: Shelf, K: Sink>(
 ) -> ProgramEnded
     // A run that passes over the name isn't one of its plan.
     ensures { EndsProgram plan (map string_bytes words.now)
-        (faulty_desk_of S.told S.fault_count K.told K.fault_count shelf.old out.old) (faulty_desk_of S.told S.fault_count K.told K.fault_count shelf.new out.new)
+        (faulty_outside_of S.told S.fault_count K.told K.fault_count shelf.old out.old) (faulty_outside_of S.told S.fault_count K.told K.fault_count shelf.new out.new)
         result }
 {
     match plan {
@@ -65,7 +65,7 @@ fn run_unplanned<S: Shelf, K: Sink>(
     out: &mut K,
 ) -> Ended<PlainDrive>
     ensures { EndsRun (RunsUnplanned cause (map string_bytes words.now)) (LacksName cause)
-        (faulty_desk_of S.told S.fault_count K.told K.fault_count shelf.old out.old) (faulty_desk_of S.told S.fault_count K.told K.fault_count shelf.new out.new)
+        (faulty_outside_of S.told S.fault_count K.told K.fault_count shelf.old out.old) (faulty_outside_of S.told S.fault_count K.told K.fault_count shelf.new out.new)
         result.machine result.status }
 {
     match cause {

@@ -3,7 +3,7 @@ ghost use Rattle.std.specs.Prelude.{◌≡◌, [], map, string_bytes};
 ghost use Rattle.drive_model.specs.PlainDrive.{plain_state};
 ghost use Rattle.drive_model.specs.ScriptDrive.{script_state};
 ghost use Rattle.fault_plan.specs.Plan.{lists_of};
-ghost use Rattle.archive_commands.specs.Files.{faulty_desk_of};
+ghost use Rattle.archive_commands.specs.Files.{faulty_outside_of};
 ghost use Rattle.floppy_tools.specs.Drives.{AreEmpty, parts_with};
 ghost use Rattle.floppy_tools.specs.Runs.{parts_of, plain_parts, RunsNew, RunsPlanned, EndsRun, Starves, LacksPlan};
 
@@ -33,7 +33,7 @@ pub fn run_plain<S: Shelf, K: Sink>(
 ) -> Ended<PlainDrive>
     // The headline: what is printed and stored is what the top call does on a new machine, which comes back.
     ensures { EndsRun (RunsNew plain_state plain_parts (map string_bytes words.now)) Starves
-        (faulty_desk_of S.told S.fault_count K.told K.fault_count shelf.old out.old) (faulty_desk_of S.told S.fault_count K.told K.fault_count shelf.new out.new)
+        (faulty_outside_of S.told S.fault_count K.told K.fault_count shelf.old out.old) (faulty_outside_of S.told S.fault_count K.told K.fault_count shelf.new out.new)
         result.machine result.status }
 {
     run_on(
@@ -58,7 +58,7 @@ pub fn run_planned<S: Shelf, K: Sink>(
 ) -> Ended<ScriptDrive>
     // The new machine has the faults and the pace of the plan that the file spells.
     ensures { EndsRun (RunsPlanned plan.now (map string_bytes words.now)) (LacksPlan plan.now)
-        (faulty_desk_of S.told S.fault_count K.told K.fault_count shelf.old out.old) (faulty_desk_of S.told S.fault_count K.told K.fault_count shelf.new out.new)
+        (faulty_outside_of S.told S.fault_count K.told K.fault_count shelf.old out.old) (faulty_outside_of S.told S.fault_count K.told K.fault_count shelf.new out.new)
         result.machine result.status }
 {
     match read_plan(alloc, plan, shelf, out) {
@@ -79,7 +79,7 @@ fn run_faulty<S: Shelf, K: Sink>(
     out: &mut K,
 ) -> Ended<ScriptDrive>
     ensures { EndsRun (RunsNew script_state (parts_of (lists_of plan)) (map string_bytes words.now)) Starves
-        (faulty_desk_of S.told S.fault_count K.told K.fault_count shelf.old out.old) (faulty_desk_of S.told S.fault_count K.told K.fault_count shelf.new out.new)
+        (faulty_outside_of S.told S.fault_count K.told K.fault_count shelf.old out.old) (faulty_outside_of S.told S.fault_count K.told K.fault_count shelf.new out.new)
         result.machine result.status }
 {
     let FaultPlan {
@@ -119,7 +119,7 @@ fn run_on<S: Shelf, K: Sink, D: Drive>(
     requires bays { AreEmpty D.state bays }
     requires spare { AreEmpty D.state spare }
     ensures { EndsRun (RunsNew D.state (parts_with D.state bays spare pace) (map string_bytes words.now)) Starves
-        (faulty_desk_of S.told S.fault_count K.told K.fault_count shelf.old out.old) (faulty_desk_of S.told S.fault_count K.told K.fault_count shelf.new out.new)
+        (faulty_outside_of S.told S.fault_count K.told K.fault_count shelf.old out.old) (faulty_outside_of S.told S.fault_count K.told K.fault_count shelf.new out.new)
         result.machine result.status }
 {
     let Ok(machine) = bays.machine(alloc, pace) else {

@@ -2,7 +2,7 @@
 ghost use Rattle.std.specs.Prelude.{◌≡◌, [], map, string_bytes, OnOk, OnErr, MatchOption, option_copied};
 ghost use Rattle.flop_base.specs.Shelf.{no_files, file_at, stored};
 ghost use Rattle.flop_base.specs.Sink.{joined};
-ghost use Rattle.floppy_tools.specs.Shelves.{desk_in, files_in, report_in, RanPlain};
+ghost use Rattle.floppy_tools.specs.Shelves.{outside_in, files_in, report_in, RanPlain};
 
 use crate::run::{Ended, run_plain};
 use flop_base::{MemShelf, MemSink, NoMemory, Status};
@@ -29,7 +29,7 @@ impl RunShelf {
 
     /// Places a file, in place of one of that name.
     pub fn put(&mut self, name: &str, bytes: &[u8]) -> Result<(), NoMemory>
-        ensures ok { OnOk result ((desk_in self.new).files ≡ stored (desk_in self.old).files name.now bytes.now) }
+        ensures ok { OnOk result ((outside_in self.new).files ≡ stored (outside_in self.old).files name.now bytes.now) }
         ensures err { OnErr result (files_in self.new ≡ files_in self.old) }
         ensures report { report_in self.new ≡ report_in self.old }
     {
@@ -61,8 +61,8 @@ impl RunShelf {
     /// Runs the program with these words on a new machine, whose drives have no faults and which nothing delays. Nothing
     /// is run where memory for the machine couldn't be had.
     pub fn run(&mut self, alloc: Global, words: &[String]) -> Option<Status>
-        ensures { MatchOption result (desk_in self.new ≡ desk_in self.old)
-            (λ status. RanPlain (map string_bytes words.now) (desk_in self.old) (desk_in self.new) status) }
+        ensures { MatchOption result (outside_in self.new ≡ outside_in self.old)
+            (λ status. RanPlain (map string_bytes words.now) (outside_in self.old) (outside_in self.new) status) }
     {
         let Ended { status, machine } = run_plain(alloc, words, &mut self.shelf, &mut self.sink);
         match machine {

@@ -4,8 +4,8 @@ use Rattle.std.proofs.lemmas.Bool.Decides.{nat_tests}
 use Rattle.flop_base.specs.Counts.{Rose}
 use Rattle.irq_events.specs.Entries.{next_entry}
 use Rattle.irq_events.specs.Holds.{Holds, IsReady, IsInTime, looked, waited, counted}
-use Rattle.irq_events.specs.declared.holding.Request.{Request}
-use Rattle.irq_events.specs.declared.holding.Request.TheVariants.{Low, High}
+use Rattle.irq_events.specs.declared.holding.DmaRequest.{DmaRequest}
+use Rattle.irq_events.specs.declared.holding.DmaRequest.TheVariants.{Low, High}
 
 few : (hold : ℕ) → nat_lt 8 hold ≡ false → hold ≤ 8
 few hold h = grind (arith, nat_tests)
@@ -15,7 +15,7 @@ taken : (hold stalls after : ℕ) → 8 ≤ after → (b : Bool) → nat_lt 8 ho
 taken hold stalls after room true is = inr (omega arith)
 taken hold stalls after room false is = inl (let small = few hold is in omega arith)
 
-by_request : (request : Request) (old : Holds) (before after : ℕ) → IsReady request before → before ≤ after + 1
+by_request : (request : DmaRequest) (old : Holds) (before after : ℕ) → IsReady request before → before ≤ after + 1
     → IsInTime (waited request old).request after ⊎ Rose old.stalls (waited request old).stalls
 by_request Low old before after ready less = taken (next_entry old.entries) old.stalls after (omega arith) (nat_lt 8 (next_entry old.entries)) refl
 by_request (High left) old before after ready less = inl (let all = ready.1 in omega arith)

@@ -3,22 +3,22 @@ use Rattle.std.specs.Prelude.{◌≤◌, ℕ, ◌+◌, ◌-◌, min, Bool, true,
 use Rattle.std.specs.List.{All}
 use Rattle.flop_base.specs.Counts.{last_count}
 use Rattle.irq_events.specs.Entries.{next_entry, rest_of}
-use Rattle.irq_events.specs.declared.holding.Request.{Request}
-use Rattle.irq_events.specs.declared.holding.Request.TheVariants.{Low, High}
+use Rattle.irq_events.specs.declared.holding.DmaRequest.{DmaRequest}
+use Rattle.irq_events.specs.declared.holding.DmaRequest.TheVariants.{Low, High}
 
 -- the holds that are left, the request, and how many holds were above 8
 pub record Holds : Type 0 where
   pub entries : List ℕ
-  pub request : Request
+  pub request : DmaRequest
   pub stalls : ℕ
 
 -- the request is granted in this device step
-abbrev pub is_due : Request → Bool
+abbrev pub is_due : DmaRequest → Bool
 is_due Low = false
 is_due (High left) = left == 0
 
 -- the line is low
-abbrev pub is_low : Request → Bool
+abbrev pub is_low : DmaRequest → Bool
 is_low Low = true
 is_low (High left) = false
 
@@ -31,7 +31,7 @@ abbrev pub stalls_with : ℕ → ℕ → ℕ
 stalls_with hold stalls = if nat_lt 8 hold then counted stalls else stalls
 
 -- the line is high in a device step: where it rose, the next hold begins; else one step of the hold is over
-abbrev pub waited : Request → Holds → Holds
+abbrev pub waited : DmaRequest → Holds → Holds
 waited Low old = record old {
   entries = rest_of old.entries;
   request = High (next_entry old.entries);
@@ -52,7 +52,7 @@ shown true old = old
 -- ---- ranges
 
 -- what is left of a request's hold is a byte
-abbrev pub IsShort : Request → Type 0
+abbrev pub IsShort : DmaRequest → Type 0
 IsShort Low = Unit {0}
 IsShort (High left) = left ≤ 255
 
@@ -65,11 +65,11 @@ pub record AreShort (holds : Holds) : Type 0 where
 
 -- a device that can go on for so many device steps with no grant, between two of them: with its line low for nine, and with a
 -- request for all that are left of its hold
-abbrev pub IsReady : Request → ℕ → Type 0
+abbrev pub IsReady : DmaRequest → ℕ → Type 0
 IsReady Low slack = 9 ≤ slack
 IsReady (High left) slack = (1 ≤ left) × (left ≤ slack)
 
 -- the same once the line was looked at: a request may be due
-abbrev pub IsInTime : Request → ℕ → Type 0
+abbrev pub IsInTime : DmaRequest → ℕ → Type 0
 IsInTime Low slack = 9 ≤ slack
 IsInTime (High left) slack = left ≤ slack

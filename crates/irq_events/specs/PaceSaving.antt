@@ -2,8 +2,8 @@
 use Rattle.std.specs.Prelude.{ℕ, List, ◌∷◌}
 use Rattle.saved_state.specs.Saved.{spelled_byte, spelled_word, spelled_count, spelled_bytes, spelled_list}
 use Rattle.irq_events.specs.Holds.{Holds}
-use Rattle.irq_events.specs.declared.holding.Request.{Request}
-use Rattle.irq_events.specs.declared.holding.Request.TheVariants.{Low, High}
+use Rattle.irq_events.specs.declared.holding.DmaRequest.{DmaRequest}
+use Rattle.irq_events.specs.declared.holding.DmaRequest.TheVariants.{Low, High}
 
 -- the gaps that are left
 abbrev pub spelled_gaps : List ℕ → List ℕ → List ℕ
@@ -14,7 +14,7 @@ abbrev pub spelled_strays : List ℕ → List ℕ → List ℕ
 spelled_strays strays rest = spelled_list spelled_word strays rest
 
 -- a request: its number, and what is left of its hold
-abbrev pub spelled_request : Request → List ℕ → List ℕ
+abbrev pub spelled_request : DmaRequest → List ℕ → List ℕ
 spelled_request Low rest = 0 ∷ rest
 spelled_request (High left) rest = 1 ∷ spelled_byte left rest
 

@@ -3,7 +3,7 @@ ghost use Rattle.std.specs.Prelude.{◌≡◌, ◌≤◌};
 ghost use Rattle.std.specs.List.{All};
 ghost use Rattle.irq_events.specs.Entries.{next_entry, rest_of};
 ghost use Rattle.irq_events.specs.Holds.{AreShort, IsShort, looked, shown, is_due, is_low, waited, stalls_with};
-ghost use Rattle.irq_events.specs.declared.holding.Request.TheVariants.{Low};
+ghost use Rattle.irq_events.specs.declared.holding.DmaRequest.TheVariants.{Low};
 
 mod saving;
 
@@ -15,7 +15,7 @@ const LONGEST: u8 = 8;
 
 /// A device's request for DMA.
 #[derive(Clone, Copy)]
-pub enum Request {
+pub enum DmaRequest {
     /// The line is low: nothing is asked for.
     Low,
     /// It is granted after so many device steps more.
@@ -26,7 +26,7 @@ pub enum Request {
 #[derive(Drop)]
 pub struct Holding {
     entries: VecDeque<u8>,
-    request: Request,
+    request: DmaRequest,
     stalls: u64,
 }
 
@@ -49,7 +49,7 @@ impl Holding {
     {
         Holding {
             entries: VecDeque::from_vec(holds),
-            request: Request::Low,
+            request: DmaRequest::Low,
             stalls: 0,
         }
     }
@@ -59,7 +59,7 @@ impl Holding {
         ensures { self.new ≡ shown line self.old }
     {
         if !line {
-            self.request = Request::Low;
+            self.request = DmaRequest::Low;
         }
     }
 
@@ -71,7 +71,7 @@ impl Holding {
         if line {
             self.wait();
         } else {
-            self.request = Request::Low;
+            self.request = DmaRequest::Low;
         }
         self.is_due()
     }
@@ -82,12 +82,12 @@ impl Holding {
         ensures { self.new ≡ waited self.old.request self.old }
     {
         match self.request {
-            Request::Low => {
+            DmaRequest::Low => {
                 let hold = self.next_hold();
-                self.request = Request::High { left: hold };
+                self.request = DmaRequest::High { left: hold };
             }
-            Request::High { left } => {
-                self.request = Request::High {
+            DmaRequest::High { left } => {
+                self.request = DmaRequest::High {
                     left: left.saturating_sub(1),
                 };
             }
@@ -113,13 +113,13 @@ impl Holding {
     pub fn is_low(&self) -> bool
         ensures { result ≡ is_low self.now.request }
     {
-        matches!(self.request, Request::Low)
+        matches!(self.request, DmaRequest::Low)
     }
 
     fn is_due(&self) -> bool
         ensures { result ≡ is_due self.now.request }
     {
-        matches!(self.request, Request::High { left: 0 })
+        matches!(self.request, DmaRequest::High { left: 0 })
     }
 
     /// The ranges of the holds and of the request; it does nothing.
@@ -146,11 +146,11 @@ fn keep_entries(_entries: &[u8])
 {}
 
 /// The range of a request; it does nothing.
-fn keep_request(request: Request)
+fn keep_request(request: DmaRequest)
     ensures { IsShort request }
 {
     match request {
-        Request::Low => {}
-        Request::High { left: _left } => {}
+        DmaRequest::Low => {}
+        DmaRequest::High { left: _left } => {}
     }
 }

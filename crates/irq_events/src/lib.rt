@@ -13,7 +13,7 @@ mod queues;
 mod strays;
 
 pub use gaps::Gaps;
-pub use holding::{Holding, Request};
+pub use holding::{DmaRequest, Holding};
 pub use latch::IrqLatch;
 pub use pace::Pace;
 pub use strays::Strays;

@@ -98,8 +98,8 @@ pub use Rattle.laws_machine.specs.OnWrites.Underway.{IsTaken, range_of, refuses,
 pub use Rattle.irq_events.proofs.InTime.{in_time}
 pub use Rattle.irq_events.specs.Entries.{is_stray_due, next_entry, rest_of}
 pub use Rattle.irq_events.specs.Holds.{AreShort, Holds, IsInTime, IsReady, IsShort, counted, is_due, looked, shown, waited}
-pub use Rattle.irq_events.specs.declared.holding.Request.{Request}
-pub use Rattle.irq_events.specs.declared.holding.Request.TheVariants.{High, Low}
+pub use Rattle.irq_events.specs.declared.holding.DmaRequest.{DmaRequest}
+pub use Rattle.irq_events.specs.declared.holding.DmaRequest.TheVariants.{High, Low}
 pub use Rattle.fdc_drives.proofs.FollowedWrites.{drive_stays, write_leaves}
 pub use Rattle.pc_bus.specs.Boards.{Board, channel_of, controller_of, drive_in, holds_of, latch_of, lines_of, memory_of, selected_of}
 pub use Rattle.pc_bus.specs.Handling.{irq_taken}

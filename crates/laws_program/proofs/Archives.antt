@@ -14,7 +14,7 @@ use Rattle.sector_model.specs.Plays.{Prints, Whole, Part}
 use Rattle.remaster.specs.declared.lines.SurveyLine.{SurveyLine}
 use Rattle.archive_commands.specs.declared.halt.Halt.{Halt}
 use Rattle.archive_commands.specs.declared.halt.Halt.TheVariants as halt
-use Rattle.archive_commands.specs.Files.{Desk}
+use Rattle.archive_commands.specs.Files.{Outside}
 use Rattle.archive_commands.specs.Making.{Tells, MakesFromImd, MakesToImd, MakesRemaster}
 use Rattle.archive_commands.specs.Surveys.{SurveysFile, TellsSurvey}
 use Rattle.floppy_words.specs.declared.form.Form.TheVariants as form
@@ -35,19 +35,19 @@ not_stop (stop.Absent name) well = absurd (cc well)
 not_stop stop.FileFault well = absurd (cc well)
 not_stop stop.NoMemory well = absurd (cc well)
 
-pub made_well : (Makes : Option Files → Result ℕ Halt → Option Files → Type 0) (verb : List ℕ) (before after : Desk) (outcome : Result ℕ Halt)
+pub made_well : (Makes : Option Files → Result ℕ Halt → Option Files → Type 0) (verb : List ℕ) (before after : Outside) (outcome : Result ℕ Halt)
     → Makes before.files outcome after.files → Tells verb outcome before.report after.report status.AllOk → MakesFile Makes verb before after
 made_well Makes verb before after (Ok count) makes tells = record { count = count; makes = makes; report = (put_well _ _ _ _ tells).0 }
 made_well Makes verb before after (Err (halt.Unfit c h)) makes tells = let bad = (put_well _ _ _ _ tells).1 in absurd (cc bad)
 made_well Makes verb before after (Err (halt.Stopped cause)) makes tells = absurd (not_stop cause (put_well _ _ _ _ tells).1)
 
-pub survey_told : (name : List ℕ) (before after : Desk) (outcome : Result (List SurveyLine) Stop) → SurveysFile before.files name outcome
+pub survey_told : (name : List ℕ) (before after : Outside) (outcome : Result (List SurveyLine) Stop) → SurveysFile before.files name outcome
     → after.files ≡ before.files → TellsSurvey outcome before.report after.report status.AllOk → TellsSurveyOf name before after
 survey_told name before after (Ok lines) surveys files tells =
     record { lines = lines; survey = surveys; files = files; report = (put_well _ _ _ _ tells).0 }
 survey_told name before after (Err cause) surveys files tells = absurd (not_stop cause (put_well _ _ _ _ tells).1)
 
-module _ (spares : List DriveCounts) (old new : Board) (before after : Desk) where
+module _ (spares : List DriveCounts) (old new : Board) (before after : Outside) where
   pub fromimd_makes : (imd name : List ℕ) → RunsOver (Some (form.FromImd imd name)) old spares before new after status.AllOk
       → MakesFile (MakesFromImd imd name) (codes "fromimd") before after
   fromimd_makes imd name over =

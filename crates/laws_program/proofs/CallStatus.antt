@@ -215,8 +215,8 @@ calls_by name files text lines old course new ended told is spells inserts kept 
 calls_by name files text lines old course new ended told is spells inserts kept (Starved nothing idle) = subst IsAnswered (sym idle.status) tt
 
 -- with the faults that were counted
-counted_answered : (Such : Type 0) (old new : Stand) (ended : Status) → Blames (ended ≡ status.FileFault) old.desk.shelf_faults new.desk.shelf_faults
-    → Blames (ended ≡ status.SinkFault) old.desk.sink_faults new.desk.sink_faults → IsAnswered ended
+counted_answered : (Such : Type 0) (old new : Stand) (ended : Status) → Blames (ended ≡ status.FileFault) old.outside.shelf_faults new.outside.shelf_faults
+    → Blames (ended ≡ status.SinkFault) old.outside.sink_faults new.outside.sink_faults → IsAnswered ended
     → (IsEndStatus ended → Such) → EndsAnswered Such old new ended
 counted_answered Such old new status.AllOk shelf sink ends such = such tt
 counted_answered Such old new status.SomeRefused shelf sink ends such = such tt
@@ -229,21 +229,21 @@ counted_answered Such old new status.BadJob shelf sink ends such = ends
 counted_answered Such old new status.BadWords shelf sink ends such = ends
 
 pub int13_ends : (name : List ℕ) (spares : List DriveCounts) (old new : Stand) (ended : Status) (files : Files) (text : List ℕ) (lines : List CallLine)
-    → old.desk.desk.files ≡ Some files → IsText (Some files) name text → calls_of text ≡ Ok lines
+    → old.outside.outside.files ≡ Some files → IsText (Some files) name text → calls_of text ≡ Ok lines
     → InsertsDisks (IsDiskFile (Some files)) (both None) (requests_among lines) → (ran : RanOver (Some (form.Int13 name)) spares old new ended)
-    → EndsAnswered (AnswersCalls name (world ran.runs.start old.desk.desk.files old.desk.desk.report) ran.runs.runs.course
-    (world ran.runs.last new.desk.desk.files new.desk.desk.report) ended) old new ended
+    → EndsAnswered (AnswersCalls name (world ran.runs.start old.outside.outside.files old.outside.outside.report) ran.runs.runs.course
+    (world ran.runs.last new.outside.outside.files new.outside.outside.report) ended) old new ended
 int13_ends name spares old new ended files text lines told is spells inserts ran =
     let over = ran.runs in
-    let first = world over.start old.desk.desk.files old.desk.desk.report in
-    let last = world over.last new.desk.desk.files new.desk.desk.report in
+    let first = world over.start old.outside.outside.files old.outside.outside.report in
+    let last = world over.last new.outside.outside.files new.outside.outside.report in
     counted_answered (AnswersCalls name first over.runs.course last ended) old new ended ran.shelf_faults ran.sink_faults (go over.runs.does)
-    (λ whole. int13_answers name spares old.board new.board old.desk.desk new.desk.desk ended over whole)
+    (λ whole. int13_answers name spares old.board new.board old.outside.outside new.outside.outside ended over whole)
   where
-    go : DoesOrStarves (form.Int13 name) (world ran.runs.start old.desk.desk.files old.desk.desk.report) ran.runs.runs.course
-        (world ran.runs.last new.desk.desk.files new.desk.desk.report) ended → IsAnswered ended
+    go : DoesOrStarves (form.Int13 name) (world ran.runs.start old.outside.outside.files old.outside.outside.report) ran.runs.runs.course
+        (world ran.runs.last new.outside.outside.files new.outside.outside.report) ended → IsAnswered ended
     go (AsAsked does) =
-        calls_by name files text lines (world ran.runs.start old.desk.desk.files old.desk.desk.report) ran.runs.runs.course
-        (world ran.runs.last new.desk.desk.files new.desk.desk.report) ended told is spells inserts
-        (begins_kept files ran.runs.start old.desk.desk.files told ran.runs.set_up.names ran.runs.set_up.fresh) does
+        calls_by name files text lines (world ran.runs.start old.outside.outside.files old.outside.outside.report) ran.runs.runs.course
+        (world ran.runs.last new.outside.outside.files new.outside.outside.report) ended told is spells inserts
+        (begins_kept files ran.runs.start old.outside.outside.files told ran.runs.set_up.names ran.runs.set_up.fresh) does
     go (StarvesWords nothing idle) = subst IsAnswered (sym idle.status) tt

@@ -10,7 +10,7 @@ use Rattle.sector_model.specs.Runs.{Taken}
 use Rattle.sector_model.specs.Plays.{World, IsText}
 use Rattle.text_commands.specs.CallRounds.{Breaks, AtStop, AtPut}
 use Rattle.text_commands.specs.CallCourses.{ServesCalls, There, Missing, TooLong, Faulty, Starved, ServesParsed, ServesLines, Through, Broken, EndStopped}
-use Rattle.archive_commands.specs.Files.{Desk}
+use Rattle.archive_commands.specs.Files.{Outside}
 use Rattle.floppy_words.specs.declared.form.Form.TheVariants as form
 use Rattle.floppy_tools.specs.Programs.{DoesOrStarves, AsAsked, StarvesWords}
 use Rattle.text_commands.specs.JobRounds.{world}
@@ -61,7 +61,7 @@ does_answered : (name : List ℕ) (old : World) (course : List Taken) (new : Wor
 does_answered name old course new ended whole (AsAsked does) = calls_answered name old course new ended whole does
 does_answered name old course new ended whole (StarvesWords nothing idle) = absurd (subst IsEndStatus idle.status whole)
 
-pub int13_answers : (name : List ℕ) (spares : List DriveCounts) (old new : Board) (before after : Desk) (ended : Status)
+pub int13_answers : (name : List ℕ) (spares : List DriveCounts) (old new : Board) (before after : Outside) (ended : Status)
     → (over : RunsOver (Some (form.Int13 name)) old spares before new after ended) → IsEndStatus ended
     → AnswersCalls name (world over.start before.files before.report) over.runs.course (world over.last after.files after.report) ended
 int13_answers name spares old new before after ended over whole =

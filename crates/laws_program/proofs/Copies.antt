@@ -12,7 +12,7 @@ use Rattle.sector_model.specs.Stations.{StationState}
 use Rattle.pc_bus.specs.Boards.{Board}
 use Rattle.machine_station.specs.Shown.{ShowsStation}
 use Rattle.machine_station.specs.Started.{Starts}
-use Rattle.archive_commands.specs.Files.{Desk}
+use Rattle.archive_commands.specs.Files.{Outside}
 use Rattle.floppy_words.specs.declared.form.Form.TheVariants as form
 use Rattle.text_commands.specs.JobRounds.{world}
 use Rattle.floppy_tools.specs.Machines.{RunsOver}
@@ -65,7 +65,7 @@ copy_of sure disk to old new course told after safe stores = record {
   files = stores.files;
 }
 
-pub copies_well : (from to : List ℕ) (spares : List DriveCounts) (old new : Board) (before after : Desk) (files : Files) (disk : Disk)
+pub copies_well : (from to : List ℕ) (spares : List DriveCounts) (old new : Board) (before after : Outside) (files : Files) (disk : Disk)
     → RunsOver (Some (form.Copy from to)) old spares before new after status.AllOk → before.files ≡ Some files → IsImageOf (Some files) from disk
     → HadNoFault 1 old new → StoresCopyAsRead (IsReadSure disk old new) disk to (Some files) after.files
 copies_well from to spares old new before after files disk over told image calm =

@@ -17,7 +17,7 @@ use Rattle.text_commands.specs.CallRounds.{Breaks, AtStop, AtPut, course_of}
 use Rattle.text_commands.specs.CallCourses.{ServesCalls, ServesParsed, ServesLines}
 use Rattle.text_commands.specs.CallCourses as calls
 use Rattle.text_commands.proofs.RanCalls.{line_run, rounds_run}
-use Rattle.archive_commands.specs.Files.{Desk}
+use Rattle.archive_commands.specs.Files.{Outside}
 use Rattle.floppy_words.specs.declared.form.Form.{Form}
 use Rattle.floppy_words.specs.declared.form.Form.TheVariants as form
 use Rattle.text_commands.specs.JobRounds.{world}
@@ -118,7 +118,7 @@ ran_or_starved : (asked : Form) (old : World) (course : List Taken) (new : World
 ran_or_starved asked old course new ended (AsAsked does) = ran_form asked old course new ended does
 ran_or_starved asked old course new ended (StarvesWords nothing idle) = ran_nothing old.state old.files course nothing
 
-pub form_runs : (asked : Form) (spares : List DriveCounts) (old new : Board) (before after : Desk) (ended : Status)
+pub form_runs : (asked : Form) (spares : List DriveCounts) (old new : Board) (before after : Outside) (ended : Status)
     → (over : RunsOver (Some asked) old spares before new after ended)
     → (mid : State) × (files : Option Files) × Run over.start before.files over.runs.course mid files
 form_runs asked spares old new before after ended over =

@@ -39,8 +39,8 @@ use Rattle.laws_program.proofs.OnBoards.{nothing_left}
 use Rattle.laws_program.proofs.OfForms.{form_done}
 
 -- what of an end is the outside's was counted
-counted : (Inner Holds : Type 0) (old new : Stand) (ended : Status) → (Inner → Holds) → Blames (ended ≡ status.FileFault) old.desk.shelf_faults new.desk.shelf_faults
-    → Blames (ended ≡ status.SinkFault) old.desk.sink_faults new.desk.sink_faults → EndsWellOrOutside Inner ended → EndsWell Holds old new ended
+counted : (Inner Holds : Type 0) (old new : Stand) (ended : Status) → (Inner → Holds) → Blames (ended ≡ status.FileFault) old.outside.shelf_faults new.outside.shelf_faults
+    → Blames (ended ≡ status.SinkFault) old.outside.sink_faults new.outside.sink_faults → EndsWellOrOutside Inner ended → EndsWell Holds old new ended
 counted Inner Holds old new status.AllOk means shelf sink ends = means ends
 counted Inner Holds old new status.NoMemory means shelf sink ends = tt
 counted Inner Holds old new status.FileFault means shelf sink ends = shelf.rose refl
@@ -52,14 +52,14 @@ counted Inner Holds old new status.BadJob means shelf sink ends = ends
 counted Inner Holds old new status.BadWords means shelf sink ends = ends
 
 module _ (asked : Form) (spares : List DriveCounts) (old new : Stand) (ended : Status) (ran : RanOver (Some asked) spares old new ended) where
-  abbrev over : RunsOver (Some asked) old.board spares old.desk.desk new.board new.desk.desk ended
+  abbrev over : RunsOver (Some asked) old.board spares old.outside.outside new.board new.outside.outside ended
   over = ran.runs
 
   abbrev first : World
-  first = world over.start old.desk.desk.files old.desk.desk.report
+  first = world over.start old.outside.outside.files old.outside.outside.report
 
   abbrev last : World
-  last = world over.last new.desk.desk.files new.desk.desk.report
+  last = world over.last new.outside.outside.files new.outside.outside.report
 
   begins : IsSound old.board spares → BeginsSound first
   begins sound = record {
@@ -68,14 +68,14 @@ module _ (asked : Form) (spares : List DriveCounts) (old new : Stand) (ended : S
   }
 
   ends_by : (Inner Holds : Type 0) → (Inner → Holds) → (Runs (DoesForm asked) first last ended → EndsWellOrOutside Inner ended) → EndsWell Holds old new ended
-  ends_by Inner Holds means complete = elim (form_done asked old.board spares old.desk.desk new.board new.desk.desk ended over) [
+  ends_by Inner Holds means complete = elim (form_done asked old.board spares old.outside.outside new.board new.outside.outside ended over) [
     | inl runs ↦ counted Inner Holds old new ended means ran.shelf_faults ran.sink_faults (complete runs)
     | inr starved ↦ subst (λ (s : Status). EndsWell Holds old new s) (sym starved) tt
   ]
 
 pub format_ends : (name : List ℕ) (count : ℕ) (spares : List DriveCounts) (old new : Stand) (ended : Status) → 1 ≤ count → count ≤ 80
     → RanOver (Some (form.Format name count)) spares old new ended → IsSound old.board spares
-    → EndsWell (StoresFormatted R500 name count old.desk.desk.files new.desk.desk.files) old new ended
+    → EndsWell (StoresFormatted R500 name count old.outside.outside.files new.outside.outside.files) old new ended
 format_ends name count spares old new ended least most ran sound =
     let asked = form.Format name count in
     ends_by asked spares old new ended ran _ _ (λ is. is)
@@ -83,15 +83,15 @@ format_ends name count spares old new ended least most ran sound =
 
 pub format_dd_ends : (name : List ℕ) (count : ℕ) (spares : List DriveCounts) (old new : Stand) (ended : Status) → 1 ≤ count → count ≤ 80
     → RanOver (Some (form.FormatDd name count)) spares old new ended → IsSound old.board spares
-    → EndsWell (StoresFormatted R250 name count old.desk.desk.files new.desk.desk.files) old new ended
+    → EndsWell (StoresFormatted R250 name count old.outside.outside.files new.outside.outside.files) old new ended
 format_dd_ends name count spares old new ended least most ran sound =
     let asked = form.FormatDd name count in
     ends_by asked spares old new ended ran _ _ (λ is. is)
     (format_complete R250 name count (first asked spares old new ended ran) (last asked spares old new ended ran) ended least most (begins asked spares old new ended ran sound))
 
 pub copy_ends : (from to : List ℕ) (spares : List DriveCounts) (old new : Stand) (ended : Status) (files : Files) (disk : Disk)
-    → RanOver (Some (form.Copy from to)) spares old new ended → IsSound old.board spares → old.desk.desk.files ≡ Some files
-    → IsImageOf (Some files) from disk → IsReadable disk → EndsWell (StoresSameSectors disk to (Some files) new.desk.desk.files) old new ended
+    → RanOver (Some (form.Copy from to)) spares old new ended → IsSound old.board spares → old.outside.outside.files ≡ Some files
+    → IsImageOf (Some files) from disk → IsReadable disk → EndsWell (StoresSameSectors disk to (Some files) new.outside.outside.files) old new ended
 copy_ends from to spares old new ended files disk ran sound told image readable =
     let asked = form.Copy from to in
     ends_by asked spares old new ended ran _ _ (λ is. is)
@@ -99,8 +99,8 @@ copy_ends from to spares old new ended files disk ran sound told image readable 
     (begins asked spares old new ended ran sound) told image readable)
 
 pub verify_ends : (name : List ℕ) (spares : List DriveCounts) (old new : Stand) (ended : Status) (files : Files) (disk : Disk)
-    → RanOver (Some (form.Verify name)) spares old new ended → IsSound old.board spares → old.desk.desk.files ≡ Some files
-    → IsImageOf (Some files) name disk → IsReadable disk → EndsWell (ListsFailing disk [] old.desk.desk new.desk.desk status.AllOk) old new ended
+    → RanOver (Some (form.Verify name)) spares old new ended → IsSound old.board spares → old.outside.outside.files ≡ Some files
+    → IsImageOf (Some files) name disk → IsReadable disk → EndsWell (ListsFailing disk [] old.outside.outside new.outside.outside status.AllOk) old new ended
 verify_ends name spares old new ended files disk ran sound told image readable =
     let asked = form.Verify name in
     ends_by asked spares old new ended ran _ _ (λ tells. record { report = tells.report; status = tells.status })
@@ -108,8 +108,8 @@ verify_ends name spares old new ended files disk ran sound told image readable =
     (begins asked spares old new ended ran sound) told image readable)
 
 pub import_ends : (flat name : List ℕ) (spares : List DriveCounts) (old new : Stand) (ended : Status) (files : Files) (bytes : List ℕ) (at : Rate)
-    → RanOver (Some (form.Import flat name)) spares old new ended → IsSound old.board spares → old.desk.desk.files ≡ Some files
-    → IsFlatFile (Some files) flat bytes at → EndsWell (StoresDisk bytes name at (Some files) new.desk.desk.files) old new ended
+    → RanOver (Some (form.Import flat name)) spares old new ended → IsSound old.board spares → old.outside.outside.files ≡ Some files
+    → IsFlatFile (Some files) flat bytes at → EndsWell (StoresDisk bytes name at (Some files) new.outside.outside.files) old new ended
 import_ends flat name spares old new ended files bytes at ran sound told is =
     let asked = form.Import flat name in
     ends_by asked spares old new ended ran _ _ (λ same. same)
@@ -117,8 +117,8 @@ import_ends flat name spares old new ended files bytes at ran sound told is =
     (begins asked spares old new ended ran sound) told is)
 
 pub export_ends : (name flat : List ℕ) (spares : List DriveCounts) (old new : Stand) (ended : Status) (files : Files) (disk : Disk)
-    → RanOver (Some (form.Export name flat)) spares old new ended → IsSound old.board spares → old.desk.desk.files ≡ Some files
-    → IsImageOf (Some files) name disk → IsWholeDisk disk → EndsWell (StoresFlatOf disk flat (Some files) new.desk.desk.files) old new ended
+    → RanOver (Some (form.Export name flat)) spares old new ended → IsSound old.board spares → old.outside.outside.files ≡ Some files
+    → IsImageOf (Some files) name disk → IsWholeDisk disk → EndsWell (StoresFlatOf disk flat (Some files) new.outside.outside.files) old new ended
 export_ends name flat spares old new ended files disk ran sound told image whole =
     let asked = form.Export name flat in
     ends_by asked spares old new ended ran _ _ (λ is. is)
@@ -126,9 +126,9 @@ export_ends name flat spares old new ended files disk ran sound told image whole
     (begins asked spares old new ended ran sound) told image whole)
 
 pub new_rescue_ends : (from to log : List ℕ) (spares : List DriveCounts) (old new : Stand) (ended : Status) (files : Files) (disk : Disk)
-    → RanOver (Some (form.Rescue from to log)) spares old new ended → IsSound old.board spares → old.desk.desk.files ≡ Some files
+    → RanOver (Some (form.Rescue from to log)) spares old new ended → IsSound old.board spares → old.outside.outside.files ≡ Some files
     → IsImageOf (Some files) from disk → IsReadable disk → file_at files log ≡ None → to ≢ log
-    → EndsWell (StoresSameAndLog disk to log (Some files) new.desk.desk.files) old new ended
+    → EndsWell (StoresSameAndLog disk to log (Some files) new.outside.outside.files) old new ended
 new_rescue_ends from to log spares old new ended files disk ran sound told image readable absent differ =
     let asked = form.Rescue from to log in
     ends_by asked spares old new ended ran _ _ (λ is. is)
@@ -137,10 +137,10 @@ new_rescue_ends from to log spares old new ended files disk ran sound told image
 
 pub further_rescue_ends : (from to log : List ℕ) (spares : List DriveCounts) (old new : Stand) (ended : Status) (files : Files) (disk target : Disk)
     (lines : List LogLine)
-    → RanOver (Some (form.Rescue from to log)) spares old new ended → IsSound old.board spares → old.desk.desk.files ≡ Some files
+    → RanOver (Some (form.Rescue from to log)) spares old new ended → IsSound old.board spares → old.outside.outside.files ≡ Some files
     → IsImageOf (Some files) from disk → IsImageOf (Some files) to target → IsLogFound (Some files) log (sectors_at disk.rate) (Some lines) → to ≢ log
     → IsRegularDisk disk → All (HasKey disk) (logged_keys lines) → TakesKeys disk.rate (logged_keys lines) target
-    → EndsWell (StoresRestAndLog disk target (logged_keys lines) to log (Some files) new.desk.desk.files) old new ended
+    → EndsWell (StoresRestAndLog disk target (logged_keys lines) to log (Some files) new.outside.outside.files) old new ended
 further_rescue_ends from to log spares old new ended files disk target lines ran sound told image other there differ regular has takes =
     let asked = form.Rescue from to log in
     ends_by asked spares old new ended ran _ _ (λ is. is)

@@ -7,7 +7,7 @@ use Rattle.flop_base.specs.Counters.{Counters, DriveCounts}
 use Rattle.sector_model.specs.Runs.{Taken}
 use Rattle.sector_model.specs.Steps.{IsImageOf}
 use Rattle.pc_bus.specs.Boards.{Board}
-use Rattle.archive_commands.specs.Files.{Desk}
+use Rattle.archive_commands.specs.Files.{Outside}
 use Rattle.floppy_words.specs.declared.form.Form.TheVariants as form
 use Rattle.text_commands.specs.JobRounds.{world}
 use Rattle.floppy_tools.specs.Machines.{RunsOver}
@@ -24,7 +24,7 @@ use Rattle.laws_program.proofs.OnBoards.{faultless_first}
 use Rattle.laws_program.proofs.OfForms.{form_well}
 use Rattle.laws_program.proofs.Copies.{sure_read}
 
-pub imports_well : (flat name : List ℕ) (spares : List DriveCounts) (old new : Board) (before after : Desk)
+pub imports_well : (flat name : List ℕ) (spares : List DriveCounts) (old new : Board) (before after : Outside)
     → RunsOver (Some (form.Import flat name)) old spares before new after status.AllOk → HadNoFault 0 old new
     → StoresImported flat name before.files after.files
 imports_well flat name spares old new before after over calm =
@@ -47,7 +47,7 @@ as_read sure name flat files disk old new course after image known stores =
       files = stores.files;
     }) known
 
-pub exports_well : (name flat : List ℕ) (spares : List DriveCounts) (old new : Board) (before after : Desk) (files : Files) (disk : Disk)
+pub exports_well : (name flat : List ℕ) (spares : List DriveCounts) (old new : Board) (before after : Outside) (files : Files) (disk : Disk)
     → RunsOver (Some (form.Export name flat)) old spares before new after status.AllOk → before.files ≡ Some files → IsImageOf (Some files) name disk
     → StoresFlatAsRead (IsReadSure disk old new) disk flat (Some files) after.files
 exports_well name flat spares old new before after files disk over told image =

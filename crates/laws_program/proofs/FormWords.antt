@@ -18,7 +18,7 @@ pub form_ran : (words : List (List ℕ)) (asked : Form) (spares : List DriveCoun
 form_ran words asked spares old new ended is performed =
     let none = no_ports words asked (ports_file_of words) is refl in
     record {
-      runs = subst (λ (f : Option Form). RunsOver f old.board spares old.desk.desk new.board new.desk.desk ended) is (performed.does.runs none);
+      runs = subst (λ (f : Option Form). RunsOver f old.board spares old.outside.outside new.board new.outside.outside ended) is (performed.does.runs none);
       bad_words = λ bad. sym is ∙ (performed.does.bad_words bad).0;
       shelf_faults = performed.shelf_faults;
       sink_faults = performed.sink_faults;

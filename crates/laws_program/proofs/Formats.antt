@@ -4,7 +4,7 @@ use Rattle.flop_base.specs.declared.answers.Rate.TheVariants.{R250, R500}
 use Rattle.flop_base.specs.declared.answers.Status.TheVariants as status
 use Rattle.flop_base.specs.Counters.{DriveCounts}
 use Rattle.pc_bus.specs.Boards.{Board}
-use Rattle.archive_commands.specs.Files.{Desk}
+use Rattle.archive_commands.specs.Files.{Outside}
 use Rattle.floppy_words.specs.declared.form.Form.TheVariants as form
 use Rattle.text_commands.specs.JobRounds.{world}
 use Rattle.floppy_tools.specs.Machines.{RunsOver}
@@ -14,7 +14,7 @@ use Rattle.laws_program.specs.Disturbed.{HadNoFault}
 use Rattle.laws_program.proofs.OnBoards.{faultless_first}
 use Rattle.laws_program.proofs.OfForms.{form_well}
 
-pub formats_well : (name : List ℕ) (count : ℕ) (spares : List DriveCounts) (old new : Board) (before after : Desk)
+pub formats_well : (name : List ℕ) (count : ℕ) (spares : List DriveCounts) (old new : Board) (before after : Outside)
     → RunsOver (Some (form.Format name count)) old spares before new after status.AllOk → HadNoFault 0 old new
     → StoresFormatted R500 name count before.files after.files
 formats_well name count spares old new before after over calm =
@@ -22,7 +22,7 @@ formats_well name count spares old new before after over calm =
     format_stores R500 name count (world over.start before.files before.report) (world over.last after.files after.report) runs.course runs.does
     (faultless_first old new spares over.start.station over.last.station over.set_up.starts over.shows calm)
 
-pub formats_dd_well : (name : List ℕ) (count : ℕ) (spares : List DriveCounts) (old new : Board) (before after : Desk)
+pub formats_dd_well : (name : List ℕ) (count : ℕ) (spares : List DriveCounts) (old new : Board) (before after : Outside)
     → RunsOver (Some (form.FormatDd name count)) old spares before new after status.AllOk → HadNoFault 0 old new
     → StoresFormatted R250 name count before.files after.files
 formats_dd_well name count spares old new before after over calm =

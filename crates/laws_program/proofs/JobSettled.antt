@@ -40,8 +40,8 @@ both_settled job one one_after two two_after course other ended other_ended begi
 )
 
 -- what the outside ended was counted
-free_counted : (old new : Stand) (ended : Status) → Blames (ended ≡ status.FileFault) old.desk.shelf_faults new.desk.shelf_faults
-    → Blames (ended ≡ status.SinkFault) old.desk.sink_faults new.desk.sink_faults → IsFreeEnd ended → EndsOutside old new ended
+free_counted : (old new : Stand) (ended : Status) → Blames (ended ≡ status.FileFault) old.outside.shelf_faults new.outside.shelf_faults
+    → Blames (ended ≡ status.SinkFault) old.outside.sink_faults new.outside.sink_faults → IsFreeEnd ended → EndsOutside old new ended
 free_counted old new status.NoMemory shelf sink free = tt
 free_counted old new status.FileFault shelf sink free = shelf.rose refl
 free_counted old new status.SinkFault shelf sink free = sink.rose refl
@@ -55,16 +55,16 @@ free_counted old new status.BadWords shelf sink free = free
 module _ (job : List ℕ) (spares other_spares : List DriveCounts) (old new other_old other_new : Stand) (ended other_ended : Status) (files : Files)
     (one : RanOver (Some (form.Play job)) spares old new ended) (two : RanOver (Some (form.Play job)) other_spares other_old other_new other_ended) where
   abbrev first : World
-  first = world one.runs.start old.desk.desk.files old.desk.desk.report
+  first = world one.runs.start old.outside.outside.files old.outside.outside.report
 
   abbrev second : World
-  second = world two.runs.start other_old.desk.desk.files other_old.desk.desk.report
+  second = world two.runs.start other_old.outside.outside.files other_old.outside.outside.report
 
   abbrev first_after : World
-  first_after = world one.runs.last new.desk.desk.files new.desk.desk.report
+  first_after = world one.runs.last new.outside.outside.files new.outside.outside.report
 
   abbrev second_after : World
-  second_after = world two.runs.last other_new.desk.desk.files other_new.desk.desk.report
+  second_after = world two.runs.last other_new.outside.outside.files other_new.outside.outside.report
 
   -- as many spare drives
   same_spares : length other_spares ≡ length spares → two.runs.start.station.spares ≡ one.runs.start.station.spares
@@ -73,7 +73,7 @@ module _ (job : List ℕ) (spares other_spares : List DriveCounts) (old new othe
       ∙ sym (ap (λ (d : List DriveCounts). length d) one.runs.set_up.starts.spares_are) ∙ one.runs.set_up.fresh.spares
 
   pub job_settled : IsSound old.board spares → IsSound other_old.board other_spares → length other_spares ≡ length spares
-      → old.desk.desk.files ≡ Some files → other_old.desk.desk.files ≡ Some files → AreBytes files
+      → old.outside.outside.files ≡ Some files → other_old.outside.outside.files ≡ Some files → AreBytes files
       → AnswersAgree one.runs.start one.runs.runs.course two.runs.runs.course
       × (AreRegularBefore one.runs.start one.runs.runs.course
       → EndsOutside old new ended ⊎ EndsOutside other_old other_new other_ended

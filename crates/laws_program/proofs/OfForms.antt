@@ -7,7 +7,7 @@ use Rattle.pc_bus.specs.Boards.{Board}
 use Rattle.sector_model.specs.Runs.{Taken}
 use Rattle.sector_model.specs.Plays.{World}
 use Rattle.commands.specs.Leading.{Runs}
-use Rattle.archive_commands.specs.Files.{Desk}
+use Rattle.archive_commands.specs.Files.{Outside}
 use Rattle.floppy_words.specs.declared.form.Form.{Form}
 use Rattle.text_commands.specs.JobRounds.{world}
 use Rattle.floppy_tools.specs.Programs.{DoesForm, DoesOrStarves, AsAsked, StarvesWords}
@@ -19,14 +19,14 @@ asked_or_starved asked old new course ended (AsAsked does) = inl (record { cours
 asked_or_starved asked old new course ended (StarvesWords nothing idle) = inr idle.status
 
 -- the form was done, or memory for its words couldn't be had
-pub form_done : (asked : Form) (old : Board) (spares : List DriveCounts) (before : Desk) (new : Board) (after : Desk) (ended : Status)
+pub form_done : (asked : Form) (old : Board) (spares : List DriveCounts) (before : Outside) (new : Board) (after : Outside) (ended : Status)
     → (over : RunsOver (Some asked) old spares before new after ended)
     → Runs (DoesForm asked) (world over.start before.files before.report) (world over.last after.files after.report) ended ⊎ (ended ≡ status.NoMemory)
 form_done asked old spares before new after ended over =
     asked_or_starved asked (world over.start before.files before.report) (world over.last after.files after.report) over.runs.course ended over.runs.does
 
 -- where all went well, the form was done
-pub form_well : (asked : Form) (old : Board) (spares : List DriveCounts) (before : Desk) (new : Board) (after : Desk)
+pub form_well : (asked : Form) (old : Board) (spares : List DriveCounts) (before : Outside) (new : Board) (after : Outside)
     → (over : RunsOver (Some asked) old spares before new after status.AllOk)
     → Runs (DoesForm asked) (world over.start before.files before.report) (world over.last after.files after.report) status.AllOk
 form_well asked old spares before new after over = elim (form_done asked old spares before new after status.AllOk over) [

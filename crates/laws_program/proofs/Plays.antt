@@ -15,7 +15,7 @@ use Rattle.sector_model.specs.declared.reply.Stop.{Stop}
 use Rattle.sector_model.specs.Texts.{reply_lines, is_refusal, stop_status}
 use Rattle.sector_model.specs.Runs.{Taken, requests_of, course_lines, has_refusal}
 use Rattle.sector_model.specs.Plays.{World, Plays, There, Missing, TooLong, Faulty, Starved, PlaysParsed, PlaysRequests, Played, Stopped, BrokenOff, EndStopped, Prints, Whole, Part, IsText, most_job_bytes, whole_status}
-use Rattle.archive_commands.specs.Files.{Desk}
+use Rattle.archive_commands.specs.Files.{Outside}
 use Rattle.floppy_words.specs.declared.form.Form.TheVariants as form
 use Rattle.floppy_tools.specs.Programs.{DoesOrStarves, AsAsked, StarvesWords}
 use Rattle.text_commands.specs.JobRounds.{world}
@@ -89,7 +89,7 @@ does_answered : (job : List ℕ) (files : Files) (old : World) (course : List Ta
 does_answered job files old course new ended whole told (AsAsked does) = job_answered job files old course new ended whole told does
 does_answered job files old course new ended whole told (StarvesWords nothing idle) = absurd (subst IsEndStatus idle.status whole)
 
-pub play_answers : (job : List ℕ) (spares : List DriveCounts) (old new : Board) (before after : Desk) (ended : Status) (files : Files)
+pub play_answers : (job : List ℕ) (spares : List DriveCounts) (old new : Board) (before after : Outside) (ended : Status) (files : Files)
     → (over : RunsOver (Some (form.Play job)) old spares before new after ended) → IsEndStatus ended → before.files ≡ Some files
     → AnswersJob job (world over.start before.files before.report) over.runs.course (world over.last after.files after.report) ended
 play_answers job spares old new before after ended files over whole told =

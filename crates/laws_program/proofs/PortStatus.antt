@@ -228,12 +228,12 @@ begins_kept files bench is named = record {
     none false name e = gone None name refl e
 
 pub ports_end : (file : List ℕ) (words : List (List ℕ)) (spares : List DriveCounts) (old new : Stand) (ended : Status) (files : Files) (text : List ℕ)
-    (lines : List PortLine) (named : ports_file_of words ≡ Some file) → old.desk.desk.files ≡ Some files → IsText (Some files) file text
+    (lines : List PortLine) (named : ports_file_of words ≡ Some file) → old.outside.outside.files ≡ Some files → IsText (Some files) file text
     → ports_of text ≡ Ok lines → InsertsDisks (IsDiskFile (Some files)) (both None) (media_among lines) → (done : Performed words spares old new ended)
     → EndsByReplies (has_refusal (done.does.ports file named).1.course) old new ended
 ports_end file words spares old new ended files text lines named told is spells inserts done =
     let ran = done.does.ports file named in
-    let first = ports_world old.board no_names old.desk.desk in
+    let first = ports_world old.board no_names old.outside.outside in
     counted_by (has_refusal ran.1.course) old new ended done.shelf_faults done.sink_faults
-    (ports_by file files text lines first ran.1.course (ports_world new.board ran.0 new.desk.desk) ended told is spells inserts
+    (ports_by file files text lines first ran.1.course (ports_world new.board ran.0 new.outside.outside) ended told is spells inserts
     (begins_kept files first.bench told refl) ran.1.plays)

@@ -24,7 +24,7 @@ use Rattle.sector_model.specs.Steps.{Step, StoresMedium, IsImageOf, refusal_of, 
 use Rattle.sector_model.specs.Runs.{Taken, Run, requests_of, Ends, EndsBay, Stored, Left, EndStopsAt, AtFirst, AtSecond}
 use Rattle.sector_model.specs.Plays.{World, Plays, There, Missing, TooLong, Faulty, Starved, PlaysParsed, PlaysRequests, Played, Stopped, BrokenOff, EndStopped}
 use Rattle.commands.proofs.Passed.{run_both}
-use Rattle.archive_commands.specs.Files.{Desk}
+use Rattle.archive_commands.specs.Files.{Outside}
 use Rattle.floppy_words.specs.declared.form.Form.TheVariants as form
 use Rattle.text_commands.specs.JobRounds.{world}
 use Rattle.floppy_tools.specs.Programs.{DoesOrStarves, AsAsked, StarvesWords}
@@ -299,7 +299,7 @@ begun name disk start told files is image names = record {
   held = λ bay named. absurd (not_named name bay (ap (λ (n : Names). in_bay n bay) (sym names) ∙ named));
 }
 
-pub play_stays : (name job : List ℕ) (spares : List DriveCounts) (old new : Board) (before after : Desk) (ended : Status) (files : Files) (disk : Disk)
+pub play_stays : (name job : List ℕ) (spares : List DriveCounts) (old new : Board) (before after : Outside) (ended : Status) (files : Files) (disk : Disk)
     (over : RunsOver (Some (form.Play job)) old spares before new after ended) → before.files ≡ Some files → IsImageOf (Some files) name disk
     → IsDisk disk → disk.protected ≡ true → BlanksNone name (requests_of over.runs.course) → HasImage name disk after.files
 play_stays name job spares old new before after ended files disk over told image valid guarded none =

@@ -15,7 +15,7 @@ use Rattle.text_commands.specs.CallRounds.{Breaks, AtStop, AtPut, course_of}
 use Rattle.text_commands.specs.CallCourses.{ServesCalls, ServesParsed, ServesLines}
 use Rattle.text_commands.specs.CallCourses as calls
 use Rattle.text_commands.proofs.RanCalls.{line_run, rounds_run}
-use Rattle.archive_commands.specs.Files.{Desk}
+use Rattle.archive_commands.specs.Files.{Outside}
 use Rattle.floppy_words.specs.declared.form.Form.TheVariants as form
 use Rattle.text_commands.specs.JobRounds.{world}
 use Rattle.floppy_tools.specs.Programs.{DoesOrStarves, AsAsked, StarvesWords}
@@ -83,7 +83,7 @@ module _ (name : List ℕ) (disk : Disk) (valid : IsDisk disk) (guarded : disk.p
   form_keeps file old course new ended none kept (StarvesWords nothing idle) =
       still name disk old.files new.files (ap (λ (w : World). w.files) idle.same) (image_in name disk old.state old.files kept)
 
-pub calls_stay : (name file : List ℕ) (spares : List DriveCounts) (old new : Board) (before after : Desk) (ended : Status) (files : Files) (disk : Disk)
+pub calls_stay : (name file : List ℕ) (spares : List DriveCounts) (old new : Board) (before after : Outside) (ended : Status) (files : Files) (disk : Disk)
     (over : RunsOver (Some (form.Int13 file)) old spares before new after ended) → before.files ≡ Some files → IsImageOf (Some files) name disk
     → IsDisk disk → disk.protected ≡ true → BlanksNone name (requests_of over.runs.course) → HasImage name disk after.files
 calls_stay name file spares old new before after ended files disk over told image valid guarded none =

@@ -11,7 +11,7 @@ use Rattle.sector_model.specs.Ties.{IsJob}
 use Rattle.sector_model.specs.Steps.{IsImageOf}
 use Rattle.sector_model.specs.Runs.{Taken, requests_of}
 use Rattle.sector_model.specs.Plays.{World, Plays, There, Missing, TooLong, Faulty, Starved, PlaysParsed, PlaysRequests, Played, Stopped, BrokenOff, EndStopped, IsText}
-use Rattle.archive_commands.specs.Files.{Desk}
+use Rattle.archive_commands.specs.Files.{Outside}
 use Rattle.floppy_words.specs.declared.form.Form.TheVariants as form
 use Rattle.text_commands.specs.JobRounds.{world}
 use Rattle.floppy_tools.specs.Programs.{DoesOrStarves, AsAsked, StarvesWords}
@@ -62,7 +62,7 @@ module _ (name : List ℕ) where
   form_run job requests old course new ended spelled none (AsAsked does) = job_run job requests old course new ended spelled none does
   form_run job requests old course new ended spelled none (StarvesWords nothing idle) = nothing_run course nothing
 
-pub job_stays : (name job : List ℕ) (spares : List DriveCounts) (old new : Board) (before after : Desk) (ended : Status) (requests : List Request)
+pub job_stays : (name job : List ℕ) (spares : List DriveCounts) (old new : Board) (before after : Outside) (ended : Status) (requests : List Request)
     (disk : Disk) → RunsOver (Some (form.Play job)) old spares before new after ended → IsJob before.files job requests
     → IsImageOf before.files name disk → IsDisk disk → disk.protected ≡ true → BlanksNone name requests → HasImage name disk after.files
 job_stays name job spares old new before after ended requests disk over spelled image valid guarded none =

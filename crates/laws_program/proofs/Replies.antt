@@ -33,8 +33,8 @@ use Rattle.floppy_requests.specs.declared.request.Request.{Request}
 use Rattle.sector_model.specs.Plays.{IsText}
 use Rattle.std.proofs.Common.{Ok}
 
-pub counted_by : (refused : Bool) (old new : Stand) (ended : Status) → Blames (ended ≡ status.FileFault) old.desk.shelf_faults new.desk.shelf_faults
-    → Blames (ended ≡ status.SinkFault) old.desk.sink_faults new.desk.sink_faults → EndsBy refused ended → EndsByReplies refused old new ended
+pub counted_by : (refused : Bool) (old new : Stand) (ended : Status) → Blames (ended ≡ status.FileFault) old.outside.shelf_faults new.outside.shelf_faults
+    → Blames (ended ≡ status.SinkFault) old.outside.sink_faults new.outside.sink_faults → EndsBy refused ended → EndsByReplies refused old new ended
 counted_by refused old new status.AllOk shelf sink ends = ends
 counted_by refused old new status.NoMemory shelf sink ends = tt
 counted_by refused old new status.FileFault shelf sink ends = shelf.rose refl
@@ -47,8 +47,8 @@ counted_by refused old new status.BadWords shelf sink ends = ends
 
 done_by : (asked : Form) (one two : World) (course : List Taken) (old new : Stand) (ended : Status)
     → (DoesForm asked one course two ended → EndsBy (has_refusal course) ended)
-    → Blames (ended ≡ status.FileFault) old.desk.shelf_faults new.desk.shelf_faults
-    → Blames (ended ≡ status.SinkFault) old.desk.sink_faults new.desk.sink_faults
+    → Blames (ended ≡ status.FileFault) old.outside.shelf_faults new.outside.shelf_faults
+    → Blames (ended ≡ status.SinkFault) old.outside.sink_faults new.outside.sink_faults
     → DoesOrStarves asked one course two ended → EndsByReplies (has_refusal course) old new ended
 done_by asked one two course old new ended by shelf sink (AsAsked does) = counted_by (has_refusal course) old new ended shelf sink (by does)
 done_by asked one two course old new ended by shelf sink (StarvesWords nothing idle) =
@@ -56,10 +56,10 @@ done_by asked one two course old new ended by shelf sink (StarvesWords nothing i
 
 module _ (spares : List DriveCounts) (old new : Stand) (ended : Status) where
   abbrev first : (asked : Form) → RanOver (Some asked) spares old new ended → World
-  first asked ran = world ran.runs.start old.desk.desk.files old.desk.desk.report
+  first asked ran = world ran.runs.start old.outside.outside.files old.outside.outside.report
 
   abbrev last : (asked : Form) → RanOver (Some asked) spares old new ended → World
-  last asked ran = world ran.runs.last new.desk.desk.files new.desk.desk.report
+  last asked ran = world ran.runs.last new.outside.outside.files new.outside.outside.report
 
   abbrev Tells : (asked : Form) → RanOver (Some asked) spares old new ended → Type 0
   Tells asked ran = EndsByReplies (has_refusal ran.runs.runs.course) old new ended
@@ -80,25 +80,25 @@ module _ (spares : List DriveCounts) (old new : Stand) (ended : Status) where
       let asked = form.FormatDd name count in
       by_form asked ran (format_by R250 name count (first asked ran) (last asked ran) ran.runs.runs.course ended)
 
-  pub copy_replies : (from to : List ℕ) (files : Files) (disk : Disk) → old.desk.desk.files ≡ Some files → IsImageOf (Some files) from disk
+  pub copy_replies : (from to : List ℕ) (files : Files) (disk : Disk) → old.outside.outside.files ≡ Some files → IsImageOf (Some files) from disk
       → (ran : RanOver (Some (form.Copy from to)) spares old new ended) → Tells (form.Copy from to) ran
   copy_replies from to files disk told image ran =
       let asked = form.Copy from to in
       by_form asked ran (copy_by from to files disk (first asked ran) (last asked ran) ran.runs.runs.course ended told image)
 
-  pub verify_replies : (name : List ℕ) (files : Files) (disk : Disk) → old.desk.desk.files ≡ Some files → IsImageOf (Some files) name disk
+  pub verify_replies : (name : List ℕ) (files : Files) (disk : Disk) → old.outside.outside.files ≡ Some files → IsImageOf (Some files) name disk
       → (ran : RanOver (Some (form.Verify name)) spares old new ended) → Tells (form.Verify name) ran
   verify_replies name files disk told image ran =
       let asked = form.Verify name in
       by_form asked ran (verify_by name files disk (first asked ran) (last asked ran) ran.runs.runs.course ended told image)
 
-  pub import_replies : (flat name : List ℕ) (files : Files) (bytes : List ℕ) (at : Rate) → old.desk.desk.files ≡ Some files
+  pub import_replies : (flat name : List ℕ) (files : Files) (bytes : List ℕ) (at : Rate) → old.outside.outside.files ≡ Some files
       → IsFlatFile (Some files) flat bytes at → (ran : RanOver (Some (form.Import flat name)) spares old new ended) → Tells (form.Import flat name) ran
   import_replies flat name files bytes at told is ran =
       let asked = form.Import flat name in
       by_form asked ran (import_by flat name bytes files at (first asked ran) (last asked ran) ran.runs.runs.course ended told is)
 
-  pub export_replies : (name flat : List ℕ) (files : Files) (disk : Disk) → old.desk.desk.files ≡ Some files → IsImageOf (Some files) name disk
+  pub export_replies : (name flat : List ℕ) (files : Files) (disk : Disk) → old.outside.outside.files ≡ Some files → IsImageOf (Some files) name disk
       → (ran : RanOver (Some (form.Export name flat)) spares old new ended) → Tells (form.Export name flat) ran
   export_replies name flat files disk told image ran =
       let asked = form.Export name flat in
@@ -109,21 +109,21 @@ module _ (spares : List DriveCounts) (old new : Stand) (ended : Status) where
       let asked = form.Exercise seed count in
       by_form asked ran (exercise_by seed count (first asked ran) (last asked ran) ran.runs.runs.course ended)
 
-  pub rescue_replies : (from to log : List ℕ) (files : Files) (disk : Disk) → old.desk.desk.files ≡ Some files → IsImageOf (Some files) from disk
+  pub rescue_replies : (from to log : List ℕ) (files : Files) (disk : Disk) → old.outside.outside.files ≡ Some files → IsImageOf (Some files) from disk
       → file_at files log ≡ None → (ran : RanOver (Some (form.Rescue from to log)) spares old new ended) → Tells (form.Rescue from to log) ran
   rescue_replies from to log files disk told image absent ran =
       let asked = form.Rescue from to log in
       by_form asked ran (rescue_by from to log files disk (first asked ran) (last asked ran) ran.runs.runs.course ended told image absent)
 
-  pub play_replies : (job : List ℕ) (files : Files) (text : List ℕ) (requests : List Request) → old.desk.desk.files ≡ Some files
+  pub play_replies : (job : List ℕ) (files : Files) (text : List ℕ) (requests : List Request) → old.outside.outside.files ≡ Some files
       → IsText (Some files) job text → job_of text ≡ Ok requests → InsertsDisks (IsDiskFile (Some files)) (both None) requests
       → (ran : RanOver (Some (form.Play job)) spares old new ended) → Tells (form.Play job) ran
   play_replies job files text requests told is spells inserts ran =
       let asked = form.Play job in
       by_form asked ran (play_by job files text requests (first asked ran) ran.runs.runs.course (last asked ran) ended told is spells inserts
-      (begins_kept files ran.runs.start old.desk.desk.files told ran.runs.set_up.names ran.runs.set_up.fresh))
+      (begins_kept files ran.runs.start old.outside.outside.files told ran.runs.set_up.names ran.runs.set_up.fresh))
 
-  pub rescue_again_replies : (from to log : List ℕ) (files : Files) (disk target : Disk) (lines : List LogLine) → old.desk.desk.files ≡ Some files
+  pub rescue_again_replies : (from to log : List ℕ) (files : Files) (disk target : Disk) (lines : List LogLine) → old.outside.outside.files ≡ Some files
       → IsImageOf (Some files) from disk → IsImageOf (Some files) to target → IsLogFound (Some files) log (sectors_at disk.rate) (Some lines)
       → (ran : RanOver (Some (form.Rescue from to log)) spares old new ended) → Tells (form.Rescue from to log) ran
   rescue_again_replies from to log files disk target lines told image other found ran =

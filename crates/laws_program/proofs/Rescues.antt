@@ -5,7 +5,7 @@ use Rattle.flop_base.specs.Counters.{DriveCounts}
 use Rattle.pc_bus.specs.Boards.{Board}
 use Rattle.sector_model.specs.Runs.{Taken}
 use Rattle.sector_model.specs.Plays.{World}
-use Rattle.archive_commands.specs.Files.{Desk}
+use Rattle.archive_commands.specs.Files.{Outside}
 use Rattle.floppy_words.specs.declared.form.Form.TheVariants as form
 use Rattle.text_commands.specs.JobRounds.{world}
 use Rattle.floppy_tools.specs.Programs.{DoesOrStarves, AsAsked, StarvesWords}
@@ -43,7 +43,7 @@ in_order : (from to log : List ℕ) (old new : World) (course : List Taken) (end
 in_order from to log old new course ended (AsAsked does) = (log_of course, stores_in_order from to log old new course ended does)
 in_order from to log old new course ended (StarvesWords nothing idle) = ([], Nothing (ap (λ (w : World). w.files) idle.same))
 
-pub rescue_orders : (from to log : List ℕ) (spares : List DriveCounts) (old new : Board) (before after : Desk) (ended : Status)
+pub rescue_orders : (from to log : List ℕ) (spares : List DriveCounts) (old new : Board) (before after : Outside) (ended : Status)
     → RunsOver (Some (form.Rescue from to log)) old spares before new after ended
     → (lines : List LogLine) × StoresInOrder to log lines before.files after.files
 rescue_orders from to log spares old new before after ended over =
@@ -68,7 +68,7 @@ logs_by from to log files disk old course new ended (AsAsked does) whole fine to
 logs_by from to log files disk old course new ended (StarvesWords nothing idle) whole fine told image quiet unmistaken =
     absurd (subst IsEndStatus idle.status whole)
 
-pub rescue_loses : (from to log : List ℕ) (spares : List DriveCounts) (old new : Board) (before after : Desk) (ended : Status) (files : Files) (disk : Disk)
+pub rescue_loses : (from to log : List ℕ) (spares : List DriveCounts) (old new : Board) (before after : Outside) (ended : Status) (files : Files) (disk : Disk)
     → (over : RunsOver (Some (form.Rescue from to log)) old spares before new after ended) → IsEndStatus ended
     → IsNotToldStopped before.report after.report → before.files ≡ Some files → IsImageOf (Some files) from disk → HadNoFault 0 old new
     → HadNoStall old new → IsUnmistaken disk
@@ -78,7 +78,7 @@ rescue_loses from to log spares old new before after ended files disk over whole
     over.runs.does whole fine told image
     (undisturbed_first old new spares over.start.station over.last.station over.set_up.starts over.shows calm quick) unmistaken
 
-pub rescue_logs_rest : (from to log : List ℕ) (spares : List DriveCounts) (old new : Board) (before after : Desk) (ended : Status) (files : Files) (disk : Disk)
+pub rescue_logs_rest : (from to log : List ℕ) (spares : List DriveCounts) (old new : Board) (before after : Outside) (ended : Status) (files : Files) (disk : Disk)
     → RunsOver (Some (form.Rescue from to log)) old spares before new after ended → IsEndStatus ended → IsNotToldStopped before.report after.report
     → before.files ≡ Some files → IsImageOf (Some files) from disk → HadNoFault 0 old new → HadNoStall old new → IsUnmistaken disk
     → StoresLogOf disk log files after.files
@@ -123,7 +123,7 @@ again_by from to log files disk target old new course ended (AsAsked does) whole
 again_by from to log files disk target old new course ended (StarvesWords nothing idle) whole fine apart told image size calm other =
     absurd (subst IsEndStatus idle.status whole)
 
-pub rescue_settles_again : (from to log : List ℕ) (spares : List DriveCounts) (old new : Board) (before after : Desk) (ended : Status) (files : Files)
+pub rescue_settles_again : (from to log : List ℕ) (spares : List DriveCounts) (old new : Board) (before after : Outside) (ended : Status) (files : Files)
     (disk target : Disk) → (over : RunsOver (Some (form.Rescue from to log)) old spares before new after ended) → IsEndStatus ended
     → IsNotToldStopped before.report after.report → to ≢ log → before.files ≡ Some files → IsImageOf (Some files) from disk → HadNoFault 1 old new
     → IsImageOf (Some files) to target → IsRegularDisk target → BringsUpNoMark target over.start over.runs.course
@@ -134,7 +134,7 @@ rescue_settles_again from to log spares old new before after ended files disk ta
     (faultless_second old new spares over.start.station over.last.station over.set_up.starts over.shows calm)
     (record { image = other; regular = regular; unmarked = unmarked })
 
-pub rescue_settles : (from to log : List ℕ) (spares : List DriveCounts) (old new : Board) (before after : Desk) (ended : Status) (files : Files) (disk : Disk)
+pub rescue_settles : (from to log : List ℕ) (spares : List DriveCounts) (old new : Board) (before after : Outside) (ended : Status) (files : Files) (disk : Disk)
     → (over : RunsOver (Some (form.Rescue from to log)) old spares before new after ended) → IsEndStatus ended → IsNotToldStopped before.report after.report
     → to ≢ log → before.files ≡ Some files → IsImageOf (Some files) from disk → file_at files log ≡ None → HadNoFault 1 old new
     → IsRescue disk disk to log files (world over.start before.files before.report) over.runs.course (world over.last after.files after.report) ended

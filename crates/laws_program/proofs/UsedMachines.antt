@@ -172,7 +172,7 @@ pub ports_seeks : (file : List ℕ) (words : List (List ℕ)) (spares : List Dri
     → SeeksEnd old.board (done.does.ports file named).1.course new.board
 ports_seeks file words spares old new ended named fresh done =
     let ran = done.does.ports file named in
-    let first = ports_world old.board no_names old.desk.desk in
-    let last = ports_world new.board ran.0 new.desk.desk in
+    let first = ports_world old.board no_names old.outside.outside in
+    let last = ports_world new.board ran.0 new.outside.outside in
     let run = plays_run first last file ran.1.course ended ran.1.plays in
     seeks_in first.bench run.0 last.bench ran.1.course (made_apart old.board fresh) run.1 ran.1.ends

@@ -20,7 +20,7 @@ use Rattle.sector_model.specs.Stations.{Bay}
 use Rattle.sector_model.specs.Steps.{IsImageOf}
 use Rattle.sector_model.specs.Plays.{whole_status}
 use Rattle.pc_bus.specs.Boards.{Board}
-use Rattle.archive_commands.specs.Files.{Desk}
+use Rattle.archive_commands.specs.Files.{Outside}
 use Rattle.floppy_words.specs.declared.form.Form.TheVariants as form
 use Rattle.text_commands.specs.JobRounds.{world}
 use Rattle.floppy_tools.specs.Machines.{RunsOver}
@@ -32,7 +32,7 @@ use Rattle.laws_program.specs.Told.{ListsFailing}
 use Rattle.laws_program.proofs.OnBoards.{undisturbed_first}
 use Rattle.laws_program.proofs.OfForms.{form_done}
 
-pub verifies_well : (name : List ℕ) (spares : List DriveCounts) (old new : Board) (before after : Desk) (ended : Status) (files : Files) (disk : Disk)
+pub verifies_well : (name : List ℕ) (spares : List DriveCounts) (old new : Board) (before after : Outside) (ended : Status) (files : Files) (disk : Disk)
     (failed : List (Chrn × Look)) → RunsOver (Some (form.Verify name)) old spares before new after ended → IsEndStatus ended
     → before.files ≡ Some files → IsImageOf (Some files) name disk → HadNoFault 0 old new → HadNoStall old new → IsUnmistaken disk
     → AreFailing disk (standard_keys disk) failed → ListsFailing disk (all_told_of failed) before after ended
@@ -81,7 +81,7 @@ nothing : {X : Type 0} (row : List X) → length row ≡ 0 → row ≡ []
 nothing [] none = refl
 nothing (x ∷ row) none = absurd (omega (arith, none))
 
-pub verifies_all : (name : List ℕ) (spares : List DriveCounts) (old new : Board) (before after : Desk) (files : Files) (disk : Disk)
+pub verifies_all : (name : List ℕ) (spares : List DriveCounts) (old new : Board) (before after : Outside) (files : Files) (disk : Disk)
     (failed : List (Chrn × Look)) → RunsOver (Some (form.Verify name)) old spares before new after status.AllOk
     → before.files ≡ Some files → IsImageOf (Some files) name disk → HadNoFault 0 old new → HadNoStall old new → IsUnmistaken disk
     → AreFailing disk (standard_keys disk) failed → failed ≡ []

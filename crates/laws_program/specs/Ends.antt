@@ -10,15 +10,15 @@ use Rattle.floppy_tools.specs.Performed.{Stand}
 abbrev pub EndsWell : Type 0 → Stand → Stand → Status → Type 0
 EndsWell Holds old new status.AllOk = Holds
 EndsWell Holds old new status.NoMemory = Unit {0}
-EndsWell Holds old new status.FileFault = RoseOnce old.desk.shelf_faults new.desk.shelf_faults
-EndsWell Holds old new status.SinkFault = RoseOnce old.desk.sink_faults new.desk.sink_faults
+EndsWell Holds old new status.FileFault = RoseOnce old.outside.shelf_faults new.outside.shelf_faults
+EndsWell Holds old new status.SinkFault = RoseOnce old.outside.sink_faults new.outside.sink_faults
 EndsWell Holds old new _ = ⊥
 
 -- the outside ended the program: memory couldn't be had, or the shelf or the sink failed, and that fault was counted once
 abbrev pub EndsOutside : Stand → Stand → Status → Type 0
 EndsOutside old new status.NoMemory = Unit {0}
-EndsOutside old new status.FileFault = RoseOnce old.desk.shelf_faults new.desk.shelf_faults
-EndsOutside old new status.SinkFault = RoseOnce old.desk.sink_faults new.desk.sink_faults
+EndsOutside old new status.FileFault = RoseOnce old.outside.shelf_faults new.outside.shelf_faults
+EndsOutside old new status.SinkFault = RoseOnce old.outside.sink_faults new.outside.sink_faults
 EndsOutside old new _ = ⊥
 
 -- the program ended with status 0 or 1, and this holds; or memory couldn't be had; or the shelf or the sink failed, and that fault was
@@ -27,8 +27,8 @@ abbrev pub EndsAnswered : Type 0 → Stand → Stand → Status → Type 0
 EndsAnswered Holds old new status.AllOk = Holds
 EndsAnswered Holds old new status.SomeRefused = Holds
 EndsAnswered Holds old new status.NoMemory = Unit {0}
-EndsAnswered Holds old new status.FileFault = RoseOnce old.desk.shelf_faults new.desk.shelf_faults
-EndsAnswered Holds old new status.SinkFault = RoseOnce old.desk.sink_faults new.desk.sink_faults
+EndsAnswered Holds old new status.FileFault = RoseOnce old.outside.shelf_faults new.outside.shelf_faults
+EndsAnswered Holds old new status.SinkFault = RoseOnce old.outside.sink_faults new.outside.sink_faults
 EndsAnswered Holds old new _ = ⊥
 
 -- the program ended with status 1 where some reply was a refusal, and else with 0; or memory couldn't be had; or the shelf or the sink
@@ -37,8 +37,8 @@ abbrev pub EndsByReplies : Bool → Stand → Stand → Status → Type 0
 EndsByReplies refused old new status.AllOk = refused ≡ false
 EndsByReplies refused old new status.SomeRefused = refused ≡ true
 EndsByReplies refused old new status.NoMemory = Unit {0}
-EndsByReplies refused old new status.FileFault = RoseOnce old.desk.shelf_faults new.desk.shelf_faults
-EndsByReplies refused old new status.SinkFault = RoseOnce old.desk.sink_faults new.desk.sink_faults
+EndsByReplies refused old new status.FileFault = RoseOnce old.outside.shelf_faults new.outside.shelf_faults
+EndsByReplies refused old new status.SinkFault = RoseOnce old.outside.sink_faults new.outside.sink_faults
 EndsByReplies refused old new _ = ⊥
 
 -- the program ended with status 0, and a file was made; or with status 1, and a track was unfit for that; or memory couldn't be had; or
@@ -47,6 +47,6 @@ abbrev pub EndsByFit : Type 0 → Type 0 → Stand → Stand → Status → Type
 EndsByFit Made IsUnfit old new status.AllOk = Made
 EndsByFit Made IsUnfit old new status.SomeRefused = IsUnfit
 EndsByFit Made IsUnfit old new status.NoMemory = Unit {0}
-EndsByFit Made IsUnfit old new status.FileFault = RoseOnce old.desk.shelf_faults new.desk.shelf_faults
-EndsByFit Made IsUnfit old new status.SinkFault = RoseOnce old.desk.sink_faults new.desk.sink_faults
+EndsByFit Made IsUnfit old new status.FileFault = RoseOnce old.outside.shelf_faults new.outside.shelf_faults
+EndsByFit Made IsUnfit old new status.SinkFault = RoseOnce old.outside.sink_faults new.outside.sink_faults
 EndsByFit Made IsUnfit old new _ = ⊥

@@ -10,7 +10,7 @@ use Rattle.track_model.specs.declared.Look.TheVariants.{Found}
 use Rattle.sector_map.specs.Disks.{IsOnMap, IsRegularDisk, LookOn}
 use Rattle.sector_model.specs.Steps.{IsImageOf}
 use Rattle.pc_bus.specs.Boards.{Board}
-use Rattle.archive_commands.specs.Files.{Desk}
+use Rattle.archive_commands.specs.Files.{Outside}
 use Rattle.rescue.specs.Course.{logged_keys}
 use Rattle.rescue.specs.Log.{IsLog, log_text}
 use Rattle.rescue.specs.declared.line.LogLine.{LogLine}
@@ -32,9 +32,9 @@ pub record RescueRun : Type 0 where
   pub disk : Disk
   pub spares : List DriveCounts
   pub old : Board
-  pub before : Desk
+  pub before : Outside
   pub new : Board
-  pub after : Desk
+  pub after : Outside
   pub ended : Status
 
 -- it went to its end onto the disk and by the log of these names, and the drive of bay 1 had no fault

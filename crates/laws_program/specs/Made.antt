@@ -4,18 +4,18 @@ use Rattle.flop_base.specs.Shelf.{Files}
 use Rattle.flop_base.specs.Sink.{grown}
 use Rattle.remaster.specs.declared.lines.SurveyLine.{SurveyLine}
 use Rattle.archive_commands.specs.declared.halt.Halt.{Halt}
-use Rattle.archive_commands.specs.Files.{Desk}
+use Rattle.archive_commands.specs.Files.{Outside}
 use Rattle.archive_commands.specs.Making.{made_text}
 use Rattle.archive_commands.specs.Surveys.{SurveysFile, survey_lines}
 
 -- a file was made of another, and told with a number
-pub record MakesFile (Makes : Option Files → Result ℕ Halt → Option Files → Type 0) (verb : List ℕ) (before after : Desk) : Type 0 where
+pub record MakesFile (Makes : Option Files → Result ℕ Halt → Option Files → Type 0) (verb : List ℕ) (before after : Outside) : Type 0 where
   pub count : ℕ
   pub makes : Makes before.files (Ok count) after.files
   pub report : after.report ≡ grown before.report (made_text verb count ∷ [])
 
 -- the survey of a disk was told, and no file changed
-pub record TellsSurveyOf (name : List ℕ) (before after : Desk) : Type 0 where
+pub record TellsSurveyOf (name : List ℕ) (before after : Outside) : Type 0 where
   pub lines : List SurveyLine
   pub survey : SurveysFile before.files name (Ok lines)
   pub files : after.files ≡ before.files

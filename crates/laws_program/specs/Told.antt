@@ -11,11 +11,11 @@ use Rattle.sector_model.specs.Plays.{whole_status}
 use Rattle.commands.specs.LastLines.{stopped_text}
 use Rattle.floppy_session.specs.Shapes.{shape_of}
 use Rattle.disk_commands.specs.Disks.{sectors_of}
-use Rattle.archive_commands.specs.Files.{Desk}
+use Rattle.archive_commands.specs.Files.{Outside}
 use Rattle.laws_commands.specs.VerifyRuns.{verify_report}
 
 -- these failing keys of a disk were told and no others, and the status says whether there are any
-pub record ListsFailing (disk : Disk) (failed : List (Chrn × Code)) (before after : Desk) (ended : Status) : Type 0 where
+pub record ListsFailing (disk : Disk) (failed : List (Chrn × Code)) (before after : Outside) (ended : Status) : Type 0 where
   pub report : after.report ≡ grown before.report (verify_report (sectors_of (shape_of disk)) failed)
   pub status : ended ≡ whole_status (nat_le 1 (length failed))
 

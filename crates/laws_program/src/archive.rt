@@ -2,7 +2,7 @@
 ghost use Rattle.std.specs.Prelude.{List, Some, codes};
 ghost use Rattle.flop_base.specs.Counters.{DriveCounts};
 ghost use Rattle.pc_bus.specs.Boards.{Board};
-ghost use Rattle.archive_commands.specs.Files.{Desk};
+ghost use Rattle.archive_commands.specs.Files.{Outside};
 ghost use Rattle.archive_commands.specs.Making.{MakesFromImd, MakesToImd, MakesRemaster};
 ghost use Rattle.floppy_words.specs.declared.form.Form.TheVariants as form;
 ghost use Rattle.floppy_tools.specs.Machines.{RunsOver};
@@ -13,7 +13,7 @@ use flop_base::Status;
 /// A law: where `fromimd IMD NAME` ends with status 0, IMD is an ImageDisk file, the file NAME is the image of the disk that is made
 /// of it, which has its sectors, no other file changed, and its tracks are told.
 pub fn disk_of_an_imd(_imd: &str, _name: &str)
-    ensures { (spares : List DriveCounts) (old new : Board) (before after : Desk)
+    ensures { (spares : List DriveCounts) (old new : Board) (before after : Outside)
         → RunsOver (Some (form.FromImd _imd.now _name.now)) old spares before new after Status.AllOk
         → MakesFile (MakesFromImd _imd.now _name.now) (codes "fromimd") before after }
 {}
@@ -21,7 +21,7 @@ pub fn disk_of_an_imd(_imd: &str, _name: &str)
 /// A law: where `toimd NAME IMD` ends with status 0, NAME is the image of a disk, IMD is the ImageDisk file that is taken of it,
 /// which has its sectors and reads back, no other file changed, and its tracks are told.
 pub fn imd_of_a_disk(_name: &str, _imd: &str)
-    ensures { (spares : List DriveCounts) (old new : Board) (before after : Desk)
+    ensures { (spares : List DriveCounts) (old new : Board) (before after : Outside)
         → RunsOver (Some (form.ToImd _name.now _imd.now)) old spares before new after Status.AllOk
         → MakesFile (MakesToImd _name.now _imd.now) (codes "toimd") before after }
 {}
@@ -29,7 +29,7 @@ pub fn imd_of_a_disk(_name: &str, _imd: &str)
 /// A law: where `remaster FROM TO` ends with status 0, FROM is the image of a disk, the file TO is the image of that disk laid out
 /// anew, no other file changed, and its sectors are told.
 pub fn disk_laid_anew(_from: &str, _to: &str)
-    ensures { (spares : List DriveCounts) (old new : Board) (before after : Desk)
+    ensures { (spares : List DriveCounts) (old new : Board) (before after : Outside)
         → RunsOver (Some (form.Remaster _from.now _to.now)) old spares before new after Status.AllOk
         → MakesFile (MakesRemaster _from.now _to.now) (codes "remaster") before after }
 {}
@@ -37,7 +37,7 @@ pub fn disk_laid_anew(_from: &str, _to: &str)
 /// A law: where `survey NAME` ends with status 0, NAME is the image of a disk, its address fields are told with their looks, and no
 /// file changed.
 pub fn survey_of_a_disk(_name: &str)
-    ensures { (spares : List DriveCounts) (old new : Board) (before after : Desk)
+    ensures { (spares : List DriveCounts) (old new : Board) (before after : Outside)
         → RunsOver (Some (form.Survey _name.now)) old spares before new after Status.AllOk
         → TellsSurveyOf _name.now before after }
 {}

@@ -5,7 +5,7 @@ ghost use Rattle.raw_image.specs.Disk.{Disk};
 ghost use Rattle.flop_base.specs.Counters.{DriveCounts};
 ghost use Rattle.sector_model.specs.Steps.{IsImageOf};
 ghost use Rattle.pc_bus.specs.Boards.{Board};
-ghost use Rattle.archive_commands.specs.Files.{Desk};
+ghost use Rattle.archive_commands.specs.Files.{Outside};
 ghost use Rattle.floppy_words.specs.declared.form.Form.TheVariants as form;
 ghost use Rattle.floppy_tools.specs.Machines.{RunsOver};
 ghost use Rattle.laws_commands.specs.Targets.{HoldsTarget};
@@ -19,7 +19,7 @@ use flop_base::Status;
 /// on FROM, whatever faults the drive of bay 0 had; and no other file changed. These are its sectors where FROM is regular, and the
 /// drive of bay 0 had no fault or no field of FROM has two data marks. DMA requests may have waited.
 pub fn copy_of_a_disk(_from: &str, _to: &str)
-    ensures { (spares : List DriveCounts) (old new : Board) (before after : Desk) (files : Files) (disk : Disk)
+    ensures { (spares : List DriveCounts) (old new : Board) (before after : Outside) (files : Files) (disk : Disk)
         → RunsOver (Some (form.Copy _from.now _to.now)) old spares before new after Status.AllOk
         → before.files ≡ Some files → IsImageOf (Some files) _from.now disk
         → HadNoFault 1 old new

@@ -5,7 +5,7 @@ ghost use Rattle.floppy_requests.specs.declared.request.Request.{Request};
 ghost use Rattle.flop_base.specs.Counters.{DriveCounts};
 ghost use Rattle.pc_bus.specs.Boards.{Board};
 ghost use Rattle.sector_model.specs.Ties.{TiesCounts, IsJob, accesses_of_job};
-ghost use Rattle.archive_commands.specs.Files.{Desk};
+ghost use Rattle.archive_commands.specs.Files.{Outside};
 ghost use Rattle.floppy_words.specs.declared.form.Form.{Form};
 ghost use Rattle.floppy_words.specs.declared.form.Form.TheVariants as form;
 ghost use Rattle.floppy_tools.specs.Machines.{RunsOver};
@@ -15,7 +15,7 @@ ghost use Rattle.floppy_tools.specs.Machines.{RunsOver};
 /// what the requests allow. Where nothing was left, no step was disturbed. The counts at the begin go on from those of the machine
 /// that was handed in, and those at the end are those of the one that comes back, as `RunsOver` says.
 pub fn counts_are_tied()
-    ensures { (asked : Option Form) (spares : List DriveCounts) (old new : Board) (before after : Desk) (ended : Status)
+    ensures { (asked : Option Form) (spares : List DriveCounts) (old new : Board) (before after : Outside) (ended : Status)
         (over : RunsOver asked old spares before new after ended)
         → TiesCounts over.start.station.counters over.runs.course over.last.station.counters }
 {}
@@ -23,7 +23,7 @@ pub fn counts_are_tied()
 /// A law: `play JOB`, where the told file JOB spells these requests, makes no more accesses past the driver than all of them may, and
 /// one for each bay at the end, also where the run stopped before it.
 pub fn job_accesses(_job: &str)
-    ensures { (spares : List DriveCounts) (old new : Board) (before after : Desk) (ended : Status) (requests : List Request)
+    ensures { (spares : List DriveCounts) (old new : Board) (before after : Outside) (ended : Status) (requests : List Request)
         → RunsOver (Some (form.Play _job.now)) old spares before new after ended → IsJob before.files _job.now requests
         → new.bus.direct ≤ old.bus.direct + accesses_of_job requests }
 {}

@@ -31,14 +31,14 @@ use flop_base::Status;
 pub fn format_ends_well(_name: &str, _cylinders: u8)
     ensures { (spares : List DriveCounts) (old new : Stand) (ended : Status) → 1 ≤ _cylinders → _cylinders ≤ 80
         → RanOver (Some (form.Format _name.now _cylinders)) spares old new ended → IsSound old.board spares
-        → EndsWell (StoresFormatted R500 _name.now _cylinders old.desk.desk.files new.desk.desk.files) old new ended }
+        → EndsWell (StoresFormatted R500 _name.now _cylinders old.outside.outside.files new.outside.outside.files) old new ended }
 {}
 
 /// A law: so does `formatdd NAME CYLS`.
 pub fn formatdd_ends_well(_name: &str, _cylinders: u8)
     ensures { (spares : List DriveCounts) (old new : Stand) (ended : Status) → 1 ≤ _cylinders → _cylinders ≤ 80
         → RanOver (Some (form.FormatDd _name.now _cylinders)) spares old new ended → IsSound old.board spares
-        → EndsWell (StoresFormatted R250 _name.now _cylinders old.desk.desk.files new.desk.desk.files) old new ended }
+        → EndsWell (StoresFormatted R250 _name.now _cylinders old.outside.outside.files new.outside.outside.files) old new ended }
 {}
 
 /// A law: so does `copy FROM TO`, where FROM is the image of a regular disk that has each of its standard keys, and stores its
@@ -46,24 +46,24 @@ pub fn formatdd_ends_well(_name: &str, _cylinders: u8)
 pub fn copy_ends_well(_from: &str, _to: &str)
     ensures { (spares : List DriveCounts) (old new : Stand) (ended : Status) (files : Files) (disk : Disk)
         → RanOver (Some (form.Copy _from.now _to.now)) spares old new ended → IsSound old.board spares
-        → old.desk.desk.files ≡ Some files → IsImageOf (Some files) _from.now disk → IsReadable disk
-        → EndsWell (StoresSameSectors disk _to.now (Some files) new.desk.desk.files) old new ended }
+        → old.outside.outside.files ≡ Some files → IsImageOf (Some files) _from.now disk → IsReadable disk
+        → EndsWell (StoresSameSectors disk _to.now (Some files) new.outside.outside.files) old new ended }
 {}
 
 /// A law: so does `verify NAME`, where NAME is the image of such a disk, and lists no key.
 pub fn verify_ends_well(_name: &str)
     ensures { (spares : List DriveCounts) (old new : Stand) (ended : Status) (files : Files) (disk : Disk)
         → RanOver (Some (form.Verify _name.now)) spares old new ended → IsSound old.board spares
-        → old.desk.desk.files ≡ Some files → IsImageOf (Some files) _name.now disk → IsReadable disk
-        → EndsWell (ListsFailing disk [] old.desk.desk new.desk.desk Status.AllOk) old new ended }
+        → old.outside.outside.files ≡ Some files → IsImageOf (Some files) _name.now disk → IsReadable disk
+        → EndsWell (ListsFailing disk [] old.outside.outside new.outside.outside Status.AllOk) old new ended }
 {}
 
 /// A law: so does `import FLAT NAME`, where FLAT is a flat file, and stores a disk of its sectors.
 pub fn import_ends_well(_flat: &str, _name: &str)
     ensures { (spares : List DriveCounts) (old new : Stand) (ended : Status) (files : Files) (bytes : List ℕ) (at : Rate)
         → RanOver (Some (form.Import _flat.now _name.now)) spares old new ended → IsSound old.board spares
-        → old.desk.desk.files ≡ Some files → IsFlatFile (Some files) _flat.now bytes at
-        → EndsWell (StoresDisk bytes _name.now at (Some files) new.desk.desk.files) old new ended }
+        → old.outside.outside.files ≡ Some files → IsFlatFile (Some files) _flat.now bytes at
+        → EndsWell (StoresDisk bytes _name.now at (Some files) new.outside.outside.files) old new ended }
 {}
 
 /// A law: so does `export NAME FLAT`, where NAME is the image of a regular disk of 80 cylinders and two heads that has each of its
@@ -71,8 +71,8 @@ pub fn import_ends_well(_flat: &str, _name: &str)
 pub fn export_ends_well(_name: &str, _flat: &str)
     ensures { (spares : List DriveCounts) (old new : Stand) (ended : Status) (files : Files) (disk : Disk)
         → RanOver (Some (form.Export _name.now _flat.now)) spares old new ended → IsSound old.board spares
-        → old.desk.desk.files ≡ Some files → IsImageOf (Some files) _name.now disk → IsWholeDisk disk
-        → EndsWell (StoresFlatOf disk _flat.now (Some files) new.desk.desk.files) old new ended }
+        → old.outside.outside.files ≡ Some files → IsImageOf (Some files) _name.now disk → IsWholeDisk disk
+        → EndsWell (StoresFlatOf disk _flat.now (Some files) new.outside.outside.files) old new ended }
 {}
 
 /// A law: so does `rescue FROM TO LOG`, where FROM is the image of a regular disk that has each of its standard keys, no file LOG is there,
@@ -80,9 +80,9 @@ pub fn export_ends_well(_name: &str, _flat: &str)
 pub fn new_rescue_ends_well(_from: &str, _to: &str, _log: &str)
     ensures { (spares : List DriveCounts) (old new : Stand) (ended : Status) (files : Files) (disk : Disk)
         → RanOver (Some (form.Rescue _from.now _to.now _log.now)) spares old new ended → IsSound old.board spares
-        → old.desk.desk.files ≡ Some files → IsImageOf (Some files) _from.now disk → IsReadable disk
+        → old.outside.outside.files ≡ Some files → IsImageOf (Some files) _from.now disk → IsReadable disk
         → file_at files _log.now ≡ None → _to.now ≢ _log.now
-        → EndsWell (StoresSameAndLog disk _to.now _log.now (Some files) new.desk.desk.files) old new ended }
+        → EndsWell (StoresSameAndLog disk _to.now _log.now (Some files) new.outside.outside.files) old new ended }
 {}
 
 /// A law: so does one that goes on by a log LOG, whose records FROM has, the image of a regular disk, and TO is the image of a disk that
@@ -91,8 +91,8 @@ pub fn new_rescue_ends_well(_from: &str, _to: &str, _log: &str)
 pub fn further_rescue_ends_well(_from: &str, _to: &str, _log: &str)
     ensures { (spares : List DriveCounts) (old new : Stand) (ended : Status) (files : Files) (disk target : Disk) (lines : List LogLine)
         → RanOver (Some (form.Rescue _from.now _to.now _log.now)) spares old new ended → IsSound old.board spares
-        → old.desk.desk.files ≡ Some files → IsImageOf (Some files) _from.now disk → IsImageOf (Some files) _to.now target
+        → old.outside.outside.files ≡ Some files → IsImageOf (Some files) _from.now disk → IsImageOf (Some files) _to.now target
         → IsLogFound (Some files) _log.now (sectors_at disk.rate) (Some lines) → _to.now ≢ _log.now
         → IsRegularDisk disk → All (HasKey disk) (logged_keys lines) → TakesKeys disk.rate (logged_keys lines) target
-        → EndsWell (StoresRestAndLog disk target (logged_keys lines) _to.now _log.now (Some files) new.desk.desk.files) old new ended }
+        → EndsWell (StoresRestAndLog disk target (logged_keys lines) _to.now _log.now (Some files) new.outside.outside.files) old new ended }
 {}

@@ -18,35 +18,35 @@ ghost use Rattle.laws_program.specs.Made.{MakesFile, TellsSurveyOf, HasUnfit};
 /// unfit, and changes no file, unless memory couldn't be had, or the shelf or the sink failed, and counted it.
 pub fn fromimd_status(_imd: &str, _name: &str)
     ensures { (spares : List DriveCounts) (old new : Stand) (ended : Status) (files : Files)
-        → old.desk.desk.files ≡ Some files → (image : ImdImage) → ReadsAs imd_of (Some files) _imd.now (Ok image)
+        → old.outside.outside.files ≡ Some files → (image : ImdImage) → ReadsAs imd_of (Some files) _imd.now (Ok image)
         → RanOver (Some (form.FromImd _imd.now _name.now)) spares old new ended
-        → EndsByFit (MakesFile (MakesFromImd _imd.now _name.now) (codes "fromimd") old.desk.desk new.desk.desk)
-        (HasUnfit (HasNoDisk image) (Some files) new.desk.desk.files) old new ended }
+        → EndsByFit (MakesFile (MakesFromImd _imd.now _name.now) (codes "fromimd") old.outside.outside new.outside.outside)
+        (HasUnfit (HasNoDisk image) (Some files) new.outside.outside.files) old new ended }
 {}
 
 /// A law: so does `toimd NAME IMD`, where NAME is the image of a disk, and makes the ImageDisk file.
 pub fn toimd_status(_name: &str, _imd: &str)
     ensures { (spares : List DriveCounts) (old new : Stand) (ended : Status) (files : Files)
-        → old.desk.desk.files ≡ Some files → (disk : Disk) → ReadsAs image_of (Some files) _name.now (Ok disk)
+        → old.outside.outside.files ≡ Some files → (disk : Disk) → ReadsAs image_of (Some files) _name.now (Ok disk)
         → RanOver (Some (form.ToImd _name.now _imd.now)) spares old new ended
-        → EndsByFit (MakesFile (MakesToImd _name.now _imd.now) (codes "toimd") old.desk.desk new.desk.desk)
-        (HasUnfit (HasNoImd disk) (Some files) new.desk.desk.files) old new ended }
+        → EndsByFit (MakesFile (MakesToImd _name.now _imd.now) (codes "toimd") old.outside.outside new.outside.outside)
+        (HasUnfit (HasNoImd disk) (Some files) new.outside.outside.files) old new ended }
 {}
 
 /// A law: so does `remaster FROM TO`, where FROM is the image of a disk, and makes the disk that is laid out anew.
 pub fn remaster_status(_from: &str, _to: &str)
     ensures { (spares : List DriveCounts) (old new : Stand) (ended : Status) (files : Files)
-        → old.desk.desk.files ≡ Some files → (disk : Disk) → ReadsAs image_of (Some files) _from.now (Ok disk)
+        → old.outside.outside.files ≡ Some files → (disk : Disk) → ReadsAs image_of (Some files) _from.now (Ok disk)
         → RanOver (Some (form.Remaster _from.now _to.now)) spares old new ended
-        → EndsByFit (MakesFile (MakesRemaster _from.now _to.now) (codes "remaster") old.desk.desk new.desk.desk)
-        (HasUnfit (HasNoRemaster disk) (Some files) new.desk.desk.files) old new ended }
+        → EndsByFit (MakesFile (MakesRemaster _from.now _to.now) (codes "remaster") old.outside.outside new.outside.outside)
+        (HasUnfit (HasNoRemaster disk) (Some files) new.outside.outside.files) old new ended }
 {}
 
 /// A law: where NAME is the image of a disk, `survey NAME` ends with status 0 and tells its address fields, unless memory couldn't be
 /// had, or the shelf or the sink failed, and counted it.
 pub fn survey_status(_name: &str)
     ensures { (spares : List DriveCounts) (old new : Stand) (ended : Status) (files : Files) (disk : Disk)
-        → old.desk.desk.files ≡ Some files → ReadsAs image_of (Some files) _name.now (Ok disk)
+        → old.outside.outside.files ≡ Some files → ReadsAs image_of (Some files) _name.now (Ok disk)
         → RanOver (Some (form.Survey _name.now)) spares old new ended
-        → EndsWell (TellsSurveyOf _name.now old.desk.desk new.desk.desk) old new ended }
+        → EndsWell (TellsSurveyOf _name.now old.outside.outside new.outside.outside) old new ended }
 {}

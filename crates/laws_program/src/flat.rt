@@ -5,7 +5,7 @@ ghost use Rattle.raw_image.specs.Disk.{Disk};
 ghost use Rattle.flop_base.specs.Counters.{DriveCounts};
 ghost use Rattle.sector_model.specs.Steps.{IsImageOf};
 ghost use Rattle.pc_bus.specs.Boards.{Board};
-ghost use Rattle.archive_commands.specs.Files.{Desk};
+ghost use Rattle.archive_commands.specs.Files.{Outside};
 ghost use Rattle.floppy_words.specs.declared.form.Form.TheVariants as form;
 ghost use Rattle.floppy_tools.specs.Machines.{RunsOver};
 ghost use Rattle.laws_commands.specs.Imported.{StoresImported};
@@ -18,7 +18,7 @@ use flop_base::Status;
 /// image of a disk with each of its sectors, not deleted, with the bytes at its place, and no other file changed. DMA requests may
 /// have waited.
 pub fn disk_of_a_flat_file(_flat: &str, _name: &str)
-    ensures { (spares : List DriveCounts) (old new : Board) (before after : Desk)
+    ensures { (spares : List DriveCounts) (old new : Board) (before after : Outside)
         → RunsOver (Some (form.Import _flat.now _name.now)) old spares before new after Status.AllOk
         → HadNoFault 0 old new → StoresImported _flat.now _name.now before.files after.files }
 {}
@@ -27,7 +27,7 @@ pub fn disk_of_a_flat_file(_flat: &str, _name: &str)
 /// the bytes of an intact field of its key on that disk, whatever faults there were, and no other file changed. They are those of
 /// its sector, where the disk is regular, and the drive of bay 0 had no fault or no field of the disk has two data marks.
 pub fn flat_file_of_a_disk(_name: &str, _flat: &str)
-    ensures { (spares : List DriveCounts) (old new : Board) (before after : Desk) (files : Files) (disk : Disk)
+    ensures { (spares : List DriveCounts) (old new : Board) (before after : Outside) (files : Files) (disk : Disk)
         → RunsOver (Some (form.Export _name.now _flat.now)) old spares before new after Status.AllOk
         → before.files ≡ Some files → IsImageOf (Some files) _name.now disk
         → StoresFlatAsRead (IsReadSure disk old new) disk _flat.now (Some files) after.files }

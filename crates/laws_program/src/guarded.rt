@@ -9,7 +9,7 @@ ghost use Rattle.floppy_requests.specs.declared.request.Request.{Request};
 ghost use Rattle.sector_model.specs.Ties.{IsJob};
 ghost use Rattle.sector_model.specs.Steps.{IsImageOf};
 ghost use Rattle.sector_model.specs.Runs.{requests_of};
-ghost use Rattle.archive_commands.specs.Files.{Desk};
+ghost use Rattle.archive_commands.specs.Files.{Outside};
 ghost use Rattle.floppy_words.specs.declared.form.Form.TheVariants as form;
 ghost use Rattle.floppy_tools.specs.Machines.{RunsOver};
 ghost use Rattle.laws_program.specs.Guarded.{BlanksNone};
@@ -17,7 +17,7 @@ ghost use Rattle.laws_program.specs.Guarded.{BlanksNone};
 /// A law: where NAME has the image of a protected disk, and no request of the run of `play JOB` puts a blank medium in under NAME, NAME
 /// has the image of the same disk after the run, however it ends.
 pub fn protected_disk_stays(_job: &str, _name: &str)
-    ensures { (spares : List DriveCounts) (old new : Board) (before after : Desk) (ended : Status) (files : Files) (disk : Disk)
+    ensures { (spares : List DriveCounts) (old new : Board) (before after : Outside) (ended : Status) (files : Files) (disk : Disk)
         → (over : RunsOver (Some (form.Play _job.now)) old spares before new after ended)
         → before.files ≡ Some files → IsImageOf (Some files) _name.now disk → IsDisk disk → disk.protected ≡ true
         → BlanksNone _name.now (requests_of over.runs.course)
@@ -26,7 +26,7 @@ pub fn protected_disk_stays(_job: &str, _name: &str)
 
 /// A law: so it is where JOB is a job, none of whose requests puts a blank medium in under NAME.
 pub fn protected_disk_stays_by_job(_job: &str, _name: &str)
-    ensures { (spares : List DriveCounts) (old new : Board) (before after : Desk) (ended : Status) (requests : List Request) (disk : Disk)
+    ensures { (spares : List DriveCounts) (old new : Board) (before after : Outside) (ended : Status) (requests : List Request) (disk : Disk)
         → RunsOver (Some (form.Play _job.now)) old spares before new after ended → IsJob before.files _job.now requests
         → IsImageOf before.files _name.now disk → IsDisk disk → disk.protected ≡ true → BlanksNone _name.now requests
         → (later : Files) × (after.files ≡ Some later) × IsImageOf (Some later) _name.now disk }
@@ -34,7 +34,7 @@ pub fn protected_disk_stays_by_job(_job: &str, _name: &str)
 
 /// A law: so it is after `int13 FILE`, where no request of its run puts a blank medium in under NAME.
 pub fn protected_disk_stays_called(_file: &str, _name: &str)
-    ensures { (spares : List DriveCounts) (old new : Board) (before after : Desk) (ended : Status) (files : Files) (disk : Disk)
+    ensures { (spares : List DriveCounts) (old new : Board) (before after : Outside) (ended : Status) (files : Files) (disk : Disk)
         → (over : RunsOver (Some (form.Int13 _file.now)) old spares before new after ended)
         → before.files ≡ Some files → IsImageOf (Some files) _name.now disk → IsDisk disk → disk.protected ≡ true
         → BlanksNone _name.now (requests_of over.runs.course)

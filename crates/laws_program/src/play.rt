@@ -4,7 +4,7 @@ ghost use Rattle.flop_base.specs.Shelf.{Files};
 ghost use Rattle.flop_base.specs.declared.answers.Status.{Status};
 ghost use Rattle.flop_base.specs.Counters.{DriveCounts};
 ghost use Rattle.pc_bus.specs.Boards.{Board};
-ghost use Rattle.archive_commands.specs.Files.{Desk};
+ghost use Rattle.archive_commands.specs.Files.{Outside};
 ghost use Rattle.floppy_words.specs.declared.form.Form.TheVariants as form;
 ghost use Rattle.text_commands.specs.JobRounds.{world};
 ghost use Rattle.floppy_tools.specs.Machines.{RunsOver};
@@ -15,7 +15,7 @@ ghost use Rattle.laws_program.specs.Answered.{AnswersCalls, AnswersJob};
 /// up to the machine that comes back; the replies of that run are told in their order, and the status is 1 where some is a refusal, and
 /// else 0.
 pub fn job_is_answered(_job: &str)
-    ensures { (spares : List DriveCounts) (old new : Board) (before after : Desk) (ended : Status) (files : Files)
+    ensures { (spares : List DriveCounts) (old new : Board) (before after : Outside) (ended : Status) (files : Files)
         (over : RunsOver (Some (form.Play _job.now)) old spares before new after ended) → IsEndStatus ended
         → before.files ≡ Some files
         → AnswersJob _job.now (world over.start before.files before.report) over.runs.course
@@ -26,7 +26,7 @@ pub fn job_is_answered(_job: &str)
 /// to the machine that comes back, their requests are those of the form's run, what they print is told in their order, and the status is
 /// 1 where some counts as a refusal, and else 0.
 pub fn calls_are_answered(_file: &str)
-    ensures { (spares : List DriveCounts) (old new : Board) (before after : Desk) (ended : Status)
+    ensures { (spares : List DriveCounts) (old new : Board) (before after : Outside) (ended : Status)
         (over : RunsOver (Some (form.Int13 _file.now)) old spares before new after ended) → IsEndStatus ended
         → AnswersCalls _file.now (world over.start before.files before.report) over.runs.course
         (world over.last after.files after.report) ended }

@@ -19,7 +19,7 @@ ghost use Rattle.laws_program.specs.Inserted.{IsDiskFile, InsertsDisks, media_am
 pub fn ports_status(_file: &str)
     ensures { (words : List (List ℕ)) (spares : List DriveCounts) (old new : Stand) (ended : Status) (files : Files) (text : List ℕ)
         (lines : List PortLine) (named : ports_file_of words ≡ Some _file.now)
-        → old.desk.desk.files ≡ Some files → IsText (Some files) _file.now text → ports_of text ≡ Ok lines
+        → old.outside.outside.files ≡ Some files → IsText (Some files) _file.now text → ports_of text ≡ Ok lines
         → InsertsDisks (IsDiskFile (Some files)) (both None) (media_among lines)
         → (done : Performed words spares old new ended)
         → EndsByReplies (has_refusal (done.does.ports _file.now named).1.course) old new ended }

@@ -11,7 +11,7 @@ ghost use Rattle.laws_program.specs.Told.{IsNotToldStopped};
 ghost use Rattle.flop_base.specs.declared.answers.Status.{Status};
 ghost use Rattle.flop_base.specs.Counters.{DriveCounts};
 ghost use Rattle.pc_bus.specs.Boards.{Board};
-ghost use Rattle.archive_commands.specs.Files.{Desk};
+ghost use Rattle.archive_commands.specs.Files.{Outside};
 ghost use Rattle.floppy_words.specs.declared.form.Form.TheVariants as form;
 ghost use Rattle.text_commands.specs.JobRounds.{world};
 ghost use Rattle.floppy_tools.specs.Machines.{RunsOver};
@@ -21,7 +21,7 @@ ghost use Rattle.sector_map.specs.Disks.{IsRegularDisk};
 
 /// A law: however `rescue FROM TO LOG` ends, it has stored nothing, or a disk under TO alone, or that and then a log under LOG.
 pub fn rescue_stores_in_order(_from: &str, _to: &str, _log: &str)
-    ensures { (spares : List DriveCounts) (old new : Board) (before after : Desk) (ended : Status)
+    ensures { (spares : List DriveCounts) (old new : Board) (before after : Outside) (ended : Status)
         → RunsOver (Some (form.Rescue _from.now _to.now _log.now)) old spares before new after ended
         → (lines : List LogLine) × StoresInOrder _to.now _log.now lines before.files after.files }
 {}
@@ -31,7 +31,7 @@ pub fn rescue_stores_in_order(_from: &str, _to: &str, _log: &str)
 /// the records that were asked for and aren't found on that disk, in their order, each with the code of its look. Asked for are the
 /// records of the log that was there, and else all.
 pub fn rescue_logs_the_rest(_from: &str, _to: &str, _log: &str)
-    ensures { (spares : List DriveCounts) (old new : Board) (before after : Desk) (ended : Status) (files : Files) (disk : Disk)
+    ensures { (spares : List DriveCounts) (old new : Board) (before after : Outside) (ended : Status) (files : Files) (disk : Disk)
         → RunsOver (Some (form.Rescue _from.now _to.now _log.now)) old spares before new after ended → IsEndStatus ended
         → IsNotToldStopped before.report after.report
         → before.files ≡ Some files → IsImageOf (Some files) _from.now disk
@@ -45,7 +45,7 @@ pub fn rescue_logs_the_rest(_from: &str, _to: &str, _log: &str)
 /// gave, and never in both; whatever faults the drive of bay 0 had, these are those of an intact field of the record on FROM. The last
 /// line counts those on the disk, and all.
 pub fn new_rescue_settles_each_record(_from: &str, _to: &str, _log: &str)
-    ensures { (spares : List DriveCounts) (old new : Board) (before after : Desk) (ended : Status) (files : Files) (disk : Disk)
+    ensures { (spares : List DriveCounts) (old new : Board) (before after : Outside) (ended : Status) (files : Files) (disk : Disk)
         (over : RunsOver (Some (form.Rescue _from.now _to.now _log.now)) old spares before new after ended) → IsEndStatus ended
         → IsNotToldStopped before.report after.report → _to.now ≢ _log.now
         → before.files ≡ Some files → IsImageOf (Some files) _from.now disk → file_at files _log.now ≡ None
@@ -59,7 +59,7 @@ pub fn new_rescue_settles_each_record(_from: &str, _to: &str, _log: &str)
 /// disk stay. Either run leaves what a next one asks for: the image of a regular disk, whose fields are on Laid tracks if it was new or
 /// they were, and a log.
 pub fn further_rescue_settles_each_record(_from: &str, _to: &str, _log: &str)
-    ensures { (spares : List DriveCounts) (old new : Board) (before after : Desk) (ended : Status) (files : Files) (disk target : Disk)
+    ensures { (spares : List DriveCounts) (old new : Board) (before after : Outside) (ended : Status) (files : Files) (disk target : Disk)
         (over : RunsOver (Some (form.Rescue _from.now _to.now _log.now)) old spares before new after ended) → IsEndStatus ended
         → IsNotToldStopped before.report after.report → _to.now ≢ _log.now
         → before.files ≡ Some files → IsImageOf (Some files) _from.now disk → HadNoFault 1 old new

@@ -19,12 +19,12 @@ pub fn job_answers_are_settled(_job: &str)
         (one : RanOver (Some (form.Play _job.now)) spares old new ended)
         (two : RanOver (Some (form.Play _job.now)) other_spares other_old other_new other_ended)
         → IsSound old.board spares → IsSound other_old.board other_spares → length other_spares ≡ length spares
-        → old.desk.desk.files ≡ Some files → other_old.desk.desk.files ≡ Some files → AreBytes files
+        → old.outside.outside.files ≡ Some files → other_old.outside.outside.files ≡ Some files → AreBytes files
         → AnswersAgree one.runs.start one.runs.runs.course two.runs.runs.course
         × (AreRegularBefore one.runs.start one.runs.runs.course
         → EndsOutside old new ended ⊎ EndsOutside other_old other_new other_ended
-        ⊎ EndAlike (world one.runs.start old.desk.desk.files old.desk.desk.report)
-        (world two.runs.start other_old.desk.desk.files other_old.desk.desk.report) one.runs.runs.course two.runs.runs.course
-        (world one.runs.last new.desk.desk.files new.desk.desk.report)
-        (world two.runs.last other_new.desk.desk.files other_new.desk.desk.report) ended other_ended) }
+        ⊎ EndAlike (world one.runs.start old.outside.outside.files old.outside.outside.report)
+        (world two.runs.start other_old.outside.outside.files other_old.outside.outside.report) one.runs.runs.course two.runs.runs.course
+        (world one.runs.last new.outside.outside.files new.outside.outside.report)
+        (world two.runs.last other_new.outside.outside.files other_new.outside.outside.report) ended other_ended) }
 {}

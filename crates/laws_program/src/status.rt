@@ -42,7 +42,7 @@ pub fn formatdd_status(_name: &str, _cylinders: u8)
 /// A law: so does `copy FROM TO`, where FROM is the image of a disk.
 pub fn copy_status(_from: &str, _to: &str)
     ensures { (spares : List DriveCounts) (old new : Stand) (ended : Status) (files : Files) (disk : Disk)
-        → old.desk.desk.files ≡ Some files → IsImageOf (Some files) _from.now disk
+        → old.outside.outside.files ≡ Some files → IsImageOf (Some files) _from.now disk
         → (ran : RanOver (Some (form.Copy _from.now _to.now)) spares old new ended)
         → EndsByReplies (has_refusal ran.runs.runs.course) old new ended }
 {}
@@ -50,7 +50,7 @@ pub fn copy_status(_from: &str, _to: &str)
 /// A law: so does `verify NAME`, where NAME is the image of a disk.
 pub fn verify_status(_name: &str)
     ensures { (spares : List DriveCounts) (old new : Stand) (ended : Status) (files : Files) (disk : Disk)
-        → old.desk.desk.files ≡ Some files → IsImageOf (Some files) _name.now disk
+        → old.outside.outside.files ≡ Some files → IsImageOf (Some files) _name.now disk
         → (ran : RanOver (Some (form.Verify _name.now)) spares old new ended)
         → EndsByReplies (has_refusal ran.runs.runs.course) old new ended }
 {}
@@ -58,7 +58,7 @@ pub fn verify_status(_name: &str)
 /// A law: so does `import FLAT NAME`, where FLAT is a flat file.
 pub fn import_status(_flat: &str, _name: &str)
     ensures { (spares : List DriveCounts) (old new : Stand) (ended : Status) (files : Files) (bytes : List ℕ) (at : Rate)
-        → old.desk.desk.files ≡ Some files → IsFlatFile (Some files) _flat.now bytes at
+        → old.outside.outside.files ≡ Some files → IsFlatFile (Some files) _flat.now bytes at
         → (ran : RanOver (Some (form.Import _flat.now _name.now)) spares old new ended)
         → EndsByReplies (has_refusal ran.runs.runs.course) old new ended }
 {}
@@ -66,7 +66,7 @@ pub fn import_status(_flat: &str, _name: &str)
 /// A law: so does `export NAME FLAT`, where NAME is the image of a disk.
 pub fn export_status(_name: &str, _flat: &str)
     ensures { (spares : List DriveCounts) (old new : Stand) (ended : Status) (files : Files) (disk : Disk)
-        → old.desk.desk.files ≡ Some files → IsImageOf (Some files) _name.now disk
+        → old.outside.outside.files ≡ Some files → IsImageOf (Some files) _name.now disk
         → (ran : RanOver (Some (form.Export _name.now _flat.now)) spares old new ended)
         → EndsByReplies (has_refusal ran.runs.runs.course) old new ended }
 {}
@@ -81,7 +81,7 @@ pub fn exercise_status()
 /// A law: so does `rescue FROM TO LOG`, where FROM is the image of a disk, and no file LOG is there.
 pub fn new_rescue_status(_from: &str, _to: &str, _log: &str)
     ensures { (spares : List DriveCounts) (old new : Stand) (ended : Status) (files : Files) (disk : Disk)
-        → old.desk.desk.files ≡ Some files → IsImageOf (Some files) _from.now disk → file_at files _log.now ≡ None
+        → old.outside.outside.files ≡ Some files → IsImageOf (Some files) _from.now disk → file_at files _log.now ≡ None
         → (ran : RanOver (Some (form.Rescue _from.now _to.now _log.now)) spares old new ended)
         → EndsByReplies (has_refusal ran.runs.runs.course) old new ended }
 {}
@@ -89,7 +89,7 @@ pub fn new_rescue_status(_from: &str, _to: &str, _log: &str)
 /// A law: so does `rescue FROM TO LOG`, where FROM and TO are images of disks, and LOG is a log of the records of FROM's rate.
 pub fn further_rescue_status(_from: &str, _to: &str, _log: &str)
     ensures { (spares : List DriveCounts) (old new : Stand) (ended : Status) (files : Files) (disk target : Disk) (lines : List LogLine)
-        → old.desk.desk.files ≡ Some files → IsImageOf (Some files) _from.now disk → IsImageOf (Some files) _to.now target
+        → old.outside.outside.files ≡ Some files → IsImageOf (Some files) _from.now disk → IsImageOf (Some files) _to.now target
         → IsLogFound (Some files) _log.now (sectors_at disk.rate) (Some lines)
         → (ran : RanOver (Some (form.Rescue _from.now _to.now _log.now)) spares old new ended)
         → EndsByReplies (has_refusal ran.runs.runs.course) old new ended }
@@ -99,7 +99,7 @@ pub fn further_rescue_status(_from: &str, _to: &str, _log: &str)
 /// to be refused, is the file of a disk, or was stored by one of its ejects before.
 pub fn play_status(_job: &str)
     ensures { (spares : List DriveCounts) (old new : Stand) (ended : Status) (files : Files) (text : List ℕ) (requests : List Request)
-        → old.desk.desk.files ≡ Some files → IsText (Some files) _job.now text → job_of text ≡ Ok requests
+        → old.outside.outside.files ≡ Some files → IsText (Some files) _job.now text → job_of text ≡ Ok requests
         → InsertsDisks (IsDiskFile (Some files)) (both None) requests
         → (ran : RanOver (Some (form.Play _job.now)) spares old new ended)
         → EndsByReplies (has_refusal ran.runs.runs.course) old new ended }
@@ -110,9 +110,9 @@ pub fn play_status(_job: &str)
 /// something counts as a refusal, unless memory couldn't be had, or the shelf or the sink failed, and counted it.
 pub fn int13_status(_file: &str)
     ensures { (spares : List DriveCounts) (old new : Stand) (ended : Status) (files : Files) (text : List ℕ) (lines : List CallLine)
-        → old.desk.desk.files ≡ Some files → IsText (Some files) _file.now text → calls_of text ≡ Ok lines
+        → old.outside.outside.files ≡ Some files → IsText (Some files) _file.now text → calls_of text ≡ Ok lines
         → InsertsDisks (IsDiskFile (Some files)) (both None) (requests_among lines)
         → (ran : RanOver (Some (form.Int13 _file.now)) spares old new ended)
-        → EndsAnswered (AnswersCalls _file.now (world ran.runs.start old.desk.desk.files old.desk.desk.report) ran.runs.runs.course
-        (world ran.runs.last new.desk.desk.files new.desk.desk.report) ended) old new ended }
+        → EndsAnswered (AnswersCalls _file.now (world ran.runs.start old.outside.outside.files old.outside.outside.report) ran.runs.runs.course
+        (world ran.runs.last new.outside.outside.files new.outside.outside.report) ended) old new ended }
 {}

@@ -6,7 +6,7 @@ ghost use Rattle.flop_base.specs.Counters.{DriveCounts};
 ghost use Rattle.pc_bus.specs.Boards.{Board};
 ghost use Rattle.sector_model.specs.States.{State};
 ghost use Rattle.sector_model.specs.Runs.{Taken, Run};
-ghost use Rattle.archive_commands.specs.Files.{Desk};
+ghost use Rattle.archive_commands.specs.Files.{Outside};
 ghost use Rattle.floppy_words.specs.declared.form.Form.{Form};
 ghost use Rattle.floppy_tools.specs.Machines.{RunsOver};
 ghost use Rattle.laws_program.specs.Steps.{EachStep, KeepsGuarded, ReadsField, WritesField, KeepsOtherFields, FormatsTrack, TellsCause, SendsFew};
@@ -70,7 +70,7 @@ pub fn steps_send_few_commands()
 /// A law: the course of each form over a machine is a run, from the session that was set up and the files as they were, so that the
 /// laws above hold of its steps.
 pub fn course_is_a_run()
-    ensures { (asked : Form) (spares : List DriveCounts) (old new : Board) (before after : Desk) (ended : Status)
+    ensures { (asked : Form) (spares : List DriveCounts) (old new : Board) (before after : Outside) (ended : Status)
         (over : RunsOver (Some asked) old spares before new after ended)
         → (mid : State) × (files : Option Files) × Run over.start before.files over.runs.course mid files }
 {}

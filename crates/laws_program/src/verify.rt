@@ -9,7 +9,7 @@ ghost use Rattle.sector_map.specs.Failing.{AreFailing};
 ghost use Rattle.sector_map.specs.Standard.{standard_keys};
 ghost use Rattle.sector_model.specs.Steps.{IsImageOf};
 ghost use Rattle.pc_bus.specs.Boards.{Board};
-ghost use Rattle.archive_commands.specs.Files.{Desk};
+ghost use Rattle.archive_commands.specs.Files.{Outside};
 ghost use Rattle.floppy_words.specs.declared.form.Form.TheVariants as form;
 ghost use Rattle.floppy_tools.specs.Machines.{RunsOver};
 ghost use Rattle.laws_commands.specs.Verified.{IsUnmistaken, all_told_of};
@@ -24,7 +24,7 @@ use flop_base::Status;
 /// their order, with the code of its look, and by a last line that counts the others. The status is 1 where there is such a key,
 /// and else 0.
 pub fn verify_of_a_disk(_name: &str)
-    ensures { (spares : List DriveCounts) (old new : Board) (before after : Desk) (ended : Status) (files : Files) (disk : Disk)
+    ensures { (spares : List DriveCounts) (old new : Board) (before after : Outside) (ended : Status) (files : Files) (disk : Disk)
         (failed : List (Chrn × Look))
         → RunsOver (Some (form.Verify _name.now)) old spares before new after ended → IsEndStatus ended
         → before.files ≡ Some files → IsImageOf (Some files) _name.now disk
@@ -35,7 +35,7 @@ pub fn verify_of_a_disk(_name: &str)
 
 /// A law: where it ends with status 0, no standard key of the disk fails to be found.
 pub fn verify_finds_all(_name: &str)
-    ensures { (spares : List DriveCounts) (old new : Board) (before after : Desk) (files : Files) (disk : Disk)
+    ensures { (spares : List DriveCounts) (old new : Board) (before after : Outside) (files : Files) (disk : Disk)
         (failed : List (Chrn × Look))
         → RunsOver (Some (form.Verify _name.now)) old spares before new after Status.AllOk
         → before.files ≡ Some files → IsImageOf (Some files) _name.now disk

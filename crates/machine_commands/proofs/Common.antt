@@ -61,7 +61,7 @@ pub use Rattle.laws_machine.specs.OnSteps.Steady.{Marching, Steady, regapped}
 pub use Rattle.laws_machine.specs.OnWrites.Results.{IsUnchanged}
 pub use Rattle.irq_events.specs.Entries.{next_entry}
 pub use Rattle.irq_events.specs.Holds.{Holds, counted, shown}
-pub use Rattle.irq_events.specs.declared.holding.Request.TheVariants.{Low}
+pub use Rattle.irq_events.specs.declared.holding.DmaRequest.TheVariants.{Low}
 pub use Rattle.fdc_drives.proofs.FollowedWrites.{drive_stays}
 pub use Rattle.pc_bus.specs.Boards.{Board, channel_of, controller_of, drive_in, holds_of, lines_of, memory_of}
 pub use Rattle.fdc_drives.specs.Lines.{lines_of_drive}

@@ -14,7 +14,7 @@ use Rattle.floppy_driver.specs.declared.driver.Notes.{Notes}
 use Rattle.floppy_driver.specs.declared.driver.Driver.{Driver}
 use Rattle.floppy_driver.specs.Shown.{shown, bay_shown, with_waiting}
 use Rattle.machine_station.specs.declared.flags.Flags.{Flags}
-use Rattle.machine_station.specs.Flagged.{bays_flagged, flags_shown, flags_of}
+use Rattle.machine_station.specs.Flagged.{flags_shown, flags_of}
 use Rattle.machine_station.proofs.Bays.{flags_put}
 
 -- ---- counts
@@ -148,7 +148,7 @@ flags_ejected old bay answer new some step = flags_exchanged old bay None new (s
 pub flags_none_ejected : (old : StationState) (bay : ℕ) (answer : Option Disk) (new : StationState) → answer ≡ None → Ejects bay old answer new → flags_shown new ≡ flags_shown old
 flags_none_ejected old bay answer new none step = ap flags_shown (step.unmoved none).stays
 
-pub flags_memory : (driver : Driver) (old new : Rig) (spares : ℕ) (waiting : List DriveCounts) (address byte : ℕ) (flags : Flags) → PutsMemory address byte old new → bays_flagged flags ≡ flags_shown (shown driver old spares waiting) → bays_flagged flags ≡ flags_shown (shown driver new spares waiting)
+pub flags_memory : (driver : Driver) (old new : Rig) (spares : ℕ) (waiting : List DriveCounts) (address byte : ℕ) (flags : Flags) → PutsMemory address byte old new → flags.bays ≡ flags_shown (shown driver old spares waiting) → flags.bays ≡ flags_shown (shown driver new spares waiting)
 flags_memory driver old new spares waiting address byte flags step was =
     was ∙ sym (ap flags_shown (sets_memory driver old new spares waiting address byte step).becomes)
 

@@ -4,11 +4,6 @@ use Rattle.flop_base.specs.declared.answers.Rate.{Rate}
 use Rattle.flop_base.specs.Bays.{Two, in_bay, with_bay}
 use Rattle.sector_model.specs.Stations.{Bay, StationState}
 use Rattle.machine_station.specs.declared.flags.BayFlags.{BayFlags}
-use Rattle.machine_station.specs.declared.flags.Flags.{Flags}
-
--- those of both bays
-abbrev pub bays_flagged : Flags → Two BayFlags
-bays_flagged flags = record { first = flags.first; second = flags.second }
 
 -- the same with another rate for a bay
 abbrev pub with_rate : Two BayFlags → ℕ → Rate → Two BayFlags

@@ -4,7 +4,7 @@ use Rattle.drive_model.specs.Drive.{DriveState}
 use Rattle.pc_bus.specs.Boards.{IsEmpty}
 use Rattle.machine_commands.specs.Shown.{rig_shown, is_idle}
 use Rattle.floppy_driver.specs.Attached.{IsAttached}
-use Rattle.machine_station.specs.Flagged.{bays_flagged, flags_shown}
+use Rattle.machine_station.specs.Flagged.{flags_shown}
 use Rattle.machine_station.specs.Shown.{station_shown}
 use Rattle.machine_station.specs.declared.station.MachineStation.{MachineStation}
 
@@ -12,7 +12,7 @@ use Rattle.machine_station.specs.declared.station.MachineStation.{MachineStation
 pub record IsStationReady {D : Type 0} (state : D → DriveState) (station : MachineStation D) : Type 0 where
   pub idle : is_idle state station.machine
   pub attached : IsAttached station.driver (rig_shown state station.machine)
-  pub flags : bays_flagged station.flags ≡ flags_shown (station_shown state station)
+  pub flags : station.flags.bays ≡ flags_shown (station_shown state station)
   pub spare : All (λ drive. IsEmpty (state drive)) station.spare.items
 
 abbrev pub is_station_ready : {D : Type 0} → (D → DriveState) → MachineStation D → Type 0

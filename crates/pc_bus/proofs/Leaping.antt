@@ -10,8 +10,8 @@ use Rattle.fdc_drives.proofs.PassedTimes.{dor_stays}
 use Rattle.irq_events.specs.Latch.{Latch}
 use Rattle.irq_events.specs.Entries.{is_stray_due, strays_after, strays_later, AreQuiet}
 use Rattle.irq_events.specs.Holds.{is_low, counted}
-use Rattle.irq_events.specs.declared.holding.Request.{Request}
-use Rattle.irq_events.specs.declared.holding.Request.TheVariants.{Low, High}
+use Rattle.irq_events.specs.declared.holding.DmaRequest.{DmaRequest}
+use Rattle.irq_events.specs.declared.holding.DmaRequest.TheVariants.{Low, High}
 use Rattle.pc_bus.proofs.RunSteps.{runs_front, unset_front}
 use Rattle.pc_bus.specs.Boards.{Board, controller_of, selected_of, latch_of}
 use Rattle.pc_bus.specs.Leaps.{IsCalm, skipped}
@@ -22,7 +22,7 @@ use Rattle.pc_bus.specs.declared.chips.Chips.{Chips}
 
 -- ---- a device step of a calm bus
 
-pub low_is : (request : Request) → is_low request ≡ true → request ≡ Low
+pub low_is : (request : DmaRequest) → is_low request ≡ true → request ≡ Low
 low_is Low low = refl
 low_is (High left) low = absurd cc
 
@@ -31,7 +31,7 @@ dma_calm : (chips : Chips) → asks chips.controller ≡ false → chips.holding
 unfolding dma_stepped
 dma_calm chips quiet low =
     let looks : dma_stepped chips ≡ record chips { holding = record chips.holding { request = Low } } = rw quiet refl in
-    looks ∙ ap (λ (r : Request). record chips { holding = record chips.holding { request = r } }) (sym low)
+    looks ∙ ap (λ (r : DmaRequest). record chips { holding = record chips.holding { request = r } }) (sym low)
 
 -- a line that the latch has seen
 no_edge : (set level : Bool) → (set || (level && not level)) ≡ set

@@ -6,7 +6,7 @@ use Rattle.dma_8237.specs.Channel.{Channel, power_up}
 use Rattle.irq_events.specs.Latch.{Latch}
 use Rattle.irq_events.specs.declared.pace.Pace.{Pace}
 use Rattle.irq_events.specs.Holds.{AreShort, Holds}
-use Rattle.irq_events.specs.declared.holding.Request.TheVariants.{Low}
+use Rattle.irq_events.specs.declared.holding.DmaRequest.TheVariants.{Low}
 use Rattle.fdc_core.specs.Ranges.{IsInRange as IsFdcInRange}
 use Rattle.fdc_core.specs.State.{at_power_up}
 use Rattle.fdc_core.specs.declared.controller.Fdc.{Fdc}

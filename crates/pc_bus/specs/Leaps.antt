@@ -2,7 +2,7 @@
 use Rattle.std.specs.Prelude.{◌≡◌, ℕ, ◌+◌, min, false}
 use Rattle.flop_base.specs.Counts.{last_count}
 use Rattle.irq_events.specs.Entries.{strays_later}
-use Rattle.irq_events.specs.declared.holding.Request.TheVariants.{Low}
+use Rattle.irq_events.specs.declared.holding.DmaRequest.TheVariants.{Low}
 use Rattle.fdc_core.specs.State.{asks, interrupts}
 use Rattle.pc_bus.specs.declared.bus.Bus.{Bus}
 

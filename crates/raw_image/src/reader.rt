@@ -6,7 +6,7 @@ ghost use Rattle.raw_image.specs.Image.{image_of, Reads, Spells};
 
 use crate::error::ImageError;
 use crate::medium::Medium;
-use crate::stage::{Front, Stage};
+use crate::stage::{HeaderBytes, Stage};
 use std::alloc::Global;
 use std::marker::Model;
 use std::mem;
@@ -42,7 +42,7 @@ impl ImageReader {
     {
         ImageReader {
             alloc,
-            stage: Stage::Begun(Front {
+            stage: Stage::Begun(HeaderBytes {
                 bytes: Vec::new(alloc),
             }),
         }

@@ -10,7 +10,7 @@ use std::alloc::Global;
 
 #[derive(Drop)]
 pub(crate) enum Stage {
-    Begun(Front),
+    Begun(HeaderBytes),
     Going(Body),
     /// Something is wrong, and stays so.
     Failed(ImageError),
@@ -18,7 +18,7 @@ pub(crate) enum Stage {
 
 /// Fewer bytes than a header has.
 #[derive(Drop)]
-pub(crate) struct Front {
+pub(crate) struct HeaderBytes {
     pub bytes: Vec<u8>,
     ghost short: { length bytes.items < 14 },
 }
@@ -34,7 +34,7 @@ pub(crate) struct Body {
         ≤ 2 * (shape.cylinders * shape.heads * shape.words_per_track) },
 }
 
-impl Front {
+impl HeaderBytes {
     ghost use Rattle.std.specs.Prelude.{IfOk};
     ghost use Rattle.raw_image.specs.Progress.{Feeds, IsSound, Begun};
     ghost use Rattle.raw_image.specs.Stage.{progress_of, after};
@@ -48,7 +48,7 @@ impl Front {
         let missing = HEADER - header.len();
         if piece.len() < missing {
             header.extend_from_slice(piece)?;
-            return Ok(Stage::Begun(Front { bytes: header }));
+            return Ok(Stage::Begun(HeaderBytes { bytes: header }));
         }
         let (front, rest) = piece.split_at(missing);
         header.extend_from_slice(front)?;

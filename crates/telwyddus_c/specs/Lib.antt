@@ -9,6 +9,7 @@ pub mod Flats
 pub mod Forms
 pub mod Images
 pub mod Imds
+pub mod Lengths
 pub mod Machines
 pub mod Media
 pub mod Plans

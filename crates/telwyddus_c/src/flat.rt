@@ -91,7 +91,7 @@ fn write_sectors(
 }
 
 /// Tells where a medium isn't as a flat file has it.
-fn tell_fault(fault: FlatFault, cylinder: &mut u8, head: &mut u8) -> u32
+pub(crate) fn tell_fault(fault: FlatFault, cylinder: &mut u8, head: &mut u8) -> u32
     ensures { TellsFault fault result cylinder.old cylinder.new head.old head.new }
 {
     match place_of(fault) {

@@ -1,13 +1,32 @@
 // Flat sector files of any geometry in buffers of C.
 ghost use Rattle.std.specs.Prelude.{◌≡◌, None};
-ghost use Rattle.telwyddus_c.specs.Forms.{FillsForm, ReadsForm};
+ghost use Rattle.std.specs.Option.{option_copied};
+ghost use Rattle.telwyddus_c.specs.Forms.{FillsForm, ReadsForm, WritesForm, WritesFormOf, WritesNamed, form_named as form_named_by};
+ghost use Rattle.telwyddus_c.specs.Slots.{Serves};
 
 use crate::blank::fill;
-use crate::code::{BAD_IMAGE, FULL, NO_MEMORY, OUT_OF_RANGE, UNFIT};
+use crate::buffer::write_bytes;
+use crate::code::{BAD_IMAGE, EMPTY, FULL, NO_MEDIUM, NO_MEMORY, OUT_OF_RANGE, UNFIT};
+use crate::flat::tell_fault;
 use crate::rate::rate_named;
 use c_slots::TraySlot;
-use flat_files::{FlatForm, FormFault, flat_medium_as};
+use flat_files::{FileFault, FlatForm, FormFault, flat_file_as, flat_medium_as};
+use raw_image::Medium;
 use std::alloc::Global;
+
+/// The geometry of these numbers; no rate but 500 and 250 kbit/s is taken.
+fn form_named(cylinders: u8, heads: u8, sectors: u8, n: u8, kilobits: u16) -> Option<FlatForm>
+    ensures { result ≡ form_named_by cylinders heads sectors n kilobits }
+{
+    let rate = rate_named(kilobits)?;
+    Some(FlatForm {
+        cylinders,
+        heads,
+        sectors,
+        n,
+        rate,
+    })
+}
 
 /// Makes a tray with the medium of a flat file of so many cylinders and heads, on each track the records 1 to so many, of size code `n`,
 /// at 500 or 250 kbit/s.
@@ -27,15 +46,8 @@ pub extern "C" fn telwyddus_tray_read_flat_as(
     if slot.is_full() {
         return FULL;
     }
-    let Some(rate) = rate_named(kilobits) else {
+    let Some(form) = form_named(cylinders, heads, sectors, n, kilobits) else {
         return OUT_OF_RANGE;
-    };
-    let form = FlatForm {
-        cylinders,
-        heads,
-        sectors,
-        n,
-        rate,
     };
     read_form(alloc, slot, bytes, form)
 }
@@ -51,5 +63,78 @@ fn read_form(alloc: Global, slot: &mut TraySlot, bytes: &[u8], form: FlatForm) -
         Err(FormFault::Length) => BAD_IMAGE,
         Err(FormFault::Crowded) => UNFIT,
         Err(FormFault::NoMemory) => NO_MEMORY,
+    }
+}
+
+/// Writes the flat file, of the geometry of these numbers, of the medium in a tray to a buffer, and tells its length. Where there is none,
+/// the cylinder and head of the first track that isn't as such a file has it are told; both FF where the medium has another geometry.
+#[unsafe(no_mangle)]
+pub extern "C" fn telwyddus_tray_write_flat_as(
+    alloc: Global,
+    slot: &mut TraySlot,
+    cylinders: u8,
+    heads: u8,
+    sectors: u8,
+    n: u8,
+    kilobits: u16,
+    out: &mut [u8],
+    length: &mut usize,
+    cylinder: &mut u8,
+    head: &mut u8,
+) -> u32
+    ensures { Serves (λ code old new. (new ≡ old) × WritesNamed cylinders heads sectors n kilobits old.medium code
+        out.old out.new length.old length.new cylinder.old cylinder.new head.old head.new)
+        ((out.new ≡ out.old) × (length.new ≡ length.old) × (cylinder.new ≡ cylinder.old) × (head.new ≡ head.old))
+        result slot.old.held.tray slot.new.held.tray }
+{
+    match slot.take(alloc) {
+        None => EMPTY,
+        Some(tray) => {
+            let form = form_named(cylinders, heads, sectors, n, kilobits);
+            let medium = tray.medium.as_ref();
+            let code = write_file(alloc, medium, form, out, length, cylinder, head);
+            slot.put(tray);
+            code
+        }
+    }
+}
+
+/// The same of a medium and a form, where there are both.
+fn write_file(
+    alloc: Global,
+    medium: Option<&Medium>,
+    form: Option<FlatForm>,
+    out: &mut [u8],
+    length: &mut usize,
+    cylinder: &mut u8,
+    head: &mut u8,
+) -> u32
+    ensures { WritesFormOf form (option_copied medium.entry) result out.old out.new length.old length.new cylinder.old cylinder.new head.old head.new }
+{
+    let Some(medium) = medium else {
+        return NO_MEDIUM;
+    };
+    match form {
+        None => OUT_OF_RANGE,
+        Some(form) => write_form(alloc, medium, form, out, length, cylinder, head),
+    }
+}
+
+/// The same of both.
+fn write_form(
+    alloc: Global,
+    medium: &Medium,
+    form: FlatForm,
+    out: &mut [u8],
+    length: &mut usize,
+    cylinder: &mut u8,
+    head: &mut u8,
+) -> u32
+    ensures { WritesForm form medium.now result out.old out.new length.old length.new cylinder.old cylinder.new head.old head.new }
+{
+    match flat_file_as(alloc, medium, form) {
+        Ok(bytes) => write_bytes(&bytes, out, length),
+        Err(FileFault::NoForm) => OUT_OF_RANGE,
+        Err(FileFault::Flat { fault }) => tell_fault(fault, cylinder, head),
     }
 }

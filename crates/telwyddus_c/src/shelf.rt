@@ -1,7 +1,7 @@
 // The program over files in memory.
 ghost use Rattle.std.specs.Prelude.{◌≡◌, ⊤};
 ghost use Rattle.flop_base.specs.Shelf.{file_at};
-ghost use Rattle.floppy_tools.specs.Shelves.{desk_in, files_in};
+ghost use Rattle.floppy_tools.specs.Shelves.{outside_in, files_in};
 ghost use Rattle.telwyddus_c.specs.Shelves.{IsBare, Puts, Gets, RunsWords, HandsOut};
 ghost use Rattle.telwyddus_c.specs.Slots.{Fills, Frees, Serves};
 
@@ -47,7 +47,7 @@ pub extern "C" fn telwyddus_shelf_put(
     name: &[u8],
     bytes: &[u8],
 ) -> u32
-    ensures { Serves (λ code old new. Puts name.now bytes.now code (desk_in old) (desk_in new)) ⊤
+    ensures { Serves (λ code old new. Puts name.now bytes.now code (outside_in old) (outside_in new)) ⊤
         result slot.old.held.shelf slot.new.held.shelf }
 {
     match slot.take(alloc) {
@@ -62,7 +62,7 @@ pub extern "C" fn telwyddus_shelf_put(
 
 /// The same of a shelf.
 fn put(shelf: &mut RunShelf, name: &[u8], bytes: &[u8]) -> u32
-    ensures { Puts name.now bytes.now result (desk_in shelf.old) (desk_in shelf.new) }
+    ensures { Puts name.now bytes.now result (outside_in shelf.old) (outside_in shelf.new) }
 {
     let Ok(name) = str::from_utf8(name) else {
         return NOT_TEXT;
@@ -117,7 +117,7 @@ pub extern "C" fn telwyddus_shelf_run(
     text: &[u8],
     status: &mut u32,
 ) -> u32
-    ensures { Serves (λ code old new. RunsWords text.now code status.old status.new (desk_in old) (desk_in new)) (status.new ≡ status.old)
+    ensures { Serves (λ code old new. RunsWords text.now code status.old status.new (outside_in old) (outside_in new)) (status.new ≡ status.old)
         result slot.old.held.shelf slot.new.held.shelf }
 {
     match slot.take(alloc) {
@@ -132,7 +132,7 @@ pub extern "C" fn telwyddus_shelf_run(
 
 /// The same of a shelf.
 fn run(alloc: Global, shelf: &mut RunShelf, text: &[u8], status: &mut u32) -> u32
-    ensures { RunsWords text.now result status.old status.new (desk_in shelf.old) (desk_in shelf.new) }
+    ensures { RunsWords text.now result status.old status.new (outside_in shelf.old) (outside_in shelf.new) }
 {
     let words = match split_words(alloc, text) {
         Ok(words) => words,

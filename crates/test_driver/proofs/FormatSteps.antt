@@ -8,7 +8,7 @@ use Rattle.flop_base.specs.Standard.{standard_code, sectors_at}
 use Rattle.raw_image.specs.Disk.{Disk, HasTrack, IsWithTrack, track_of}
 use Rattle.track_model.specs.Layouts.{Fits, lay, laid_words}
 use Rattle.flop_base.specs.Lists.{with_items}
-use Rattle.flop_base.specs.Bays.{in_bay}
+use Rattle.flop_base.specs.Bays.{Two, in_bay, with_bay}
 use Rattle.sector_map.specs.Standard.{track_keys}
 use Rattle.sector_map.specs.Layings.{Format, formatted, Laying, IsLaying, format_keys}
 use Rattle.sector_map.specs.LaidDisks.{laying_at}
@@ -19,11 +19,10 @@ use Rattle.single_commands.specs.Rigs.{Rig}
 use Rattle.single_commands.specs.Writing.{SendsWrite, FormatsTrack, LaysMedium, HasTrackUnder, IsFormatMiss}
 use Rattle.test_driver.specs.declared.counts.Counts.{Counts}
 use Rattle.test_driver.specs.declared.drive.Drive.{Drive}
-use Rattle.test_driver.specs.declared.drives.Drives.{Drives}
 use Rattle.test_driver.specs.Counted.{HasSent}
 use Rattle.test_driver.specs.Drives.{SameDrive}
 use Rattle.test_driver.specs.Laid.{HasTrackOn, CanFormatOn, LaidOn, FormatsOn}
-use Rattle.test_driver.specs.Shown.{rig_of, drive_of, with_drive}
+use Rattle.test_driver.specs.Shown.{rig_of}
 use Rattle.test_driver.proofs.WriteSteps.{written_on}
 
 -- ---- no such track
@@ -137,11 +136,11 @@ module _ (old new : Rig) (bay : ℕ) (format : Format) (before : Option Disk) (c
   }
 
 -- the format of the bench
-pub bench_formats : (drives taken done : Drives) (memory page : List ℕ) (counts next : Counts) (bay : ℕ) (format : Format) (before after : Drive) (answer : Result (Unit {0}) Code) → bay ≤ 1 → HasSent counts next → before ≡ drive_of drives bay → ((drive : Drive) → with_drive taken bay drive ≡ with_drive drives bay drive) → done ≡ with_drive taken bay after → SameDrive before after → ((laying : Option Laying) × FormatsOn before.cylinder format laying before.medium answer after.medium) → (laying : Option Laying) × FormatsTrack bay format laying (rig_of drives memory page counts) answer (rig_of done memory page next)
+pub bench_formats : (drives taken done : Two Drive) (memory page : List ℕ) (counts next : Counts) (bay : ℕ) (format : Format) (before after : Drive) (answer : Result (Unit {0}) Code) → bay ≤ 1 → HasSent counts next → before ≡ in_bay drives bay → ((drive : Drive) → with_bay taken bay drive ≡ with_bay drives bay drive) → done ≡ with_bay taken bay after → SameDrive before after → ((laying : Option Laying) × FormatsOn before.cylinder format laying before.medium answer after.medium) → (laying : Option Laying) × FormatsTrack bay format laying (rig_of drives memory page counts) answer (rig_of done memory page next)
 bench_formats drives taken done memory page counts next bay format before after answer le sent was left put same (laying, on) =
     let on_drive = written_on drives memory page counts next after sent bay le (subst (λ (d : Drive). SameDrive d after) was same) in
     let old = rig_of drives memory page counts in
-    let new = rig_of (with_drive drives bay after) memory page next in
+    let new = rig_of (with_bay drives bay after) memory page next in
     let there = subst (λ (d : Drive). FormatsOn d.cylinder format laying d.medium answer after.medium) was on in
-    let step = formats old new bay format (drive_of drives bay).medium (drive_of drives bay).cylinder after.medium on_drive.sends on_drive.was on_drive.at on_drive.is on_drive.kept laying answer there in
+    let step = formats old new bay format (in_bay drives bay).medium (in_bay drives bay).cylinder after.medium on_drive.sends on_drive.was on_drive.at on_drive.is on_drive.kept laying answer there in
     (laying, subst (λ all. FormatsTrack bay format laying old answer (rig_of all memory page next)) (sym (put ∙ left after)) step)

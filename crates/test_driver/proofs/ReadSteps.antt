@@ -14,7 +14,7 @@ use Rattle.track_model.specs.Fields.{IsAddressAt, content_size, content_at}
 use Rattle.track_model.specs.Looks.{LookFor}
 use Rattle.track_model.specs.Sectors.{IsSector}
 use Rattle.track_model.proofs.Sectored.{found_sector, sector_under}
-use Rattle.flop_base.specs.Bays.{in_bay}
+use Rattle.flop_base.specs.Bays.{Two, in_bay}
 use Rattle.flop_base.specs.Counters.{Counters}
 use Rattle.flop_base.specs.Lists.{with_items}
 use Rattle.flop_base.specs.Memory.{SameOutside}
@@ -25,10 +25,9 @@ use Rattle.single_commands.specs.Rigs.{Rig, track_under}
 use Rattle.single_commands.specs.Reading.{SendsRead, FindsField, IsReadCode, IsReadReason, IsReadMiss, ReadsData, ReadsBack, ReadsId}
 use Rattle.test_driver.specs.declared.counts.Counts.{Counts}
 use Rattle.test_driver.specs.declared.drive.Drive.{Drive}
-use Rattle.test_driver.specs.declared.drives.Drives.{Drives}
 use Rattle.test_driver.specs.Counted.{HasSent}
 use Rattle.test_driver.specs.Found.{FindsOn, RefusedAs, IsMissedOn}
-use Rattle.test_driver.specs.Shown.{rig_of, drive_of}
+use Rattle.test_driver.specs.Shown.{rig_of}
 
 -- ---- memory with a part written over
 
@@ -78,7 +77,7 @@ drive_at true first second P fact = fact
 drive_at false first second P fact = fact
 
 -- is so of the rig's bay
-pub at_bay : (drives : Drives) (bay : ℕ) (drive : Drive) (P : Option Disk → ℕ → Type 0) → drive ≡ drive_of drives bay → P drive.medium drive.cylinder → P (if bay == 0 then drives.first.medium else drives.second.medium) (if bay == 0 then drives.first.cylinder else drives.second.cylinder)
+pub at_bay : (drives : Two Drive) (bay : ℕ) (drive : Drive) (P : Option Disk → ℕ → Type 0) → drive ≡ in_bay drives bay → P drive.medium drive.cylinder → P (if bay == 0 then drives.first.medium else drives.second.medium) (if bay == 0 then drives.first.cylinder else drives.second.cylinder)
 at_bay drives bay drive P is fact = drive_at (bay == 0) drives.first drives.second P (subst (λ (d : Drive). P d.medium d.cylinder) is fact)
 
 -- ---- refusals
@@ -134,7 +133,7 @@ field_found old bay key rate deleted content new size field =
 
 -- ---- the steps
 
-module _ (drives : Drives) (memory page memory_after page_after : List ℕ) (counts next : Counts) (sent : HasSent counts next) where
+module _ (drives : Two Drive) (memory page memory_after page_after : List ℕ) (counts next : Counts) (sent : HasSent counts next) where
   abbrev old : Rig
   old = rig_of drives memory page counts
 
@@ -166,7 +165,7 @@ module _ (drives : Drives) (memory page memory_after page_after : List ℕ) (cou
         command = rose;
       }
 
-  module _ (bay : ℕ) (key : Chrn) (rate : Rate) (drive : Drive) (content : List ℕ) (at : drive ≡ drive_of drives bay) (size : length content ≡ content_size key.n) where
+  module _ (bay : ℕ) (key : Chrn) (rate : Rate) (drive : Drive) (content : List ℕ) (at : drive ≡ in_bay drives bay) (size : length content ≡ content_size key.n) where
     done : (deleted : Bool) → FindsOn drive.medium rate drive.cylinder key deleted content → FindsField bay key rate old deleted content new
     done deleted found =
         field_found old bay key rate deleted content new size (at_bay drives bay drive (λ m c. FindsOn m rate c key deleted content) at found)
@@ -212,7 +211,7 @@ module _ (drives : Drives) (memory page memory_after page_after : List ℕ) (cou
         refused_as (Err code) f = refused code f
 
 -- no address field is found
-pub no_id : (drives : Drives) (memory page : List ℕ) (counts next : Counts) (bay head : ℕ) (rate : Rate) (drive : Drive) (first : Option Chrn) (Is : Chrn → Type 0) → HasSent counts next → drive ≡ drive_of drives bay → first ≡ None → MatchOption first ((p : ℕ) (key : Chrn) → IsAddressAt (met_in drive.medium rate drive.cylinder head) p key → ⊥) Is → ReadsId bay head rate (rig_of drives memory page counts) (Err NoMark) (rig_of drives memory page next)
+pub no_id : (drives : Two Drive) (memory page : List ℕ) (counts next : Counts) (bay head : ℕ) (rate : Rate) (drive : Drive) (first : Option Chrn) (Is : Chrn → Type 0) → HasSent counts next → drive ≡ in_bay drives bay → first ≡ None → MatchOption first ((p : ℕ) (key : Chrn) → IsAddressAt (met_in drive.medium rate drive.cylinder head) p key → ⊥) Is → ReadsId bay head rate (rig_of drives memory page counts) (Err NoMark) (rig_of drives memory page next)
 no_id drives memory page counts next bay head rate drive first Is sent at is found =
     let None_at : Type 0 = (p : ℕ) (key : Chrn) → IsAddressAt (met_in drive.medium rate drive.cylinder head) p key → ⊥ in
     let none : None_at = subst (λ o. MatchOption o None_at Is) is found in

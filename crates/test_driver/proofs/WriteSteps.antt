@@ -8,7 +8,7 @@ use Rattle.flop_base.specs.declared.answers.Code.TheVariants.{NoMark}
 use Rattle.raw_image.specs.Disk.{Disk, IsDisk, track_of}
 use Rattle.track_model.specs.Fields.{IsAddressAt}
 use Rattle.track_model.specs.Windows.{window_word, window_words}
-use Rattle.flop_base.specs.Bays.{in_bay}
+use Rattle.flop_base.specs.Bays.{Two, in_bay, with_bay}
 use Rattle.flop_base.specs.Counters.{GoesOn, IsDriven}
 use Rattle.flop_base.specs.Memory.{bytes_from}
 use Rattle.flop_base.proofs.Counted.{drive_same}
@@ -26,11 +26,10 @@ use Rattle.single_commands.specs.Rigs.{Rig, track_under}
 use Rattle.single_commands.specs.Writing.{SendsWrite, WritesData, ChangesMedium, IsWriteMiss, HasWindowOut}
 use Rattle.test_driver.specs.declared.counts.Counts.{Counts}
 use Rattle.test_driver.specs.declared.drive.Drive.{Drive}
-use Rattle.test_driver.specs.declared.drives.Drives.{Drives}
 use Rattle.test_driver.specs.Counted.{HasSent}
 use Rattle.test_driver.specs.Drives.{SameDrive}
 use Rattle.test_driver.specs.Put.{IsCutTo, PutsWindow, HasFieldOn, IsAbsent, ChangesOn, IsWriteRefusal, WritesOn}
-use Rattle.test_driver.specs.Shown.{rig_of, drive_of, with_drive}
+use Rattle.test_driver.specs.Shown.{rig_of}
 
 -- ---- no address field of the key
 
@@ -149,12 +148,12 @@ by_bay P first second zero le = first
 by_bay P first second (suc zero) le = second
 by_bay P first second (suc (suc bay)) le = absurd (omega (arith, le))
 
-module _ (drives : Drives) (memory page : List ℕ) (counts next : Counts) (after : Drive) (sent : HasSent counts next) where
+module _ (drives : Two Drive) (memory page : List ℕ) (counts next : Counts) (after : Drive) (sent : HasSent counts next) where
   abbrev old : Rig
   old = rig_of drives memory page counts
 
   abbrev new : ℕ → Rig
-  new bay = rig_of (with_drive drives bay after) memory page next
+  new bay = rig_of (with_bay drives bay after) memory page next
 
   counts_first : SameDrive drives.first after → GoesOn old.counters (new 0).counters × IsDriven 1 old.counters (new 0).counters
   counts_first same =
@@ -229,14 +228,14 @@ module _ (drives : Drives) (memory page : List ℕ) (counts next : Counts) (afte
   -- the drive of the bay was written on, and nothing else
   pub record IsWrittenOn (bay : ℕ) : Type 0 where
     pub sends : SendsWrite bay old (new bay)
-    pub was : in_bay old.media bay ≡ (drive_of drives bay).medium
-    pub at : in_bay old.cylinders bay ≡ (drive_of drives bay).cylinder
+    pub was : in_bay old.media bay ≡ (in_bay drives bay).medium
+    pub at : in_bay old.cylinders bay ≡ (in_bay drives bay).cylinder
     pub is : in_bay (new bay).media bay ≡ after.medium
-    pub kept : after.medium ≡ (drive_of drives bay).medium → (new bay).media ≡ old.media
+    pub kept : after.medium ≡ (in_bay drives bay).medium → (new bay).media ≡ old.media
 
-  pub written_on : (bay : ℕ) → bay ≤ 1 → SameDrive (drive_of drives bay) after → IsWrittenOn bay
+  pub written_on : (bay : ℕ) → bay ≤ 1 → SameDrive (in_bay drives bay) after → IsWrittenOn bay
   written_on =
-      by_bay (λ bay. SameDrive (drive_of drives bay) after → IsWrittenOn bay)
+      by_bay (λ bay. SameDrive (in_bay drives bay) after → IsWrittenOn bay)
       (λ same. record { sends = sends_first same; was = refl; at = refl; is = refl; kept = λ e. ap (λ m. record { first = m; second = drives.second.medium }) e })
       (λ same. record { sends = sends_second same; was = refl; at = refl; is = refl; kept = λ e. ap (λ m. record { first = drives.first.medium; second = m }) e })
 
@@ -276,13 +275,13 @@ module _ (old new : Rig) (bay : ℕ) (rate : Rate) (written : Written) (before :
   }
 
 -- the write of the bench
-pub bench_writes : (drives taken done : Drives) (memory page : List ℕ) (counts next : Counts) (bay : ℕ) (rate : Rate) (written target : Written) (before after : Drive) (answer : Result (Unit {0}) Code) → bay ≤ 1 → HasSent counts next → before ≡ drive_of drives bay → ((drive : Drive) → with_drive taken bay drive ≡ with_drive drives bay drive) → done ≡ with_drive taken bay after → SameDrive before after → written ≡ target → ((change : Option Change) × WritesOn rate before.cylinder written change before.medium answer after.medium) → (change : Option Change) × WritesData bay rate target change (rig_of drives memory page counts) answer (rig_of done memory page next)
+pub bench_writes : (drives taken done : Two Drive) (memory page : List ℕ) (counts next : Counts) (bay : ℕ) (rate : Rate) (written target : Written) (before after : Drive) (answer : Result (Unit {0}) Code) → bay ≤ 1 → HasSent counts next → before ≡ in_bay drives bay → ((drive : Drive) → with_bay taken bay drive ≡ with_bay drives bay drive) → done ≡ with_bay taken bay after → SameDrive before after → written ≡ target → ((change : Option Change) × WritesOn rate before.cylinder written change before.medium answer after.medium) → (change : Option Change) × WritesData bay rate target change (rig_of drives memory page counts) answer (rig_of done memory page next)
 bench_writes drives taken done memory page counts next bay rate written target before after answer le sent was left put same is (change, on) =
     let on_drive = written_on drives memory page counts next after sent bay le (subst (λ (d : Drive). SameDrive d after) was same) in
     let old = rig_of drives memory page counts in
-    let new = rig_of (with_drive drives bay after) memory page next in
+    let new = rig_of (with_bay drives bay after) memory page next in
     let there = subst (λ (d : Drive). WritesOn rate d.cylinder written change d.medium answer after.medium) was on in
-    let step = writes old new bay rate written (drive_of drives bay).medium (drive_of drives bay).cylinder after.medium on_drive.sends refl on_drive.was on_drive.at on_drive.is on_drive.kept change answer there in
+    let step = writes old new bay rate written (in_bay drives bay).medium (in_bay drives bay).cylinder after.medium on_drive.sends refl on_drive.was on_drive.at on_drive.is on_drive.kept change answer there in
     (change, subst (λ all. WritesData bay rate target change old answer (rig_of all memory page next)) (sym (put ∙ left after)) (subst (λ w. WritesData bay rate w change old answer new) is step))
 
 -- the bytes of a part of memory

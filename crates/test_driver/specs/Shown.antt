@@ -1,11 +1,11 @@
 -- What a bench shows of itself.
-use Rattle.std.specs.Prelude.{ℕ, ◌-◌, ◌==◌, [], List, None, if◌then◌else◌}
+use Rattle.std.specs.Prelude.{ℕ, ◌-◌, [], List, None}
+use Rattle.flop_base.specs.Bays.{Two}
 use Rattle.flop_base.specs.Counts.{last_count}
 use Rattle.flop_base.specs.Counters.{DriveCounts, Counters}
 use Rattle.single_commands.specs.Rigs.{Rig}
 use Rattle.test_driver.specs.declared.counts.Counts.{Counts}
 use Rattle.test_driver.specs.declared.drive.Drive.{Drive}
-use Rattle.test_driver.specs.declared.drives.Drives.{Drives}
 use Rattle.test_driver.specs.declared.bench.Bench.{Bench}
 
 -- the faults of a drive; it doesn't tell how many are left
@@ -13,7 +13,7 @@ abbrev pub faults_shown : Drive → DriveCounts
 faults_shown drive = record { faults = drive.faults; left = None }
 
 -- no spare drives, and nothing past the driver
-abbrev pub counters_of : Drives → Counts → Counters
+abbrev pub counters_of : Two Drive → Counts → Counters
 counters_of drives counts = record {
   drives = record { first = faults_shown drives.first; second = faults_shown drives.second };
   spares = [];
@@ -24,7 +24,7 @@ counters_of drives counts = record {
   direct = 0;
 }
 
-abbrev pub rig_of : Drives → List ℕ → List ℕ → Counts → Rig
+abbrev pub rig_of : Two Drive → List ℕ → List ℕ → Counts → Rig
 rig_of drives memory page counts = record {
   media = record { first = drives.first.medium; second = drives.second.medium };
   cylinders = record { first = drives.first.cylinder; second = drives.second.cylinder };
@@ -38,11 +38,3 @@ rig_of drives memory page counts = record {
 
 abbrev pub rig_shown : Bench → Rig
 rig_shown bench = rig_of bench.drives bench.memory.items bench.page.items bench.counts
-
--- the drive of a bay, the second for all but 0
-abbrev pub drive_of : Drives → ℕ → Drive
-drive_of drives bay = if bay == 0 then drives.first else drives.second
-
--- the same with another drive in a bay
-abbrev pub with_drive : Drives → ℕ → Drive → Drives
-with_drive drives bay drive = if bay == 0 then record drives { first = drive } else record drives { second = drive }

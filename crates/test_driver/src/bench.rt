@@ -11,9 +11,9 @@ ghost use Rattle.test_driver.specs.Sent.{HasFault, IsDisturbed};
 
 use crate::counts::Counts;
 use crate::drive::Drive;
-use crate::drives::Drives;
+use crate::drives::take;
 use crate::script::{Call, Script, Trouble};
-use flop_base::{Code, NoMemory, USER_BYTES};
+use flop_base::{Code, NoMemory, Two, USER_BYTES};
 use floppy_driver::Driver;
 use raw_image::Medium;
 use std::alloc::{AllocError, Global};
@@ -29,7 +29,7 @@ const TRACK_WORDS: usize = 16_384;
 #[derive(Drop)]
 pub(crate) struct Bench {
     pub(crate) alloc: Global,
-    pub(crate) drives: Drives,
+    pub(crate) drives: Two<Drive>,
     pub(crate) memory: Vec<u8>,
     pub(crate) page: Vec<u8>,
     pub(crate) counts: Counts,
@@ -58,10 +58,7 @@ impl Bench {
         let words = vec![in alloc; 0; TRACK_WORDS]?;
         Ok(Bench {
             alloc,
-            drives: Drives {
-                first: Drive::empty(),
-                second: Drive::empty(),
-            },
+            drives: Two::new(Drive::empty(), Drive::empty()),
             memory,
             page,
             counts: Counts {
@@ -78,9 +75,9 @@ impl Bench {
     pub fn exchange(&mut self, bay: u8, medium: Option<Medium>)
         ensures { (driver : Driver) → IsAttached driver (rig_shown self.old) → IsAttached driver (rig_shown self.new) }
     {
-        let mut drive = self.drives.take(bay);
+        let mut drive = take(&mut self.drives, bay);
         drive.exchange(medium);
-        self.drives.set(bay, drive);
+        self.drives.replace(bay, drive);
     }
 
     /// Plans the troubles of the data commands that come.
@@ -137,9 +134,9 @@ impl Bench {
         requires { bay ≤ 1 }
         ensures { HasFault bay (rig_shown self.old) (rig_shown self.new) }
     {
-        let mut drive = self.drives.take(bay);
+        let mut drive = take(&mut self.drives, bay);
         drive.fail(1);
-        self.drives.set(bay, drive);
+        self.drives.replace(bay, drive);
         self.counts.send();
     }
 

@@ -3,6 +3,7 @@ ghost use Rattle.std.specs.Prelude.{◌≡◌};
 ghost use Rattle.test_driver.specs.Shown.{rig_shown};
 
 use crate::bench::Bench;
+use crate::drives::take;
 use crate::script::Call;
 use flop_base::{Chrn, Code, Rate};
 use single_commands::Commands;
@@ -25,18 +26,18 @@ impl Commands for Bench {
     }
 
     fn start_motor(&mut self, bay: u8) {
-        let mut drive = self.drives.take(bay);
+        let mut drive = take(&mut self.drives, bay);
         drive.spin();
-        self.drives.set(bay, drive);
+        self.drives.replace(bay, drive);
         self.keep_ranges();
     }
 
     fn recalibrate(&mut self, bay: u8) -> bool {
         self.script.note(Call::Recalibrate);
         let lost = self.script.lost_pulses();
-        let mut drive = self.drives.take(bay);
+        let mut drive = take(&mut self.drives, bay);
         let reached = drive.recalibrate(lost);
-        self.drives.set(bay, drive);
+        self.drives.replace(bay, drive);
         self.keep_ranges();
         reached
     }
@@ -44,9 +45,9 @@ impl Commands for Bench {
     fn seek(&mut self, bay: u8, target: u8) {
         self.script.note(Call::Seek(target));
         let lost = self.script.lost_pulses();
-        let mut drive = self.drives.take(bay);
+        let mut drive = take(&mut self.drives, bay);
         drive.seek(target, lost);
-        self.drives.set(bay, drive);
+        self.drives.replace(bay, drive);
         self.keep_ranges();
     }
 

@@ -8,6 +8,7 @@ ghost use Rattle.test_driver.specs.Laid.{HasTrackOn, FormatsOn};
 
 use crate::bench::Bench;
 use crate::drive::{Drive, same_rate};
+use crate::drives::take;
 use crate::script::Trouble;
 use flop_base::standard::SIZE_CODE;
 use flop_base::{Code, Rate};
@@ -105,9 +106,9 @@ impl Bench {
             return Err(self.refuse_write(bay, trouble));
         }
         self.counts.send();
-        let mut drive = self.drives.take(bay);
+        let mut drive = take(&mut self.drives, bay);
         let answer = drive.format(c, h, rate, gap3, fill, &mut self.words);
-        self.drives.set(bay, drive);
+        self.drives.replace(bay, drive);
         answer
     }
 }

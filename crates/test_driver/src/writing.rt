@@ -10,6 +10,7 @@ ghost use Rattle.test_driver.specs.Put.{PutsWindow, HasFieldOn, IsAbsent, Writes
 
 use crate::bench::Bench;
 use crate::drive::Drive;
+use crate::drives::take;
 use crate::script::Trouble;
 use flop_base::{Chrn, Code, Rate, sector_size};
 use raw_image::Medium;
@@ -117,9 +118,9 @@ impl Bench {
         let size = sector_size(key.n);
         let content = &self.memory[start..start + size];
         let window = &mut self.words[0..WINDOW_WORDS + size];
-        let mut drive = self.drives.take(bay);
+        let mut drive = take(&mut self.drives, bay);
         let answer = drive.write(key, rate, deleted, content, window);
-        self.drives.set(bay, drive);
+        self.drives.replace(bay, drive);
         answer
     }
 }

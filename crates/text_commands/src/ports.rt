@@ -3,7 +3,6 @@ mod answer;
 mod doing;
 mod laws;
 mod media;
-mod names;
 mod running;
 mod telling;
 

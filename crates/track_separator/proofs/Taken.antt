@@ -1,5 +1,5 @@
 -- A word that isn't the last of its turn, taken at any stage.
-use Rattle.std.proofs.Common.{◌≡◌, ℕ, Bool, false, true, List, sym, ◌∙◌, rw}
+use Rattle.std.proofs.Common.{◌≡◌, ℕ, Bool, false, true, List, sym, ◌∙◌}
 use Rattle.std.proofs.lemmas.Bool.{false≢true}
 use Rattle.track_separator.specs.declared.state.Seen.{Seen}
 use Rattle.track_separator.specs.declared.state.Seen.TheVariants.{NoData}

@@ -1,12 +1,12 @@
 // A request and its holds as bytes.
-use super::{Holding, Request};
+use super::{DmaRequest, Holding};
 use crate::queues::save_bytes_left;
 use flop_base::NoMemory;
 use saved_state::{Saved, SavedWhole, Sink, Source, load_bytes};
 use std::alloc::Global;
 use std::collections::VecDeque;
 
-impl Saved for Request {
+impl Saved for DmaRequest {
     ghost use Rattle.std.specs.Prelude.{⊤};
     ghost use Rattle.irq_events.specs.PaceSaving.{spelled_request};
 
@@ -16,21 +16,21 @@ impl Saved for Request {
 
     fn save(&self, to: &mut Sink) {
         match *self {
-            Request::Low => to.byte(0),
-            Request::High { left } => {
+            DmaRequest::Low => to.byte(0),
+            DmaRequest::High { left } => {
                 to.byte(1);
                 left.save(to);
             }
         }
     }
 
-    fn load(from: &mut Source<'_>) -> Request {
+    fn load(from: &mut Source<'_>) -> DmaRequest {
         if from.byte() == 1 {
-            Request::High {
+            DmaRequest::High {
                 left: u8::load(from),
             }
         } else {
-            Request::Low
+            DmaRequest::Low
         }
     }
 }
@@ -51,7 +51,7 @@ impl SavedWhole for Holding {
 
     fn load(alloc: Global, from: &mut Source<'_>) -> Result<Holding, NoMemory> {
         let entries = VecDeque::from_vec(Vec::from_slice(alloc, load_bytes(from))?);
-        let request = Request::load(from);
+        let request = DmaRequest::load(from);
         let stalls = u64::load(from);
         Ok(Holding {
             entries,

@@ -1,6 +1,6 @@
 -- Counts, step by step and access by access.
 use Rattle.std.proofs.Common.{◌≡◌, ℕ, ◌+◌, ◌≤◌, min, nat_lt, Bool, true, false, List, [], ◌∷◌, if◌then◌else◌, refl, sym, ◌∙◌, ap, subst, arith}
-use Rattle.laws_machine.proofs.Common.{last_count, drive_twice, asks, next_entry, rest_of, Holds, looked, waited, shown, counted, Request, Low, High, Board, controller_of, holds_of, is_controllers, port_read, WritesPort, Inputs, Outputs, Step, looked_at, shown_again, Chips, counts_of, CountsGoOn, regapped, Progress}
+use Rattle.laws_machine.proofs.Common.{last_count, drive_twice, asks, next_entry, rest_of, Holds, looked, waited, shown, counted, DmaRequest, Low, High, Board, controller_of, holds_of, is_controllers, port_read, WritesPort, Inputs, Outputs, Step, looked_at, shown_again, Chips, counts_of, CountsGoOn, regapped, Progress}
 use Rattle.flop_base.proofs.Counted.{drive_itself}
 use Rattle.dma_8237.specs.Channel.{after_read}
 use Rattle.fdc_core.specs.Ports.{after_read as controller_after}
@@ -39,13 +39,13 @@ by_long : (stalls left : ℕ) (b : Bool) → (min stalls last_count ≤ (if b th
 by_long stalls left true = (omega arith, omega arith)
 by_long stalls left false = (omega arith, omega arith)
 
-taken_holds : (entries : List ℕ) (stalls : ℕ) (request then_request : Request)
+taken_holds : (entries : List ℕ) (stalls : ℕ) (request then_request : DmaRequest)
     → HoldsGoOn (record { entries = entries; request = request; stalls = stalls })
     (record { entries = rest_of entries; request = then_request; stalls = stalls_with (next_entry entries) stalls })
 taken_holds [] stalls request then_request = record { stalls = omega arith; spent = omega arith }
 taken_holds (hold ∷ holds) stalls request then_request = let (grows, spends) = by_long stalls (long_holds holds) (nat_lt 8 hold) in record { stalls = grows; spent = spends }
 
-waited_holds : (request : Request) (old : Holds) → HoldsGoOn old (waited request old)
+waited_holds : (request : DmaRequest) (old : Holds) → HoldsGoOn old (waited request old)
 waited_holds Low old = let goes = taken_holds old.entries old.stalls old.request (High (next_entry old.entries)) in record { stalls = goes.stalls; spent = goes.spent }
 waited_holds (High left) old = same_on old (waited (High left) old) (record { stalls = refl; entries = refl })
 

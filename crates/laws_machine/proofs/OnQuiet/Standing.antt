@@ -1,7 +1,7 @@
 -- Between two data commands: device steps leave a setting.
 use Rattle.std.proofs.Common.{◌≡◌, ◌==◌, ◌&&◌, ◌||◌, Bool, false, None, refl, sym, ◌∙◌, ap, subst}
 use Rattle.std.proofs.lemmas.Bool.{and_right, false≢true}
-use Rattle.laws_machine.proofs.Common.{Request, Low, is_executing, polled, seek_stepped, RestsIn, Stays, Fdc, Phase, Command, Execute, Result, Board, controller_of, Step, Chips, Seeking, is_seeking, interrupts, is_gated, IsQuiet, HoldsOn, StandsStill, IsHushed, Setting, setting_of, ChipsStand, Stands, regapped, Steady}
+use Rattle.laws_machine.proofs.Common.{DmaRequest, Low, is_executing, polled, seek_stepped, RestsIn, Stays, Fdc, Phase, Command, Execute, Result, Board, controller_of, Step, Chips, Seeking, is_seeking, interrupts, is_gated, IsQuiet, HoldsOn, StandsStill, IsHushed, Setting, setting_of, ChipsStand, Stands, regapped, Steady}
 use Rattle.laws_machine.proofs.Facts.{polled_asking, polled_phase}
 use Rattle.pc_bus.specs.Transfers.{dma_stepped}
 use Rattle.laws_machine.proofs.OnQuiet.Steps.{step_works, drives_on, drives_still, starts_quietly, idles_still}
@@ -85,7 +85,7 @@ step_stayed old new idle step = controller (Stayed (controller_of old) step.betw
     (λ works. (rested (controller_of old) step.between false idle works.rests, works.stays))
 
 -- the request plays no part
-quiet_chips : (old : Chips) (set : Setting) (now : Chips) (request : Request) → ChipsStand set old now → ChipsStand set old (record now { holding = record now.holding { request = request } })
+quiet_chips : (old : Chips) (set : Setting) (now : Chips) (request : DmaRequest) → ChipsStand set old now → ChipsStand set old (record now { holding = record now.holding { request = request } })
 quiet_chips old set now request was = record {
   controller = was.controller;
   phase = was.phase;

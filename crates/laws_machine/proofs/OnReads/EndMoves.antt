@@ -1,7 +1,7 @@
 -- The transfers behind the word time of a READ DATA that ends soon.
 use Rattle.std.proofs.Common.{◌≡◌, ◌⊎◌, inl, inr, ℕ, ◌+◌, ◌-◌, ◌≤◌, ◌==◌, ◌&&◌, ◌||◌, not, nat_le, nat_lt, Bool, true, false, [], length, drop, if◌then◌else◌, refl, sym, ◌∙◌, ap, subst, arith}
 use Rattle.std.proofs.lemmas.Bool.{and_from, cases_lt, cond_both, cond-true, eqb-false, false_from_ne_true, false≢true, lt-ltb}
-use Rattle.laws_machine.proofs.Common.{Rose, Fifo, room_of, worth_fetching, ReadStage, fifo_told, taken_out, to_memory_of, phase_asks, task_asks, phase_told, is_executing, is_over, is_reading, asks, is_gated, phase_counted, Fdc, Phase, Command, Execute, Result, Task, next_entry, Holds, IsShort, is_due, looked, shown, waited, counted, Request, Low, High, can_move, moved_to_memory, moved_from_memory, told_if, looked_at, shown_again, Chips, IsRuled, lingers, task_lingers, steps_taken, wait_left, most_steps, IsSoonOver}
+use Rattle.laws_machine.proofs.Common.{Rose, Fifo, room_of, worth_fetching, ReadStage, fifo_told, taken_out, to_memory_of, phase_asks, task_asks, phase_told, is_executing, is_over, is_reading, asks, is_gated, phase_counted, Fdc, Phase, Command, Execute, Result, Task, next_entry, Holds, IsShort, is_due, looked, shown, waited, counted, DmaRequest, Low, High, can_move, moved_to_memory, moved_from_memory, told_if, looked_at, shown_again, Chips, IsRuled, lingers, task_lingers, steps_taken, wait_left, most_steps, IsSoonOver}
 use Rattle.dma_8237.specs.Channel.{grants}
 use Rattle.fdc_phases.specs.declared.phases.Task.TheVariants.{Read}
 use Rattle.pc_bus.specs.Transfers.{moved, moved_up_to, granted, dma_stepped}
@@ -25,7 +25,7 @@ dealt chips = cond_both (is_due (looked_at chips).holding.request) _ _ (Dealt ch
 
 -- ---- holds are bytes
 
-waits_or_stalls : (request : Request) (old : Holds) → IsShort request → IsShort (waited request old).request ⊎ Rose old.stalls (waited request old).stalls
+waits_or_stalls : (request : DmaRequest) (old : Holds) → IsShort request → IsShort (waited request old).request ⊎ Rose old.stalls (waited request old).stalls
 waits_or_stalls Low old short = elim (cases_lt 8 (next_entry old.entries)) [
   | inl long ↦ inr (subst (Rose old.stalls) (sym (cond-true (nat_lt 8 (next_entry old.entries)) (counted old.stalls) old.stalls (lt-ltb 8 (next_entry old.entries) long))) (omega arith))
   | inr few ↦ inl (omega arith)
@@ -48,7 +48,7 @@ dealt_holding P shows chips new (Waits why) was = was
 dealt_holding P shows chips new Moves was = shows _ (moved_up_to 16 (looked_at chips)).holding (subst P (sym (up_to_holding 16 (looked_at chips))) was)
 
 -- what is left of a wait
-waits_less : (request : Request) (old : Holds) → IsShort (waited request old).request → is_due (waited request old).request ≡ false
+waits_less : (request : DmaRequest) (old : Holds) → IsShort (waited request old).request → is_due (waited request old).request ≡ false
     → wait_left false (waited request old).request + 1 ≤ wait_left false request
 waits_less Low old short idle = omega arith
 waits_less (High left) old short idle = let some = eqb-false (left - 1) 0 idle in omega arith
@@ -58,11 +58,11 @@ looks_less : (line : Bool) (old : Holds) → line ≡ true → IsShort (looked l
 looks_less true old up short idle = waits_less old.request old short idle
 looks_less false old up short idle = absurd (false≢true up)
 
-wait_most : (request : Request) → IsShort request → wait_left false request ≤ 257
+wait_most : (request : DmaRequest) → IsShort request → wait_left false request ≤ 257
 wait_most Low short = omega arith
 wait_most (High left) short = omega arith
 
-wait_some : (request : Request) → 1 ≤ wait_left false request
+wait_some : (request : DmaRequest) → 1 ≤ wait_left false request
 wait_some Low = omega arith
 wait_some (High left) = omega arith
 

@@ -2,7 +2,7 @@
 use Rattle.std.proofs.Common.{◌≡◌, ◌⊎◌, inl, inr, ℕ, ◌+◌, ◌<◌, ◌≤◌, ◌==◌, ◌&&◌, ◌||◌, not, nat_le, Bool, true, false, List, length, refl, sym, ◌∙◌, ap, subst, arith}
 use Rattle.std.proofs.lemmas.Bool.{false_from_ne_true, false≢true}
 use Rattle.std.proofs.lemmas.Bool.Decides.{nat_tests}
-use Rattle.laws_machine.proofs.Common.{Rose, DriveState, Fifo, room_of, worth_fetching, Past, task_asks, phase_asks, Sent, MayReadIn, MayReadTask, is_executing, is_reading, is_read, is_overrun, is_over, is_full, asks, is_gated, polled, RestsIn, FlowsIn, Fdc, Phase, Command, Execute, Result, Task, Holds, IsReady, IsInTime, is_due, shown, Request, Low, High, in_time, Works, looked_at, shown_again, Chips, Scene, IsDoneBy, IsRuled, slack_of, IsPunctual}
+use Rattle.laws_machine.proofs.Common.{Rose, DriveState, Fifo, room_of, worth_fetching, Past, task_asks, phase_asks, Sent, MayReadIn, MayReadTask, is_executing, is_reading, is_read, is_overrun, is_over, is_full, asks, is_gated, polled, RestsIn, FlowsIn, Fdc, Phase, Command, Execute, Result, Task, Holds, IsReady, IsInTime, is_due, shown, DmaRequest, Low, High, in_time, Works, looked_at, shown_again, Chips, Scene, IsDoneBy, IsRuled, slack_of, IsPunctual}
 use Rattle.laws_machine.proofs.Facts.{number_is, polled_phase, some_of}
 use Rattle.dma_8237.specs.Channel.{grants}
 use Rattle.fdc_core.specs.Listening.{OverrunsIn, OverrunsTask}
@@ -92,11 +92,11 @@ pub ready_low : (line : Bool) (holding : Holds) (slack : ℕ) → line ≡ false
 ready_low true holding slack low enough = absurd (false≢true (sym low))
 ready_low false holding slack low enough = enough
 
-pub not_due : (request : Request) (slack : ℕ) → IsInTime request slack → is_due request ≡ false → IsReady request slack
+pub not_due : (request : DmaRequest) (slack : ℕ) → IsInTime request slack → is_due request ≡ false → IsReady request slack
 not_due Low slack enough due = enough
 not_due (High left) slack enough due = (some_of left due, enough)
 
-pub ready_one : (request : Request) (slack : ℕ) → IsReady request slack → 1 ≤ slack
+pub ready_one : (request : DmaRequest) (slack : ℕ) → IsReady request slack → 1 ≤ slack
 ready_one Low slack enough = omega arith
 ready_one (High left) slack enough = let some = enough.0 in let all = enough.1 in omega arith
 

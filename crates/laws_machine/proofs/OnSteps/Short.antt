@@ -1,7 +1,7 @@
 -- Holds stay bytes.
 use Rattle.std.proofs.Common.{ℕ, suc, ◌≤◌, Bool, true, false, List, [], ◌∷◌, if◌then◌else◌, sym, ap, subst, arith}
 use Rattle.std.specs.List.{All}
-use Rattle.laws_machine.proofs.Common.{next_entry, rest_of, Holds, AreShort, IsShort, is_due, looked, shown, waited, Request, Low, High, holds_of, looked_at, shown_again, Chips, Steady}
+use Rattle.laws_machine.proofs.Common.{next_entry, rest_of, Holds, AreShort, IsShort, is_due, looked, shown, waited, DmaRequest, Low, High, holds_of, looked_at, shown_again, Chips, Steady}
 use Rattle.dma_8237.specs.Channel.{grants}
 use Rattle.pc_bus.specs.Transfers.{moved_up_to, dma_stepped, granted}
 use Rattle.laws_machine.proofs.OnSteps.Stalls.{up_to_holding}
@@ -14,7 +14,7 @@ rest_short : (entries : List ℕ) → All (λ entry. entry ≤ 255) entries → 
 rest_short [] short = short
 rest_short (entry ∷ rest) short = λ k d within. short (suc k) d (omega arith)
 
-pub waited_short : (request : Request) (old : Holds) → IsShort request → AreShort old → AreShort (waited request old)
+pub waited_short : (request : DmaRequest) (old : Holds) → IsShort request → AreShort old → AreShort (waited request old)
 waited_short Low old is short = record { entries = rest_short old.entries short.entries; request = next_short old.entries short.entries }
 waited_short (High left) old is short = record { entries = short.entries; request = omega arith }
 

@@ -1,6 +1,6 @@
 -- What holds until a stall is counted.
 use Rattle.std.proofs.Common.{◌≡◌, ◌⊎◌, inl, inr, ℕ, nat_lt, Bool, true, false, if◌then◌else◌, refl, sym, ◌∙◌, ap, subst, arith}
-use Rattle.laws_machine.proofs.Common.{to_memory_of, next_entry, Holds, looked, waited, shown, counted, Request, Low, High, Board, holds_of, RunsGap, Step, moved_to_memory, moved_from_memory, looked_at, Chips, Steady, Stalled, Keeping}
+use Rattle.laws_machine.proofs.Common.{to_memory_of, next_entry, Holds, looked, waited, shown, counted, DmaRequest, Low, High, Board, holds_of, RunsGap, Step, moved_to_memory, moved_from_memory, looked_at, Chips, Steady, Stalled, Keeping}
 use Rattle.laws_machine.proofs.Facts.{if_both, shown_stalls}
 use Rattle.pc_bus.specs.Steps.{Runs}
 use Rattle.pc_bus.specs.Transfers.{moved, moved_up_to, dma_stepped}
@@ -29,7 +29,7 @@ taken_grows : (b : Bool) (stalls : ℕ) → Grows stalls (if b then counted stal
 taken_grows true stalls = omega arith
 taken_grows false stalls = omega arith
 
-waited_grows : (request : Request) (old : Holds) → Grows old.stalls (waited request old).stalls
+waited_grows : (request : DmaRequest) (old : Holds) → Grows old.stalls (waited request old).stalls
 waited_grows Low old = taken_grows (nat_lt 8 (next_entry old.entries)) old.stalls
 waited_grows (High left) old = omega arith
 

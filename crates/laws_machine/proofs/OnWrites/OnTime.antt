@@ -2,7 +2,7 @@
 use Rattle.std.proofs.Common.{◌≡◌, ◌⊎◌, inl, inr, ℕ, ◌+◌, ◌-◌, ◌%◌, ◌≤◌, ◌==◌, Bool, true, false, length, if◌then◌else◌, refl, sym, ◌∙◌, ap, subst, arith}
 use Rattle.std.proofs.lemmas.Bool.{false≢true}
 use Rattle.std.proofs.lemmas.List.{length-drop}
-use Rattle.laws_machine.proofs.Common.{Rose, DriveState, Fifo, emptied, room_of, FormatNext, WriteNext, begun, WaitsAtFirst, asked, FormatDoes, after_laid, is_executing, is_overrun, is_reading, asks, is_gated, polled, WordTime, Saw, KeptOut, Wrote, Stopped, PhaseWaits, phase_counted, WritesIn, WritesTask, WriteDoes, after_next, without_byte, Fdc, Phase, Command, Execute, Result, Task, ReadId, Format, Formatting, Writing, IsInTime, IsReady, looked, Request, Low, in_time, IsRuled, Stalled, drive_in, Board, selected_of, Works, Step, can_move, looked_at, shown_again, Chips, fills, fills_task, IsFilling, IsTimely, IsOnTime, Keeping, Stalled}
+use Rattle.laws_machine.proofs.Common.{Rose, DriveState, Fifo, emptied, room_of, FormatNext, WriteNext, begun, WaitsAtFirst, asked, FormatDoes, after_laid, is_executing, is_overrun, is_reading, asks, is_gated, polled, WordTime, Saw, KeptOut, Wrote, Stopped, PhaseWaits, phase_counted, WritesIn, WritesTask, WriteDoes, after_next, without_byte, Fdc, Phase, Command, Execute, Result, Task, ReadId, Format, Formatting, Writing, IsInTime, IsReady, looked, DmaRequest, Low, in_time, IsRuled, Stalled, drive_in, Board, selected_of, Works, Step, can_move, looked_at, shown_again, Chips, fills, fills_task, IsFilling, IsTimely, IsOnTime, Keeping, Stalled}
 use Rattle.dma_8237.specs.Channel.{grants}
 use Rattle.fdc_stages.specs.declared.formatting.FormatNext.TheVariants as format_next
 use Rattle.fdc_stages.specs.declared.writing.WriteNext.TheVariants as write_next
@@ -148,7 +148,7 @@ lasts_in (Result answer) old new slack busy lasts waits = absurd (false≢true b
 lasts_in (Execute execution) old new slack busy lasts waits = lasts slack waits
 
 -- the slack of the step
-pub record HasSlack (request : Request) (old : Fdc) : Type 0 where
+pub record HasSlack (request : DmaRequest) (old : Fdc) : Type 0 where
   pub after : ℕ
   pub before : ℕ
   pub waits : PhaseWaits (after + 1) old.phase old.fifo

@@ -3,7 +3,7 @@ use Rattle.std.specs.Prelude.{◌≡◌, ◌⊎◌, ◌≤◌, ◌+◌, ℕ, min
 use Rattle.flop_base.specs.Counts.{last_count}
 use Rattle.fdc_core.specs.State.{data_commands_of}
 use Rattle.irq_events.specs.Holds.{AreShort, counted}
-use Rattle.irq_events.specs.declared.holding.Request.TheVariants.{Low}
+use Rattle.irq_events.specs.declared.holding.DmaRequest.TheVariants.{Low}
 use Rattle.pc_bus.specs.Boards.{Board, controller_of, holds_of}
 use Rattle.pc_bus.specs.Counts.{long_holds}
 use Rattle.laws_machine.specs.OnQuiet.Quiet.{GoesQuietly, IsHushed}

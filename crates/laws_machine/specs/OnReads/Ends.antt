@@ -12,8 +12,8 @@ use Rattle.fdc_phases.specs.declared.phases.Phase.TheVariants.{Execute}
 use Rattle.fdc_phases.specs.declared.phases.Task.{Task}
 use Rattle.fdc_phases.specs.declared.phases.Task.TheVariants.{Read}
 use Rattle.irq_events.specs.Holds.{AreShort, IsShort}
-use Rattle.irq_events.specs.declared.holding.Request.{Request}
-use Rattle.irq_events.specs.declared.holding.Request.TheVariants.{Low, High}
+use Rattle.irq_events.specs.declared.holding.DmaRequest.{DmaRequest}
+use Rattle.irq_events.specs.declared.holding.DmaRequest.TheVariants.{Low, High}
 use Rattle.laws_machine.specs.OnReads.Scenes.{Scene}
 use Rattle.laws_machine.specs.OnReads.Served.{IsRuled}
 use Rattle.laws_machine.specs.OnReads.Timely.{ReadInTime}
@@ -43,7 +43,7 @@ steps_taken (Execute execution) = execution.steps
 steps_taken _ = 0
 
 -- with its line high a request is granted within so many device steps; none where no byte waits
-abbrev pub wait_left : Bool → Request → ℕ
+abbrev pub wait_left : Bool → DmaRequest → ℕ
 wait_left true request = 0
 wait_left false Low = 257
 wait_left false (High left) = left + 1

@@ -1,5 +1,6 @@
 // The controller's state as bytes, and back.
 ghost use Rattle.std.specs.Prelude.{◌≡◌};
+ghost use Rattle.telwyddus_c.specs.Lengths.{TellsAtMost};
 ghost use Rattle.telwyddus_c.specs.Slots.{Serves};
 ghost use Rattle.telwyddus_c.specs.States.{spelled_controller, ControllerFits, WritesState, RestoresState};
 
@@ -18,8 +19,9 @@ pub extern "C" fn telwyddus_controller_save(
     out: &mut [u8],
     length: &mut usize,
 ) -> u32
-    ensures { Serves (λ code old new. (new ≡ old) × WritesState ControllerFits spelled_controller old code out.old out.new length.old length.new)
+    ensures serves { Serves (λ code old new. (new ≡ old) × WritesState ControllerFits spelled_controller old code out.old out.new length.old length.new)
         ((out.new ≡ out.old) × (length.new ≡ length.old)) result slot.old.held.controller slot.new.held.controller }
+    ensures most { TellsAtMost slot.old.held.controller result length.new }
 {
     match slot.take(alloc) {
         None => EMPTY,

@@ -5,8 +5,7 @@ ghost use Rattle.text_commands.specs.PortFaults.{Handled, faulty_bench_of};
 ghost use Rattle.text_commands.specs.PortLines.{LineGoes, ReadsPort};
 
 use crate::ports::answer::Answer;
-use crate::ports::media::{eject, insert};
-use crate::ports::names::Names;
+use crate::ports::media::{Names, eject, insert};
 use drive_model::Drive;
 use flop_base::Shelf;
 use floppy_jobs::PortLine;

@@ -5,20 +5,28 @@ ghost use Rattle.drive_model.specs.Drive.{Becomes, loaded};
 ghost use Rattle.flop_base.specs.Bays.{with_bay};
 ghost use Rattle.pc_bus.specs.Boards.{board, drive_in};
 ghost use Rattle.pc_bus.specs.Handling.{Touches};
-ghost use Rattle.text_commands.specs.Benches.{AreNamed, is_loaded as is_loaded_in};
+ghost use Rattle.text_commands.specs.Benches.{AreNamed, is_loaded};
 ghost use Rattle.text_commands.specs.PortFaults.{Handled, faulty_bench_of};
 ghost use Rattle.text_commands.specs.PortLines.{LineGoes, StoresOrDrops};
 ghost use Rattle.text_commands.specs.PortCourses.{BayGoes, EndGoes};
 
 use crate::ports::answer::Answer;
-use crate::ports::names::Names;
 use drive_model::Drive;
-use flop_base::{Code, Name, Shelf};
+use flop_base::{Code, Name, Shelf, Two};
 use floppy_session::{load_medium, store_medium};
 use pc_bus::MachineOf;
 use raw_image::Medium;
 use sector_model::{Reason, Stop};
 use std::alloc::Global;
+
+/// The names under which the media in the two bays are stored.
+pub(crate) type Names = Two<Option<Name>>;
+
+fn is_loaded(names: &Names, bay: u8) -> bool
+    ensures { result ≡ is_loaded names.now bay }
+{
+    names.get(bay).is_some()
+}
 
 /// Loads the image of this name and puts its medium in.
 pub(crate) fn insert<S: Shelf, D: Drive>(
@@ -37,7 +45,7 @@ pub(crate) fn insert<S: Shelf, D: Drive>(
     if bay > 1 {
         return Ok(Answer::Refused(Reason::Driver(Code::BadRequest)));
     }
-    if names.is_loaded(bay) {
+    if is_loaded(names, bay) {
         return Ok(Answer::Refused(Reason::Busy));
     }
     let medium = load_medium(alloc, shelf, name)?;
@@ -56,7 +64,7 @@ fn put_in<D: Drive>(
 )
     requires named { AreNamed names.old (board D.state machine.old) }
     requires bay { bay ≤ 1 }
-    requires empty { is_loaded_in names.old bay ≡ false }
+    requires empty { is_loaded names.old bay ≡ false }
     ensures touches { Touches bay (board D.state machine.old) (board D.state machine.new) }
     ensures drive { Becomes (loaded medium (drive_in (board D.state machine.old) bay))
         (drive_in (board D.state machine.old) bay) (drive_in (board D.state machine.new) bay) }
@@ -64,7 +72,9 @@ fn put_in<D: Drive>(
     ensures named { AreNamed names.new (board D.state machine.new) }
 {
     match machine.insert(bay, medium) {
-        Ok(()) => names.set(bay, name),
+        Ok(()) => {
+            names.replace(bay, Some(name));
+        }
         Err(_) => unreachable!(),
     }
 }
@@ -85,7 +95,7 @@ pub(crate) fn eject<S: Shelf, D: Drive>(
     if bay > 1 {
         return Ok(Answer::Refused(Reason::Driver(Code::BadRequest)));
     }
-    if !names.is_loaded(bay) {
+    if !is_loaded(names, bay) {
         return Ok(Answer::Refused(Reason::Empty));
     }
     take_out(alloc, machine, names, bay, shelf)?;
@@ -102,12 +112,12 @@ fn take_out<S: Shelf, D: Drive>(
 ) -> Result<(), Stop>
     requires named { AreNamed names.old (board D.state machine.old) }
     requires bay { bay ≤ 1 }
-    requires loaded { is_loaded_in names.old bay ≡ true }
+    requires loaded { is_loaded names.old bay ≡ true }
     ensures { Handled (StoresOrDrops bay)
         (faulty_bench_of D.state S.told S.fault_count machine.old names.old shelf.old) result
         (faulty_bench_of D.state S.told S.fault_count machine.new names.new shelf.new) }
 {
-    let name = names.take(bay).unwrap();
+    let name = names.replace(bay, None).unwrap();
     let medium = machine.eject(bay).unwrap();
     store_medium(alloc, shelf, &name, &medium)?;
     Ok(())
@@ -127,7 +137,7 @@ fn end_bay<S: Shelf, D: Drive>(
         (faulty_bench_of D.state S.told S.fault_count machine.old names.old shelf.old) result
         (faulty_bench_of D.state S.told S.fault_count machine.new names.new shelf.new) }
 {
-    if names.is_loaded(bay) {
+    if is_loaded(names, bay) {
         take_out(alloc, machine, names, bay, shelf)
     } else {
         Ok(())

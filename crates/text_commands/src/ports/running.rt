@@ -11,12 +11,11 @@ ghost use Rattle.text_commands.specs.PortPlays.{RoundGoes, RoundsGo, HasPlayed, 
 use crate::ending::either;
 use crate::ports::answer::Answer;
 use crate::ports::doing::do_line;
-use crate::ports::media::end;
-use crate::ports::names::Names;
+use crate::ports::media::{Names, end};
 use crate::ports::telling::put_answer;
 use commands::{put_last, put_last_bad_line, stop_status, tell_missing_text, whole_status};
 use drive_model::Drive;
-use flop_base::{Shelf, Sink, Status};
+use flop_base::{Shelf, Sink, Status, Two};
 use floppy_jobs::{JobError, PortLine, parse_ports};
 use pc_bus::MachineOf;
 use std::alloc::Global;
@@ -160,7 +159,7 @@ pub fn run_ports<S: Shelf, K: Sink, D: Drive>(
         (faulty_of D.state S.told S.fault_count K.told K.fault_count machine.new no_names shelf.new out.new) result }
 {
     machine.ranges();
-    let mut names = Names::new();
+    let mut names = Two::new(None, None);
     match shelf.load(alloc, text_name, MOST_TEXT_BYTES) {
         Ok(text) => play_text(alloc, machine, &mut names, &text, shelf, out),
         Err(error) => tell_missing_text(alloc, text_name, error, out),

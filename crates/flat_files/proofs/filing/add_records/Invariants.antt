@@ -1,5 +1,6 @@
 use Rattle.flat_files.specs.Files.{AddsRecords}
+use Rattle.flat_files.specs.Forms.{cylinder_of, head_of}
 use Rattle.flat_files.proofs.filing.add_records.Given as goal
 
 abbrev pub invariant-loop-i : goal.invariant-loop-i
-invariant-loop-i l = AddsRecords l.tracks l.c l.h l.i l.initial.bytes.items l.bytes.items
+invariant-loop-i l = AddsRecords l.tracks l.form.n (cylinder_of l.form l.track) (head_of l.form l.track) l.i l.initial.bytes.items l.bytes.items

@@ -2,4 +2,4 @@ use Rattle.flat_files.specs.Files.{AreOfTracks}
 use Rattle.flat_files.proofs.filing.file_of.Given as goal
 
 abbrev pub invariant-loop-track : goal.invariant-loop-track
-invariant-loop-track l = AreOfTracks l.tracks l.sectors l.track l.bytes.items
+invariant-loop-track l = AreOfTracks l.tracks l.form l.track l.bytes.items

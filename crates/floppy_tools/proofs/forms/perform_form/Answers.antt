@@ -6,7 +6,7 @@ use Rattle.commands.specs.Leading.{Runs}
 use Rattle.commands.specs.Hands.{hand_of}
 use Rattle.disk_commands.specs.Format.{format_script}
 use Rattle.floppy_tools.specs.Programs.{DoesForm}
-use Rattle.archive_commands.specs.Files.{desk_of}
+use Rattle.archive_commands.specs.Files.{outside_of}
 use Rattle.archive_commands.specs.Making.{FromImd, ToImd, Remaster}
 use Rattle.archive_commands.specs.Surveys.{Surveys}
 use Rattle.floppy_tools.proofs.OnFiles.{on_files}
@@ -57,8 +57,8 @@ returns-in-FromImd g c = record {
   does =
       form_runs c.args.form (form.FromImd c.in-FromImd.imd c.in-FromImd.name) _ _ c.from_imd.result c.in-FromImd.is
       (on_files (FromImd c.in-FromImd.imd c.in-FromImd.name) c.args.run.now.session.now
-      (desk_of g.S.Shelf.told g.K.Sink.told c.args.run.now.shelf.now c.args.run.now.out.now)
-      (desk_of g.S.Shelf.told g.K.Sink.told c.from_imd.new.shelf c.from_imd.new.out) c.from_imd.result c.from_imd.ensures.does);
+      (outside_of g.S.Shelf.told g.K.Sink.told c.args.run.now.shelf.now c.args.run.now.out.now)
+      (outside_of g.S.Shelf.told g.K.Sink.told c.from_imd.new.shelf c.from_imd.new.out) c.from_imd.result c.from_imd.ensures.does);
   is_form = search rules;
   shelf_faults = search rules;
   sink_faults = search rules;
@@ -69,8 +69,8 @@ pub returns-in-ToImd : goal.returns-in-ToImd
 returns-in-ToImd g c = record {
   does =
       form_runs c.args.form (form.ToImd c.in-ToImd.name c.in-ToImd.imd) _ _ c.to_imd.result c.in-ToImd.is
-      (on_files (ToImd c.in-ToImd.name c.in-ToImd.imd) c.args.run.now.session.now (desk_of g.S.Shelf.told g.K.Sink.told c.args.run.now.shelf.now c.args.run.now.out.now)
-      (desk_of g.S.Shelf.told g.K.Sink.told c.to_imd.new.shelf c.to_imd.new.out) c.to_imd.result c.to_imd.ensures.does);
+      (on_files (ToImd c.in-ToImd.name c.in-ToImd.imd) c.args.run.now.session.now (outside_of g.S.Shelf.told g.K.Sink.told c.args.run.now.shelf.now c.args.run.now.out.now)
+      (outside_of g.S.Shelf.told g.K.Sink.told c.to_imd.new.shelf c.to_imd.new.out) c.to_imd.result c.to_imd.ensures.does);
   is_form = search rules;
   shelf_faults = search rules;
   sink_faults = search rules;
@@ -81,8 +81,8 @@ pub returns-in-Survey : goal.returns-in-Survey
 returns-in-Survey g c = record {
   does =
       form_runs c.args.form (form.Survey c.in-Survey.name) _ _ c.survey_disk.result c.in-Survey.is
-      (on_files (Surveys c.in-Survey.name) c.args.run.now.session.now (desk_of g.S.Shelf.told g.K.Sink.told c.args.run.now.shelf.now c.args.run.now.out.now)
-      (desk_of g.S.Shelf.told g.K.Sink.told c.survey_disk.new.shelf c.survey_disk.new.out) c.survey_disk.result c.survey_disk.ensures.does);
+      (on_files (Surveys c.in-Survey.name) c.args.run.now.session.now (outside_of g.S.Shelf.told g.K.Sink.told c.args.run.now.shelf.now c.args.run.now.out.now)
+      (outside_of g.S.Shelf.told g.K.Sink.told c.survey_disk.new.shelf c.survey_disk.new.out) c.survey_disk.result c.survey_disk.ensures.does);
   is_form = search rules;
   shelf_faults = search rules;
   sink_faults = search rules;
@@ -94,8 +94,8 @@ returns-in-Remaster g c = record {
   does =
       form_runs c.args.form (form.Remaster c.in-Remaster.from c.in-Remaster.to) _ _ c.remaster_disk.result c.in-Remaster.is
       (on_files (Remaster c.in-Remaster.from c.in-Remaster.to) c.args.run.now.session.now
-      (desk_of g.S.Shelf.told g.K.Sink.told c.args.run.now.shelf.now c.args.run.now.out.now)
-      (desk_of g.S.Shelf.told g.K.Sink.told c.remaster_disk.new.shelf c.remaster_disk.new.out) c.remaster_disk.result c.remaster_disk.ensures.does);
+      (outside_of g.S.Shelf.told g.K.Sink.told c.args.run.now.shelf.now c.args.run.now.out.now)
+      (outside_of g.S.Shelf.told g.K.Sink.told c.remaster_disk.new.shelf c.remaster_disk.new.out) c.remaster_disk.result c.remaster_disk.ensures.does);
   is_form = search rules;
   shelf_faults = search rules;
   sink_faults = search rules;

@@ -1,7 +1,7 @@
 use Rattle.std.proofs.Common.{rules, refl, subst}
 use Rattle.std.specs.Prelude.{map, string_bytes}
 use Rattle.pc_bus.specs.Boards.{board}
-use Rattle.archive_commands.specs.Files.{desk_of}
+use Rattle.archive_commands.specs.Files.{outside_of}
 use Rattle.floppy_tools.specs.Performed.{DoesWords}
 use Rattle.floppy_tools.proofs.New.{counts_of_spares}
 use Rattle.floppy_tools.proofs.run.run_on.Goals as goal
@@ -12,8 +12,8 @@ returns g c = record {
     new = board g.D.Drive.state c.in-Ok.machine;
     made = record { pace = c.args.pace; gaps = refl; holds = refl; strays = refl; made = c.in-Ok.ensures };
     does = subst (λ counts. DoesWords (map string_bytes c.args.words.now) (board g.D.Drive.state c.in-Ok.machine) counts
-        (desk_of g.S.Shelf.told g.K.Sink.told c.args.shelf.now c.args.out.now) (board g.D.Drive.state c.floppy-status.result.1)
-        (desk_of g.S.Shelf.told g.K.Sink.told c.floppy-status.new.shelf c.floppy-status.new.out) c.floppy-status.result.0)
+        (outside_of g.S.Shelf.told g.K.Sink.told c.args.shelf.now c.args.out.now) (board g.D.Drive.state c.floppy-status.result.1)
+        (outside_of g.S.Shelf.told g.K.Sink.told c.floppy-status.new.shelf c.floppy-status.new.out) c.floppy-status.result.0)
         (counts_of_spares g.D.Drive.state c.in-Ok-spare.spare.items c.args.spare.first c.args.spare.second c.in-Ok-spare.ensures)
         c.floppy-status.ensures.does;
   };

@@ -1,6 +1,6 @@
 use Rattle.std.proofs.Common.{rules, inl}
 use Rattle.std.specs.Prelude.{map, string_bytes}
-use Rattle.archive_commands.specs.Files.{desk_of}
+use Rattle.archive_commands.specs.Files.{outside_of}
 use Rattle.fault_plan.specs.Plan.{lists_of}
 use Rattle.floppy_tools.proofs.New.{as_planned}
 use Rattle.floppy_tools.proofs.run.run_planned.Goals as goal
@@ -18,7 +18,7 @@ pub returns-in-Ok : goal.returns-in-Ok
 returns-in-Ok g c = record {
   runs = as_planned c.args.plan.now (map string_bytes c.args.words.now) (lists_of c.in-Ok.plan)
       (g.S.Shelf.told c.args.shelf.now) (g.S.Shelf.told c.read_plan.new.shelf) (g.K.Sink.told c.args.out.now) (g.K.Sink.told c.read_plan.new.out)
-      c.run_faulty.result.machine (desk_of g.S.Shelf.told g.K.Sink.told c.run_faulty.new.shelf c.run_faulty.new.out) c.run_faulty.result.status
+      c.run_faulty.result.machine (outside_of g.S.Shelf.told g.K.Sink.told c.run_faulty.new.shelf c.run_faulty.new.out) c.run_faulty.result.status
       c.in-Ok.ensures.plan c.in-Ok.ensures.stays c.in-Ok.ensures.untold c.run_faulty.ensures.runs;
   no_machine = search rules;
   untouched = search rules;

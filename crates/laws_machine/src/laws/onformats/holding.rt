@@ -4,7 +4,7 @@ ghost use Rattle.fdc_core.specs.State.{is_gated};
 ghost use Rattle.fdc_stages.specs.Formats.{Numbers};
 ghost use Rattle.laws_machine.specs.OnOrders.Orders.{CanBegin, Track, Write};
 ghost use Rattle.laws_machine.specs.OnReads.Timely.{Stalled};
-ghost use Rattle.irq_events.specs.declared.holding.Request.TheVariants.{Low};
+ghost use Rattle.irq_events.specs.declared.holding.DmaRequest.TheVariants.{Low};
 ghost use Rattle.laws_machine.specs.OnReads.Scenes.{Scene};
 ghost use Rattle.laws_machine.specs.OnWrites.Timely.{IsOnTime};
 ghost use Rattle.pc_bus.specs.Boards.{Board, controller_of, holds_of};

@@ -2,7 +2,7 @@
 ghost use Rattle.std.specs.Prelude.{◌≡◌, ◌⊎◌, Bool, ℕ, true};
 ghost use Rattle.fdc_core.specs.State.{is_gated};
 ghost use Rattle.laws_machine.specs.OnSteps.Stalls.{Keeping, Stalled};
-ghost use Rattle.irq_events.specs.declared.holding.Request.TheVariants.{Low};
+ghost use Rattle.irq_events.specs.declared.holding.DmaRequest.TheVariants.{Low};
 ghost use Rattle.laws_machine.specs.OnReads.Scenes.{Scene};
 ghost use Rattle.laws_machine.specs.OnOrders.Orders.{CanBegin, Window, Write};
 ghost use Rattle.laws_machine.specs.OnWrites.Timely.{IsOnTime};

@@ -1,5 +1,5 @@
 use Rattle.std.proofs.Common.{◌≡◌, ◌∙◌, ℕ, List, map, string_bytes, subst}
-use Rattle.floppy_tools.specs.Shelves.{desk_in, RanPlain}
+use Rattle.floppy_tools.specs.Shelves.{outside_in, RanPlain}
 use Rattle.floppy_tools.specs.Words.{words_in}
 use Rattle.telwyddus_c.proofs.shelf.run.Goals as goal
 
@@ -8,5 +8,5 @@ returns c =
     let words : map string_bytes c.as_slice.result.now ≡ words_in c.args.text.now = rw c.as_slice.ensures.value c.in-Ok.ensures.ok in (
       c.in-Some.ended,
       c.from.ensures ∙ c.number.ensures,
-      subst (λ (words : List (List ℕ)). RanPlain words (desk_in c.args.shelf.now) (desk_in c.run.new.self) c.in-Some.ended) words c.in-Some.ensures,
+      subst (λ (words : List (List ℕ)). RanPlain words (outside_in c.args.shelf.now) (outside_in c.run.new.self) c.in-Some.ended) words c.in-Some.ensures,
     )

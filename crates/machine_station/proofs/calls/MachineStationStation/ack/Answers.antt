@@ -3,7 +3,7 @@ use Rattle.std.specs.Prelude.{if◌then◌else◌}
 use Rattle.flop_base.specs.declared.answers.Rate.TheVariants.{R500}
 use Rattle.machine_commands.specs.Shown.{rig_shown}
 use Rattle.floppy_driver.specs.Shown.{notes_of, shown}
-use Rattle.machine_station.specs.Flagged.{bays_flagged, flags_shown}
+use Rattle.machine_station.specs.Flagged.{flags_shown}
 use Rattle.machine_station.specs.Shown.{all_counts, station_shown}
 use Rattle.machine_station.proofs.Bays.{rate_set}
 use Rattle.machine_station.proofs.Handling.{goes_on}
@@ -60,7 +60,7 @@ returns-clause-ready g c =
     record {
       idle = c.ack-answer.ensures.idle;
       attached = c.ack-answer.ensures.attached;
-      flags = rate_set (bays_flagged self.flags) (bays_flagged c.set_rate.new.self) c.args.bay (flags_shown old) (flags_shown (shown driver rig count waiting)) c.rate_after-rate.result c.set_rate.ensures c.requires.ready.flags
+      flags = rate_set self.flags.bays c.set_rate.new.self.bays c.args.bay (flags_shown old) (flags_shown (shown driver rig count waiting)) c.rate_after-rate.result c.set_rate.ensures c.requires.ready.flags
           (flags_acked driver rig count waiting old c.args.bay c.rate_after-rate.result c.ack-answer.result (omega arith) (c.ack-answer.ensures.step count waiting)
           (c.rate_after-rate.ensures ∙ ap (λ told. if told then (notes_of driver c.args.bay).rate else R500) c.is_ok.ensures.value));
       spare = c.requires.ready.spare;

@@ -3,7 +3,7 @@ use Rattle.std.specs.Prelude.{None}
 use Rattle.sector_model.specs.Stations.{fresh_bay}
 use Rattle.machine_commands.specs.Shown.{rig_shown}
 use Rattle.floppy_driver.specs.Shown.{shown}
-use Rattle.machine_station.specs.Flagged.{bays_flagged, flags_of, flags_shown}
+use Rattle.machine_station.specs.Flagged.{flags_of, flags_shown}
 use Rattle.machine_station.specs.Shown.{all_counts}
 use Rattle.machine_station.proofs.Bays.{flags_set}
 use Rattle.machine_station.proofs.Handling.{is_nothing, is_something, goes_on, ejects, flags_ejected, flags_none_ejected}
@@ -76,7 +76,7 @@ returns-clause-ready g c =
     record {
       idle = c.eject-medium.ensures.idle c.requires.ready.idle;
       attached = attached_ejected self.driver old new c.args.bay c.eject-medium.result c.requires.bay c.eject-medium.ensures.step c.requires.ready.attached;
-      flags = flags_set (bays_flagged self.flags) (bays_flagged c.exchange_medium.new.self) c.args.bay (flags_shown (shown self.driver old count waiting)) (flags_shown (shown self.driver new count waiting))
+      flags = flags_set self.flags.bays c.exchange_medium.new.self.bays c.args.bay (flags_shown (shown self.driver old count waiting)) (flags_shown (shown self.driver new count waiting))
           (flags_of (fresh_bay None)) c.exchange_medium.ensures c.requires.ready.flags
           (flags_ejected (shown self.driver old count waiting) c.args.bay c.eject-medium.result (shown self.driver new count waiting) (is_something c.eject-medium.result c.is_none.result c.is_none.ensures c.if-is_none.false) (ejects self.driver old new count waiting c.args.bay c.eject-medium.result c.eject-medium.ensures.step));
       spare = c.requires.ready.spare;

@@ -3,7 +3,7 @@ use Rattle.std.specs.Prelude.{Some}
 use Rattle.sector_model.specs.Stations.{fresh_bay}
 use Rattle.machine_commands.specs.Shown.{rig_shown}
 use Rattle.floppy_driver.specs.Shown.{shown}
-use Rattle.machine_station.specs.Flagged.{bays_flagged, flags_of, flags_shown}
+use Rattle.machine_station.specs.Flagged.{flags_of, flags_shown}
 use Rattle.machine_station.specs.Shown.{all_counts}
 use Rattle.machine_station.proofs.Bays.{flags_set}
 use Rattle.machine_station.proofs.Handling.{goes_on, inserts, flags_inserted, flags_given_back}
@@ -63,7 +63,7 @@ returns-clause-ready g c =
     record {
       idle = c.insert-answer.ensures.idle c.requires.ready.idle;
       attached = attached_inserted self.driver old new c.args.bay c.args.medium c.insert-answer.result c.requires.bay c.insert-answer.ensures.step c.requires.ready.attached;
-      flags = flags_set (bays_flagged self.flags) (bays_flagged c.exchange_medium.new.self) c.args.bay (flags_shown (shown self.driver old count waiting)) (flags_shown (shown self.driver new count waiting))
+      flags = flags_set self.flags.bays c.exchange_medium.new.self.bays c.args.bay (flags_shown (shown self.driver old count waiting)) (flags_shown (shown self.driver new count waiting))
           (flags_of (fresh_bay (Some c.args.medium))) c.exchange_medium.ensures c.requires.ready.flags
           (flags_inserted (shown self.driver old count waiting) c.args.bay c.args.medium c.insert-answer.result (shown self.driver new count waiting) (sym c.is_err.ensures.value ∙ c.if-is_err.false)
           (inserts self.driver old new count waiting c.args.bay c.args.medium c.insert-answer.result c.insert-answer.ensures.step));

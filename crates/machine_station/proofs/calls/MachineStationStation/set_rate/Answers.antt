@@ -1,7 +1,7 @@
 use Rattle.std.proofs.Common.{length, sym, ◌∙◌}
 use Rattle.machine_commands.specs.Shown.{rig_shown}
 use Rattle.floppy_driver.specs.Shown.{shown}
-use Rattle.machine_station.specs.Flagged.{bays_flagged, flags_shown}
+use Rattle.machine_station.specs.Flagged.{flags_shown}
 use Rattle.machine_station.specs.Shown.{all_counts, station_shown}
 use Rattle.machine_station.proofs.Bays.{rate_set}
 use Rattle.machine_station.proofs.Handling.{goes_on}
@@ -56,7 +56,7 @@ returns-clause-ready g c =
     record {
       idle = c.set_rate-answer.ensures.idle;
       attached = c.set_rate-answer.ensures.attached;
-      flags = rate_set (bays_flagged self.flags) (bays_flagged c.set_rate.new.self) c.args.bay (flags_shown old) (flags_shown new) c.args.rate c.set_rate.ensures c.requires.ready.flags
+      flags = rate_set self.flags.bays c.set_rate.new.self.bays c.args.bay (flags_shown old) (flags_shown new) c.args.rate c.set_rate.ensures c.requires.ready.flags
           (flags_rate_set old c.args.bay c.args.rate c.set_rate-answer.result new (sym c.is_err.ensures.value ∙ c.if-is_err.false) (c.set_rate-answer.ensures.step count waiting));
       spare = c.requires.ready.spare;
     }

@@ -6,7 +6,7 @@ use Rattle.sector_model.specs.Stations.{fresh_bay}
 use Rattle.pc_bus.specs.Counts.{counts_of}
 use Rattle.machine_commands.specs.Shown.{rig_shown}
 use Rattle.floppy_driver.specs.Shown.{shown}
-use Rattle.machine_station.specs.Flagged.{bays_flagged, flags_of, flags_shown}
+use Rattle.machine_station.specs.Flagged.{flags_of, flags_shown}
 use Rattle.machine_station.specs.Shown.{all_counts, station_shown}
 use Rattle.machine_station.proofs.Bays.{flags_set}
 use Rattle.machine_station.proofs.Attaching.{attached_unit}
@@ -36,7 +36,7 @@ returns-clause-ready g c =
     record {
       idle = c.exchange.ensures.idle c.requires.ready.idle;
       attached = attached_unit self.driver (rig_shown state self.machine) (rig_shown state c.exchange.new.self) c.args.bay (counts_of (state c.in-Some.drive)) c.requires.bay c.exchange.ensures.step c.requires.ready.attached;
-      flags = flags_set (bays_flagged self.flags) (bays_flagged c.exchange_drive.new.self) c.args.bay (flags_shown old) (flags_shown new)
+      flags = flags_set self.flags.bays c.exchange_drive.new.self.bays c.args.bay (flags_shown old) (flags_shown new)
           (flags_of (fresh_bay None)) c.exchange_drive.ensures c.requires.ready.flags
           (flags_unit old c.args.bay new (unit_taken state self.driver (rig_shown state self.machine) (rig_shown state c.exchange.new.self) c.args.bay c.in-Some.drive self.spare.items rest c.in-Some.ensures.items c.exchange.ensures.step));
       spare = All-rest (λ drive. IsEmpty (state drive)) c.in-Some.drive rest self.spare.items c.in-Some.ensures.items c.requires.ready.spare;

@@ -6,7 +6,7 @@ use Rattle.raw_image.specs.Shape.{header_view}
 use Rattle.raw_image.specs.Stage.{body_bytes}
 use Rattle.raw_image.proofs.Bodies.{length_body}
 use Rattle.raw_image.proofs.Feeding.{header_wrong, header_right, header_too_long}
-use Rattle.raw_image.proofs.stage.Front.fed.Goals as goal
+use Rattle.raw_image.proofs.stage.HeaderBytes.fed.Goals as goal
 
 pub returns-in_err-shape-clause-fed : goal.returns-in_err-shape-clause-fed
 returns-in_err-shape-clause-fed c = λ bytes fed.

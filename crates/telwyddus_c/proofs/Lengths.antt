@@ -1,0 +1,5 @@
+pub mod Bytes
+pub mod Stages
+pub mod Fdcs
+pub mod Chips
+pub mod States
