@@ -3,7 +3,7 @@ ghost use Rattle.std.specs.Prelude.{◌≡◌};
 ghost use Rattle.flat_files.specs.declared.fault.FlatFault.TheVariants as cause;
 
 use flop_base::NoMemory;
-use std::alloc::{AllocError, AllocFailed};
+use std::alloc::AllocError;
 use thiserror::Error;
 
 /// Why a medium has no flat file.
@@ -38,14 +38,6 @@ impl From<AllocError> for FlatFault {
     ghost from_gives = { λ _ e. e ≡ cause.NoMemory };
 
     fn from(_: AllocError) -> FlatFault {
-        FlatFault::NoMemory
-    }
-}
-
-impl<T: Drop> From<AllocFailed<T>> for FlatFault {
-    ghost from_gives = { λ _ e. e ≡ cause.NoMemory };
-
-    fn from(_: AllocFailed<T>) -> FlatFault {
         FlatFault::NoMemory
     }
 }

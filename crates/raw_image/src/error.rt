@@ -3,7 +3,7 @@ ghost use Rattle.std.specs.Prelude.{◌≡◌};
 ghost use Rattle.raw_image.specs.declared.error.ImageError.TheVariants as cause;
 
 use flop_base::NoMemory;
-use std::alloc::{AllocError, AllocFailed};
+use std::alloc::AllocError;
 use thiserror::Error;
 
 /// What is wrong with an image file: the first of these that holds, in this order. Lengths and offsets count bytes, and
@@ -39,14 +39,6 @@ impl From<AllocError> for ImageError {
     ghost from_gives = { λ _ e. e ≡ cause.NoMemory };
 
     fn from(_: AllocError) -> ImageError {
-        ImageError::NoMemory
-    }
-}
-
-impl<T: Drop> From<AllocFailed<T>> for ImageError {
-    ghost from_gives = { λ _ e. e ≡ cause.NoMemory };
-
-    fn from(_: AllocFailed<T>) -> ImageError {
         ImageError::NoMemory
     }
 }
