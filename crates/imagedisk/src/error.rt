@@ -3,7 +3,6 @@ ghost use Rattle.std.specs.Prelude.{◌≡◌};
 ghost use Rattle.imagedisk.specs.declared.error.ImdError.TheVariants as cause;
 
 use flop_base::NoMemory;
-use std::alloc::{AllocError, AllocFailed};
 use thiserror::Error;
 
 /// Why a diskette has no ImageDisk file, or such a file no diskette.
@@ -21,22 +20,6 @@ impl From<NoMemory> for ImdError {
     ghost from_gives = { λ _ e. e ≡ cause.NoMemory };
 
     fn from(_: NoMemory) -> ImdError {
-        ImdError::NoMemory
-    }
-}
-
-impl From<AllocError> for ImdError {
-    ghost from_gives = { λ _ e. e ≡ cause.NoMemory };
-
-    fn from(_: AllocError) -> ImdError {
-        ImdError::NoMemory
-    }
-}
-
-impl<T: Drop> From<AllocFailed<T>> for ImdError {
-    ghost from_gives = { λ _ e. e ≡ cause.NoMemory };
-
-    fn from(_: AllocFailed<T>) -> ImdError {
         ImdError::NoMemory
     }
 }

@@ -125,7 +125,7 @@ pub(crate) fn track_words(alloc: Global, rate: Rate, track: &ImdTrack) -> Result
 {
     let sectors = track.sectors.as_slice();
     if sectors.is_empty() {
-        return Ok(vec![in alloc; 0; usize::from(rate.words())]?);
+        return vec![in alloc; 0; usize::from(rate.words())].map_err(|_| ImdError::NoMemory);
     }
     match choose_gap(track.n, sectors.len() as u8, rate) {
         None => Err(ImdError::Unfit {
