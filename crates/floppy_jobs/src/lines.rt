@@ -54,14 +54,6 @@ impl From<NoMemory> for LineError {
     }
 }
 
-impl From<AllocError> for LineError {
-    ghost from_gives = { λ _ e. e ≡ NoMemory };
-
-    fn from(_: AllocError) -> Self {
-        LineError::NoMemory
-    }
-}
-
 /// What a line of some text says, by its words.
 pub trait Line: Sized + Drop {
     /// What a line's words spell, if anything.
@@ -129,7 +121,7 @@ fn read_line<L: Line>(alloc: Global, line: &[u8]) -> Result<Option<L>, LineError
     if line.first() == Some(&b'#') {
         return Ok(None);
     }
-    let words = words(alloc, line)?;
+    let words = words(alloc, line).map_err(|_| LineError::NoMemory)?;
     if words.is_empty() {
         return Ok(None);
     }
