@@ -1,7 +1,7 @@
 -- Calls on a shelf on which the program runs.
 use Rattle.std.specs.Prelude.{◌≡◌, ◌==◌, ℕ, List, [], All, Option, None, Some, MatchBool, if◌then◌else◌}
 use Rattle.std.specs.Str.{IsUtf8}
-use Rattle.archive_commands.specs.Files.{Desk}
+use Rattle.archive_commands.specs.Files.{Outside}
 use Rattle.c_slots.specs.Shelves.{ShelfValue}
 use Rattle.flop_base.specs.Numbers.{status_number}
 use Rattle.flop_base.specs.Shelf.{no_files, stored}
@@ -17,7 +17,7 @@ pub record IsBare (shelf : ShelfValue) : Type 0 where
   pub report : report_in shelf ≡ []
 
 -- a file is placed: 0. Memory is out, 3, or its name isn't UTF-8, 11: all stays
-abbrev pub Puts : (name bytes : List ℕ) → ℕ → Desk → Desk → Type 0
+abbrev pub Puts : (name bytes : List ℕ) → ℕ → Outside → Outside → Type 0
 Puts name bytes code old new =
     MatchBool (code == 0) ((new.files ≡ stored old.files name bytes) × (new.report ≡ old.report))
     (MatchBool (code == 3) (new ≡ old)
@@ -33,7 +33,7 @@ Gets name (Some bytes) code old new was told =
 
 -- the program ran with the words of a text, and its exit status is told: 0. Memory was out before it ran, 3, or some word isn't
 -- UTF-8, 11: all stays
-abbrev pub RunsWords : List ℕ → ℕ → (was status : ℕ) → Desk → Desk → Type 0
+abbrev pub RunsWords : List ℕ → ℕ → (was status : ℕ) → Outside → Outside → Type 0
 RunsWords text code was status old new =
     MatchBool (code == 0) ((ended : Status) × (status ≡ status_number ended) × RanPlain (words_in text) old new ended)
     (MatchBool (code == 3) ((new ≡ old) × (status ≡ was))
