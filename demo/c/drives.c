@@ -347,7 +347,7 @@ static void bare(void) {
     refuses(&other, bytes, length - 1, TELWYDDUS_BAD_STATE, "a byte too few");
     check(telwyddus_controller_restore(&other, bytes, length) == TELWYDDUS_BAD_STATE, "a bare state is no whole one");
     free(bytes);
-    telwyddus_controller_save(&controller, NULL, 0, &whole);
+    check(telwyddus_controller_save(&controller, NULL, 0, &whole) == TELWYDDUS_TOO_SHORT, "a whole state's length");
     bytes = (uint8_t *)malloc(whole);
     MUST(telwyddus_controller_save(&controller, bytes, whole, &whole));
     refuses(&other, bytes, whole, TELWYDDUS_BAD_STATE, "a whole state is no bare one");
