@@ -8,7 +8,7 @@ use Rattle.std.specs.Box.Ownership.{box_owns}
 use Rattle.std.specs.Global.{Global, Box}
 use Rattle.std.specs.contracts.prelude.GlobalAllocator.TheImpl.{ghosts}
 use Rattle.std.specs.Coded.{coded_option}
-use Rattle.floppy_tools.specs.contracts.shelf.RunShelf as shelf_of
+use Rattle.memory_files.specs.contracts.shelf.RunShelf as shelf_of
 
 abbrev pub shelf_row : RattleType
 shelf_row = shelf_of.the_row

@@ -4,12 +4,12 @@
 
 use std::alloc::Global;
 use std::io;
-use telwyddus::controller::{Fault, FdcBoard, ScriptDrive};
+use telwyddus::controller::{DisketteAdapter, Fault, ScriptDrive};
 use telwyddus::disk::Medium;
 use telwyddus::track::fill_layout;
 use telwyddus::{Chrn, NoMemory};
 
-type Board = FdcBoard<ScriptDrive>;
+type Adapter = DisketteAdapter<ScriptDrive>;
 
 /// A disk of one track at 500 kbit/s, with one sector of 256 bytes: cylinder 0, head 0, record 5.
 fn disk(alloc: Global) -> Result<Medium, NoMemory> {
@@ -28,7 +28,7 @@ fn disk(alloc: Global) -> Result<Medium, NoMemory> {
 
 /// The controller, still in reset, with the disk in its first drive. That one loses the first of the three A1 before the address
 /// field, twice: behind 80 bytes of gap 4a, 12 of sync, 4 of the index mark, 50 of gap 1 and 12 of sync it is word 158.
-fn board(alloc: Global) -> Result<Board, NoMemory> {
+fn adapter(alloc: Global) -> Result<Adapter, NoMemory> {
     let lost = Fault::Dropout {
         c: 0,
         h: 0,
@@ -37,60 +37,60 @@ fn board(alloc: Global) -> Result<Board, NoMemory> {
     };
     let first = ScriptDrive::new(vec![in alloc; lost]?);
     let second = ScriptDrive::new(Vec::new(alloc));
-    let mut board = FdcBoard::new(alloc, first, second)?;
+    let mut adapter = DisketteAdapter::new(alloc, first, second)?;
     // An empty bay takes it.
-    let _refused = board.insert(0, disk(alloc)?);
-    Ok(board)
+    let _refused = adapter.insert(0, disk(alloc)?);
+    Ok(adapter)
 }
 
 /// Sends the bytes of a command.
-fn send(board: &mut Board, bytes: &[u8]) {
+fn send(adapter: &mut Adapter, bytes: &[u8]) {
     for byte in bytes {
-        board.write(0x3F5, *byte);
+        adapter.write(0x3F5, *byte);
     }
 }
 
 /// SENSE INTERRUPT STATUS: ST0, and the cylinder number.
-fn sense(board: &mut Board) -> [u8; 2] {
-    send(board, &[0x08]);
-    [board.read(0x3F5), board.read(0x3F5)]
+fn sense(adapter: &mut Adapter) -> [u8; 2] {
+    send(adapter, &[0x08]);
+    [adapter.read(0x3F5), adapter.read(0x3F5)]
 }
 
 /// READ ID, and its seven results.
-fn read_id(board: &mut Board) -> [u8; 7] {
-    send(board, &[0x4A, 0x00]);
-    board.run(65_536);
+fn read_id(adapter: &mut Adapter) -> [u8; 7] {
+    send(adapter, &[0x4A, 0x00]);
+    adapter.run(65_536);
     let mut results = [0; 7];
     for result in results.iter_mut() {
-        *result = board.read(0x3F5);
+        *result = adapter.read(0x3F5);
     }
     results
 }
 
 fn main(rt: HostRuntime) -> io::Result<()> {
-    let Ok(mut board) = board(rt.alloc()) else {
+    let Ok(mut adapter) = adapter(rt.alloc()) else {
         return println!(rt; "no memory");
     };
     // Out of reset, with the motor of drive 0 on, at 500 kbit/s. INT rises in the first step (docs/FORMATS.md, "Commands").
-    board.write(0x3F2, 0x1C);
-    board.write(0x3F7, 0x00);
-    let steps = board.run(100);
+    adapter.write(0x3F2, 0x1C);
+    adapter.write(0x3F7, 0x00);
+    let steps = adapter.run(100);
     println!(rt; "reset {steps}")?;
     // The polling tells of each drive: C0 and its number. A reset has set their cylinder numbers to 0.
     for _drive in 0..4 {
-        let [st0, cylinder] = sense(&mut board);
+        let [st0, cylinder] = sense(&mut adapter);
         println!(rt; "sense {st0:02X} {cylinder:02X}")?;
     }
     // The heads are on cylinder 0, so that no pulse is made, and INT rises in the first step. 20: a seek ended, on drive 0.
-    send(&mut board, &[0x07, 0x00]);
-    let steps = board.run(100);
-    let [st0, cylinder] = sense(&mut board);
+    send(&mut adapter, &[0x07, 0x00]);
+    let steps = adapter.run(100);
+    let [st0, cylinder] = sense(&mut adapter);
     println!(rt; "recalibrate {steps}, sense {st0:02X} {cylinder:02X}")?;
     // Once the disk is up to speed, the only address field passes twice without its mark: 40, and 01 in ST1, no address mark.
     // Then it passes as it stands: no error in ST0 to ST2, and the key of `disk`.
     for _try in 0..2 {
         print!(rt; "read id")?;
-        for byte in read_id(&mut board) {
+        for byte in read_id(&mut adapter) {
             print!(rt; " {byte:02X}")?;
         }
         println!(rt; "")?;

@@ -19,7 +19,7 @@ moving_waits : (moving : MovingSector) (front : Front) → front.stage ≡ Movin
 moving_waits moving front at = ap (λ stage. bit_and (value_outside 0x3F4 (record front { stage = stage })) 0xC0 == 0xC0) at
 
 moving_shows : (moving : MovingSector) (front : Front) → front.stage ≡ Moving moving → interrupts_outside front ≡ false
-moving_shows moving front at = ap (λ stage. interrupts_at stage front.board.controller) at
+moving_shows moving front at = ap (λ stage. interrupts_at stage front.adapter.controller) at
 
 -- nothing follows a step
 sent_step : (chip : ChipState) (front : Front) → chip.stage ≡ Busy Sent → StepsFront chip.front front → MovesAlong chip.front front

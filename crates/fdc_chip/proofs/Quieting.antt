@@ -62,11 +62,11 @@ same_lines chip front asks shows = (
 
 kept_interrupts : (one other : Front) → KeepsFront one other → interrupts_outside other ≡ interrupts_outside one
 kept_interrupts one other keeps =
-    ap (λ stage. interrupts_at stage other.board.controller) keeps.stage ∙ ap (λ fdc. interrupts_at one.stage fdc) keeps.controller
+    ap (λ stage. interrupts_at stage other.adapter.controller) keeps.stage ∙ ap (λ fdc. interrupts_at one.stage fdc) keeps.controller
 
 kept_asks : (one other : Front) → KeepsFront one other → asks_outside other ≡ asks_outside one
 kept_asks one other keeps =
-    ap (λ stage. asks_at stage other.board.controller) keeps.stage ∙ ap (λ fdc. asks_at one.stage fdc) keeps.controller
+    ap (λ stage. asks_at stage other.adapter.controller) keeps.stage ∙ ap (λ fdc. asks_at one.stage fdc) keeps.controller
 
 kept_lines : (chip new : ChipState) → KeepsChip chip new → HasLinesChip (interrupts_chip chip) (asks_chip chip) new
 kept_lines chip new keeps =

@@ -4,7 +4,7 @@ use Rattle.std.specs.Int.RustNames.{bit_or}
 use Rattle.flop_base.specs.declared.answers.Rate.{Rate}
 use Rattle.flop_base.specs.declared.answers.Rate.TheVariants.{R500, R250}
 use Rattle.drive_model.specs.Drive.{DriveState, place_under, rate_of}
-use Rattle.fdc_board.specs.Boards.{drive_at, selected_at}
+use Rattle.fdc_adapter.specs.Adapters.{drive_at, selected_at}
 use Rattle.fdc_registers.specs.Dor.{gate}
 use Rattle.fdc_registers.specs.Msr.{rqm, dio, non_dma, busy}
 use Rattle.fdc_core.specs.Dma.{to_memory_of}
@@ -148,8 +148,8 @@ indexes drive = is_among (index_words (rate_of drive.medium)) (place_under drive
 
 -- INDEX of the drive that DOR selects; an absent drive's is low
 abbrev pub indexes_chip : ChipState → Bool
-indexes_chip chip = let bay = selected_at chip.front.board in
-    nat_le bay 1 && indexes (drive_at chip.front.board bay)
+indexes_chip chip = let bay = selected_at chip.front.adapter in
+    nat_le bay 1 && indexes (drive_at chip.front.adapter bay)
 
 -- ---- MSR
 
@@ -167,7 +167,7 @@ abbrev pub stage_bits : Stage → ChipState → ℕ
 stage_bits Ready chip = bit_or (value_outside 0x3F4 chip.front) (if chip.count == 0 then 0 else busy)
 stage_bits Held chip = bit_or (bit_and (value_outside 0x3F4 chip.front) 0x0F) busy
 stage_bits (Busy task) chip =
-    execution_bits (is_by_port chip.settings) (passes chip && asks_outside chip.front) (to_memory_of chip.front.board.controller)
+    execution_bits (is_by_port chip.settings) (passes chip && asks_outside chip.front) (to_memory_of chip.front.adapter.controller)
 stage_bits (Telling answer read) chip = bit_or (bit_and (value_outside 0x3F4 chip.front) 0x0F) (bit_or (bit_or rqm dio) busy)
 
 -- the seek bit of a drive whose pulses come in the time that SPECIFY sets

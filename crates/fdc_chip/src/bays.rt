@@ -2,11 +2,11 @@
 ghost use Rattle.std.specs.Prelude.{◌≡◌, ◌≤◌, ◌+◌, ◌%◌, ◌↔◌, IsTrue, IsBitSet};
 ghost use Rattle.std.specs.Option.{option_copied};
 ghost use Rattle.drive_model.specs.Drive.{forgotten, rate_of};
-ghost use Rattle.fdc_board.specs.Boards.{controller_of, drive_at};
-ghost use Rattle.fdc_board.specs.Handling.{PutsIn, TakesOut, Sets};
-ghost use Rattle.fdc_board.specs.WordTimes.{nanoseconds};
+ghost use Rattle.fdc_adapter.specs.Adapters.{controller_of, drive_at};
+ghost use Rattle.fdc_adapter.specs.Handling.{PutsIn, TakesOut, Sets};
+ghost use Rattle.fdc_adapter.specs.WordTimes.{nanoseconds};
 ghost use Rattle.fdc_core.specs.State.{dor_of, data_rate};
-ghost use Rattle.fdc_sequencer.specs.Fronts.{board_of};
+ghost use Rattle.fdc_sequencer.specs.Fronts.{adapter_of};
 ghost use Rattle.fdc_chip.specs.Chips.{chip_state, behind_of, KeepsChip, index_words, indexes, indexes_chip};
 
 use crate::chip::Chip;
@@ -29,7 +29,7 @@ impl<D: Inspect> Chip<D> {
     pub fn insert(&mut self, bay: u8, medium: Medium) -> Result<(), Medium>
         requires { bay ≤ 1 }
         ensures keeps { KeepsChip (chip_state D.state self.old) (chip_state D.state self.new) }
-        ensures puts { PutsIn bay medium (chip_state D.state self.old).front.board (chip_state D.state self.new).front.board result }
+        ensures puts { PutsIn bay medium (chip_state D.state self.old).front.adapter (chip_state D.state self.new).front.adapter result }
     {
         self.behind.insert(bay, medium)
     }
@@ -38,7 +38,7 @@ impl<D: Inspect> Chip<D> {
     pub fn eject(&mut self, bay: u8) -> Option<Medium>
         requires { bay ≤ 1 }
         ensures keeps { KeepsChip (chip_state D.state self.old) (chip_state D.state self.new) }
-        ensures takes { TakesOut bay (chip_state D.state self.old).front.board (chip_state D.state self.new).front.board result }
+        ensures takes { TakesOut bay (chip_state D.state self.old).front.adapter (chip_state D.state self.new).front.adapter result }
     {
         self.behind.eject(bay)
     }
@@ -46,7 +46,7 @@ impl<D: Inspect> Chip<D> {
     /// The medium in a bay, which stays there.
     pub fn medium(&self, bay: u8) -> Option<&Medium>
         requires { bay ≤ 1 }
-        ensures { option_copied result ≡ (drive_at (chip_state D.state self.now).front.board bay).medium }
+        ensures { option_copied result ≡ (drive_at (chip_state D.state self.now).front.adapter bay).medium }
     {
         self.behind.medium(bay)
     }
@@ -55,7 +55,7 @@ impl<D: Inspect> Chip<D> {
     /// that was taken out it is still told.
     pub fn is_written(&self, bay: u8) -> bool
         requires { bay ≤ 1 }
-        ensures { result ≡ (drive_at (chip_state D.state self.now).front.board bay).replaced }
+        ensures { result ≡ (drive_at (chip_state D.state self.now).front.adapter bay).replaced }
     {
         self.behind.is_written(bay)
     }
@@ -64,7 +64,7 @@ impl<D: Inspect> Chip<D> {
     pub fn forget_written(&mut self, bay: u8)
         requires { bay ≤ 1 }
         ensures keeps { KeepsChip (chip_state D.state self.old) (chip_state D.state self.new) }
-        ensures forgets { Sets bay forgotten (chip_state D.state self.old).front.board (chip_state D.state self.new).front.board }
+        ensures forgets { Sets bay forgotten (chip_state D.state self.old).front.adapter (chip_state D.state self.new).front.adapter }
     {
         self.behind.forget_written(bay);
     }
@@ -72,9 +72,9 @@ impl<D: Inspect> Chip<D> {
     /// Tells what `is_written` does, and forgets it.
     pub fn take_written(&mut self, bay: u8) -> bool
         requires { bay ≤ 1 }
-        ensures was { result ≡ (drive_at (chip_state D.state self.old).front.board bay).replaced }
+        ensures was { result ≡ (drive_at (chip_state D.state self.old).front.adapter bay).replaced }
         ensures keeps { KeepsChip (chip_state D.state self.old) (chip_state D.state self.new) }
-        ensures forgets { Sets bay forgotten (chip_state D.state self.old).front.board (chip_state D.state self.new).front.board }
+        ensures forgets { Sets bay forgotten (chip_state D.state self.old).front.adapter (chip_state D.state self.new).front.adapter }
     {
         self.behind.take_written(bay)
     }
@@ -82,7 +82,7 @@ impl<D: Inspect> Chip<D> {
     /// The cylinder under the heads of the drive in a bay, 0 to 82.
     pub fn cylinder(&self, bay: u8) -> u8
         requires { bay ≤ 1 }
-        ensures { result ≡ (drive_at (chip_state D.state self.now).front.board bay).cylinder }
+        ensures { result ≡ (drive_at (chip_state D.state self.now).front.adapter bay).cylinder }
     {
         self.behind.cylinder(bay)
     }
@@ -90,7 +90,7 @@ impl<D: Inspect> Chip<D> {
     /// Whether the write gate of the drive in a bay is open.
     pub fn is_gate_open(&self, bay: u8) -> bool
         requires { bay ≤ 1 }
-        ensures { result ≡ (drive_at (chip_state D.state self.now).front.board bay).gate }
+        ensures { result ≡ (drive_at (chip_state D.state self.now).front.adapter bay).gate }
     {
         self.behind.is_gate_open(bay)
     }
@@ -98,14 +98,14 @@ impl<D: Inspect> Chip<D> {
     /// Whether DOR turns the motor of the drive in a bay on.
     pub fn is_motor_on(&self, bay: u8) -> bool
         requires { bay ≤ 1 }
-        ensures { IsTrue result ↔ IsBitSet (dor_of (controller_of (board_of (behind_of self.now)))) (4 + bay) }
+        ensures { IsTrue result ↔ IsBitSet (dor_of (controller_of (adapter_of (behind_of self.now)))) (4 + bay) }
     {
         self.behind.is_motor_on(bay)
     }
 
     /// The drive that DOR selects: those of bays 2 and 3 are absent.
     pub fn selected(&self) -> u8
-        ensures { result ≡ dor_of (controller_of (board_of (behind_of self.now))) % 4 }
+        ensures { result ≡ dor_of (controller_of (adapter_of (behind_of self.now))) % 4 }
     {
         self.behind.selected()
     }
@@ -113,7 +113,7 @@ impl<D: Inspect> Chip<D> {
     /// The rate of the medium in a bay, R500 where none is in.
     fn rate(&self, bay: u8) -> Rate
         requires { bay ≤ 1 }
-        ensures { result ≡ rate_of (drive_at (chip_state D.state self.now).front.board bay).medium }
+        ensures { result ≡ rate_of (drive_at (chip_state D.state self.now).front.adapter bay).medium }
     {
         match self.medium(bay) {
             Some(medium) => medium.rate(),
@@ -124,7 +124,7 @@ impl<D: Inspect> Chip<D> {
     /// Whether INDEX of the drive in a bay is up.
     fn indexes(&self, bay: u8) -> bool
         requires { bay ≤ 1 }
-        ensures { result ≡ indexes (drive_at (chip_state D.state self.now).front.board bay) }
+        ensures { result ≡ indexes (drive_at (chip_state D.state self.now).front.adapter bay) }
     {
         match self.behind.place(bay) {
             Some(place) => place < index_words(self.rate(bay)),
@@ -143,7 +143,7 @@ impl<D: Inspect> Chip<D> {
 
     /// The nanoseconds of a word time at the rate that was chosen last.
     pub fn word_time(&self) -> u32
-        ensures { result ≡ nanoseconds (data_rate (controller_of (board_of (behind_of self.now)))) }
+        ensures { result ≡ nanoseconds (data_rate (controller_of (adapter_of (behind_of self.now)))) }
     {
         self.behind.word_time()
     }

@@ -1,7 +1,7 @@
 // The side of the DMA channel.
 ghost use Rattle.std.specs.Prelude.{◌≡◌, true};
-ghost use Rattle.fdc_board.specs.Boards.{SameDrives};
-ghost use Rattle.fdc_sequencer.specs.Fronts.{board_of, GivesFront};
+ghost use Rattle.fdc_adapter.specs.Adapters.{SameDrives};
+ghost use Rattle.fdc_sequencer.specs.Fronts.{adapter_of, GivesFront};
 ghost use Rattle.fdc_chip.specs.Chips.{chip_state, behind_of, is_data, KeepsRest};
 ghost use Rattle.fdc_chip.specs.Ports.{TakesChip, GivesChip, given_one, counted_if, told_chip};
 
@@ -13,7 +13,7 @@ impl<D: Inspect> Chip<D> {
     /// The channel takes a byte, where one is asked for.
     pub fn dack_read(&mut self) -> Option<u8>
         ensures takes { TakesChip (chip_state D.state self.old) result (chip_state D.state self.new) }
-        ensures drives { SameDrives (board_of (behind_of self.old)) (board_of (behind_of self.new)) }
+        ensures drives { SameDrives (adapter_of (behind_of self.old)) (adapter_of (behind_of self.new)) }
     {
         if self.passes_by_channel() {
             self.behind.dack_read()
@@ -25,7 +25,7 @@ impl<D: Inspect> Chip<D> {
     /// The channel gives a byte, where one is asked for, and it is told whether one was.
     pub fn dack_write(&mut self, byte: u8) -> bool
         ensures gives { GivesChip byte (chip_state D.state self.old) result (chip_state D.state self.new) }
-        ensures drives { SameDrives (board_of (behind_of self.old)) (board_of (behind_of self.new)) }
+        ensures drives { SameDrives (adapter_of (behind_of self.old)) (adapter_of (behind_of self.new)) }
     {
         if self.passes_by_channel() {
             self.give(byte)
@@ -39,7 +39,7 @@ impl<D: Inspect> Chip<D> {
     pub(crate) fn give(&mut self, byte: u8) -> bool
         ensures gives { GivesFront byte (chip_state D.state self.old).front result (chip_state D.state self.new).front }
         ensures rest { KeepsRest (given_one result (chip_state D.state self.old)) (chip_state D.state self.new) }
-        ensures drives { SameDrives (board_of (behind_of self.old)) (board_of (behind_of self.new)) }
+        ensures drives { SameDrives (adapter_of (behind_of self.old)) (adapter_of (behind_of self.new)) }
     {
         let was = self.behind.dack_write(byte);
         if was {
@@ -51,7 +51,7 @@ impl<D: Inspect> Chip<D> {
     /// The channel tells the terminal count: the command ends behind its sector.
     pub fn tc(&mut self)
         ensures told { chip_state D.state self.new ≡ told_chip (chip_state D.state self.old) }
-        ensures drives { SameDrives (board_of (behind_of self.old)) (board_of (behind_of self.new)) }
+        ensures drives { SameDrives (adapter_of (behind_of self.old)) (adapter_of (behind_of self.new)) }
     {
         match self.stage {
             Stage::Busy { task: Task::Sent } => self.behind.tc(),
@@ -65,7 +65,7 @@ impl<D: Inspect> Chip<D> {
     /// The same in a READ TRACK.
     fn count_track(&mut self, track: Track)
         ensures told { chip_state D.state self.new ≡ counted_if (is_data track.place) (record (chip_state D.state self.old) { stage = Stage.Busy (Task.Track (record track { counted = true })) }) }
-        ensures drives { SameDrives (board_of (behind_of self.old)) (board_of (behind_of self.new)) }
+        ensures drives { SameDrives (adapter_of (behind_of self.old)) (adapter_of (behind_of self.new)) }
     {
         self.stage = Stage::Busy {
             task: Task::Track {

@@ -1,8 +1,8 @@
 // The state, the strap, and the lines that are seen outside.
 ghost use Rattle.std.specs.Prelude.{◌≡◌, IfOk, IsTrue, IsFalse};
-ghost use Rattle.fdc_board.specs.Boards.{controller_of, SameDrives};
+ghost use Rattle.fdc_adapter.specs.Adapters.{controller_of, SameDrives};
 ghost use Rattle.fdc_core.specs.Dma.{to_memory_of};
-ghost use Rattle.fdc_sequencer.specs.Fronts.{board_of};
+ghost use Rattle.fdc_sequencer.specs.Fronts.{adapter_of};
 ghost use Rattle.fdc_chip.specs.Chips.{chip_state, behind_of, IsNewChip, interrupts_chip, asks_chip, passes, passes_by_port, passes_by_channel, passes_at, passes_bytes, is_data};
 ghost use Rattle.fdc_chip.specs.Steps.{HasLinesChip};
 
@@ -27,7 +27,7 @@ pub struct Chip<D> {
     pub(crate) count: u8,
     pub(crate) interrupts: Interrupts,
     pub(crate) settings: Settings,
-    /// Seeks are implied by a strap of the board.
+    /// Seeks are implied by a strap of the adapter.
     pub(crate) strapped: bool,
     /// How many bytes of keys a FORMAT TRACK still takes.
     pub(crate) keys: u16,
@@ -35,7 +35,7 @@ pub struct Chip<D> {
     pub(crate) gated: bool,
     /// A seek whose pulses come in the time that SPECIFY sets.
     pub(crate) pace: Option<Pace>,
-    /// The pulses of seeks come so by a strap of the board.
+    /// The pulses of seeks come so by a strap of the adapter.
     pub(crate) paced: bool,
 }
 
@@ -72,11 +72,11 @@ impl<D: Inspect> Chip<D> {
         })
     }
 
-    /// Lets each data command seek its cylinder first, as a strap of a board would, whatever CONFIGURE sets; or leaves that to
+    /// Lets each data command seek its cylinder first, as a strap of an adapter would, whatever CONFIGURE sets; or leaves that to
     /// CONFIGURE.
     pub fn strap_seeks(&mut self, on: bool)
         ensures state { chip_state D.state self.new ≡ record (chip_state D.state self.old) { strapped = on } }
-        ensures drives { SameDrives (board_of (behind_of self.old)) (board_of (behind_of self.new)) }
+        ensures drives { SameDrives (adapter_of (behind_of self.old)) (adapter_of (behind_of self.new)) }
     {
         self.strapped = on;
     }
@@ -85,7 +85,7 @@ impl<D: Inspect> Chip<D> {
     /// RECALIBRATE gives those of the cylinders that the controller has counted so, and what is left to track 0 in a word time each.
     pub fn strap_steps(&mut self, on: bool)
         ensures state { chip_state D.state self.new ≡ record (chip_state D.state self.old) { paced = on } }
-        ensures drives { SameDrives (board_of (behind_of self.old)) (board_of (behind_of self.new)) }
+        ensures drives { SameDrives (adapter_of (behind_of self.old)) (adapter_of (behind_of self.new)) }
     {
         self.paced = on;
     }
@@ -155,7 +155,7 @@ impl<D: Inspect> Chip<D> {
 
     /// Whether the bytes of the command in execution go to memory.
     pub fn to_memory(&self) -> bool
-        ensures { result ≡ to_memory_of (controller_of (board_of (behind_of self.now))) }
+        ensures { result ≡ to_memory_of (controller_of (adapter_of (behind_of self.now))) }
     {
         self.behind.to_memory()
     }

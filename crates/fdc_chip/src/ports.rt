@@ -1,7 +1,7 @@
 // Ports.
 ghost use Rattle.std.specs.Prelude.{◌≡◌, ◌==◌, ◌&&◌};
-ghost use Rattle.fdc_board.specs.Boards.{SameDrives};
-ghost use Rattle.fdc_sequencer.specs.Fronts.{board_of};
+ghost use Rattle.fdc_adapter.specs.Adapters.{SameDrives};
+ghost use Rattle.fdc_sequencer.specs.Fronts.{adapter_of};
 ghost use Rattle.fdc_chip.specs.Chips.{chip_state, behind_of, status_of, stage_bits, execution_bits, port_bits, output_of};
 ghost use Rattle.fdc_chip.specs.Ports.{ReadsChip, ReadsAt, PassesOut, byte_told, WritesChip, TakesByte, Collects, may_come, with_next, PassesIn, is_whole, gated_by, value_behind};
 
@@ -63,7 +63,7 @@ impl<D: Inspect> Chip<D> {
     /// Reads a port, 3F0 to 3F7.
     pub fn read(&mut self, port: u16) -> u8
         ensures reads { ReadsChip port (chip_state D.state self.old) result (chip_state D.state self.new) }
-        ensures drives { SameDrives (board_of (behind_of self.old)) (board_of (behind_of self.new)) }
+        ensures drives { SameDrives (adapter_of (behind_of self.old)) (adapter_of (behind_of self.new)) }
     {
         match port {
             STATUS => self.status(),
@@ -77,7 +77,7 @@ impl<D: Inspect> Chip<D> {
     fn status(&mut self) -> u8
         ensures value { result ≡ status_of (chip_state D.state self.old) }
         ensures same { chip_state D.state self.new ≡ chip_state D.state self.old }
-        ensures drives { SameDrives (board_of (behind_of self.old)) (board_of (behind_of self.new)) }
+        ensures drives { SameDrives (adapter_of (behind_of self.old)) (adapter_of (behind_of self.new)) }
     {
         let seeks = Msr(self.interrupts.seek_bits());
         let pace = Msr(pace_bit(self.pace));
@@ -88,7 +88,7 @@ impl<D: Inspect> Chip<D> {
     fn output(&mut self) -> u8
         ensures value { result ≡ output_of (chip_state D.state self.old) }
         ensures same { chip_state D.state self.new ≡ chip_state D.state self.old }
-        ensures drives { SameDrives (board_of (behind_of self.old)) (board_of (behind_of self.new)) }
+        ensures drives { SameDrives (adapter_of (behind_of self.old)) (adapter_of (behind_of self.new)) }
     {
         let gate = if self.gated { Dor::GATE.bits() } else { 0 };
         self.behind.read(OUTPUT) & WITHOUT_GATE | gate
@@ -98,7 +98,7 @@ impl<D: Inspect> Chip<D> {
     fn stage_bits(&mut self) -> Msr
         ensures value { result.0 ≡ stage_bits self.old.stage (chip_state D.state self.old) }
         ensures same { chip_state D.state self.new ≡ chip_state D.state self.old }
-        ensures drives { SameDrives (board_of (behind_of self.old)) (board_of (behind_of self.new)) }
+        ensures drives { SameDrives (adapter_of (behind_of self.old)) (adapter_of (behind_of self.new)) }
     {
         match self.stage {
             Stage::Ready => {
@@ -120,7 +120,7 @@ impl<D: Inspect> Chip<D> {
     /// The next byte of an answer, or of the command in execution.
     fn give_byte(&mut self) -> u8
         ensures reads { ReadsAt self.old.stage (chip_state D.state self.old) result (chip_state D.state self.new) }
-        ensures drives { SameDrives (board_of (behind_of self.old)) (board_of (behind_of self.new)) }
+        ensures drives { SameDrives (adapter_of (behind_of self.old)) (adapter_of (behind_of self.new)) }
     {
         match self.stage {
             Stage::Telling { answer, read } => {
@@ -140,7 +140,7 @@ impl<D: Inspect> Chip<D> {
     /// A byte of an answer is read.
     fn tell_next(&mut self, answer: Answer, read: u8)
         ensures told { chip_state D.state self.new ≡ byte_told answer read (chip_state D.state self.old) }
-        ensures drives { SameDrives (board_of (behind_of self.old)) (board_of (behind_of self.new)) }
+        ensures drives { SameDrives (adapter_of (behind_of self.old)) (adapter_of (behind_of self.new)) }
     {
         if answer.is_of_data() && read == 0 {
             self.interrupts.set_line(false);
@@ -158,7 +158,7 @@ impl<D: Inspect> Chip<D> {
     /// A byte of the command in execution.
     fn pass_out(&mut self) -> u8
         ensures passes { PassesOut (chip_state D.state self.old) result (chip_state D.state self.new) }
-        ensures drives { SameDrives (board_of (behind_of self.old)) (board_of (behind_of self.new)) }
+        ensures drives { SameDrives (adapter_of (behind_of self.old)) (adapter_of (behind_of self.new)) }
     {
         match self.behind.dack_read() {
             Some(byte) => byte,

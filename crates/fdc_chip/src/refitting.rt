@@ -1,9 +1,9 @@
 // What is done to a drive by hand: to the tab of its medium, to the medium itself, and to the whole drive.
 ghost use Rattle.std.specs.Prelude.{◌≡◌, ◌≤◌, ◌-◌};
 ghost use Rattle.drive_model.specs.Drive.{with_protection};
-ghost use Rattle.fdc_board.specs.Boards.{drive_held};
-ghost use Rattle.fdc_board.specs.Handling.{Exchanges, Sets};
-ghost use Rattle.fdc_sequencer.specs.Fronts.{board_of};
+ghost use Rattle.fdc_adapter.specs.Adapters.{drive_held};
+ghost use Rattle.fdc_adapter.specs.Handling.{Exchanges, Sets};
+ghost use Rattle.fdc_sequencer.specs.Fronts.{adapter_of};
 ghost use Rattle.fdc_chip.specs.Chips.{chip_state, chip_with_drive, behind_of, KeepsChip};
 
 use crate::chip::Chip;
@@ -15,7 +15,7 @@ impl<D: Inspect> Chip<D> {
     pub fn set_protected(&mut self, bay: u8, on: bool)
         requires { bay ≤ 1 }
         ensures keeps { KeepsChip (chip_state D.state self.old) (chip_state D.state self.new) }
-        ensures sets { Sets bay (with_protection on) (chip_state D.state self.old).front.board (chip_state D.state self.new).front.board }
+        ensures sets { Sets bay (with_protection on) (chip_state D.state self.old).front.adapter (chip_state D.state self.new).front.adapter }
     {
         self.behind.set_protected(bay, on);
     }
@@ -25,7 +25,7 @@ impl<D: Inspect> Chip<D> {
     pub fn exchange(&mut self, bay: u8, medium: Medium) -> Result<Medium, Medium>
         requires { bay ≤ 1 }
         ensures keeps { KeepsChip (chip_state D.state self.old) (chip_state D.state self.new) }
-        ensures exchanges { Exchanges bay medium (chip_state D.state self.old).front.board (chip_state D.state self.new).front.board result }
+        ensures exchanges { Exchanges bay medium (chip_state D.state self.old).front.adapter (chip_state D.state self.new).front.adapter result }
     {
         self.behind.exchange(bay, medium)
     }
@@ -34,9 +34,9 @@ impl<D: Inspect> Chip<D> {
     pub fn swap_drive(&mut self, bay: u8, drive: &mut D)
         requires { bay ≤ 1 }
         ensures keeps { KeepsChip (chip_state D.state self.old) (chip_state D.state self.new) }
-        ensures other { drive_held (board_of (behind_of self.new)) (1 - bay) ≡ drive_held (board_of (behind_of self.old)) (1 - bay) }
-        ensures taken { drive.new ≡ drive_held (board_of (behind_of self.old)) bay }
-        ensures put { drive_held (board_of (behind_of self.new)) bay ≡ drive.old }
+        ensures other { drive_held (adapter_of (behind_of self.new)) (1 - bay) ≡ drive_held (adapter_of (behind_of self.old)) (1 - bay) }
+        ensures taken { drive.new ≡ drive_held (adapter_of (behind_of self.old)) bay }
+        ensures put { drive_held (adapter_of (behind_of self.new)) bay ≡ drive.old }
         ensures whole { self.new ≡ chip_with_drive bay drive.old self.old }
     {
         self.behind.swap_drive(bay, drive);
@@ -45,7 +45,7 @@ impl<D: Inspect> Chip<D> {
     /// The drive in a bay.
     pub fn drive(&self, bay: u8) -> &D
         requires { bay ≤ 1 }
-        ensures { result.now ≡ drive_held (board_of (behind_of self.now)) bay }
+        ensures { result.now ≡ drive_held (adapter_of (behind_of self.now)) bay }
     {
         self.behind.drive(bay)
     }

@@ -1,11 +1,11 @@
 -- How the controller's own command for a sector begins.
 use Rattle.std.proofs.Common.{◌≡◌, Bool, true, false, refl}
-use Rattle.fdc_board.specs.Boards.{BoardState}
+use Rattle.fdc_adapter.specs.Adapters.{AdapterState}
 use Rattle.fdc_sequencer.specs.Fronts.{Front, begun_if}
 use Rattle.fdc_sequencer.specs.declared.transfer.Transfer.{Transfer}
 
--- the board that was there before doesn't count
-pub begun_over : (executing : Bool) (transfer : Transfer) (counted passed_over : Bool) (between : BoardState) (old : Front)
-    → begun_if executing transfer counted passed_over between (record old { board = between }) ≡ begun_if executing transfer counted passed_over between old
+-- the adapter that was there before doesn't count
+pub begun_over : (executing : Bool) (transfer : Transfer) (counted passed_over : Bool) (between : AdapterState) (old : Front)
+    → begun_if executing transfer counted passed_over between (record old { adapter = between }) ≡ begun_if executing transfer counted passed_over between old
 begun_over true transfer counted passed_over between old = refl
 begun_over false transfer counted passed_over between old = refl

@@ -1,8 +1,8 @@
--- Device steps one by one, and those that the board makes at once.
+-- Device steps one by one, and those that the adapter makes at once.
 use Rattle.std.proofs.Common.{◌≡◌, ℕ, zero, suc, ◌+◌, Bool, true, false, Option, None, refl, sym, ap, subst, ◌∙◌, add-suc, arith}
 use Rattle.std.proofs.lemmas.Bool.{true≢false}
 use Rattle.std.specs.Prelude.{◌&&◌, nat_lt}
-use Rattle.fdc_board.specs.Boards.{BoardState, LeapsBoard, RunsWith, RunsTo, StepsBoard}
+use Rattle.fdc_adapter.specs.Adapters.{AdapterState, LeapsAdapter, RunsWith, RunsTo, StepsAdapter}
 use Rattle.fdc_core.specs.Courses.{HoldsLines}
 use Rattle.fdc_core.specs.Listening.{is_executing}
 use Rattle.fdc_phases.specs.Phases.{ending_of_phase}
@@ -52,7 +52,7 @@ runs_behind int drq (suc n) old between new lines step runs =
 
 -- INT is down then
 moving_shows : (moving : MovingSector) (front : Front) → front.stage ≡ Moving moving → interrupts_outside front ≡ false
-moving_shows moving front at = ap (λ stage. interrupts_at stage front.board.controller) at
+moving_shows moving front at = ap (λ stage. interrupts_at stage front.adapter.controller) at
 
 pub leaps_none : (front : Front) → LeapsFront 0 front front
 unfolding LeapsFront
@@ -89,11 +89,11 @@ executing_goes (Execute execution) is = refl
 executing_goes Command is = absurd (true≢false (sym is))
 executing_goes (Result answer) is = absurd (true≢false (sym is))
 
--- a step of the board in which nothing ends and no mark is met is one of the whole
-under_way_step : (front : Front) (mid : BoardState) → IsUnderWay front → StepsBoard front.board mid → HoldsLines front.board.controller mid.controller
-    → StepsFront front (record front { board = mid })
+-- a step of the adapter in which nothing ends and no mark is met is one of the whole
+under_way_step : (front : Front) (mid : AdapterState) → IsUnderWay front → StepsAdapter front.adapter mid → HoldsLines front.adapter.controller mid.controller
+    → StepsFront front (record front { adapter = mid })
 under_way_step front mid under steps holds =
-    let new : Front = record front { board = mid } in
+    let new : Front = record front { adapter = mid } in
     let wanted : is_unwanted under.moving (mark_of mid.controller) ≡ false = ap (is_unwanted under.moving) holds.mark ∙ under.wanted in
     let moves : MovesOn None under.moving new new = ap (λ unwanted. passed_over_if unwanted under.moving new) (sym wanted) in
     let goes : ending_told mid.controller ≡ None = holds.ended ∙ under.goes in
@@ -104,8 +104,8 @@ under_way_step front mid under steps holds =
           (subst (λ ending. MovesOn (judged_if under.moving ending) under.moving new new) (sym goes) moves);
     }
 
-under_way_along : (front : Front) (mid : BoardState) → IsUnderWay front → HoldsLines front.board.controller mid.controller
-    → MovesAlong front (record front { board = mid })
+under_way_along : (front : Front) (mid : AdapterState) → IsUnderWay front → HoldsLines front.adapter.controller mid.controller
+    → MovesAlong front (record front { adapter = mid })
 under_way_along front mid under holds =
     let left = under.moving.left in
     let at : (fdc : Fdc) → asks_at front.stage fdc ≡ (nat_lt 0 left && asks fdc) = λ fdc. ap (λ stage. asks_at stage fdc) under.at in
@@ -113,11 +113,11 @@ under_way_along front mid under holds =
       moving = under.moving;
       was = under.at;
       is = under.at;
-      request = at mid.controller ∙ ap (λ b. nat_lt 0 left && b) holds.request ∙ sym (at front.board.controller);
+      request = at mid.controller ∙ ap (λ b. nat_lt 0 left && b) holds.request ∙ sym (at front.adapter.controller);
     }
 
-under_way_on : (front : Front) (mid : BoardState) → IsUnderWay front → HoldsLines front.board.controller mid.controller
-    → IsUnderWay (record front { board = mid })
+under_way_on : (front : Front) (mid : AdapterState) → IsUnderWay front → HoldsLines front.adapter.controller mid.controller
+    → IsUnderWay (record front { adapter = mid })
 under_way_on front mid under holds = record {
   moving = under.moving;
   at = under.at;
@@ -126,24 +126,24 @@ under_way_on front mid under holds = record {
 }
 
 -- so many are as many of the whole
-pub front_leaps : (n : ℕ) (front : Front) (new : BoardState) → IsUnderWay front → LeapsBoard n front.board new → LeapsFront n front (record front { board = new })
-unfolding LeapsBoard LeapsFront
-front_leaps zero front new under leaps = ap (λ (board : BoardState). record front { board = board }) leaps
+pub front_leaps : (n : ℕ) (front : Front) (new : AdapterState) → IsUnderWay front → LeapsAdapter n front.adapter new → LeapsFront n front (record front { adapter = new })
+unfolding LeapsAdapter LeapsFront
+front_leaps zero front new under leaps = ap (λ (adapter : AdapterState). record front { adapter = adapter }) leaps
 front_leaps (suc n) front new under (mid, step, holds, rest) = (
-  record front { board = mid },
+  record front { adapter = mid },
   under_way_step front mid under step holds,
   under_way_along front mid under holds,
-  front_leaps n (record front { board = mid }) new (under_way_on front mid under holds) rest,
+  front_leaps n (record front { adapter = mid }) new (under_way_on front mid under holds) rest,
 )
 
 -- ---- nothing is done in front
 
--- this board, with nothing done in front
-abbrev through : Front → BoardState → Front
-through front board = record front { board = board; stage = Through }
+-- this adapter, with nothing done in front
+abbrev through : Front → AdapterState → Front
+through front adapter = record front { adapter = adapter; stage = Through }
 
--- a run of the board is one of the whole
-through_runs : (int drq : Bool) (n : ℕ) (front : Front) (old new : BoardState) → RunsWith int drq n old new
+-- a run of the adapter is one of the whole
+through_runs : (int drq : Bool) (n : ℕ) (front : Front) (old new : AdapterState) → RunsWith int drq n old new
     → RunsFrontWith int drq n (through front old) (through front new)
 unfolding RunsWith RunsFrontWith
 through_runs int drq zero front old new runs = ap (through front) runs
@@ -154,7 +154,7 @@ through_runs int drq (suc n) front old new runs = (
   record { between = new; steps = runs.3; follows = refl },
 )
 
-through_to : (most : ℕ) (front : Front) (old : BoardState) (steps : ℕ) (new : BoardState) → RunsTo most old steps new
+through_to : (most : ℕ) (front : Front) (old : AdapterState) (steps : ℕ) (new : AdapterState) → RunsTo most old steps new
     → RunsFront most (through front old) steps (through front new)
 through_to most front old steps new runs = record {
   within = runs.within;
@@ -163,9 +163,9 @@ through_to most front old steps new runs = record {
 }
 
 -- the same in the stage in which nothing is done
-pub board_runs : (most : ℕ) (front : Front) (steps : ℕ) (new : BoardState) → front.stage ≡ Through → RunsTo most front.board steps new
-    → RunsFront most front steps (record front { board = new })
-board_runs most front steps new is runs =
-    let with : Stage → BoardState → Front = λ stage board. record front { board = board; stage = stage } in
-    subst (λ (stage : Stage). RunsFront most (with stage front.board) steps (with stage new)) (sym is)
-    (through_to most front front.board steps new runs)
+pub adapter_runs : (most : ℕ) (front : Front) (steps : ℕ) (new : AdapterState) → front.stage ≡ Through → RunsTo most front.adapter steps new
+    → RunsFront most front steps (record front { adapter = new })
+adapter_runs most front steps new is runs =
+    let with : Stage → AdapterState → Front = λ stage adapter. record front { adapter = adapter; stage = stage } in
+    subst (λ (stage : Stage). RunsFront most (with stage front.adapter) steps (with stage new)) (sym is)
+    (through_to most front front.adapter steps new runs)

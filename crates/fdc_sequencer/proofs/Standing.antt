@@ -1,15 +1,15 @@
 -- Device steps of a front in which nothing is done.
 use Rattle.std.proofs.Common.{◌≡◌, true, sym, ap, ◌∙◌, subst}
 use Rattle.std.proofs.lemmas.Bool.{true≢false}
-use Rattle.fdc_board.specs.Boards.{BoardState}
-use Rattle.fdc_board.specs.Still.{Stands}
+use Rattle.fdc_adapter.specs.Adapters.{AdapterState}
+use Rattle.fdc_adapter.specs.Still.{Stands}
 use Rattle.fdc_sequencer.specs.Fronts.{Front, KeepsFront}
 use Rattle.fdc_sequencer.specs.Moves.{FollowsStep, StepsFront}
 use Rattle.fdc_sequencer.specs.Still.{StandsFront, rests_at}
 use Rattle.fdc_sequencer.specs.declared.stage.Stage.{Stage}
 use Rattle.fdc_sequencer.specs.declared.stage.Stage.TheVariants.{Through, Collecting, Seeking, Moving, Telling}
 
--- nothing is done behind the board's step
+-- nothing is done behind the adapter's step
 follows_none : (stage : Stage) (old new : Front) → rests_at stage ≡ true → FollowsStep stage old new → new ≡ old
 follows_none Through old new rests follows = follows
 follows_none (Collecting opcode) old new rests follows = follows
@@ -17,16 +17,16 @@ follows_none (Telling results read) old new rests follows = follows
 follows_none (Seeking transfer counted) old new rests follows = absurd (true≢false (sym rests))
 follows_none (Moving moving) old new rests follows = absurd (true≢false (sym rests))
 
--- so it is the board's alone
-rests_on : (old new : Front) (step : StepsFront old new) → rests_at old.stage ≡ true → new ≡ record old { board = step.between }
-rests_on old new step rests = follows_none old.stage (record old { board = step.between }) new rests step.follows
+-- so it is the adapter's alone
+rests_on : (old new : Front) (step : StepsFront old new) → rests_at old.stage ≡ true → new ≡ record old { adapter = step.between }
+rests_on old new step rests = follows_none old.stage (record old { adapter = step.between }) new rests step.follows
 
 -- where that leaves the controller, all but the drives stays
-board_stands : (front old : Front) (between : BoardState) → KeepsFront front old → between.controller ≡ front.board.controller → KeepsFront front (record old { board = between })
-board_stands front old between keeps same =
+adapter_stands : (front old : Front) (between : AdapterState) → KeepsFront front old → between.controller ≡ front.adapter.controller → KeepsFront front (record old { adapter = between })
+adapter_stands front old between keeps same =
     record { controller = same; stage = keeps.stage; bytes = keeps.bytes; strapped = keeps.strapped; configured = keeps.configured }
 
-pub stands_front : (front : Front) → rests_at front.stage ≡ true → Stands front.board.controller → StandsFront front
+pub stands_front : (front : Front) → rests_at front.stage ≡ true → Stands front.adapter.controller → StandsFront front
 stands_front front rests stands old new keeps step =
     subst (KeepsFront front) (sym (rests_on old new step (ap rests_at keeps.stage ∙ rests)))
-    (board_stands front old step.between keeps (stands old.board step.between keeps.controller step.steps))
+    (adapter_stands front old step.between keeps (stands old.adapter step.between keeps.controller step.steps))

@@ -15,8 +15,8 @@ use Rattle.fdc_core.specs.Ports.{value_read, main_status, result_byte, given, re
 use Rattle.fdc_core.specs.State.{asks, interrupts, is_gated}
 use Rattle.fdc_core.specs.Whole.{is_idle, options_with, TakesWhole}
 use Rattle.fdc_core.specs.declared.controller.Fdc.{Fdc}
-use Rattle.fdc_board.specs.Boards.{BoardState, board_state, board_with_drive, lines_at, IsNewBoard, WritesBoard, Takes, Gives}
-use Rattle.fdc_board.specs.declared.board.FdcBoard.{FdcBoard}
+use Rattle.fdc_adapter.specs.Adapters.{AdapterState, adapter_state, adapter_with_drive, lines_at, IsNewAdapter, WritesAdapter, Takes, Gives}
+use Rattle.fdc_adapter.specs.declared.adapter.DisketteAdapter.{DisketteAdapter}
 use Rattle.fdc_sequencer.specs.Opcodes.{opcode_of, plain_code}
 use Rattle.fdc_sequencer.specs.Transfers.{transfer_of, command_of, size_of}
 use Rattle.fdc_sequencer.specs.declared.opcode.Opcode.{Opcode}
@@ -26,10 +26,10 @@ use Rattle.fdc_sequencer.specs.declared.stage.Stage.{Stage}
 use Rattle.fdc_sequencer.specs.declared.stage.Stage.TheVariants.{Through, Collecting, Seeking, Moving, Telling}
 use Rattle.fdc_sequencer.specs.declared.transfer.Transfer.{Transfer}
 
--- the board behind, what is done in front of it, the bytes of the command that comes, and whether seeks are implied: by a
+-- the adapter behind, what is done in front of it, the bytes of the command that comes, and whether seeks are implied: by a
 -- strap, or by CONFIGURE
 pub record Front : Type 0 where
-  pub board : BoardState
+  pub adapter : AdapterState
   pub stage : Stage
   pub bytes : List ℕ
   pub strapped : Bool
@@ -37,24 +37,24 @@ pub record Front : Type 0 where
 
 abbrev pub front_state : {D : Type 0} → (D → DriveState) → Sequencer D → Front
 front_state state front = record {
-  board = board_state state front.board;
+  adapter = adapter_state state front.adapter;
   stage = front.stage;
   bytes = front.bytes;
   strapped = front.strapped;
   configured = front.configured;
 }
 
--- the board behind
-abbrev pub board_of : {D : Type 0} → Sequencer D → FdcBoard D
-board_of front = front.board
+-- the adapter behind
+abbrev pub adapter_of : {D : Type 0} → Sequencer D → DisketteAdapter D
+adapter_of front = front.adapter
 
 -- with this drive in a bay
 abbrev pub front_with_drive : {D : Type 0} → ℕ → D → Sequencer D → Sequencer D
-front_with_drive bay drive front = record front { board = board_with_drive bay drive front.board }
+front_with_drive bay drive front = record front { adapter = adapter_with_drive bay drive front.adapter }
 
 -- a new one with these drives
 pub record IsNewFront (bay0 bay1 : DriveState) (new : Front) : Type 0 where
-  pub board : IsNewBoard bay0 bay1 new.board
+  pub adapter : IsNewAdapter bay0 bay1 new.adapter
   pub stage : new.stage ≡ Through
   pub bytes : new.bytes ≡ []
   pub strapped : new.strapped ≡ false
@@ -62,14 +62,14 @@ pub record IsNewFront (bay0 bay1 : DriveState) (new : Front) : Type 0 where
 
 -- all but the drives stays
 pub record KeepsFront (old new : Front) : Type 0 where
-  pub controller : new.board.controller ≡ old.board.controller
+  pub controller : new.adapter.controller ≡ old.adapter.controller
   pub stage : new.stage ≡ old.stage
   pub bytes : new.bytes ≡ old.bytes
   pub strapped : new.strapped ≡ old.strapped
   pub configured : new.configured ≡ old.configured
 
 -- the controller is this one
-abbrev pub with_controller : Fdc → BoardState → BoardState
+abbrev pub with_controller : Fdc → AdapterState → AdapterState
 with_controller controller old = record old { controller = controller }
 
 -- ---- the lines outside
@@ -83,7 +83,7 @@ interrupts_at (Moving _) fdc = false
 interrupts_at (Telling _ read) fdc = (read == 0) && is_gated fdc
 
 abbrev pub interrupts_outside : Front → Bool
-interrupts_outside front = interrupts_at front.stage front.board.controller
+interrupts_outside front = interrupts_at front.stage front.adapter.controller
 
 -- DRQ is up only while bytes of the sector are still to pass
 abbrev pub asks_at : Stage → Fdc → Bool
@@ -92,7 +92,7 @@ asks_at (Moving moving) fdc = nat_lt 0 moving.left && asks fdc
 asks_at _ fdc = false
 
 abbrev pub asks_outside : Front → Bool
-asks_outside front = asks_at front.stage front.board.controller
+asks_outside front = asks_at front.stage front.adapter.controller
 
 -- ---- reads of a port
 
@@ -112,13 +112,13 @@ byte_at _ fdc = 0xFF
 
 abbrev pub value_outside : ℕ → Front → ℕ
 value_outside port front =
-    if port == 0x3F4 then status_at front.stage front.board.controller else (
-    if port == 0x3F5 then byte_at front.stage front.board.controller else
-    value_read port (lines_at front.board) front.board.controller)
+    if port == 0x3F4 then status_at front.stage front.adapter.controller else (
+    if port == 0x3F5 then byte_at front.stage front.adapter.controller else
+    value_read port (lines_at front.adapter) front.adapter.controller)
 
 -- once the data port was read: behind the seventh result byte each access is the controller's again
 abbrev pub byte_given : Stage → Front → Front
-byte_given Through old = record old { board = with_controller (given old.board.controller) old.board }
+byte_given Through old = record old { adapter = with_controller (given old.adapter.controller) old.adapter }
 byte_given (Telling results read) old = record old { stage = if nat_le 6 read then Through else Telling results (read + 1) }
 byte_given _ old = old
 
@@ -128,13 +128,13 @@ after_reading port old = if port == 0x3F5 then byte_given old.stage old else old
 -- ---- a command begins
 
 -- what bytes came to is done by the controller
-pub record TakesBoard (accepted : Accepted) (old new : BoardState) : Type 0 where
+pub record TakesAdapter (accepted : Accepted) (old new : AdapterState) : Type 0 where
   pub takes : TakesWhole accepted (lines_at old) old.controller new.controller
   pub first : new.first ≡ old.first
   pub second : new.second ≡ old.second
 
 -- the terminal count is told, where it came
-abbrev pub told_if : Bool → BoardState → BoardState
+abbrev pub told_if : Bool → AdapterState → AdapterState
 told_if true old = with_controller (told_count old.controller) old
 told_if false old = old
 
@@ -144,22 +144,22 @@ moving_of transfer counted passed_over =
     record { transfer = transfer; left = size_of transfer.key.n; counted = counted; passed_over = passed_over; skipped = false }
 
 -- the controller executes its own command for the sector, or the host reads what it answers in place of that
-abbrev pub begun_if : Bool → Transfer → Bool → Bool → BoardState → Front → Front
+abbrev pub begun_if : Bool → Transfer → Bool → Bool → AdapterState → Front → Front
 begun_if true transfer counted passed_over between old =
-    record old { board = told_if counted between; stage = Moving (moving_of transfer counted passed_over) }
-begun_if false transfer counted passed_over between old = record old { board = between; stage = Through }
+    record old { adapter = told_if counted between; stage = Moving (moving_of transfer counted passed_over) }
+begun_if false transfer counted passed_over between old = record old { adapter = between; stage = Through }
 
 -- the controller's own command for a sector begins
 pub record BeginsSector (transfer : Transfer) (counted passed_over : Bool) (old new : Front) : Type 0 where
-  pub between : BoardState
-  pub takes : TakesBoard (Ready (command_of transfer)) old.board between
+  pub between : AdapterState
+  pub takes : TakesAdapter (Ready (command_of transfer)) old.adapter between
   pub begun : new ≡ begun_if (is_executing between.controller.phase) transfer counted passed_over between old
 
 -- the heads go to the command's cylinder, or the host reads what the controller answers in place of that
 pub record SeeksFirst (transfer : Transfer) (old new : Front) : Type 0 where
-  pub between : BoardState
-  pub takes : TakesBoard (Ready (Seek transfer.head_drive transfer.key.c)) old.board between
-  pub begun : new ≡ record old { board = between; stage = if is_idle between.controller then Seeking transfer false else Through }
+  pub between : AdapterState
+  pub takes : TakesAdapter (Ready (Seek transfer.head_drive transfer.key.c)) old.adapter between
+  pub begun : new ≡ record old { adapter = between; stage = if is_idle between.controller then Seeking transfer false else Through }
 
 abbrev pub StartsIf : Bool → Transfer → Front → Front → Type 0
 StartsIf true transfer old new = SeeksFirst transfer old new
@@ -172,9 +172,9 @@ Starts (Some transfer) old new = StartsIf (old.strapped || old.configured) trans
 
 -- the controller answers in place of a command whose size code isn't 1 to 6
 pub record Refuses (old new : Front) : Type 0 where
-  pub between : BoardState
-  pub takes : TakesBoard Invalid old.board between
-  pub after : new ≡ record old { board = between; stage = Through }
+  pub between : AdapterState
+  pub takes : TakesAdapter Invalid old.adapter between
+  pub after : new ≡ record old { adapter = between; stage = Through }
 
 -- ---- writes of a port
 
@@ -198,14 +198,14 @@ abbrev pub PassesAs : Option Opcode → ℕ → Front → Front → Type 0
 PassesAs (Some opcode) byte old new =
     new ≡ record old { stage = Collecting opcode; bytes = plain_code opcode.operation ∷ [] }
 PassesAs None byte old new =
-    WritesBoard 0x3F5 byte old.board new.board
-    × (new ≡ record old { board = new.board; configured = configured_with (options_with byte old.board.controller) old.configured })
+    WritesAdapter 0x3F5 byte old.adapter new.adapter
+    × (new ≡ record old { adapter = new.adapter; configured = configured_with (options_with byte old.adapter.controller) old.configured })
 
 abbrev pub begins_with : ℕ → Fdc → Option Opcode
 begins_with byte fdc = if is_idle fdc then opcode_of byte else None
 
 abbrev pub TakesByte : Stage → ℕ → Front → Front → Type 0
-TakesByte Through byte old new = PassesAs (begins_with byte old.board.controller) byte old new
+TakesByte Through byte old new = PassesAs (begins_with byte old.adapter.controller) byte old new
 TakesByte (Collecting opcode) byte old new = Collects opcode byte old new
 TakesByte _ byte old new = new ≡ old
 
@@ -217,26 +217,26 @@ reset_if false old = old
 -- a byte is written to a port
 pub record WritesFront (port value : ℕ) (old new : Front) : Type 0 where
   pub bytes : port ≡ 0x3F5 → TakesByte old.stage value old new
-  pub others : (port == 0x3F5) ≡ false → WritesBoard port value old.board new.board × (new ≡ record (reset_if (resets port value) old) { board = new.board })
+  pub others : (port == 0x3F5) ≡ false → WritesAdapter port value old.adapter new.adapter × (new ≡ record (reset_if (resets port value) old) { adapter = new.adapter })
 
 -- ---- the channel
 
 -- a byte of the sector passed; behind the last the controller is told the count
 abbrev pub passed_one : MovingSector → Fdc → Front → Front
 passed_one moving controller old = record old {
-  board = with_controller (if moving.left - 1 == 0 then told_count controller else controller) old.board;
+  adapter = with_controller (if moving.left - 1 == 0 then told_count controller else controller) old.adapter;
   stage = Moving (record moving { left = moving.left - 1 });
 }
 
 abbrev pub TakesMoving : MovingSector → Front → Option ℕ → Front → Type 0
-TakesMoving moving old (Some byte) new = let fdc = old.board.controller in
+TakesMoving moving old (Some byte) new = let fdc = old.adapter.controller in
     ((nat_lt 0 moving.left && (asks fdc && to_memory_of fdc)) ≡ true) × (byte ≡ byte_out fdc) × (new ≡ passed_one moving (taken_out fdc) old)
-TakesMoving moving old None new = let fdc = old.board.controller in
+TakesMoving moving old None new = let fdc = old.adapter.controller in
     ((nat_lt 0 moving.left && (asks fdc && to_memory_of fdc)) ≡ false) × (new ≡ old)
 
 -- the channel takes a byte, where one is asked for in this direction
 abbrev pub TakesAt : Stage → Front → Option ℕ → Front → Type 0
-TakesAt Through old byte new = Takes old.board.controller byte new.board.controller × (new ≡ record old { board = with_controller new.board.controller old.board })
+TakesAt Through old byte new = Takes old.adapter.controller byte new.adapter.controller × (new ≡ record old { adapter = with_controller new.adapter.controller old.adapter })
 TakesAt (Moving moving) old byte new = TakesMoving moving old byte new
 TakesAt _ old byte new = (byte ≡ None) × (new ≡ old)
 
@@ -244,14 +244,14 @@ abbrev pub TakesFront : Front → Option ℕ → Front → Type 0
 TakesFront old byte new = TakesAt old.stage old byte new
 
 abbrev pub GivesMoving : MovingSector → ℕ → Front → Bool → Front → Type 0
-GivesMoving moving byte old true new = let fdc = old.board.controller in
+GivesMoving moving byte old true new = let fdc = old.adapter.controller in
     ((nat_lt 0 moving.left && (asks fdc && not (to_memory_of fdc))) ≡ true) × (new ≡ passed_one moving (taken_in byte fdc) old)
-GivesMoving moving byte old false new = let fdc = old.board.controller in
+GivesMoving moving byte old false new = let fdc = old.adapter.controller in
     ((nat_lt 0 moving.left && (asks fdc && not (to_memory_of fdc))) ≡ false) × (new ≡ old)
 
 -- the channel gives a byte, where one is asked for in this direction
 abbrev pub GivesAt : Stage → ℕ → Front → Bool → Front → Type 0
-GivesAt Through byte old was new = Gives byte old.board.controller was new.board.controller × (new ≡ record old { board = with_controller new.board.controller old.board })
+GivesAt Through byte old was new = Gives byte old.adapter.controller was new.adapter.controller × (new ≡ record old { adapter = with_controller new.adapter.controller old.adapter })
 GivesAt (Moving moving) byte old was new = GivesMoving moving byte old was new
 GivesAt _ byte old was new = (was ≡ false) × (new ≡ old)
 
@@ -260,9 +260,9 @@ GivesFront byte old was new = GivesAt old.stage byte old was new
 
 -- the terminal count comes: the command ends behind its sector
 abbrev pub count_told : Stage → Front → Front
-count_told Through old = record old { board = told_if true old.board }
+count_told Through old = record old { adapter = told_if true old.adapter }
 count_told (Seeking transfer _) old = record old { stage = Seeking transfer true }
-count_told (Moving moving) old = record old { board = told_if true old.board; stage = Moving (record moving { counted = true }) }
+count_told (Moving moving) old = record old { adapter = told_if true old.adapter; stage = Moving (record moving { counted = true }) }
 count_told _ old = old
 
 abbrev pub told_front : Front → Front

@@ -5,7 +5,7 @@ use Rattle.fdc_stages.specs.declared.ending.Ending.{Ending}
 use Rattle.fdc_stages.specs.declared.ending.Ending.TheVariants.{Done, BadCheck, NoCount}
 use Rattle.fdc_commands.specs.declared.results.Results.{Results}
 use Rattle.fdc_core.specs.Whole.{ending_told, given_up, mark_of, without_seek}
-use Rattle.fdc_board.specs.Boards.{BoardState, StepsBoard}
+use Rattle.fdc_adapter.specs.Adapters.{AdapterState, StepsAdapter}
 use Rattle.fdc_sequencer.specs.Fronts.{Front, with_controller, told_if, BeginsSector, interrupts_outside, asks_outside}
 use Rattle.fdc_sequencer.specs.Transfers.{next_of, is_last, is_other, other_mark, is_skipping, results_told, size_of}
 use Rattle.fdc_sequencer.specs.declared.stage.Moving.{Moving as MovingSector}
@@ -69,31 +69,31 @@ is_unwanted moving (Some deleted) = let operation = moving.transfer.opcode.opera
 -- the field is passed over: the controller is told the count, and no byte of it passes
 abbrev pub passed_over_if : Bool → MovingSector → Front → Front
 passed_over_if true moving old =
-    record old { board = told_if true old.board; stage = Moving (record moving { left = 0; passed_over = true; skipped = true }) }
+    record old { adapter = told_if true old.adapter; stage = Moving (record moving { left = 0; passed_over = true; skipped = true }) }
 passed_over_if false moving old = old
 
 -- what the front does behind the controller's step, while a sector is moved: its command ended so, as it is judged, or it goes on
 abbrev pub MovesOn : Option Ending → MovingSector → Front → Front → Type 0
 MovesOn (Some ending) moving old new =
-    EndsSector moving ending (record old { board = with_controller (given_up old.board.controller) old.board }) new
-MovesOn None moving old new = new ≡ passed_over_if (is_unwanted moving (mark_of old.board.controller)) moving old
+    EndsSector moving ending (record old { adapter = with_controller (given_up old.adapter.controller) old.adapter }) new
+MovesOn None moving old new = new ≡ passed_over_if (is_unwanted moving (mark_of old.adapter.controller)) moving old
 
 -- and while the heads seek
 abbrev pub SeeksOn : Bool → Transfer → Bool → Front → Front → Type 0
 SeeksOn true transfer counted old new =
-    BeginsSector transfer counted false (record old { board = with_controller (without_seek old.board.controller) old.board }) new
+    BeginsSector transfer counted false (record old { adapter = with_controller (without_seek old.adapter.controller) old.adapter }) new
 SeeksOn false transfer counted old new = new ≡ old
 
 abbrev pub FollowsStep : Stage → Front → Front → Type 0
-FollowsStep (Seeking transfer counted) old new = SeeksOn (has_ended_seek old.board.controller.seeks) transfer counted old new
-FollowsStep (Moving moving) old new = MovesOn (judged_if moving (ending_told old.board.controller)) moving old new
+FollowsStep (Seeking transfer counted) old new = SeeksOn (has_ended_seek old.adapter.controller.seeks) transfer counted old new
+FollowsStep (Moving moving) old new = MovesOn (judged_if moving (ending_told old.adapter.controller)) moving old new
 FollowsStep _ old new = new ≡ old
 
--- one device step: the board's, and what the front does behind it
+-- one device step: the adapter's, and what the front does behind it
 pub record StepsFront (old new : Front) : Type 0 where
-  pub between : BoardState
-  pub steps : StepsBoard old.board between
-  pub follows : FollowsStep old.stage (record old { board = between }) new
+  pub between : AdapterState
+  pub steps : StepsAdapter old.adapter between
+  pub follows : FollowsStep old.stage (record old { adapter = between }) new
 
 -- ---- many steps
 
@@ -117,8 +117,8 @@ LeapsFront (suc n) old new = (between : Front) × StepsFront old between × Move
 pub record IsUnderWay (front : Front) : Type 0 where
   pub moving : MovingSector
   pub at : front.stage ≡ Moving moving
-  pub goes : ending_told front.board.controller ≡ None
-  pub wanted : is_unwanted moving (mark_of front.board.controller) ≡ false
+  pub goes : ending_told front.adapter.controller ≡ None
+  pub wanted : is_unwanted moving (mark_of front.adapter.controller) ≡ false
 
 -- so many device steps, each from these lines
 unfoldable pub RunsFrontWith : Bool → Bool → ℕ → Front → Front → Type 0

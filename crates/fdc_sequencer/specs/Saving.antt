@@ -2,7 +2,7 @@
 use Rattle.std.specs.Prelude.{ℕ, List, ◌∷◌}
 use Rattle.saved_state.specs.Saved.{spelled_byte, spelled_bytes, spelled_flag, spelled_key, spelled_word}
 use Rattle.fdc_commands.specs.Saving.{spelled_results, IsPart}
-use Rattle.fdc_board.specs.Saving.{spelled_board, BoardFits}
+use Rattle.fdc_adapter.specs.Saving.{spelled_adapter, AdapterFits}
 use Rattle.fdc_sequencer.specs.declared.opcode.Operation.{Operation}
 use Rattle.fdc_sequencer.specs.declared.opcode.Operation.TheVariants.{Read, Write}
 use Rattle.fdc_sequencer.specs.declared.opcode.Opcode.{Opcode}
@@ -41,12 +41,12 @@ spelled_stage (stage.Seeking transfer counted) rest = 2 ∷ spelled_transfer tra
 spelled_stage (stage.Moving moving) rest = 3 ∷ spelled_moving moving rest
 spelled_stage (stage.Telling results read) rest = 4 ∷ spelled_results results (spelled_byte read rest)
 
--- a sequencer whose board and bytes fit
+-- a sequencer whose adapter and bytes fit
 abbrev pub SequencerFits : {D : Type 0} → (D → Type 0) → Sequencer D → Type 0
-SequencerFits fits sequencer = BoardFits fits sequencer.board × IsPart sequencer.bytes
+SequencerFits fits sequencer = AdapterFits fits sequencer.adapter × IsPart sequencer.bytes
 
--- a C, the board, whose drives are spelled so, and what the sequencer keeps
+-- a C, the adapter, whose drives are spelled so, and what the sequencer keeps
 unfoldable pub spelled_sequencer : {D : Type 0} → (D → List ℕ → List ℕ) → Sequencer D → List ℕ → List ℕ
 spelled_sequencer spelled sequencer rest =
-    67 ∷ spelled_board spelled sequencer.board (spelled_stage sequencer.stage (spelled_bytes sequencer.bytes
+    67 ∷ spelled_adapter spelled sequencer.adapter (spelled_stage sequencer.stage (spelled_bytes sequencer.bytes
     (spelled_flag sequencer.strapped (spelled_flag sequencer.configured rest))))

@@ -1,6 +1,6 @@
 -- The controller behind, for a layer in front of the sequencer that keeps the results of seeks itself.
 use Rattle.std.specs.Prelude.{ℕ, Bool, false, Option, None}
-use Rattle.fdc_board.specs.Senses.{pending_result, after_result}
+use Rattle.fdc_adapter.specs.Senses.{pending_result, after_result}
 use Rattle.fdc_core.specs.Whole.{is_idle}
 use Rattle.fdc_core.specs.declared.controller.Fdc.{Fdc}
 use Rattle.fdc_sequencer.specs.Fronts.{Front, with_controller}
@@ -13,7 +13,7 @@ is_ready_at Through fdc = is_idle fdc
 is_ready_at _ fdc = false
 
 abbrev pub is_ready : Front → Bool
-is_ready front = is_ready_at front.stage front.board.controller
+is_ready front = is_ready_at front.stage front.adapter.controller
 
 -- the result that SENSE INTERRUPT would give
 abbrev pub pending_at : Stage → Fdc → Option (ℕ × ℕ)
@@ -21,11 +21,11 @@ pending_at Through fdc = pending_result fdc
 pending_at _ fdc = None
 
 abbrev pub pending_outside : Front → Option (ℕ × ℕ)
-pending_outside front = pending_at front.stage front.board.controller
+pending_outside front = pending_at front.stage front.adapter.controller
 
 -- once it was taken
 abbrev pub sensed_at : Stage → Front → Front
-sensed_at Through old = record old { board = with_controller (after_result old.board.controller) old.board }
+sensed_at Through old = record old { adapter = with_controller (after_result old.adapter.controller) old.adapter }
 sensed_at _ old = old
 
 abbrev pub sensed_outside : Front → Front

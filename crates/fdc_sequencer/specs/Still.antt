@@ -6,7 +6,7 @@ use Rattle.fdc_sequencer.specs.Moves.{StepsFront}
 use Rattle.fdc_sequencer.specs.declared.stage.Stage.{Stage}
 use Rattle.fdc_sequencer.specs.declared.stage.Stage.TheVariants.{Seeking, Moving}
 
--- a device step is the board's, and nothing is done behind it
+-- a device step is the adapter's, and nothing is done behind it
 abbrev pub rests_at : Stage → Bool
 rests_at (Seeking _ _) = false
 rests_at (Moving _) = false
@@ -14,7 +14,7 @@ rests_at _ = true
 
 -- nor does the controller do anything
 abbrev pub stands_at : Front → Bool
-stands_at front = if rests_at front.stage then is_at_rest front.board.controller else false
+stands_at front = if rests_at front.stage then is_at_rest front.adapter.controller else false
 
 -- each device step leaves all but the drives as it is
 abbrev pub StandsFront : Front → Type 0

@@ -1,7 +1,7 @@
 // The side of the DMA channel.
 ghost use Rattle.std.specs.Prelude.{◌≡◌, ◌≤◌};
-ghost use Rattle.fdc_board.specs.Boards.{controller_of, SameDrives};
-ghost use Rattle.fdc_sequencer.specs.Fronts.{front_state, board_of, TakesFront, TakesMoving, GivesFront, GivesMoving, passed_one, told_front};
+ghost use Rattle.fdc_adapter.specs.Adapters.{controller_of, SameDrives};
+ghost use Rattle.fdc_sequencer.specs.Fronts.{front_state, adapter_of, TakesFront, TakesMoving, GivesFront, GivesMoving, passed_one, told_front};
 
 use crate::sequencer::Sequencer;
 use crate::stage::{Moving, Stage};
@@ -11,10 +11,10 @@ impl<D: Inspect> Sequencer<D> {
     /// The channel takes a byte, where one is asked for.
     pub fn dack_read(&mut self) -> Option<u8>
         ensures takes { TakesFront (front_state D.state self.old) result (front_state D.state self.new) }
-        ensures drives { SameDrives (board_of self.old) (board_of self.new) }
+        ensures drives { SameDrives (adapter_of self.old) (adapter_of self.new) }
     {
         match self.stage {
-            Stage::Through => self.board.dack_read(),
+            Stage::Through => self.adapter.dack_read(),
             Stage::Moving { moving } => self.take_for(moving),
             _ => None,
         }
@@ -23,12 +23,12 @@ impl<D: Inspect> Sequencer<D> {
     /// The channel takes a byte of a sector.
     fn take_for(&mut self, moving: Moving) -> Option<u8>
         ensures takes { TakesMoving moving (front_state D.state self.old) result (front_state D.state self.new) }
-        ensures drives { SameDrives (board_of self.old) (board_of self.new) }
+        ensures drives { SameDrives (adapter_of self.old) (adapter_of self.new) }
     {
         if moving.left == 0 {
             return None;
         }
-        let byte = self.board.dack_read()?;
+        let byte = self.adapter.dack_read()?;
         self.pass_one(moving);
         Some(byte)
     }
@@ -36,10 +36,10 @@ impl<D: Inspect> Sequencer<D> {
     /// The channel gives a byte, where one is asked for, and it is told whether one was.
     pub fn dack_write(&mut self, byte: u8) -> bool
         ensures gives { GivesFront byte (front_state D.state self.old) result (front_state D.state self.new) }
-        ensures drives { SameDrives (board_of self.old) (board_of self.new) }
+        ensures drives { SameDrives (adapter_of self.old) (adapter_of self.new) }
     {
         match self.stage {
-            Stage::Through => self.board.dack_write(byte),
+            Stage::Through => self.adapter.dack_write(byte),
             Stage::Moving { moving } => self.give_for(moving, byte),
             _ => false,
         }
@@ -48,9 +48,9 @@ impl<D: Inspect> Sequencer<D> {
     /// The channel gives a byte of a sector.
     fn give_for(&mut self, moving: Moving, byte: u8) -> bool
         ensures gives { GivesMoving moving byte (front_state D.state self.old) result (front_state D.state self.new) }
-        ensures drives { SameDrives (board_of self.old) (board_of self.new) }
+        ensures drives { SameDrives (adapter_of self.old) (adapter_of self.new) }
     {
-        if moving.left == 0 || !self.board.dack_write(byte) {
+        if moving.left == 0 || !self.adapter.dack_write(byte) {
             return false;
         }
         self.pass_one(moving);
@@ -60,12 +60,12 @@ impl<D: Inspect> Sequencer<D> {
     /// A byte of the sector passed. Behind the last the controller is told the count.
     fn pass_one(&mut self, moving: Moving)
         requires { 1 ≤ moving.left }
-        ensures passed { front_state D.state self.new ≡ passed_one moving (controller_of (board_of self.old)) (front_state D.state self.old) }
-        ensures drives { SameDrives (board_of self.old) (board_of self.new) }
+        ensures passed { front_state D.state self.new ≡ passed_one moving (controller_of (adapter_of self.old)) (front_state D.state self.old) }
+        ensures drives { SameDrives (adapter_of self.old) (adapter_of self.new) }
     {
         let left = moving.left - 1;
         if left == 0 {
-            self.board.tc();
+            self.adapter.tc();
         }
         self.stage = Stage::Moving {
             moving: Moving { left, ..moving },
@@ -75,10 +75,10 @@ impl<D: Inspect> Sequencer<D> {
     /// The channel tells the terminal count: the command ends behind its sector, of which no further byte is moved.
     pub fn tc(&mut self)
         ensures told { front_state D.state self.new ≡ told_front (front_state D.state self.old) }
-        ensures drives { SameDrives (board_of self.old) (board_of self.new) }
+        ensures drives { SameDrives (adapter_of self.old) (adapter_of self.new) }
     {
         match self.stage {
-            Stage::Through => self.board.tc(),
+            Stage::Through => self.adapter.tc(),
             Stage::Seeking { transfer, .. } => {
                 self.stage = Stage::Seeking {
                     transfer,
@@ -86,7 +86,7 @@ impl<D: Inspect> Sequencer<D> {
                 };
             }
             Stage::Moving { moving } => {
-                self.board.tc();
+                self.adapter.tc();
                 self.stage = Stage::Moving {
                     moving: Moving {
                         counted: true,

@@ -1,10 +1,10 @@
 // Device steps: how a sector ends and the next begins.
 ghost use Rattle.std.specs.Prelude.{◌≡◌, true};
-ghost use Rattle.fdc_board.specs.Boards.{controller_of};
+ghost use Rattle.fdc_adapter.specs.Adapters.{controller_of};
 ghost use Rattle.fdc_core.specs.Whole.{ending_told};
 ghost use Rattle.fdc_seek.specs.Seeking.{has_ended_seek};
 ghost use Rattle.fdc_core.specs.Listening.{is_executing};
-ghost use Rattle.fdc_sequencer.specs.Fronts.{front_state, board_of, told_if, begun_if, BeginsSector, moving_of};
+ghost use Rattle.fdc_sequencer.specs.Fronts.{front_state, adapter_of, told_if, begun_if, BeginsSector, moving_of};
 ghost use Rattle.fdc_sequencer.specs.Moves.{StepsFront, FollowsStep, MovesOn, EndsSector, SeeksOn, passed_over_if, would_go_on, goes_on, is_unwanted, judged, judged_if, results_behind, results_failed, has_met_other};
 
 use crate::sequencer::Sequencer;
@@ -15,15 +15,15 @@ use fdc_commands::{Accepted, Results};
 use fdc_stages::Ending;
 
 impl<D: Inspect> Sequencer<D> {
-    /// One device step: the board's, and where a sector ended in it, the next begins or there are results.
+    /// One device step: the adapter's, and where a sector ended in it, the next begins or there are results.
     pub fn step(&mut self)
         ensures { StepsFront (front_state D.state self.old) (front_state D.state self.new) }
     {
-        self.board.step();
+        self.adapter.step();
         self.follow_step();
     }
 
-    /// What is done behind the board's step.
+    /// What is done behind the adapter's step.
     fn follow_step(&mut self)
         ensures { FollowsStep self.old.stage (front_state D.state self.old) (front_state D.state self.new) }
     {
@@ -36,21 +36,21 @@ impl<D: Inspect> Sequencer<D> {
 
     /// The sector begins behind an implied seek.
     fn follow_seek(&mut self, transfer: Transfer, counted: bool)
-        ensures { SeeksOn (has_ended_seek (controller_of (board_of self.old)).seeks) transfer counted (front_state D.state self.old) (front_state D.state self.new) }
+        ensures { SeeksOn (has_ended_seek (controller_of (adapter_of self.old)).seeks) transfer counted (front_state D.state self.old) (front_state D.state self.new) }
     {
-        if self.board.forget_seek() {
+        if self.adapter.forget_seek() {
             self.begin_sector(transfer, counted, false);
         }
     }
 
     /// The next sector or the results, where this one ended; else a field whose mark isn't wanted may have been met.
     fn follow_sector(&mut self, moving: Moving)
-        ensures { MovesOn (judged_if moving (ending_told (controller_of (board_of self.old)))) moving (front_state D.state self.old) (front_state D.state self.new) }
+        ensures { MovesOn (judged_if moving (ending_told (controller_of (adapter_of self.old)))) moving (front_state D.state self.old) (front_state D.state self.new) }
     {
-        match self.board.take_ending() {
+        match self.adapter.take_ending() {
             Some(ending) => self.end_sector(moving, moving.judged(ending)),
             None => {
-                if moving.is_unwanted(self.board.mark()) {
+                if moving.is_unwanted(self.adapter.mark()) {
                     self.pass_over(moving);
                 }
             }
@@ -61,7 +61,7 @@ impl<D: Inspect> Sequencer<D> {
     fn pass_over(&mut self, moving: Moving)
         ensures { front_state D.state self.new ≡ passed_over_if true moving (front_state D.state self.old) }
     {
-        self.board.tc();
+        self.adapter.tc();
         self.stage = Stage::Moving {
             moving: Moving {
                 left: 0,
@@ -96,17 +96,17 @@ impl<D: Inspect> Sequencer<D> {
     pub(crate) fn begin_sector(&mut self, transfer: Transfer, counted: bool, passed_over: bool)
         ensures { BeginsSector transfer counted passed_over (front_state D.state self.old) (front_state D.state self.new) }
     {
-        self.board
+        self.adapter
             .take_accepted(Accepted::Ready(transfer.command()));
         self.follow_begun(transfer, counted, passed_over);
     }
 
     /// The controller executes its own command for a sector, or answers in place of that.
     fn follow_begun(&mut self, transfer: Transfer, counted: bool, passed_over: bool)
-        ensures { front_state D.state self.new ≡ begun_if (is_executing (controller_of (board_of self.old)).phase)
-            transfer counted passed_over (front_state D.state self.old).board (front_state D.state self.old) }
+        ensures { front_state D.state self.new ≡ begun_if (is_executing (controller_of (adapter_of self.old)).phase)
+            transfer counted passed_over (front_state D.state self.old).adapter (front_state D.state self.old) }
     {
-        if !self.board.is_executing() {
+        if !self.adapter.is_executing() {
             self.stage = Stage::Through;
             return;
         }
@@ -119,11 +119,11 @@ impl<D: Inspect> Sequencer<D> {
     /// Tells the controller the terminal count, where it came.
     fn tell_if(&mut self, counted: bool)
         ensures { front_state D.state self.new ≡ record (front_state D.state self.old) {
-          board = told_if counted (front_state D.state self.old).board;
+          adapter = told_if counted (front_state D.state self.old).adapter;
         } }
     {
         if counted {
-            self.board.tc();
+            self.adapter.tc();
         }
     }
 }

@@ -1,7 +1,7 @@
 // Ports: what is read, and how a command of several sectors is collected and begins.
 ghost use Rattle.std.specs.Prelude.{◌≡◌, ◌+◌, ◌∷◌, [], if◌then◌else◌, nat_le};
-ghost use Rattle.fdc_board.specs.Boards.{controller_of, SameDrives};
-ghost use Rattle.fdc_sequencer.specs.Fronts.{front_state, board_of, status_at, value_outside, byte_at, byte_given, after_reading, begins_with, configured_with, CollectsAs, PassesAs, TakesByte, WritesFront, Starts, SeeksFirst, Refuses};
+ghost use Rattle.fdc_adapter.specs.Adapters.{controller_of, SameDrives};
+ghost use Rattle.fdc_sequencer.specs.Fronts.{front_state, adapter_of, status_at, value_outside, byte_at, byte_given, after_reading, begins_with, configured_with, CollectsAs, PassesAs, TakesByte, WritesFront, Starts, SeeksFirst, Refuses};
 ghost use Rattle.fdc_sequencer.specs.Opcodes.{plain_code};
 
 use crate::opcode::Opcode;
@@ -32,24 +32,24 @@ impl<D: Inspect> Sequencer<D> {
     pub fn read(&mut self, port: u16) -> u8
         ensures value { result ≡ value_outside port (front_state D.state self.old) }
         ensures after { front_state D.state self.new ≡ after_reading port (front_state D.state self.old) }
-        ensures drives { SameDrives (board_of self.old) (board_of self.new) }
+        ensures drives { SameDrives (adapter_of self.old) (adapter_of self.new) }
     {
         match port {
             STATUS => self.status(),
             DATA => self.give_byte(),
-            _ => self.board.read(port),
+            _ => self.adapter.read(port),
         }
     }
 
     /// The main status register.
     fn status(&mut self) -> u8
-        ensures value { result ≡ status_at self.old.stage (controller_of (board_of self.old)) }
+        ensures value { result ≡ status_at self.old.stage (controller_of (adapter_of self.old)) }
         ensures after { front_state D.state self.new ≡ front_state D.state self.old }
-        ensures drives { SameDrives (board_of self.old) (board_of self.new) }
+        ensures drives { SameDrives (adapter_of self.old) (adapter_of self.new) }
     {
         match self.stage {
-            Stage::Through => self.board.read(STATUS),
-            Stage::Collecting { .. } => Msr(self.board.read(STATUS)).union(Msr::BUSY).bits(),
+            Stage::Through => self.adapter.read(STATUS),
+            Stage::Collecting { .. } => Msr(self.adapter.read(STATUS)).union(Msr::BUSY).bits(),
             Stage::Seeking { .. } | Stage::Moving { .. } => Msr::BUSY.bits(),
             Stage::Telling { .. } => Msr::RQM.union(Msr::DIO).union(Msr::BUSY).bits(),
         }
@@ -57,12 +57,12 @@ impl<D: Inspect> Sequencer<D> {
 
     /// The next result byte.
     fn give_byte(&mut self) -> u8
-        ensures value { result ≡ byte_at self.old.stage (controller_of (board_of self.old)) }
+        ensures value { result ≡ byte_at self.old.stage (controller_of (adapter_of self.old)) }
         ensures after { front_state D.state self.new ≡ byte_given self.old.stage (front_state D.state self.old) }
-        ensures drives { SameDrives (board_of self.old) (board_of self.new) }
+        ensures drives { SameDrives (adapter_of self.old) (adapter_of self.new) }
     {
         match self.stage {
-            Stage::Through => self.board.read(DATA),
+            Stage::Through => self.adapter.read(DATA),
             Stage::Telling { results, read } => {
                 self.stage = after_byte(results, read);
                 match results.bytes().get(usize::from(read)) {
@@ -86,7 +86,7 @@ impl<D: Inspect> Sequencer<D> {
             self.stage = Stage::Through;
             self.configured = false;
         }
-        self.board.write(port, value);
+        self.adapter.write(port, value);
     }
 
     /// A byte is written to the data port.
@@ -105,22 +105,22 @@ impl<D: Inspect> Sequencer<D> {
 
     /// A byte that begins a command of several sectors is kept, and any other is the controller's.
     fn pass_byte(&mut self, byte: u8)
-        ensures { PassesAs (begins_with byte (controller_of (board_of self.old))) byte (front_state D.state self.old) (front_state D.state self.new) }
+        ensures { PassesAs (begins_with byte (controller_of (adapter_of self.old))) byte (front_state D.state self.old) (front_state D.state self.new) }
     {
         match self.opcode_with(byte) {
             Some(opcode) => self.begin_bytes(opcode),
             None => {
-                self.configured = configured_after(self.board.options_with(byte), self.configured);
-                self.board.write(DATA, byte);
+                self.configured = configured_after(self.adapter.options_with(byte), self.configured);
+                self.adapter.write(DATA, byte);
             }
         }
     }
 
     /// The command of several sectors that a byte begins.
     fn opcode_with(&self, byte: u8) -> Option<Opcode>
-        ensures { result ≡ begins_with byte (controller_of (board_of self.now)) }
+        ensures { result ≡ begins_with byte (controller_of (adapter_of self.now)) }
     {
-        if self.board.is_idle() {
+        if self.adapter.is_idle() {
             Opcode::of(byte)
         } else {
             None
@@ -156,7 +156,7 @@ impl<D: Inspect> Sequencer<D> {
         ensures { Refuses (front_state D.state self.old) (front_state D.state self.new) }
     {
         self.stage = Stage::Through;
-        self.board.take_accepted(Accepted::Invalid);
+        self.adapter.take_accepted(Accepted::Invalid);
     }
 
     /// A command starts, with a seek where these are implied.
@@ -174,11 +174,11 @@ impl<D: Inspect> Sequencer<D> {
     fn seek_first(&mut self, transfer: Transfer)
         ensures { SeeksFirst transfer (front_state D.state self.old) (front_state D.state self.new) }
     {
-        self.board.take_accepted(Accepted::Ready(Command::Seek {
+        self.adapter.take_accepted(Accepted::Ready(Command::Seek {
             head_drive: transfer.head_drive,
             ncn: transfer.key.c,
         }));
-        self.stage = if self.board.is_idle() {
+        self.stage = if self.adapter.is_idle() {
             Stage::Seeking {
                 transfer,
                 counted: false,

@@ -1,9 +1,9 @@
 // What is done to a drive by hand: to the tab of its medium, to the medium itself, and to the whole drive.
 ghost use Rattle.std.specs.Prelude.{◌≡◌, ◌≤◌, ◌-◌};
 ghost use Rattle.drive_model.specs.Drive.{with_protection};
-ghost use Rattle.fdc_board.specs.Boards.{drive_held};
-ghost use Rattle.fdc_board.specs.Handling.{Exchanges, Sets};
-ghost use Rattle.fdc_sequencer.specs.Fronts.{front_state, front_with_drive, board_of, KeepsFront};
+ghost use Rattle.fdc_adapter.specs.Adapters.{drive_held};
+ghost use Rattle.fdc_adapter.specs.Handling.{Exchanges, Sets};
+ghost use Rattle.fdc_sequencer.specs.Fronts.{front_state, front_with_drive, adapter_of, KeepsFront};
 
 use crate::sequencer::Sequencer;
 use drive_model::Inspect;
@@ -14,9 +14,9 @@ impl<D: Inspect> Sequencer<D> {
     pub fn set_protected(&mut self, bay: u8, on: bool)
         requires { bay ≤ 1 }
         ensures keeps { KeepsFront (front_state D.state self.old) (front_state D.state self.new) }
-        ensures sets { Sets bay (with_protection on) (front_state D.state self.old).board (front_state D.state self.new).board }
+        ensures sets { Sets bay (with_protection on) (front_state D.state self.old).adapter (front_state D.state self.new).adapter }
     {
-        self.board.set_protected(bay, on);
+        self.adapter.set_protected(bay, on);
     }
 
     /// Puts a medium in place of the one in a bay, which is given back, as if it had always been the one that turns there. Where none is
@@ -24,28 +24,28 @@ impl<D: Inspect> Sequencer<D> {
     pub fn exchange(&mut self, bay: u8, medium: Medium) -> Result<Medium, Medium>
         requires { bay ≤ 1 }
         ensures keeps { KeepsFront (front_state D.state self.old) (front_state D.state self.new) }
-        ensures exchanges { Exchanges bay medium (front_state D.state self.old).board (front_state D.state self.new).board result }
+        ensures exchanges { Exchanges bay medium (front_state D.state self.old).adapter (front_state D.state self.new).adapter result }
     {
-        self.board.exchange(bay, medium)
+        self.adapter.exchange(bay, medium)
     }
 
     /// Puts a drive into a bay with all that is in it, and gives the one that was there: nothing else learns of it.
     pub fn swap_drive(&mut self, bay: u8, drive: &mut D)
         requires { bay ≤ 1 }
         ensures keeps { KeepsFront (front_state D.state self.old) (front_state D.state self.new) }
-        ensures other { drive_held (board_of self.new) (1 - bay) ≡ drive_held (board_of self.old) (1 - bay) }
-        ensures taken { drive.new ≡ drive_held (board_of self.old) bay }
-        ensures put { drive_held (board_of self.new) bay ≡ drive.old }
+        ensures other { drive_held (adapter_of self.new) (1 - bay) ≡ drive_held (adapter_of self.old) (1 - bay) }
+        ensures taken { drive.new ≡ drive_held (adapter_of self.old) bay }
+        ensures put { drive_held (adapter_of self.new) bay ≡ drive.old }
         ensures whole { self.new ≡ front_with_drive bay drive.old self.old }
     {
-        self.board.swap_drive(bay, drive);
+        self.adapter.swap_drive(bay, drive);
     }
 
     /// The drive in a bay.
     pub fn drive(&self, bay: u8) -> &D
         requires { bay ≤ 1 }
-        ensures { result.now ≡ drive_held (board_of self.now) bay }
+        ensures { result.now ≡ drive_held (adapter_of self.now) bay }
     {
-        self.board.drive(bay)
+        self.adapter.drive(bay)
     }
 }

@@ -3,7 +3,7 @@ use crate::opcode::{Opcode, Operation};
 use crate::sequencer::Sequencer;
 use crate::stage::{Moving, Stage};
 use crate::transfer::Transfer;
-use fdc_board::FdcBoard;
+use fdc_adapter::DisketteAdapter;
 use fdc_commands::{CommandBytes, Results};
 use flop_base::{Chrn, NoMemory};
 use saved_state::{Saved, SavedWhole, Sink, Source};
@@ -216,7 +216,7 @@ impl<D: SavedWhole + Drop> SavedWhole for Sequencer<D> {
     #[tactic(auto, unfolding(crate::specs::Saving::spelled_sequencer))]
     fn save(&self, alloc: Global, to: &mut Sink) {
         to.byte(KIND);
-        self.board.save(alloc, to);
+        self.adapter.save(alloc, to);
         self.stage.save(to);
         self.bytes.save(to);
         self.strapped.save(to);
@@ -226,13 +226,13 @@ impl<D: SavedWhole + Drop> SavedWhole for Sequencer<D> {
     #[tactic(auto, unfolding(crate::specs::Saving::spelled_sequencer))]
     fn load(alloc: Global, from: &mut Source<'_>) -> Result<Sequencer<D>, NoMemory> {
         let _kind = from.byte();
-        let board = FdcBoard::load(alloc, from)?;
+        let adapter = DisketteAdapter::load(alloc, from)?;
         let stage = Stage::load(from);
         let bytes = CommandBytes::load(from);
         let strapped = bool::load(from);
         let configured = bool::load(from);
         Ok(Sequencer {
-            board,
+            adapter,
             stage,
             bytes,
             strapped,

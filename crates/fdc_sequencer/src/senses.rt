@@ -1,8 +1,8 @@
 // For a layer in front that keeps the results of seeks itself.
 ghost use Rattle.std.specs.Prelude.{◌≡◌};
-ghost use Rattle.fdc_board.specs.Boards.{controller_of, SameDrives};
+ghost use Rattle.fdc_adapter.specs.Adapters.{controller_of, SameDrives};
 ghost use Rattle.fdc_core.specs.State.{is_gated};
-ghost use Rattle.fdc_sequencer.specs.Fronts.{front_state, board_of};
+ghost use Rattle.fdc_sequencer.specs.Fronts.{front_state, adapter_of};
 ghost use Rattle.fdc_sequencer.specs.Senses.{is_ready, pending_outside, sensed_outside};
 
 use crate::sequencer::Sequencer;
@@ -15,16 +15,16 @@ impl<D: Inspect> Sequencer<D> {
         ensures { result ≡ is_ready (front_state D.state self.now) }
     {
         match self.stage {
-            Stage::Through => self.board.is_idle(),
+            Stage::Through => self.adapter.is_idle(),
             _ => false,
         }
     }
 
     /// Whether DOR lets INT and DRQ out.
     pub fn is_gated(&self) -> bool
-        ensures { result ≡ is_gated (controller_of (board_of self.now)) }
+        ensures { result ≡ is_gated (controller_of (adapter_of self.now)) }
     {
-        self.board.is_gated()
+        self.adapter.is_gated()
     }
 
     /// Takes the pending result of the lowest drive that has one, where the first byte of a command may come: ST0 and the
@@ -32,10 +32,10 @@ impl<D: Inspect> Sequencer<D> {
     pub fn sense(&mut self) -> Option<(u8, u8)>
         ensures result { result ≡ pending_outside (front_state D.state self.old) }
         ensures after { front_state D.state self.new ≡ sensed_outside (front_state D.state self.old) }
-        ensures drives { SameDrives (board_of self.old) (board_of self.new) }
+        ensures drives { SameDrives (adapter_of self.old) (adapter_of self.new) }
     {
         match self.stage {
-            Stage::Through => self.board.sense(),
+            Stage::Through => self.adapter.sense(),
             _ => None,
         }
     }

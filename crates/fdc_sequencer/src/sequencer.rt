@@ -1,14 +1,14 @@
 // The state, and the lines that are seen outside.
 ghost use Rattle.std.specs.Prelude.{◌≡◌, ◌≤◌, IfOk, IsTrue, IsFalse, true, false, None};
-ghost use Rattle.fdc_board.specs.Boards.{controller_of, SameDrives};
+ghost use Rattle.fdc_adapter.specs.Adapters.{controller_of, SameDrives};
 ghost use Rattle.fdc_core.specs.Dma.{to_memory_of};
 ghost use Rattle.fdc_core.specs.Whole.{ending_told, mark_of};
-ghost use Rattle.fdc_sequencer.specs.Fronts.{front_state, board_of, IsNewFront, interrupts_outside, asks_outside};
+ghost use Rattle.fdc_sequencer.specs.Fronts.{front_state, adapter_of, IsNewFront, interrupts_outside, asks_outside};
 ghost use Rattle.fdc_sequencer.specs.Moves.{HasLinesOutside, IsUnderWay, LeapsFront, RunsFront, RunsFrontWith, is_unwanted};
 
 use crate::stage::{Moving, Stage};
 use drive_model::Inspect;
-use fdc_board::FdcBoard;
+use fdc_adapter::DisketteAdapter;
 use fdc_commands::CommandBytes;
 use flop_base::NoMemory;
 use std::alloc::Global;
@@ -16,11 +16,11 @@ use std::alloc::Global;
 /// A controller with its drives that takes commands of several sectors.
 #[derive(Drop)]
 pub struct Sequencer<D> {
-    pub(crate) board: FdcBoard<D>,
+    pub(crate) adapter: DisketteAdapter<D>,
     pub(crate) stage: Stage,
     /// The bytes of the command that comes, with the code of the controller's own.
     pub(crate) bytes: CommandBytes,
-    /// Seeks are implied by a strap of the board.
+    /// Seeks are implied by a strap of the adapter.
     pub(crate) strapped: bool,
     /// CONFIGURE set EIS.
     pub(crate) configured: bool,
@@ -32,7 +32,7 @@ impl<D: Inspect> Sequencer<D> {
         ensures { IfOk result (λ new. IsNewFront (D.state bay0) (D.state bay1) (front_state D.state new)) }
     {
         Ok(Sequencer {
-            board: FdcBoard::new(alloc, bay0, bay1)?,
+            adapter: DisketteAdapter::new(alloc, bay0, bay1)?,
             stage: Stage::Through,
             bytes: CommandBytes::new(),
             strapped: false,
@@ -40,11 +40,11 @@ impl<D: Inspect> Sequencer<D> {
         })
     }
 
-    /// Lets each command of several sectors seek its cylinder first, as a strap of a board would, whatever CONFIGURE sets;
+    /// Lets each command of several sectors seek its cylinder first, as a strap of an adapter would, whatever CONFIGURE sets;
     /// or leaves that to CONFIGURE.
     pub fn strap_seeks(&mut self, on: bool)
         ensures state { front_state D.state self.new ≡ record (front_state D.state self.old) { strapped = on } }
-        ensures drives { SameDrives (board_of self.old) (board_of self.new) }
+        ensures drives { SameDrives (adapter_of self.old) (adapter_of self.new) }
     {
         self.strapped = on;
     }
@@ -54,9 +54,9 @@ impl<D: Inspect> Sequencer<D> {
         ensures { result ≡ interrupts_outside (front_state D.state self.now) }
     {
         match self.stage {
-            Stage::Through | Stage::Collecting { .. } => self.board.int(),
+            Stage::Through | Stage::Collecting { .. } => self.adapter.int(),
             Stage::Seeking { .. } | Stage::Moving { .. } => false,
-            Stage::Telling { read, .. } => read == 0 && self.board.is_gated(),
+            Stage::Telling { read, .. } => read == 0 && self.adapter.is_gated(),
         }
     }
 
@@ -65,8 +65,8 @@ impl<D: Inspect> Sequencer<D> {
         ensures { result ≡ asks_outside (front_state D.state self.now) }
     {
         match self.stage {
-            Stage::Through => self.board.drq(),
-            Stage::Moving { moving } => moving.left > 0 && self.board.drq(),
+            Stage::Through => self.adapter.drq(),
+            Stage::Moving { moving } => moving.left > 0 && self.adapter.drq(),
             _ => false,
         }
     }
@@ -81,9 +81,9 @@ impl<D: Inspect> Sequencer<D> {
 
     /// Whether the bytes of the command in execution go to memory.
     pub fn to_memory(&self) -> bool
-        ensures { result ≡ to_memory_of (controller_of (board_of self.now)) }
+        ensures { result ≡ to_memory_of (controller_of (adapter_of self.now)) }
     {
-        self.board.to_memory()
+        self.adapter.to_memory()
     }
 
     /// Device steps until the interrupt line or the request line changes, at most `most`, and how many were made.
@@ -96,12 +96,12 @@ impl<D: Inspect> Sequencer<D> {
         }
     }
 
-    /// The same where nothing is done behind a step and the lines are the board's, which makes many steps at once.
+    /// The same where nothing is done behind a step and the lines are the adapter's, which makes many steps at once.
     fn run_through(&mut self, most: u32) -> u32
         requires { self.old.stage ≡ Stage.Through }
         ensures { RunsFront most (front_state D.state self.old) result (front_state D.state self.new) }
     {
-        self.board.run(most)
+        self.adapter.run(most)
     }
 
     /// The same while something may be done behind a step.
@@ -136,14 +136,14 @@ impl<D: Inspect> Sequencer<D> {
         1
     }
 
-    /// Makes device steps at once while a sector is moved, in which neither line changes and nothing is done behind the board's, and tells
+    /// Makes device steps at once while a sector is moved, in which neither line changes and nothing is done behind the adapter's, and tells
     /// how many, `most` at most: where it is 0, the next step has to be made alone.
     pub fn leap(&mut self, most: u32) -> u32
         ensures few { result ≤ most }
         ensures leaps { LeapsFront result (front_state D.state self.old) (front_state D.state self.new) }
     {
         if self.is_under_way() {
-            return self.board.leap(most);
+            return self.adapter.leap(most);
         }
         0
     }
@@ -160,11 +160,11 @@ impl<D: Inspect> Sequencer<D> {
 
     /// Whether the sector hasn't ended, and no field of the mark that isn't wanted is met.
     fn goes_along(&self, moving: Moving) -> bool
-        ensures goes { result ≡ true → ending_told (controller_of (board_of self.now)) ≡ None }
-        ensures wanted { result ≡ true → is_unwanted moving (mark_of (controller_of (board_of self.now))) ≡ false }
+        ensures goes { result ≡ true → ending_told (controller_of (adapter_of self.now)) ≡ None }
+        ensures wanted { result ≡ true → is_unwanted moving (mark_of (controller_of (adapter_of self.now))) ≡ false }
     {
-        if self.board.is_executing() {
-            return !moving.is_unwanted(self.board.mark());
+        if self.adapter.is_executing() {
+            return !moving.is_unwanted(self.adapter.mark());
         }
         false
     }

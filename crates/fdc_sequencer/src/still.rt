@@ -8,7 +8,7 @@ use crate::stage::Stage;
 use drive_model::Inspect;
 
 impl<D: Inspect> Sequencer<D> {
-    /// Whether a device step is the board's alone: no command of several sectors is under way.
+    /// Whether a device step is the adapter's alone: no command of several sectors is under way.
     fn rests(&self) -> bool
         ensures { result ≡ rests_at (front_state D.state self.now).stage }
     {
@@ -24,7 +24,7 @@ impl<D: Inspect> Sequencer<D> {
         ensures still { result ≡ true → StandsFront (front_state D.state self.now) }
     {
         if self.rests() {
-            return self.board.is_still();
+            return self.adapter.is_still();
         }
         false
     }

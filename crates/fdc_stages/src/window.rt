@@ -4,7 +4,7 @@ ghost use Rattle.track_model.specs.Marks.{data_byte};
 ghost use Rattle.track_model.specs.Writing.{window};
 ghost use Rattle.fdc_stages.specs.Windows.{Gives, words_left, bytes_left, count_left, lead_left, needs_byte, is_last, window_behind};
 
-use mfm_cells::{crc_step, encode_byte, mark_crc};
+use track_model::{crc_step, encode_byte, mark_crc};
 
 /// A mark A1, with its lost clock.
 const MARK: u16 = 0x4489;

@@ -1,3 +1,1 @@
-pub mod Files
 pub mod Counted
-pub mod Cuts

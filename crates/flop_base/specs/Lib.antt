@@ -1,8 +1,5 @@
 pub mod Counts
-pub mod Lines
 pub mod Lists
-pub mod MemShelf
-pub mod MemSink
 pub mod Numbers
 pub mod Shelf
 pub mod Sink

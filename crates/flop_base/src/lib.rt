@@ -7,8 +7,6 @@
 
 mod answers;
 mod key;
-mod lines;
-mod memory;
 mod shelf;
 mod sink;
 pub mod standard;
@@ -17,7 +15,6 @@ mod two;
 
 pub use answers::{Code, LoadError, NoMemory, PutError, Rate, Status, StoreError};
 pub use key::{Chrn, sector_size};
-pub use memory::{MemShelf, MemSink};
 pub use shelf::Shelf;
 pub use sink::Sink;
 pub use text::{Bytes, Name};

@@ -1,10 +1,36 @@
 //! The program: files of the current folder, standard output, the words of the command line, and a machine of two drives.
 #![tactic(auto)]
 
-mod run;
-
+use flop_base::Status;
+use flop_outside::{FileShelf, StreamSink};
+use floppy_tools::{PLAN_VARIABLE, run_program};
+use std::env;
+use std::io::ErrorKind;
 use std::process::ExitCode;
+use std::rt::Env;
 
 fn main(rt: HostRuntime) -> ExitCode {
-    ExitCode::from(run::run(&rt).number())
+    let mut shelf = FileShelf::new(&rt);
+    let mut out = StreamSink::new(&rt);
+    let status = match words(&rt) {
+        Ok(words) => {
+            let plan = env::var(&rt, PLAN_VARIABLE);
+            run_program(rt.alloc(), plan, &words, &mut shelf, &mut out).status()
+        }
+        Err(status) => status,
+    };
+    ExitCode::from(status.number())
+}
+
+/// The words behind the program's name. Where one isn't text there are none: it is no word of a form, and nor is none.
+fn words<R: Env + AllocGlobal>(rt: &R) -> Result<Vec<String>, Status> {
+    let alloc = rt.alloc();
+    match env::args(rt) {
+        Ok(words) => match words.skip(1).collect(alloc) {
+            Ok(words) => Ok(words),
+            Err(_) => Err(Status::NoMemory),
+        },
+        Err(error) if error.kind() == ErrorKind::OutOfMemory => Err(Status::NoMemory),
+        Err(_) => Ok(Vec::new(alloc)),
+    }
 }

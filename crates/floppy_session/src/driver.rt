@@ -15,7 +15,7 @@ impl<D: Station> Session<D> {
     pub(crate) fn ack(&mut self, bay: u8) -> Reply
         ensures { (told : Option Files) → Step (Request.Ack bay) self.old told result self.new told }
     {
-        reply(self.acknowledge(bay))
+        reply(self.station.ack(bay))
     }
 
     /// Acknowledges a change of the medium.
@@ -30,7 +30,7 @@ impl<D: Station> Session<D> {
     pub(crate) fn read(&mut self, bay: u8, key: Chrn, address: u32) -> Reply
         ensures { (told : Option Files) → Step (Request.Read bay key address) self.old told result self.new told }
     {
-        reply_to_read(self.read_record(bay, key, address))
+        reply_to_read(self.station.read(bay, key, address))
     }
 
     /// Reads the record with this key to memory.
@@ -47,7 +47,7 @@ impl<D: Station> Session<D> {
     pub(crate) fn write(&mut self, bay: u8, key: Chrn, address: u32) -> Reply
         ensures { (told : Option Files) → Step (Request.Write bay key address) self.old told result self.new told }
     {
-        reply(self.write_record(bay, key, address))
+        reply(self.station.write(bay, key, address, false))
     }
 
     /// Writes memory to the record with this key.

@@ -5,5 +5,4 @@ pub mod Drives
 pub mod Plans
 pub mod PlanVariable
 pub mod Runs
-pub mod Shelves
 pub mod Words

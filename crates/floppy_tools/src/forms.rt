@@ -7,7 +7,7 @@ ghost use Rattle.floppy_words.specs.Forms.{form_of, Reads};
 ghost use Rattle.commands.specs.Hands.{hand_of};
 ghost use Rattle.commands.specs.Leading.{Ran, Runs};
 ghost use Rattle.archive_commands.specs.Files.{faulty_outside_of};
-ghost use Rattle.floppy_tools.specs.Programs.{Does, DoesForm, Performed, RanWords, faulty_of, world_of};
+ghost use Rattle.floppy_tools.specs.Programs.{Does, DoesForm, RanWords, world_of};
 
 use archive_commands::{from_imd, remaster_disk, survey_disk, to_imd};
 use commands::{Run, put_last_bad_words};
@@ -40,24 +40,9 @@ pub fn run_words<S: Shelf, K: Sink, D: Station>(
     ensures ready { D.is_ready result.1 }
 {
     let mut session = Session::new(alloc, station);
-    let status = perform(alloc, &mut session, words, shelf, out);
+    let asked = form_named(alloc, words);
+    let status = run_asked(alloc, &mut session, asked, shelf, out);
     (status, session.into_station())
-}
-
-/// Does what the words say.
-fn perform<S: Shelf, K: Sink, D: Station>(
-    alloc: Global,
-    session: &mut Session<D>,
-    words: &[String],
-    shelf: &mut S,
-    out: &mut K,
-) -> Status
-    ensures { Performed (Runs (Does (form_of (map string_bytes words.now))))
-        (form_of (map string_bytes words.now) ≡ None)
-        (faulty_of S.told S.fault_count K.told K.fault_count session.old shelf.old out.old)
-        (faulty_of S.told S.fault_count K.told K.fault_count session.new shelf.new out.new) result }
-{
-    run_asked(alloc, session, form_named(alloc, words), shelf, out)
 }
 
 /// Does what was read of the words: what a form asks for, or nothing where they are none, or where memory for them couldn't be had.
@@ -75,25 +60,7 @@ pub fn run_asked<S: Shelf, K: Sink, D: Station>(
     ensures sink_faults { Blames (result ≡ Status.SinkFault) (K.fault_count out.old) (K.fault_count out.new) }
 {
     match asked {
-        Ok(form) => perform_any(alloc, session, form, shelf, out),
-        Err(NoMemory) => Status::NoMemory,
-    }
-}
-
-/// Does what a form asks for, if the words are one.
-fn perform_any<S: Shelf, K: Sink, D: Station>(
-    alloc: Global,
-    session: &mut Session<D>,
-    form: Option<Form>,
-    shelf: &mut S,
-    out: &mut K,
-) -> Status
-    ensures { Performed (Runs (Does form)) (form ≡ None)
-        (faulty_of S.told S.fault_count K.told K.fault_count session.old shelf.old out.old)
-        (faulty_of S.told S.fault_count K.told K.fault_count session.new shelf.new out.new) result }
-{
-    match form {
-        Some(form) => {
+        Ok(Some(form)) => {
             let mut run = Run {
                 alloc,
                 session,
@@ -102,7 +69,8 @@ fn perform_any<S: Shelf, K: Sink, D: Station>(
             };
             perform_form(&mut run, form)
         }
-        None => put_last_bad_words(out),
+        Ok(None) => put_last_bad_words(out),
+        Err(NoMemory) => Status::NoMemory,
     }
 }
 

@@ -11,7 +11,6 @@ mod plan_variable;
 mod program;
 mod run;
 mod session;
-mod shelf;
 mod words;
 
 pub use forms::{run_asked, run_words};
@@ -21,5 +20,4 @@ pub use program::floppy;
 pub use run::{Ended, run_plain, run_planned};
 pub use sector_model::{Reason, Reply, Stop};
 pub use session::Session;
-pub use shelf::RunShelf;
 pub use words::{WordsError, split_words};

@@ -4,8 +4,7 @@ ghost use Rattle.sector_model.specs.Plays.{Prints};
 ghost use Rattle.sector_model.specs.Texts.{absent_text};
 ghost use Rattle.sector_model.specs.Faults.{Blames};
 ghost use Rattle.archive_commands.specs.Files.{faulty_outside_of};
-ghost use Rattle.floppy_tools.specs.Runs.{EndsRun};
-ghost use Rattle.floppy_tools.specs.PlanVariable.{EndsProgram, LacksName, RunsUnplanned, status_of};
+ghost use Rattle.floppy_tools.specs.PlanVariable.{EndsProgram, status_of};
 
 use crate::run::{Ended, run_plain, run_planned};
 use commands::put_last_absent;
@@ -52,32 +51,15 @@ pub fn run_program<S: Shelf, K: Sink>(
 {
     match plan {
         Ok(name) => ProgramEnded::Planned(run_planned(alloc, name.as_str(), words, shelf, out)),
-        Err(cause) => ProgramEnded::Unplanned(run_unplanned(alloc, cause, words, shelf, out)),
-    }
-}
-
-/// Runs the program where the variable gives no name.
-fn run_unplanned<S: Shelf, K: Sink>(
-    alloc: Global,
-    cause: VarError,
-    words: &[String],
-    shelf: &mut S,
-    out: &mut K,
-) -> Ended<PlainDrive>
-    ensures { EndsRun (RunsUnplanned cause (map string_bytes words.now)) (LacksName cause)
-        (faulty_outside_of S.told S.fault_count K.told K.fault_count shelf.old out.old) (faulty_outside_of S.told S.fault_count K.told K.fault_count shelf.new out.new)
-        result.machine result.status }
-{
-    match cause {
-        VarError::NotPresent => run_plain(alloc, words, shelf, out),
-        VarError::NotUnicode => Ended {
+        Err(VarError::NotPresent) => ProgramEnded::Unplanned(run_plain(alloc, words, shelf, out)),
+        Err(VarError::NotUnicode) => ProgramEnded::Unplanned(Ended {
             status: put_last_no_name(alloc, out),
             machine: None,
-        },
-        VarError::OutOfMemory => Ended {
+        }),
+        Err(VarError::OutOfMemory) => ProgramEnded::Unplanned(Ended {
             status: Status::NoMemory,
             machine: None,
-        },
+        }),
     }
 }
 

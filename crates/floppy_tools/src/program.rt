@@ -1,13 +1,12 @@
 // The top call.
 ghost use Rattle.std.specs.Prelude.{All, None, Some, map, string_bytes};
 ghost use Rattle.pc_bus.specs.Boards.{board, IsEmpty};
-ghost use Rattle.floppy_words.specs.Forms.{form_of};
 ghost use Rattle.machine_station.specs.Shown.{all_counts};
 ghost use Rattle.machine_station.specs.Started.{IsFreshBoard};
 ghost use Rattle.text_commands.specs.Benches.{no_names};
 ghost use Rattle.text_commands.specs.PortFaults.{Ran, faulty_of};
 ghost use Rattle.text_commands.specs.PortGuards.{RunsBare};
-ghost use Rattle.floppy_tools.specs.Performed.{Performed, RanOver, stand_of};
+ghost use Rattle.floppy_tools.specs.Performed.{Performed, stand_of};
 
 use crate::forms::run_asked;
 use crate::session::Session;
@@ -43,7 +42,12 @@ pub fn floppy<S: Shelf, K: Sink, D: Drive>(
 {
     match ports_file(alloc, words) {
         Ok(Some(file)) => at_ports(alloc, file.as_str(), shelf, out, machine),
-        Ok(None) => over_driver(alloc, words, shelf, out, machine, spare),
+        Ok(None) => {
+            let asked = form_named(alloc, words);
+            let mut session = Session::new(alloc, machine, spare);
+            let status = run_asked(alloc, &mut session.over, asked, shelf, out);
+            (status, session.into_machine())
+        }
         Err(NoMemory) => (Status::NoMemory, machine),
     }
 }
@@ -64,25 +68,4 @@ fn at_ports<S: Shelf, K: Sink, D: Drive>(
     let mut machine = machine;
     let status = run_ports(alloc, &mut machine, file, shelf, out);
     (status, machine)
-}
-
-/// Does the form that the words spell, with a driver that is set up on the machine.
-fn over_driver<S: Shelf, K: Sink, D: Drive>(
-    alloc: Global,
-    words: &[String],
-    shelf: &mut S,
-    out: &mut K,
-    machine: MachineOf<D>,
-    spare: Vec<D>,
-) -> (Status, MachineOf<D>)
-    requires machine { IsFreshBoard (board D.state machine) }
-    requires spare { All (λ drive. IsEmpty (D.state drive)) spare.items }
-    ensures { RanOver (form_of (map string_bytes words.now)) (all_counts D.state spare.items)
-        (stand_of D.state S.told S.fault_count K.told K.fault_count machine shelf.old out.old)
-        (stand_of D.state S.told S.fault_count K.told K.fault_count result.1 shelf.new out.new) result.0 }
-{
-    let asked = form_named(alloc, words);
-    let mut session = Session::new(alloc, machine, spare);
-    let status = run_asked(alloc, &mut session.over, asked, shelf, out);
-    (status, session.into_machine())
 }

@@ -7,7 +7,7 @@ ghost use Rattle.imagedisk.specs.Made.{sector_window};
 
 use crate::{ImdKind, ImdSector};
 use flop_base::{NoMemory, sector_size};
-use mfm_cells::encode_byte;
+use track_model::encode_byte;
 use std::alloc::Global;
 use track_fields::{field_crc, field_words};
 

@@ -45,7 +45,7 @@ pub record StaysBut (old new : ChipState) : Type 0 where
 
 stays_rests : (old new : ChipState) → IsBasis old → RestsBehind old.front → StaysBut old new → IsBasis new × RestsBehind new.front
 stays_rests old new basis rests stays = (
-  basis_same old new basis (subst (λ (front : Front). IsBase old.front.board.controller front.board.controller) (sym stays.front) (base_same old.front.board.controller basis.whole)) stays.count stays.order,
+  basis_same old new basis (subst (λ (front : Front). IsBase old.front.adapter.controller front.adapter.controller) (sym stays.front) (base_same old.front.adapter.controller basis.whole)) stays.count stays.order,
   subst RestsBehind (sym stays.front) rests,
 )
 
@@ -71,15 +71,15 @@ few_four n = omega arith
 
 -- SENSE DRIVE, whose byte is read
 sense_rests : (unit : ℕ) (start sent : Front) → Stands start → IsObeyed (command.SenseDrive unit) start sent
-    → RestsBehind (after_reading 0x3F5 sent) × IsBase start.board.controller (after_reading 0x3F5 sent).board.controller
+    → RestsBehind (after_reading 0x3F5 sent) × IsBase start.adapter.controller (after_reading 0x3F5 sent).adapter.controller
 sense_rests unit start sent stands obeyed =
-    let fdc = start.board.controller in
+    let fdc = start.adapter.controller in
     let over : Fdc = record fdc { command = []; phase = Taking } in
-    let at : after_reading 0x3F5 sent ≡ record sent { board = with_controller (given sent.board.controller) sent.board } = ap (λ stage. byte_given stage sent) obeyed.through in
-    let is : sent.board.controller ≡ answered (status_of_lines obeyed.lines unit) None (record fdc { command = [] }) = obeyed.obeys.0 stands.rests in
-    let after : given sent.board.controller ≡ over = ap given is in
-    let same : after_reading 0x3F5 sent ≡ record sent { board = with_controller over sent.board } = at ∙ ap (λ (c : Fdc). record sent { board = with_controller c sent.board }) after in
-    subst (λ (front : Front). RestsBehind front × IsBase fdc front.board.controller) (sym same) (
+    let at : after_reading 0x3F5 sent ≡ record sent { adapter = with_controller (given sent.adapter.controller) sent.adapter } = ap (λ stage. byte_given stage sent) obeyed.through in
+    let is : sent.adapter.controller ≡ answered (status_of_lines obeyed.lines unit) None (record fdc { command = [] }) = obeyed.obeys.0 stands.rests in
+    let after : given sent.adapter.controller ≡ over = ap given is in
+    let same : after_reading 0x3F5 sent ≡ record sent { adapter = with_controller over sent.adapter } = at ∙ ap (λ (c : Fdc). record sent { adapter = with_controller c sent.adapter }) after in
+    subst (λ (front : Front). RestsBehind front × IsBase fdc front.adapter.controller) (sym same) (
       record { through = obeyed.through; takes = refl; seek = (stands_rests start stands).seek },
       record { dor = refl; non_dma = refl; command = refl },
     )
@@ -94,16 +94,16 @@ asks_sound unit old new basis stands asks =
     done_sound set (record set { stage = Telling (answer.Byte (value_outside 0x3F5 asks.sent.front)) 0 }) new still rests (record { front = refl; count = refl; order = refl }) refl asks.told_is
 
 -- the heads move
-moved_sound : (old new : ChipState) → IsBasis old → KeepsRest (ready old) new → RestsBehind new.front → IsBase old.front.board.controller new.front.board.controller → IsSound new
+moved_sound : (old new : ChipState) → IsBasis old → KeepsRest (ready old) new → RestsBehind new.front → IsBase old.front.adapter.controller new.front.adapter.controller → IsSound new
 moved_sound old new basis rest rests base =
     basis_rests new Ready (basis_same old new basis base (ap (λ (chip : ChipState). chip.count) rest) (ap (λ (chip : ChipState). chip.order) rest)) rests
     (ap (λ (chip : ChipState). chip.stage) rest) refl
 
 -- a SEEK or a RECALIBRATE is given behind
-pub given_moves : (unit : ℕ) (goal : Option ℕ) (start new : Front) → Stands start → Sends (moving unit goal) start new → RestsBehind new × IsBase start.board.controller new.board.controller
+pub given_moves : (unit : ℕ) (goal : Option ℕ) (start new : Front) → Stands start → Sends (moving unit goal) start new → RestsBehind new × IsBase start.adapter.controller new.adapter.controller
 given_moves unit (Some target) start new stands sends =
     let obeyed = seek_obeyed unit target start new stands sends in
-    let is : new.board.controller ≡ seeking unit target (record start.board.controller { command = [] }) = obeyed.obeys.0 stands.rests in (
+    let is : new.adapter.controller ≡ seeking unit target (record start.adapter.controller { command = [] }) = obeyed.obeys.0 stands.rests in (
       record {
         through = obeyed.through;
         takes = ap (λ (fdc : Fdc). fdc.phase) is ∙ stands.takes;
@@ -113,7 +113,7 @@ given_moves unit (Some target) start new stands sends =
     )
 given_moves unit None start new stands sends =
     let obeyed = recalibrate_obeyed unit start new stands sends in
-    let is : new.board.controller ≡ recalibrating unit (record start.board.controller { command = [] }) = obeyed.obeys.0 stands.rests in (
+    let is : new.adapter.controller ≡ recalibrating unit (record start.adapter.controller { command = [] }) = obeyed.obeys.0 stands.rests in (
       record {
         through = obeyed.through;
         takes = ap (λ (fdc : Fdc). fdc.phase) is ∙ stands.takes;
@@ -137,9 +137,9 @@ configure_sound old new basis stands (sends, rest) =
 
 -- ---- a command that is executed behind
 
-busy_sound : (what : Task) (bytes : List ℕ) (old new : ChipState) → IsBasis old → (sent : IsSent what bytes old new) → IsBusyWith what new.front → IsBase sent.set.board.controller new.front.board.controller → IsSound new
+busy_sound : (what : Task) (bytes : List ℕ) (old new : ChipState) → IsBasis old → (sent : IsSent what bytes old new) → IsBusyWith what new.front → IsBase sent.set.adapter.controller new.front.adapter.controller → IsSound new
 busy_sound what bytes old new basis sent busy base =
-    basis_busy new what (basis_same old new basis (base_on old.front.board.controller sent.set.board.controller new.front.board.controller sent.base base) sent.count sent.order) busy sent.stage
+    basis_busy new what (basis_same old new basis (base_on old.front.adapter.controller sent.set.adapter.controller new.front.adapter.controller sent.base base) sent.count sent.order) busy sent.stage
 
 -- READ ID
 id_sound : (what : Task) (unit : ℕ) (old new : ChipState) → IsBasis old → Stands old.front → (ExecutesBehind new.front → IsBusyWith what new.front) → Begins what false (identifying unit) old new → IsSound new

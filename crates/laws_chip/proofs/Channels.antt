@@ -14,7 +14,7 @@ use Rattle.fdc_core.specs.State.{is_held, reset}
 use Rattle.fdc_core.specs.Steps.{IsCounted}
 use Rattle.fdc_core.specs.declared.controller.Fdc.{Fdc}
 use Rattle.fdc_core.specs.declared.controller.Lines.{Lines}
-use Rattle.fdc_board.specs.Boards.{Gives, Takes, lines_at}
+use Rattle.fdc_adapter.specs.Adapters.{Gives, Takes, lines_at}
 use Rattle.fdc_sequencer.specs.Fronts.{Front, GivesAt, GivesFront, KeepsFront, TakesAt, TakesFront, WritesFront, count_told, passed_one, told_front, told_if}
 use Rattle.fdc_sequencer.specs.declared.stage.Moving.{Moving as MovingSector}
 use Rattle.fdc_sequencer.specs.declared.stage.Stage.{Stage}
@@ -70,13 +70,13 @@ alike_as old set new alike is = subst (IsAlike old) (sym is) alike
 alike_base : (old new : Fdc) → old.command ≡ [] → IsAlike old new → IsBase old new
 alike_base old new none alike = record { dor = alike.dor; non_dma = alike.non_dma; command = alike.command ∙ none }
 
-board_takes : (old : Fdc) (byte : Option ℕ) (new : Fdc) → Takes old byte new → IsAlike old new
-board_takes old (Some byte) new (up, byte_is, is) = alike_as old (taken_out old) new (record { phase = refl; seeks = refl; dor = refl; non_dma = refl; command = refl }) is
-board_takes old None new (quiet, is) = alike_as old old new (alike_same old) is
+adapter_takes : (old : Fdc) (byte : Option ℕ) (new : Fdc) → Takes old byte new → IsAlike old new
+adapter_takes old (Some byte) new (up, byte_is, is) = alike_as old (taken_out old) new (record { phase = refl; seeks = refl; dor = refl; non_dma = refl; command = refl }) is
+adapter_takes old None new (quiet, is) = alike_as old old new (alike_same old) is
 
-board_gives : (byte : ℕ) (old : Fdc) (was : Bool) (new : Fdc) → Gives byte old was new → IsAlike old new
-board_gives byte old true new (up, is) = alike_as old (taken_in byte old) new (record { phase = refl; seeks = refl; dor = refl; non_dma = refl; command = refl }) is
-board_gives byte old false new (quiet, is) = alike_as old old new (alike_same old) is
+adapter_gives : (byte : ℕ) (old : Fdc) (was : Bool) (new : Fdc) → Gives byte old was new → IsAlike old new
+adapter_gives byte old true new (up, is) = alike_as old (taken_in byte old) new (record { phase = refl; seeks = refl; dor = refl; non_dma = refl; command = refl }) is
+adapter_gives byte old false new (quiet, is) = alike_as old old new (alike_same old) is
 
 told_base : (old : Fdc) → old.command ≡ [] → IsBase old (told_count old)
 told_base old none = record { dor = refl; non_dma = refl; command = none }
@@ -84,7 +84,7 @@ told_base old none = record { dor = refl; non_dma = refl; command = none }
 -- ---- where each access is the controller's
 
 -- a command of its own goes on
-executes_alike : (old new : Front) → new.stage ≡ old.stage → IsAlike old.board.controller new.board.controller → ExecutesBehind old → ExecutesBehind new
+executes_alike : (old new : Front) → new.stage ≡ old.stage → IsAlike old.adapter.controller new.adapter.controller → ExecutesBehind old → ExecutesBehind new
 executes_alike old new stage alike was =
     record {
       through = stage ∙ was.through;
@@ -94,7 +94,7 @@ executes_alike old new stage alike was =
     }
 
 -- and its results wait on
-waits_alike : (old new : Front) → new.stage ≡ old.stage → IsAlike old.board.controller new.board.controller → WaitsBehind old → WaitsBehind new
+waits_alike : (old new : Front) → new.stage ≡ old.stage → IsAlike old.adapter.controller new.adapter.controller → WaitsBehind old → WaitsBehind new
 waits_alike old new stage alike was =
     record { through = stage ∙ was.through; ending = was.ending; results = was.results; at = alike.phase ∙ was.at; rests = ap seek_bits alike.seeks ∙ was.rests }
 
@@ -114,96 +114,96 @@ told_counted Taking counted = tt
 told_counted (Result ended) counted = tt
 told_counted (Execute execution) counted = counted
 
-executes_told : (old : Front) → ExecutesBehind old → ExecutesBehind (record old { board = told_if true old.board })
+executes_told : (old : Front) → ExecutesBehind old → ExecutesBehind (record old { adapter = told_if true old.adapter })
 executes_told old was = record {
   through = was.through;
-  executes = phase_single old.board.controller.phase was.executes;
-  counted = told_counted old.board.controller.phase was.counted;
+  executes = phase_single old.adapter.controller.phase was.executes;
+  counted = told_counted old.adapter.controller.phase was.counted;
   rests = was.rests;
 }
 
-waits_told : (old : Front) → WaitsBehind old → WaitsBehind (record old { board = told_if true old.board })
+waits_told : (old : Front) → WaitsBehind old → WaitsBehind (record old { adapter = told_if true old.adapter })
 waits_told old was = record { through = was.through; ending = was.ending; results = was.results; at = ap phase_told was.at; rests = was.rests }
 
 -- ---- bytes
 
-pub front_takes : (old : Front) (byte : Option ℕ) (new : Front) → old.stage ≡ Through → TakesFront old byte new → (new.stage ≡ old.stage) × IsAlike old.board.controller new.board.controller
+pub front_takes : (old : Front) (byte : Option ℕ) (new : Front) → old.stage ≡ Through → TakesFront old byte new → (new.stage ≡ old.stage) × IsAlike old.adapter.controller new.adapter.controller
 front_takes old byte new through takes =
-    let (board, is) = subst (λ stage. TakesAt stage old byte new) through takes in
-    (ap (λ front. front.stage) is, board_takes old.board.controller byte new.board.controller board)
+    let (adapter, is) = subst (λ stage. TakesAt stage old byte new) through takes in
+    (ap (λ front. front.stage) is, adapter_takes old.adapter.controller byte new.adapter.controller adapter)
 
-pub front_gives : (byte : ℕ) (old : Front) (was : Bool) (new : Front) → old.stage ≡ Through → GivesFront byte old was new → (new.stage ≡ old.stage) × IsAlike old.board.controller new.board.controller
+pub front_gives : (byte : ℕ) (old : Front) (was : Bool) (new : Front) → old.stage ≡ Through → GivesFront byte old was new → (new.stage ≡ old.stage) × IsAlike old.adapter.controller new.adapter.controller
 front_gives byte old was new through gives =
-    let (board, is) = subst (λ stage. GivesAt stage byte old was new) through gives in
-    (ap (λ front. front.stage) is, board_gives byte old.board.controller was new.board.controller board)
+    let (adapter, is) = subst (λ stage. GivesAt stage byte old was new) through gives in
+    (ap (λ front. front.stage) is, adapter_gives byte old.adapter.controller was new.adapter.controller adapter)
 
-passed_base : (moving : MovingSector) (fdc : Fdc) (old : Front) → IsBase old.board.controller fdc → IsBase old.board.controller (passed_one moving fdc old).board.controller
+passed_base : (moving : MovingSector) (fdc : Fdc) (old : Front) → IsBase old.adapter.controller fdc → IsBase old.adapter.controller (passed_one moving fdc old).adapter.controller
 passed_base moving fdc old base = by_last (moving.left - 1 == 0)
   where
-    by_last : (b : Bool) → IsBase old.board.controller (if b then told_count fdc else fdc)
+    by_last : (b : Bool) → IsBase old.adapter.controller (if b then told_count fdc else fdc)
     by_last true = record { dor = base.dor; non_dma = base.non_dma; command = base.command }
     by_last false = base
 
-same_base : (old new : Front) → new ≡ old → old.board.controller.command ≡ [] → IsBase old.board.controller new.board.controller
-same_base old new is none = subst (λ (front : Front). IsBase old.board.controller front.board.controller) (sym is) (record { dor = refl; non_dma = refl; command = none })
+same_base : (old new : Front) → new ≡ old → old.adapter.controller.command ≡ [] → IsBase old.adapter.controller new.adapter.controller
+same_base old new is none = subst (λ (front : Front). IsBase old.adapter.controller front.adapter.controller) (sym is) (record { dor = refl; non_dma = refl; command = none })
 
-takes_base : (stage : Stage) (byte : Option ℕ) (old new : Front) → old.board.controller.command ≡ [] → TakesAt stage old byte new → IsBase old.board.controller new.board.controller
-takes_base Through byte old new none (board, is) = alike_base old.board.controller new.board.controller none (board_takes old.board.controller byte new.board.controller board)
+takes_base : (stage : Stage) (byte : Option ℕ) (old new : Front) → old.adapter.controller.command ≡ [] → TakesAt stage old byte new → IsBase old.adapter.controller new.adapter.controller
+takes_base Through byte old new none (adapter, is) = alike_base old.adapter.controller new.adapter.controller none (adapter_takes old.adapter.controller byte new.adapter.controller adapter)
 takes_base (Collecting opcode) byte old new none (nothing, is) = same_base old new is none
 takes_base (Seeking transfer counted) byte old new none (nothing, is) = same_base old new is none
 takes_base (Telling results read) byte old new none (nothing, is) = same_base old new is none
 takes_base (Moving moving) None old new none (quiet, is) = same_base old new is none
 takes_base (Moving moving) (Some byte) old new none (up, byte_is, is) =
-    subst (λ (front : Front). IsBase old.board.controller front.board.controller) (sym is)
-    (passed_base moving (taken_out old.board.controller) old (record { dor = refl; non_dma = refl; command = none }))
+    subst (λ (front : Front). IsBase old.adapter.controller front.adapter.controller) (sym is)
+    (passed_base moving (taken_out old.adapter.controller) old (record { dor = refl; non_dma = refl; command = none }))
 
-gives_base : (stage : Stage) (byte : ℕ) (was : Bool) (old new : Front) → old.board.controller.command ≡ [] → GivesAt stage byte old was new → IsBase old.board.controller new.board.controller
-gives_base Through byte was old new none (board, is) = alike_base old.board.controller new.board.controller none (board_gives byte old.board.controller was new.board.controller board)
+gives_base : (stage : Stage) (byte : ℕ) (was : Bool) (old new : Front) → old.adapter.controller.command ≡ [] → GivesAt stage byte old was new → IsBase old.adapter.controller new.adapter.controller
+gives_base Through byte was old new none (adapter, is) = alike_base old.adapter.controller new.adapter.controller none (adapter_gives byte old.adapter.controller was new.adapter.controller adapter)
 gives_base (Collecting opcode) byte was old new none (nothing, is) = same_base old new is none
 gives_base (Seeking transfer counted) byte was old new none (nothing, is) = same_base old new is none
 gives_base (Telling results read) byte was old new none (nothing, is) = same_base old new is none
 gives_base (Moving moving) byte false old new none (quiet, is) = same_base old new is none
 gives_base (Moving moving) byte true old new none (up, is) =
-    subst (λ (front : Front). IsBase old.board.controller front.board.controller) (sym is)
-    (passed_base moving (taken_in byte old.board.controller) old (record { dor = refl; non_dma = refl; command = none }))
+    subst (λ (front : Front). IsBase old.adapter.controller front.adapter.controller) (sym is)
+    (passed_base moving (taken_in byte old.adapter.controller) old (record { dor = refl; non_dma = refl; command = none }))
 
-counts_base : (stage : Stage) (old new : Front) → old.board.controller.command ≡ [] → new ≡ count_told stage old → IsBase old.board.controller new.board.controller
-counts_base Through old new none is = subst (λ (front : Front). IsBase old.board.controller front.board.controller) (sym is) (told_base old.board.controller none)
+counts_base : (stage : Stage) (old new : Front) → old.adapter.controller.command ≡ [] → new ≡ count_told stage old → IsBase old.adapter.controller new.adapter.controller
+counts_base Through old new none is = subst (λ (front : Front). IsBase old.adapter.controller front.adapter.controller) (sym is) (told_base old.adapter.controller none)
 counts_base (Collecting opcode) old new none is = same_base old new is none
 counts_base (Seeking transfer counted) old new none is =
-    subst (λ (front : Front). IsBase old.board.controller front.board.controller) (sym is) (record { dor = refl; non_dma = refl; command = none })
-counts_base (Moving moving) old new none is = subst (λ (front : Front). IsBase old.board.controller front.board.controller) (sym is) (told_base old.board.controller none)
+    subst (λ (front : Front). IsBase old.adapter.controller front.adapter.controller) (sym is) (record { dor = refl; non_dma = refl; command = none })
+counts_base (Moving moving) old new none is = subst (λ (front : Front). IsBase old.adapter.controller front.adapter.controller) (sym is) (told_base old.adapter.controller none)
 counts_base (Telling results read) old new none is = same_base old new is none
 
 -- while the heads seek first, the controller goes on waiting
-waits_same : (old new : Front) → new ≡ old → WaitsForHeads old.stage old.board.controller.phase → WaitsForHeads new.stage new.board.controller.phase
-waits_same old new is waits = subst (λ (front : Front). WaitsForHeads front.stage front.board.controller.phase) (sym is) waits
+waits_same : (old new : Front) → new ≡ old → WaitsForHeads old.stage old.adapter.controller.phase → WaitsForHeads new.stage new.adapter.controller.phase
+waits_same old new is waits = subst (λ (front : Front). WaitsForHeads front.stage front.adapter.controller.phase) (sym is) waits
 
-moving_waits : (moving : MovingSector) (new : Front) → new.stage ≡ Moving moving → WaitsForHeads new.stage new.board.controller.phase
-moving_waits moving new is = subst (λ stage. WaitsForHeads stage new.board.controller.phase) (sym is) tt
+moving_waits : (moving : MovingSector) (new : Front) → new.stage ≡ Moving moving → WaitsForHeads new.stage new.adapter.controller.phase
+moving_waits moving new is = subst (λ stage. WaitsForHeads stage new.adapter.controller.phase) (sym is) tt
 
-takes_waits : (stage : Stage) (byte : Option ℕ) (old new : Front) → old.stage ≡ stage → WaitsForHeads old.stage old.board.controller.phase → TakesAt stage old byte new → WaitsForHeads new.stage new.board.controller.phase
-takes_waits Through byte old new at waits (board, is) = subst (λ stage. WaitsForHeads stage new.board.controller.phase) (sym (ap (λ (front : Front). front.stage) is ∙ at)) tt
+takes_waits : (stage : Stage) (byte : Option ℕ) (old new : Front) → old.stage ≡ stage → WaitsForHeads old.stage old.adapter.controller.phase → TakesAt stage old byte new → WaitsForHeads new.stage new.adapter.controller.phase
+takes_waits Through byte old new at waits (adapter, is) = subst (λ stage. WaitsForHeads stage new.adapter.controller.phase) (sym (ap (λ (front : Front). front.stage) is ∙ at)) tt
 takes_waits (Collecting opcode) byte old new at waits (nothing, is) = waits_same old new is waits
 takes_waits (Seeking transfer counted) byte old new at waits (nothing, is) = waits_same old new is waits
 takes_waits (Telling results read) byte old new at waits (nothing, is) = waits_same old new is waits
 takes_waits (Moving moving) None old new at waits (quiet, is) = waits_same old new is waits
 takes_waits (Moving moving) (Some byte) old new at waits (up, byte_is, is) = moving_waits (record moving { left = moving.left - 1 }) new (ap (λ (front : Front). front.stage) is)
 
-gives_waits : (stage : Stage) (byte : ℕ) (was : Bool) (old new : Front) → old.stage ≡ stage → WaitsForHeads old.stage old.board.controller.phase → GivesAt stage byte old was new → WaitsForHeads new.stage new.board.controller.phase
-gives_waits Through byte was old new at waits (board, is) = subst (λ stage. WaitsForHeads stage new.board.controller.phase) (sym (ap (λ (front : Front). front.stage) is ∙ at)) tt
+gives_waits : (stage : Stage) (byte : ℕ) (was : Bool) (old new : Front) → old.stage ≡ stage → WaitsForHeads old.stage old.adapter.controller.phase → GivesAt stage byte old was new → WaitsForHeads new.stage new.adapter.controller.phase
+gives_waits Through byte was old new at waits (adapter, is) = subst (λ stage. WaitsForHeads stage new.adapter.controller.phase) (sym (ap (λ (front : Front). front.stage) is ∙ at)) tt
 gives_waits (Collecting opcode) byte was old new at waits (nothing, is) = waits_same old new is waits
 gives_waits (Seeking transfer counted) byte was old new at waits (nothing, is) = waits_same old new is waits
 gives_waits (Telling results read) byte was old new at waits (nothing, is) = waits_same old new is waits
 gives_waits (Moving moving) byte false old new at waits (quiet, is) = waits_same old new is waits
 gives_waits (Moving moving) byte true old new at waits (up, is) = moving_waits (record moving { left = moving.left - 1 }) new (ap (λ (front : Front). front.stage) is)
 
-counts_waits : (stage : Stage) (old new : Front) → old.stage ≡ stage → WaitsForHeads old.stage old.board.controller.phase → new ≡ count_told stage old → WaitsForHeads new.stage new.board.controller.phase
-counts_waits Through old new at waits is = subst (λ stage. WaitsForHeads stage new.board.controller.phase) (sym (ap (λ (front : Front). front.stage) is ∙ at)) tt
+counts_waits : (stage : Stage) (old new : Front) → old.stage ≡ stage → WaitsForHeads old.stage old.adapter.controller.phase → new ≡ count_told stage old → WaitsForHeads new.stage new.adapter.controller.phase
+counts_waits Through old new at waits is = subst (λ stage. WaitsForHeads stage new.adapter.controller.phase) (sym (ap (λ (front : Front). front.stage) is ∙ at)) tt
 counts_waits (Collecting opcode) old new at waits is = waits_same old new is waits
 counts_waits (Seeking transfer counted) old new at waits is =
-    let held : old.board.controller.phase ≡ Taking = subst (λ stage. WaitsForHeads stage old.board.controller.phase) at waits in
-    subst (λ (front : Front). WaitsForHeads front.stage front.board.controller.phase) (sym is) held
+    let held : old.adapter.controller.phase ≡ Taking = subst (λ stage. WaitsForHeads stage old.adapter.controller.phase) at waits in
+    subst (λ (front : Front). WaitsForHeads front.stage front.adapter.controller.phase) (sym is) held
 counts_waits (Moving moving) old new at waits is = moving_waits (record moving { counted = true }) new (ap (λ (front : Front). front.stage) is)
 counts_waits (Telling results read) old new at waits is = waits_same old new is waits
 
@@ -250,19 +250,19 @@ counts_serves old new is was = record {
 
 pub counts_executes : (old new : Front) → new ≡ told_front old → ExecutesBehind old → ExecutesBehind new
 counts_executes old new is was =
-    let at : new ≡ record old { board = told_if true old.board } = subst (λ stage. new ≡ count_told stage old) was.through is in
+    let at : new ≡ record old { adapter = told_if true old.adapter } = subst (λ stage. new ≡ count_told stage old) was.through is in
     subst ExecutesBehind (sym at) (executes_told old was)
 
 pub counts_busy : (what : ChipTask) (old new : Front) → new ≡ told_front old → IsBusyWith what old → IsBusyWith what new
 counts_busy what old new is busy = keep_with what old new (counts_serves old new is) (counts_executes old new is) busy
 
-pub takes_front_base : (old : Front) (byte : Option ℕ) (new : Front) → old.board.controller.command ≡ [] → TakesFront old byte new → IsBase old.board.controller new.board.controller
+pub takes_front_base : (old : Front) (byte : Option ℕ) (new : Front) → old.adapter.controller.command ≡ [] → TakesFront old byte new → IsBase old.adapter.controller new.adapter.controller
 takes_front_base old byte new none takes = takes_base old.stage byte old new none takes
 
-pub gives_front_base : (byte : ℕ) (old : Front) (was : Bool) (new : Front) → old.board.controller.command ≡ [] → GivesFront byte old was new → IsBase old.board.controller new.board.controller
+pub gives_front_base : (byte : ℕ) (old : Front) (was : Bool) (new : Front) → old.adapter.controller.command ≡ [] → GivesFront byte old was new → IsBase old.adapter.controller new.adapter.controller
 gives_front_base byte old was new none gives = gives_base old.stage byte was old new none gives
 
-pub counts_front_base : (old new : Front) → old.board.controller.command ≡ [] → new ≡ told_front old → IsBase old.board.controller new.board.controller
+pub counts_front_base : (old new : Front) → old.adapter.controller.command ≡ [] → new ≡ told_front old → IsBase old.adapter.controller new.adapter.controller
 counts_front_base old new none is = counts_base old.stage old new none is
 
 -- ---- and results are as they were
@@ -277,7 +277,7 @@ takes_over old byte new takes (inr was) = let (stage, alike) = front_takes old b
 pub counts_over : (old new : Front) → new ≡ told_front old → IsOverBehind old → IsOverBehind new
 counts_over old new is (inl was) = inl (tells_same old new (subst (λ stage. new ≡ count_told stage old) was.told is) was)
 counts_over old new is (inr was) =
-    let at : new ≡ record old { board = told_if true old.board } = subst (λ stage. new ≡ count_told stage old) was.through is in
+    let at : new ≡ record old { adapter = told_if true old.adapter } = subst (λ stage. new ≡ count_told stage old) was.through is in
     inr (subst WaitsBehind (sym at) (waits_told old was))
 
 -- ---- ports
@@ -318,9 +318,9 @@ port_left port value lines old new writes no_byte no_reset = either_way (port ==
     (λ control. left_as old _ new (record { phase = refl; seeks = refl; non_dma = refl; command = refl; free = λ held. held }) (writes.control (eqb-true port 0x3F7 control)))
     (λ no_control. left_as old _ new (record { phase = refl; seeks = refl; non_dma = refl; command = refl; free = λ held. held }) (writes.others no_output no_select no_byte no_control))))
 
-pub front_left : (port value : ℕ) (old new : Front) → WritesFront port value old new → (port == 0x3F5) ≡ false → resets port value ≡ false → IsLeft old.board.controller new.board.controller
+pub front_left : (port value : ℕ) (old new : Front) → WritesFront port value old new → (port == 0x3F5) ≡ false → resets port value ≡ false → IsLeft old.adapter.controller new.adapter.controller
 front_left port value old new writes no_byte no_reset =
-    port_left port value (lines_at old.board) old.board.controller new.board.controller (writes.others no_byte).0.writes no_byte no_reset
+    port_left port value (lines_at old.adapter) old.adapter.controller new.adapter.controller (writes.others no_byte).0.writes no_byte no_reset
 
 port_serves : (port value : ℕ) (old new : Front) → WritesFront port value old new → (port == 0x3F5) ≡ false → resets port value ≡ false → ServesBehind old → ServesBehind new
 port_serves port value old new writes no_byte no_reset was =
@@ -331,7 +331,7 @@ port_serves port value old new writes no_byte no_reset was =
       first = was.first;
       history = was.history;
       serves = (keeps was.first was.history was.serves).2;
-      waits = subst (λ stage. WaitsForHeads stage new.board.controller.phase) (sym (port_stage port value old new writes no_byte no_reset))
+      waits = subst (λ stage. WaitsForHeads stage new.adapter.controller.phase) (sym (port_stage port value old new writes no_byte no_reset))
           (subst (λ phase. WaitsForHeads old.stage phase) (sym left.phase) was.waits);
     }
 
@@ -357,7 +357,7 @@ keeps_serves old new keeps was = record {
   first = was.first;
   history = was.history;
   serves = (media_serve old new keeps was.first was.history was.serves).2;
-  waits = subst (λ stage. WaitsForHeads stage new.board.controller.phase) (sym keeps.stage)
+  waits = subst (λ stage. WaitsForHeads stage new.adapter.controller.phase) (sym keeps.stage)
       (subst (λ (fdc : Fdc). WaitsForHeads old.stage fdc.phase) (sym keeps.controller) was.waits);
 }
 

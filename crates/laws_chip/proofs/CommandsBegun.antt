@@ -35,14 +35,14 @@ use Rattle.laws_chip.proofs.Standing.{Stands, stands_free}
 
 -- ---- what stands behind goes on standing
 
-pub same_base : (front : Front) → Stands front → IsBase front.board.controller front.board.controller
+pub same_base : (front : Front) → Stands front → IsBase front.adapter.controller front.adapter.controller
 same_base front stands = record { dor = refl; non_dma = refl; command = stands.none }
 
 -- behind a CONFIGURE
 pub configured_stands : (options precompensation : ℕ) (start new : Front) → Stands start → IsObeyed (Configure 0 options precompensation) start new
-    → Stands new × IsBase start.board.controller new.board.controller
+    → Stands new × IsBase start.adapter.controller new.adapter.controller
 configured_stands options precompensation start new stands obeyed =
-    let is : new.board.controller ≡ configured options (record start.board.controller { command = [] }) = obeyed.obeys.0 stands.rests in (
+    let is : new.adapter.controller ≡ configured options (record start.adapter.controller { command = [] }) = obeyed.obeys.0 stands.rests in (
       record {
         through = obeyed.through;
         takes = ap (λ (fdc : Fdc). fdc.phase) is ∙ stands.takes;
@@ -65,7 +65,7 @@ strapped_stands on front stands =
 pub record IsSent (task : Task) (bytes : List ℕ) (old new : ChipState) : Type 0 where
   pub set : Front
   pub stands : Stands set
-  pub base : IsBase old.front.board.controller set.board.controller
+  pub base : IsBase old.front.adapter.controller set.adapter.controller
   pub sends : Sends bytes set new.front
   pub stage : new.stage ≡ Busy task
   pub count : new.count ≡ old.count
@@ -74,7 +74,7 @@ pub record IsSent (task : Task) (bytes : List ℕ) (old new : ChipState) : Type 
 -- what LOCK kept was told, or nothing was to be
 record IsSet (old new : ChipState) : Type 0 where
   stands : Stands new.front
-  base : IsBase old.front.board.controller new.front.board.controller
+  base : IsBase old.front.adapter.controller new.front.adapter.controller
   stage : new.stage ≡ old.stage
   count : new.count ≡ old.count
   order : new.order ≡ old.order

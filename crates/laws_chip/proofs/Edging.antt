@@ -7,7 +7,7 @@ use Rattle.fdc_commands.specs.declared.results.Results.{Results}
 use Rattle.fdc_core.specs.Dma.{to_memory_of}
 use Rattle.fdc_core.specs.State.{asks}
 use Rattle.fdc_core.specs.declared.controller.Fdc.{Fdc}
-use Rattle.fdc_board.specs.Boards.{Takes}
+use Rattle.fdc_adapter.specs.Adapters.{Takes}
 use Rattle.fdc_sequencer.specs.Fronts.{Front, TakesAt, asks_at, asks_outside, interrupts_outside, told_front, with_controller}
 use Rattle.fdc_sequencer.specs.declared.stage.Stage.{Stage as FrontStage}
 use Rattle.fdc_sequencer.specs.declared.stage.Stage.TheVariants as behind
@@ -141,15 +141,15 @@ unmoved : (old new : ChipState) → new ≡ old → interrupts_chip old ≡ fals
 unmoved old new is down up = clash (interrupts_chip old) down (sym (int_same old new is) ∙ up)
 
 -- no byte is there, where none is asked for
-board_none : (byte : Option ℕ) (old new : Fdc) → asks old ≡ false → Takes old byte new → new ≡ old
-board_none (Some byte) old new quiet (up, byte_is, is) = clash (asks old) quiet (and_parts (asks old) (to_memory_of old) up).0
-board_none None old new quiet (none, is) = is
+adapter_none : (byte : Option ℕ) (old new : Fdc) → asks old ≡ false → Takes old byte new → new ≡ old
+adapter_none (Some byte) old new quiet (up, byte_is, is) = clash (asks old) quiet (and_parts (asks old) (to_memory_of old) up).0
+adapter_none None old new quiet (none, is) = is
 
-takes_none : (stage : FrontStage) (byte : Option ℕ) (old new : Front) → asks_at stage old.board.controller ≡ false → TakesAt stage old byte new → new ≡ old
+takes_none : (stage : FrontStage) (byte : Option ℕ) (old new : Front) → asks_at stage old.adapter.controller ≡ false → TakesAt stage old byte new → new ≡ old
 takes_none behind.Through byte old new quiet (takes, is) =
-    is ∙ ap (λ (fdc : Fdc). record old { board = with_controller fdc old.board }) (board_none byte old.board.controller new.board.controller quiet takes)
+    is ∙ ap (λ (fdc : Fdc). record old { adapter = with_controller fdc old.adapter }) (adapter_none byte old.adapter.controller new.adapter.controller quiet takes)
 takes_none (behind.Moving moving) (Some byte) old new quiet (up, byte_is, is) =
-    let fdc = old.board.controller in
+    let fdc = old.adapter.controller in
     let (left, both) = and_parts (nat_lt 0 moving.left) (asks fdc && to_memory_of fdc) up in
     clash (nat_lt 0 moving.left && asks fdc) quiet (and_from (nat_lt 0 moving.left) (asks fdc) left (and_parts (asks fdc) (to_memory_of fdc) both).0)
 takes_none (behind.Moving moving) None old new quiet (none, is) = is

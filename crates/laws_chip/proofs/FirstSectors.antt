@@ -16,7 +16,7 @@ use Rattle.fdc_core.specs.State.{is_held}
 use Rattle.fdc_core.specs.Whole.{TakesWhole, is_idle}
 use Rattle.fdc_core.specs.declared.controller.Fdc.{Fdc}
 use Rattle.fdc_core.specs.declared.controller.Lines.{Lines}
-use Rattle.fdc_board.specs.Boards.{BoardState, lines_at}
+use Rattle.fdc_adapter.specs.Adapters.{AdapterState, lines_at}
 use Rattle.fdc_sequencer.specs.Fronts.{BeginsSector, Front, SeeksFirst, StartsIf, begun_if, moving_of, told_if}
 use Rattle.fdc_sequencer.specs.Transfers.{command_for}
 use Rattle.fdc_sequencer.specs.declared.opcode.Operation.{Operation}
@@ -43,7 +43,7 @@ base_held old new base = ap (λ (dor : Dor). is_held (record old { dor = dor }))
 base_as : (old set new : Fdc) → IsBase old set → new ≡ set → IsBase old new
 base_as old set new base is = subst (IsBase old) (sym is) base
 
-base_told : (counted : Bool) (old : Fdc) (between : BoardState) → IsBase old between.controller → IsBase old (told_if counted between).controller
+base_told : (counted : Bool) (old : Fdc) (between : AdapterState) → IsBase old between.controller → IsBase old (told_if counted between).controller
 base_told true old between base = record { dor = base.dor; non_dma = base.non_dma; command = base.command }
 base_told false old between base = base
 
@@ -83,45 +83,45 @@ module _ (head_drive : ℕ) (key : Chrn) (last_sector gap length_code : ℕ) (li
 
 pub record IsCarried (old new : Front) : Type 0 where
   pub under_way : is_under_way new.stage ≡ true
-  pub waits : WaitsForHeads new.stage new.board.controller.phase
-  pub base : IsBase old.board.controller new.board.controller
+  pub waits : WaitsForHeads new.stage new.adapter.controller.phase
+  pub base : IsBase old.adapter.controller new.adapter.controller
 
-carried_at : (stage : Stage) (old new : Front) → new.stage ≡ stage → is_under_way stage ≡ true → WaitsForHeads stage new.board.controller.phase → IsBase old.board.controller new.board.controller
+carried_at : (stage : Stage) (old new : Front) → new.stage ≡ stage → is_under_way stage ≡ true → WaitsForHeads stage new.adapter.controller.phase → IsBase old.adapter.controller new.adapter.controller
     → IsCarried old new
 carried_at stage old new is under waits base = record {
   under_way = ap is_under_way is ∙ under;
-  waits = subst (λ s. WaitsForHeads s new.board.controller.phase) (sym is) waits;
+  waits = subst (λ s. WaitsForHeads s new.adapter.controller.phase) (sym is) waits;
   base = base;
 }
 
-pub sector_carried : (at : Transfer) (counted passed_over : Bool) (old new : Front) → IsSizeCode at.key.n → IsFree old.board.controller → BeginsSector at counted passed_over old new → IsCarried old new
+pub sector_carried : (at : Transfer) (counted passed_over : Bool) (old new : Front) → IsSizeCode at.key.n → IsFree old.adapter.controller → BeginsSector at counted passed_over old new → IsCarried old new
 sector_carried at counted passed_over old new sized free begins =
-    let fdc = old.board.controller in
-    let lines = lines_at old.board in
+    let fdc = old.adapter.controller in
+    let lines = lines_at old.adapter in
     let between = begins.between in
     let busy = free_executes at lines fdc between.controller sized free begins.takes.takes in
-    let is : new ≡ record old { board = told_if counted between; stage = Moving (moving_of at counted passed_over) } =
+    let is : new ≡ record old { adapter = told_if counted between; stage = Moving (moving_of at counted passed_over) } =
     subst (λ b. new ≡ begun_if b at counted passed_over between old) busy begins.begun in
     let base = base_by at.head_drive at.key at.last_sector at.gap at.length lines fdc between.controller sized free at.opcode.operation begins.takes.takes in
     carried_at (Moving (moving_of at counted passed_over)) old new (ap (λ front. front.stage) is) refl tt
-    (subst (λ (front : Front). IsBase fdc front.board.controller) (sym is) (base_told counted fdc between base))
+    (subst (λ (front : Front). IsBase fdc front.adapter.controller) (sym is) (base_told counted fdc between base))
 
 -- ---- or the heads go to its cylinder
 
-seeks_carried : (first : Transfer) (old new : Front) → old.board.controller.phase ≡ Taking → is_idle old.board.controller ≡ true → seek_bits old.board.controller.seeks ≡ 0 → SeeksFirst first old new → IsCarried old new
+seeks_carried : (first : Transfer) (old new : Front) → old.adapter.controller.phase ≡ Taking → is_idle old.adapter.controller ≡ true → seek_bits old.adapter.controller.seeks ≡ 0 → SeeksFirst first old new → IsCarried old new
 seeks_carried first old new takes idle rests seeks =
-    let fdc = old.board.controller in
+    let fdc = old.adapter.controller in
     let between = seeks.between in
     let is : between.controller ≡ seeking first.head_drive first.key.c (record fdc { command = [] }) = seeks.takes.takes.0 rests in
     let (taking, none) = and_parts (is_taking fdc) (not (is_begun fdc.command)) idle in
     let again : is_idle between.controller ≡ true = ap is_idle is ∙ and_from (is_taking fdc) true taking refl in
-    let same : new ≡ record old { board = between; stage = Seeking first false } =
-    seeks.begun ∙ ap (λ b. record old { board = between; stage = if b then Seeking first false else Through }) again in
+    let same : new ≡ record old { adapter = between; stage = Seeking first false } =
+    seeks.begun ∙ ap (λ b. record old { adapter = between; stage = if b then Seeking first false else Through }) again in
     carried_at (Seeking first false) old new (ap (λ front. front.stage) same) refl
-    (ap (λ (front : Front). front.board.controller.phase) same ∙ (ap (λ (fdc : Fdc). fdc.phase) is ∙ takes))
-    (subst (λ (front : Front). IsBase fdc front.board.controller) (sym same) (base_as fdc _ between.controller (record { dor = refl; non_dma = refl; command = refl }) is))
+    (ap (λ (front : Front). front.adapter.controller.phase) same ∙ (ap (λ (fdc : Fdc). fdc.phase) is ∙ takes))
+    (subst (λ (front : Front). IsBase fdc front.adapter.controller) (sym same) (base_as fdc _ between.controller (record { dor = refl; non_dma = refl; command = refl }) is))
 
-pub starts_carried : (b : Bool) (first : Transfer) (old new : Front) → IsSizeCode first.key.n → old.board.controller.phase ≡ Taking → is_idle old.board.controller ≡ true → IsFree old.board.controller
+pub starts_carried : (b : Bool) (first : Transfer) (old new : Front) → IsSizeCode first.key.n → old.adapter.controller.phase ≡ Taking → is_idle old.adapter.controller ≡ true → IsFree old.adapter.controller
     → StartsIf b first old new → IsCarried old new
 starts_carried true first old new sized takes idle free seeks = seeks_carried first old new takes idle free.rests seeks
 starts_carried false first old new sized takes idle free begins = sector_carried first false false old new sized free begins

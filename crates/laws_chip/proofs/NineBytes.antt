@@ -65,7 +65,7 @@ collected opcode bytes start = record start { stage = Collecting opcode; bytes =
 
 code_collected : (opcode : Opcode) (byte : ℕ) (start new : Front) → Stands start → opcode_of byte ≡ Some opcode → WritesFront 0x3F5 byte start new → new ≡ collected opcode (plain_code opcode.operation ∷ []) start
 code_collected opcode byte start new stands is writes =
-    let begins : begins_with byte start.board.controller ≡ Some opcode = ap (λ b. if b then opcode_of byte else None) (stands_idle start stands) ∙ is in
+    let begins : begins_with byte start.adapter.controller ≡ Some opcode = ap (λ b. if b then opcode_of byte else None) (stands_idle start stands) ∙ is in
     subst (λ found. PassesAs found byte start new) begins (subst (λ stage. TakesByte stage byte start new) stands.through (writes.bytes refl))
 
 more_collected : (opcode : Opcode) (bytes : List ℕ) (byte : ℕ) (start old new : Front) → old ≡ collected opcode bytes start → answer (bytes ++ byte ∷ []) ≡ More → WritesFront 0x3F5 byte old new

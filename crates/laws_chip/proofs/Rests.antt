@@ -11,8 +11,8 @@ use Rattle.fdc_core.specs.State.{is_held}
 use Rattle.fdc_core.specs.Steps.{Rests, RestsIn, Stays, polled, seek_stepped}
 use Rattle.fdc_core.specs.Whole.{is_idle}
 use Rattle.fdc_core.specs.declared.controller.Fdc.{Fdc}
-use Rattle.fdc_board.specs.Boards.{BoardState, StepsBoard, selected_at}
-use Rattle.fdc_board.specs.Senses.{after_result, without_result}
+use Rattle.fdc_adapter.specs.Adapters.{AdapterState, StepsAdapter, selected_at}
+use Rattle.fdc_adapter.specs.Senses.{after_result, without_result}
 use Rattle.fdc_sequencer.specs.Fronts.{Front, with_controller}
 use Rattle.fdc_sequencer.specs.Moves.{FollowsStep, StepsFront}
 use Rattle.fdc_sequencer.specs.Senses.{pending_outside, sensed_at, sensed_outside}
@@ -28,16 +28,16 @@ use Rattle.laws_chip.proofs.Standing.{Stands}
 
 -- ---- what each device step leaves
 
-pub board_stays : (old new : BoardState) → StepsBoard old new → Stays old.controller new.controller
-board_stays old new steps = elim (which_drive (selected_at old)) [
+pub adapter_stays : (old new : AdapterState) → StepsAdapter old new → Stays old.controller new.controller
+adapter_stays old new steps = elim (which_drive (selected_at old)) [
   | inl at ↦ (steps.at_first at).0.stays
   | inr (inl at) ↦ (steps.at_second at).0.stays
   | inr (inr at) ↦ (steps.at_none at).0.stays
 ]
 
-pub board_base : (old new : BoardState) → StepsBoard old new → old.controller.command ≡ [] → IsBase old.controller new.controller
-board_base old new steps none =
-    let stays = board_stays old new steps in
+pub adapter_base : (old new : AdapterState) → StepsAdapter old new → old.controller.command ≡ [] → IsBase old.controller new.controller
+adapter_base old new steps none =
+    let stays = adapter_stays old new steps in
     record { dor = stays.dor; non_dma = stays.non_dma; command = stays.command ∙ none }
 
 pub base_on : (old between new : Fdc) → IsBase old between → IsBase between new → IsBase old new
@@ -99,7 +99,7 @@ none_four None none = tt
 none_four (Some seek) none = absurd (some_pow seek.drive none)
 
 pub stands_rests : (front : Front) → Stands front → RestsBehind front
-stands_rests front stands = record { through = stands.through; takes = stands.takes; seek = none_four front.board.controller.seeks.seek stands.rests }
+stands_rests front stands = record { through = stands.through; takes = stands.takes; seek = none_four front.adapter.controller.seeks.seek stands.rests }
 
 -- ---- a device step
 
@@ -119,16 +119,16 @@ rests_on track0 old new takes few rests =
       seek = subst (λ (fdc : Fdc). IsOfFour fdc.seeks.seek) (sym is) (stepped_four (polled old).seeks track0 (polled_four old few));
     }
 
-board_rests : (old new : BoardState) → StepsBoard old new → old.controller.phase ≡ Taking → IsOfFour old.controller.seeks.seek → GoesResting new.controller
-board_rests old new steps takes few = elim (which_drive (selected_at old)) [
+adapter_rests : (old new : AdapterState) → StepsAdapter old new → old.controller.phase ≡ Taking → IsOfFour old.controller.seeks.seek → GoesResting new.controller
+adapter_rests old new steps takes few = elim (which_drive (selected_at old)) [
   | inl at ↦ rests_on (old.first.cylinder == 0) old.controller new.controller takes few (steps.at_first at).0.rests
   | inr (inl at) ↦ rests_on (old.second.cylinder == 0) old.controller new.controller takes few (steps.at_second at).0.rests
   | inr (inr at) ↦ rests_on false old.controller new.controller takes few (steps.at_none at).0.rests
 ]
 
 -- whatever seek runs
-pub board_takes : (old new : BoardState) → StepsBoard old new → old.controller.phase ≡ Taking → new.controller.phase ≡ Taking
-board_takes old new steps takes =
+pub adapter_takes : (old new : AdapterState) → StepsAdapter old new → old.controller.phase ≡ Taking → new.controller.phase ≡ Taking
+adapter_takes old new steps takes =
     let phase = polled_phase old.controller ∙ takes in
     elim (which_drive (selected_at old)) [
       | inl at ↦ ap (λ (fdc : Fdc). fdc.phase) (taking_stays (old.first.cylinder == 0) old.controller new.controller takes (steps.at_first at).0.rests) ∙ phase
@@ -136,17 +136,17 @@ board_takes old new steps takes =
       | inr (inr at) ↦ ap (λ (fdc : Fdc). fdc.phase) (taking_stays false old.controller new.controller takes (steps.at_none at).0.rests) ∙ phase
     ]
 
--- where each access is the controller's a step is the board's
-pub through_step : (old new : Front) (step : StepsFront old new) → old.stage ≡ Through → new ≡ record old { board = step.between }
-through_step old new step through = subst (λ stage. FollowsStep stage (record old { board = step.between }) new) through step.follows
+-- where each access is the controller's a step is the adapter's
+pub through_step : (old new : Front) (step : StepsFront old new) → old.stage ≡ Through → new ≡ record old { adapter = step.between }
+through_step old new step through = subst (λ stage. FollowsStep stage (record old { adapter = step.between }) new) through step.follows
 
-pub front_rests : (old new : Front) → StepsFront old new → old.board.controller.command ≡ [] → RestsBehind old → RestsBehind new × IsBase old.board.controller new.board.controller
+pub front_rests : (old new : Front) → StepsFront old new → old.adapter.controller.command ≡ [] → RestsBehind old → RestsBehind new × IsBase old.adapter.controller new.adapter.controller
 front_rests old new step none rests =
     let is = through_step old new step rests.through in
-    let goes = board_rests old.board step.between step.steps rests.takes rests.seek in
-    subst (λ (front : Front). RestsBehind front × IsBase old.board.controller front.board.controller) (sym is) (
+    let goes = adapter_rests old.adapter step.between step.steps rests.takes rests.seek in
+    subst (λ (front : Front). RestsBehind front × IsBase old.adapter.controller front.adapter.controller) (sym is) (
       record { through = rests.through; takes = goes.takes; seek = goes.seek },
-      board_base old.board step.between step.steps none,
+      adapter_base old.adapter step.between step.steps none,
     )
 
 -- ---- results that are taken over
@@ -154,7 +154,7 @@ front_rests old new step none rests =
 -- nothing is done behind, and the chip's stage and the bytes that came are as they were
 pub record IsResting (old new : ChipState) : Type 0 where
   pub rests : RestsBehind new.front
-  pub base : IsBase old.front.board.controller new.front.board.controller
+  pub base : IsBase old.front.adapter.controller new.front.adapter.controller
   pub stage : new.stage ≡ old.stage
   pub count : new.count ≡ old.count
   pub order : new.order ≡ old.order
@@ -176,13 +176,13 @@ result_taken old takes none few = by_idle (is_idle old)
     by_idle true = by_result (seek_words.sensed old.seeks)
     by_idle false = record { base = base_same old none; takes = takes; seek = few }
 
-pub front_sensed : (front : Front) → front.board.controller.command ≡ [] → RestsBehind front
-    → RestsBehind (sensed_outside front) × IsBase front.board.controller (sensed_outside front).board.controller
+pub front_sensed : (front : Front) → front.adapter.controller.command ≡ [] → RestsBehind front
+    → RestsBehind (sensed_outside front) × IsBase front.adapter.controller (sensed_outside front).adapter.controller
 front_sensed front none rests =
-    let fdc = front.board.controller in
+    let fdc = front.adapter.controller in
     let taken = result_taken fdc rests.takes none rests.seek in
-    let is : sensed_outside front ≡ record front { board = with_controller (after_result fdc) front.board } = ap (λ stage. sensed_at stage front) rests.through in
-    subst (λ (f : Front). RestsBehind f × IsBase fdc f.board.controller) (sym is) (
+    let is : sensed_outside front ≡ record front { adapter = with_controller (after_result fdc) front.adapter } = ap (λ stage. sensed_at stage front) rests.through in
+    subst (λ (f : Front). RestsBehind f × IsBase fdc f.adapter.controller) (sym is) (
       record { through = rests.through; takes = taken.takes; seek = taken.seek },
       taken.base,
     )
@@ -196,9 +196,9 @@ drains_one : (old new : ChipState) → IsResting old new → IsResting old (drai
 drains_one old new was =
     let (rests, base) = front_sensed new.front was.base.command was.rests in
     one_rests (pending_outside new.front) old (with_front (sensed_outside new.front) new)
-    (record { rests = rests; base = base_on old.front.board.controller new.front.board.controller (sensed_outside new.front).board.controller was.base base; stage = was.stage; count = was.count; order = was.order })
+    (record { rests = rests; base = base_on old.front.adapter.controller new.front.adapter.controller (sensed_outside new.front).adapter.controller was.base base; stage = was.stage; count = was.count; order = was.order })
 
-pub drained_rests : (n : ℕ) (old : ChipState) → old.front.board.controller.command ≡ [] → RestsBehind old.front → IsResting old (drained_by n old)
+pub drained_rests : (n : ℕ) (old : ChipState) → old.front.adapter.controller.command ≡ [] → RestsBehind old.front → IsResting old (drained_by n old)
 unfolding drained_by
-drained_rests zero old none rests = record { rests = rests; base = base_same old.front.board.controller none; stage = refl; count = refl; order = refl }
+drained_rests zero old none rests = record { rests = rests; base = base_same old.front.adapter.controller none; stage = refl; count = refl; order = refl }
 drained_rests (suc n) old none rests = drains_one old (drained_by n old) (drained_rests n old none rests)

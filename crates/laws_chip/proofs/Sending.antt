@@ -12,7 +12,7 @@ use Rattle.fdc_core.specs.Ports.{is_taking}
 use Rattle.fdc_core.specs.Whole.{is_idle}
 use Rattle.fdc_core.specs.declared.controller.Fdc.{Fdc}
 use Rattle.fdc_core.specs.declared.controller.Lines.{Lines}
-use Rattle.fdc_board.specs.Boards.{WritesBoard, lines_at}
+use Rattle.fdc_adapter.specs.Adapters.{WritesAdapter, lines_at}
 use Rattle.fdc_core.specs.Whole.{options_with}
 use Rattle.fdc_sequencer.specs.Fronts.{Front, PassesAs, TakesByte, WritesFront, begins_with, configured_with}
 use Rattle.fdc_sequencer.specs.Opcodes.{opcode_of}
@@ -39,65 +39,65 @@ ready_taken bytes byte command lines old new is ready takes =
 
 -- these bytes came, and nothing else changed of the controller
 pub record Comes (bytes : List ℕ) (start front : Front) : Type 0 where
-  pub controller : front.board.controller ≡ record start.board.controller { command = bytes }
+  pub controller : front.adapter.controller ≡ record start.adapter.controller { command = bytes }
   pub through : front.stage ≡ Through
 
 pub comes_none : (start : Front) → Stands start → Comes [] start start
 comes_none start stands = record {
-  controller = ap (λ (command : List ℕ). record start.board.controller { command = command }) stands.none;
+  controller = ap (λ (command : List ℕ). record start.adapter.controller { command = command }) stands.none;
   through = stands.through;
 }
 
 -- a byte that isn't a code of the sequencer's is the controller's
-byte_behind : (byte : ℕ) (old new : Front) → old.stage ≡ Through → begins_with byte old.board.controller ≡ None → WritesFront 0x3F5 byte old new
-    → WritesBoard 0x3F5 byte old.board new.board × (new ≡ record old { board = new.board; configured = configured_with (options_with byte old.board.controller) old.configured })
+byte_behind : (byte : ℕ) (old new : Front) → old.stage ≡ Through → begins_with byte old.adapter.controller ≡ None → WritesFront 0x3F5 byte old new
+    → WritesAdapter 0x3F5 byte old.adapter new.adapter × (new ≡ record old { adapter = new.adapter; configured = configured_with (options_with byte old.adapter.controller) old.configured })
 byte_behind byte old new through plain writes =
     subst (λ opcode. PassesAs opcode byte old new) plain (subst (λ stage. TakesByte stage byte old new) through (writes.bytes refl))
 
 -- the first byte
-first_plain : (byte : ℕ) (start : Front) → opcode_of byte ≡ None → begins_with byte start.board.controller ≡ None
-first_plain byte start none = by_idle (is_idle start.board.controller)
+first_plain : (byte : ℕ) (start : Front) → opcode_of byte ≡ None → begins_with byte start.adapter.controller ≡ None
+first_plain byte start none = by_idle (is_idle start.adapter.controller)
   where
     by_idle : (b : Bool) → (if b then opcode_of byte else None) ≡ None
     by_idle true = none
     by_idle false = refl
 
 -- and those behind it
-later_plain : (first : ℕ) (rest : List ℕ) (byte : ℕ) (start old : Front) → Comes (first ∷ rest) start old → begins_with byte old.board.controller ≡ None
+later_plain : (first : ℕ) (rest : List ℕ) (byte : ℕ) (start old : Front) → Comes (first ∷ rest) start old → begins_with byte old.adapter.controller ≡ None
 later_plain first rest byte start old comes =
-    let fdc = old.board.controller in
+    let fdc = old.adapter.controller in
     let begun : not (is_begun fdc.command) ≡ false = ap (λ (fdc : Fdc). not (is_begun fdc.command)) comes.controller in
     ap (λ b. if b then opcode_of byte else None) (and_right (is_taking fdc) (not (is_begun fdc.command)) begun)
 
-module _ (start : Front) (stands : Stands start) (bytes : List ℕ) (byte : ℕ) (old new : Front) (comes : Comes bytes start old) (plain : begins_with byte old.board.controller ≡ None) (writes : WritesFront 0x3F5 byte old new) where
-  taken : Takes byte (lines_at old.board) old.board.controller new.board.controller
+module _ (start : Front) (stands : Stands start) (bytes : List ℕ) (byte : ℕ) (old new : Front) (comes : Comes bytes start old) (plain : begins_with byte old.adapter.controller ≡ None) (writes : WritesFront 0x3F5 byte old new) where
+  taken : Takes byte (lines_at old.adapter) old.adapter.controller new.adapter.controller
   taken =
-      let taking : is_taking old.board.controller ≡ true = ap is_taking comes.controller ∙ stands_taking start stands in
+      let taking : is_taking old.adapter.controller ≡ true = ap is_taking comes.controller ∙ stands_taking start stands in
       ((byte_behind byte old new comes.through plain writes).0.writes.bytes refl).0 taking
 
   still_through : new.stage ≡ Through
   still_through = ap (λ front. front.stage) (byte_behind byte old new comes.through plain writes).1 ∙ comes.through
 
-  command_is : old.board.controller.command ≡ bytes
+  command_is : old.adapter.controller.command ≡ bytes
   command_is = ap (λ (fdc : Fdc). fdc.command) comes.controller
 
   -- more of them are to come
   pub comes_more : answer (bytes ++ byte ∷ []) ≡ More → Comes (bytes ++ byte ∷ []) start new
   comes_more more = record {
-    controller = more_taken bytes byte (lines_at old.board) old.board.controller new.board.controller command_is more taken
+    controller = more_taken bytes byte (lines_at old.adapter) old.adapter.controller new.adapter.controller command_is more taken
         ∙ ap (λ (fdc : Fdc). record fdc { command = bytes ++ byte ∷ [] }) comes.controller;
     through = still_through;
   }
 
   -- the command is whole, and obeyed
   pub comes_whole : (command : Command) → answer (bytes ++ byte ∷ []) ≡ Ready command
-      → (new.stage ≡ Through) × ((lines : Lines) × Obeys command lines (record start.board.controller { command = [] }) new.board.controller)
+      → (new.stage ≡ Through) × ((lines : Lines) × Obeys command lines (record start.adapter.controller { command = [] }) new.adapter.controller)
   comes_whole command ready = (
     still_through,
     (
-      lines_at old.board,
-      subst (λ (fdc : Fdc). Obeys command (lines_at old.board) (record fdc { command = [] }) new.board.controller) comes.controller
-          (ready_taken bytes byte command (lines_at old.board) old.board.controller new.board.controller command_is ready taken),
+      lines_at old.adapter,
+      subst (λ (fdc : Fdc). Obeys command (lines_at old.adapter) (record fdc { command = [] }) new.adapter.controller) comes.controller
+          (ready_taken bytes byte command (lines_at old.adapter) old.adapter.controller new.adapter.controller command_is ready taken),
     ),
   )
 
@@ -105,7 +105,7 @@ module _ (start : Front) (stands : Stands start) (bytes : List ℕ) (byte : ℕ)
 pub record IsObeyed (command : Command) (start new : Front) : Type 0 where
   pub through : new.stage ≡ Through
   pub lines : Lines
-  pub obeys : Obeys command lines (record start.board.controller { command = [] }) new.board.controller
+  pub obeys : Obeys command lines (record start.adapter.controller { command = [] }) new.adapter.controller
 
 -- ---- commands
 

@@ -10,7 +10,7 @@ use Rattle.fdc_phases.specs.declared.phases.Phase.TheVariants.{Command as Taking
 use Rattle.fdc_core.specs.State.{is_held}
 use Rattle.fdc_core.specs.Whole.{ending_told, given_up, given_up_if, mark_of, without_seek}
 use Rattle.fdc_core.specs.declared.controller.Fdc.{Fdc}
-use Rattle.fdc_board.specs.Boards.{BoardState, StepsBoard}
+use Rattle.fdc_adapter.specs.Adapters.{AdapterState, StepsAdapter}
 use Rattle.fdc_sequencer.specs.Fronts.{BeginsSector, Front, with_controller}
 use Rattle.fdc_sequencer.specs.Moves.{EndsIf, EndsSector, FollowsStep, MovesOn, SeeksOn, StepsFront, goes_on, has_met_other, is_unwanted, judged, judged_if, passed_over_if, results_behind, results_failed}
 use Rattle.fdc_sequencer.specs.Opcodes.{opcode_of}
@@ -32,7 +32,7 @@ use Rattle.laws_chip.specs.Beginning.{transfer_sent}
 use Rattle.laws_chip.specs.Sound.{ServesBehind, WaitsForHeads}
 use Rattle.laws_chip.proofs.FirstSectors.{IsBase, IsCarried, sector_carried}
 use Rattle.laws_chip.proofs.NineBytes.{order_begins}
-use Rattle.laws_chip.proofs.Rests.{base_on, board_base, board_takes}
+use Rattle.laws_chip.proofs.Rests.{base_on, adapter_base, adapter_takes}
 use Rattle.laws_chip.proofs.Standing.{Stands}
 use Rattle.laws_chip.proofs.Tellings.{results_wait, taken_is}
 use Rattle.laws_chip.proofs.UnderWay.{not_through}
@@ -40,7 +40,7 @@ use Rattle.laws_chip.proofs.UnderWay.{not_through}
 -- ---- it begins
 
 pub order_serves : (opcode : Opcode) (order : Order) (start new : Front) → Stands start → opcode_of order.code ≡ Some opcode → is_size order.key.n ≡ true → Sends (order_bytes order) start new
-    → ServesBehind new × IsBase start.board.controller new.board.controller
+    → ServesBehind new × IsBase start.adapter.controller new.adapter.controller
 order_serves opcode order start new stands is size sends =
     let (begins, carried) = order_begins opcode order start new stands is size sends in (
       record {
@@ -59,25 +59,25 @@ order_serves opcode order start new stands is size sends =
 pub record TellsBehind (front : Front) : Type 0 where
   pub results : Results
   pub told : front.stage ≡ Telling results 0
-  pub takes : front.board.controller.phase ≡ Taking
-  pub rests : seek_bits front.board.controller.seeks ≡ 0
+  pub takes : front.adapter.controller.phase ≡ Taking
+  pub rests : seek_bits front.adapter.controller.seeks ≡ 0
 
 -- it goes on with what it may be under way, or its results are told
 data Goes (old : Fdc) (new : Front) : Type 0 where
-  on : is_under_way new.stage ≡ true → WaitsForHeads new.stage new.board.controller.phase → IsBase old new.board.controller → Goes old new
-  over : TellsBehind new → IsBase old new.board.controller → Goes old new
+  on : is_under_way new.stage ≡ true → WaitsForHeads new.stage new.adapter.controller.phase → IsBase old new.adapter.controller → Goes old new
+  over : TellsBehind new → IsBase old new.adapter.controller → Goes old new
 
 -- where it is served still, so it is
-goes_served : (old new : Front) (step : StepsFront old new) → ServesBehind old → Goes old.board.controller new → (ServesBehind new ⊎ TellsBehind new) × IsBase old.board.controller new.board.controller
+goes_served : (old new : Front) (step : StepsFront old new) → ServesBehind old → Goes old.adapter.controller new → (ServesBehind new ⊎ TellsBehind new) × IsBase old.adapter.controller new.adapter.controller
 goes_served old new step was (over tells base) = (inr tells, base)
 goes_served old new step was (on under waits base) = elim (steps_serve old new step was.first was.history was.serves) [
   | inl goes ↦ (inl (record { under_way = under; first = was.first; history = history_stepped old.stage goes.time step.between.controller was.history; serves = goes.goes.2; waits = waits }), base)
   | inr refuses ↦ absurd (not_through new under refuses.refused.through)
 ]
 
-goes_carried : (old between : Fdc) (front new : Front) → IsBase old between → front.board.controller ≡ between → IsCarried front new → Goes old new
+goes_carried : (old between : Fdc) (front new : Front) → IsBase old between → front.adapter.controller ≡ between → IsCarried front new → Goes old new
 goes_carried old between front new base is carried =
-    on carried.under_way carried.waits (base_on old between new.board.controller base (subst (λ fdc. IsBase fdc new.board.controller) is carried.base))
+    on carried.under_way carried.waits (base_on old between new.adapter.controller base (subst (λ fdc. IsBase fdc new.adapter.controller) is carried.base))
 
 -- ---- the heads seek first
 
@@ -88,16 +88,16 @@ sought_base old between base = by_end (has_ended_seek between.seeks)
     by_end true = record { dor = base.dor; non_dma = base.non_dma; command = base.command }
     by_end false = base
 
-seeks_go : (b : Bool) (at : Transfer) (counted : Bool) (old : Fdc) (front new : Front) → front.stage ≡ Seeking at counted → front.board.controller.phase ≡ Taking → has_ended_seek front.board.controller.seeks ≡ b
-    → IsSizeCode at.key.n → front.board.controller.non_dma ≡ false → IsBase old front.board.controller → SeeksOn b at counted front new → Goes old new
+seeks_go : (b : Bool) (at : Transfer) (counted : Bool) (old : Fdc) (front new : Front) → front.stage ≡ Seeking at counted → front.adapter.controller.phase ≡ Taking → has_ended_seek front.adapter.controller.seeks ≡ b
+    → IsSizeCode at.key.n → front.adapter.controller.non_dma ≡ false → IsBase old front.adapter.controller → SeeksOn b at counted front new → Goes old new
 seeks_go true at counted old front new stage_is takes ended sized clear base begins =
-    let fdc = front.board.controller in
-    let sought : Front = record front { board = with_controller (without_seek fdc) front.board } in
+    let fdc = front.adapter.controller in
+    let sought : Front = record front { adapter = with_controller (without_seek fdc) front.adapter } in
     goes_carried old (without_seek fdc) sought new (sought_base old fdc base) refl (sector_carried at counted false sought new sized (sought_free fdc ended clear) begins)
 seeks_go false at counted old front new stage_is takes ended sized clear base is =
     let stage = ap (λ (f : Front). f.stage) is ∙ stage_is in
-    on (ap is_under_way stage) (subst (λ s. WaitsForHeads s new.board.controller.phase) (sym stage) (ap (λ (f : Front). f.board.controller.phase) is ∙ takes))
-    (subst (λ (f : Front). IsBase old f.board.controller) (sym is) base)
+    on (ap is_under_way stage) (subst (λ s. WaitsForHeads s new.adapter.controller.phase) (sym stage) (ap (λ (f : Front). f.adapter.controller.phase) is ∙ takes))
+    (subst (λ (f : Front). IsBase old f.adapter.controller) (sym is) base)
 
 -- ---- a sector is moved
 
@@ -122,21 +122,21 @@ given_base : (ending : Option Ending) (old between : Fdc) → IsBase old between
 given_base None old between base = base
 given_base (Some ending) old between base = record { dor = base.dor; non_dma = base.non_dma; command = base.command }
 
-passed_go : (b : Bool) (moving : MovingSector) (old : Fdc) (front new : Front) → front.stage ≡ Moving moving → IsBase old front.board.controller → new ≡ passed_over_if b moving front → Goes old new
+passed_go : (b : Bool) (moving : MovingSector) (old : Fdc) (front new : Front) → front.stage ≡ Moving moving → IsBase old front.adapter.controller → new ≡ passed_over_if b moving front → Goes old new
 passed_go true moving old front new stage_is base is =
     let stage : new.stage ≡ Moving (record moving { left = 0; passed_over = true; skipped = true }) = ap (λ (f : Front). f.stage) is in
-    on (ap is_under_way stage) (subst (λ s. WaitsForHeads s new.board.controller.phase) (sym stage) tt)
-    (subst (λ (f : Front). IsBase old f.board.controller) (sym is) (record { dor = base.dor; non_dma = base.non_dma; command = base.command }))
+    on (ap is_under_way stage) (subst (λ s. WaitsForHeads s new.adapter.controller.phase) (sym stage) tt)
+    (subst (λ (f : Front). IsBase old f.adapter.controller) (sym is) (record { dor = base.dor; non_dma = base.non_dma; command = base.command }))
 passed_go false moving old front new stage_is base is =
     let stage : new.stage ≡ Moving moving = ap (λ (f : Front). f.stage) is ∙ stage_is in
-    on (ap is_under_way stage) (subst (λ s. WaitsForHeads s new.board.controller.phase) (sym stage) tt) (subst (λ (f : Front). IsBase old f.board.controller) (sym is) base)
+    on (ap is_under_way stage) (subst (λ s. WaitsForHeads s new.adapter.controller.phase) (sym stage) tt) (subst (λ (f : Front). IsBase old f.adapter.controller) (sym is) base)
 
-moves_go : (ending : Option Ending) (moving : MovingSector) (old : Fdc) (front new : Front) → front.stage ≡ Moving moving → ending_told front.board.controller ≡ ending → IsSizeCode moving.transfer.key.n
-    → IsFree front.board.controller → IsBase old front.board.controller → MovesOn (judged_if moving ending) moving front new → Goes old new
-moves_go None moving old front new stage_is none sized free base is = passed_go (is_unwanted moving (mark_of front.board.controller)) moving old front new stage_is base is
+moves_go : (ending : Option Ending) (moving : MovingSector) (old : Fdc) (front new : Front) → front.stage ≡ Moving moving → ending_told front.adapter.controller ≡ ending → IsSizeCode moving.transfer.key.n
+    → IsFree front.adapter.controller → IsBase old front.adapter.controller → MovesOn (judged_if moving ending) moving front new → Goes old new
+moves_go None moving old front new stage_is none sized free base is = passed_go (is_unwanted moving (mark_of front.adapter.controller)) moving old front new stage_is base is
 moves_go (Some ending) moving old front new stage_is some sized free base ends =
-    let fdc = front.board.controller in
-    let given : Front = record front { board = with_controller (given_up fdc) front.board } in
+    let fdc = front.adapter.controller in
+    let given : Front = record front { adapter = with_controller (given_up fdc) front.adapter } in
     let after : IsBase old (given_up fdc) = given_base (ending_told fdc) old fdc base in
     let freed = given_free fdc free in
     elim (next_or (judged moving ending) moving given new ends) [
@@ -145,30 +145,30 @@ moves_go (Some ending) moving old front new stage_is some sized free base ends =
       | inl (results, is) ↦ over (record {
         results = results;
         told = ap (λ (f : Front). f.stage) is;
-        takes = ap (λ (f : Front). f.board.controller.phase) is ∙ ap (λ found. (given_up_if found fdc).phase) some;
-        rests = ap (λ (f : Front). seek_bits f.board.controller.seeks) is ∙ freed.rests;
-      }) (subst (λ (f : Front). IsBase old f.board.controller) (sym is) after)
+        takes = ap (λ (f : Front). f.adapter.controller.phase) is ∙ ap (λ found. (given_up_if found fdc).phase) some;
+        rests = ap (λ (f : Front). seek_bits f.adapter.controller.seeks) is ∙ freed.rests;
+      }) (subst (λ (f : Front). IsBase old f.adapter.controller) (sym is) after)
     ]
 
 -- ---- all stages
 
-step_goes : (stage : Stage) (first : Transfer) (history : History) (old : Front) (between : BoardState) (new : Front) → old.stage ≡ stage → is_under_way stage ≡ true → IsSizeCode first.key.n
-    → ServesAt stage first history old.board.controller → WaitsForHeads stage old.board.controller.phase → old.board.controller.command ≡ [] → old.board.controller.non_dma ≡ false
-    → StepsBoard old.board between → FollowsStep stage (record old { board = between }) new → Goes old.board.controller new
+step_goes : (stage : Stage) (first : Transfer) (history : History) (old : Front) (between : AdapterState) (new : Front) → old.stage ≡ stage → is_under_way stage ≡ true → IsSizeCode first.key.n
+    → ServesAt stage first history old.adapter.controller → WaitsForHeads stage old.adapter.controller.phase → old.adapter.controller.command ≡ [] → old.adapter.controller.non_dma ≡ false
+    → StepsAdapter old.adapter between → FollowsStep stage (record old { adapter = between }) new → Goes old.adapter.controller new
 step_goes Through first history old between new stage_is under sized now waits none clear steps follows = absurd (false≢true under)
 step_goes (Collecting opcode) first history old between new stage_is under sized now waits none clear steps follows = absurd (false≢true under)
 step_goes (Telling results read) first history old between new stage_is under sized now waits none clear steps follows = absurd (false≢true under)
 step_goes (Seeking at counted) first history old between new stage_is under sized (here, nothing) waits none clear steps follows =
-    let base = board_base old.board between steps none in
-    seeks_go (has_ended_seek between.controller.seeks) at counted old.board.controller (record old { board = between }) new stage_is (board_takes old.board between steps waits) refl
+    let base = adapter_base old.adapter between steps none in
+    seeks_go (has_ended_seek between.controller.seeks) at counted old.adapter.controller (record old { adapter = between }) new stage_is (adapter_takes old.adapter between steps waits) refl
     (subst (λ (transfer : Transfer). IsSizeCode transfer.key.n) (sym here) sized) (base.non_dma ∙ clear) base follows
 step_goes (Moving moving) first history old between new stage_is under sized (here, counts, carries) waits none clear steps follows =
-    let free = step_free first.opcode.operation history.past (sent_of moving.transfer) old.board between steps carries.busy carries.moves carries.free in
-    moves_go (ending_told between.controller) moving old.board.controller (record old { board = between }) new stage_is refl carries.accounts.sized free
-    (board_base old.board between steps none) follows
+    let free = step_free first.opcode.operation history.past (sent_of moving.transfer) old.adapter between steps carries.busy carries.moves carries.free in
+    moves_go (ending_told between.controller) moving old.adapter.controller (record old { adapter = between }) new stage_is refl carries.accounts.sized free
+    (adapter_base old.adapter between steps none) follows
 
-pub serves_step : (old new : Front) → StepsFront old new → old.board.controller.command ≡ [] → old.board.controller.non_dma ≡ false → ServesBehind old
-    → (ServesBehind new ⊎ TellsBehind new) × IsBase old.board.controller new.board.controller
+pub serves_step : (old new : Front) → StepsFront old new → old.adapter.controller.command ≡ [] → old.adapter.controller.non_dma ≡ false → ServesBehind old
+    → (ServesBehind new ⊎ TellsBehind new) × IsBase old.adapter.controller new.adapter.controller
 serves_step old new step none clear was =
     goes_served old new step was (step_goes old.stage was.first was.history old step.between new refl was.under_way was.serves.sized was.serves.now was.waits none clear step.steps step.follows)
 
@@ -177,10 +177,10 @@ serves_step old new step none clear was =
 pub tells_shown : (front : Front) → TellsBehind front → has_results front ≡ true
 tells_shown front tells = results_wait front tells.results tells.told
 
-pub tells_taken : (front : Front) → is_held front.board.controller ≡ false → front.board.controller.command ≡ [] → front.board.controller.non_dma ≡ false → TellsBehind front
-    → Stands (results_taken front) × IsBase front.board.controller (results_taken front).board.controller
+pub tells_taken : (front : Front) → is_held front.adapter.controller ≡ false → front.adapter.controller.command ≡ [] → front.adapter.controller.non_dma ≡ false → TellsBehind front
+    → Stands (results_taken front) × IsBase front.adapter.controller (results_taken front).adapter.controller
 tells_taken front free none by_dma tells =
-    subst (λ (f : Front). Stands f × IsBase front.board.controller f.board.controller) (sym (taken_is front tells.results tells.told)) (
+    subst (λ (f : Front). Stands f × IsBase front.adapter.controller f.adapter.controller) (sym (taken_is front tells.results tells.told)) (
       record { through = refl; takes = tells.takes; none = none; free = free; rests = tells.rests; by_dma = by_dma },
       record { dor = refl; non_dma = refl; command = none },
     )

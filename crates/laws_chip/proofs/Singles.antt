@@ -37,7 +37,7 @@ use Rattle.fdc_core.specs.Times.{WordTime, Saw, KeptOut, Wrote, Stopped}
 use Rattle.fdc_core.specs.Writes.{WritesIn, WritesTask}
 use Rattle.fdc_core.specs.Writing.{without_byte}
 use Rattle.fdc_core.specs.declared.controller.Fdc.{Fdc}
-use Rattle.fdc_board.specs.Boards.{BoardState, StepsBoard, selected_at}
+use Rattle.fdc_adapter.specs.Adapters.{AdapterState, StepsAdapter, selected_at}
 use Rattle.fdc_sequencer.specs.Fronts.{Front, status_at, with_controller}
 use Rattle.fdc_sequencer.specs.Moves.{StepsFront}
 use Rattle.fdc_sequencer.specs.declared.stage.Stage.TheVariants.{Through}
@@ -45,7 +45,7 @@ use Rattle.laws_sequencer.proofs.Known.{which_drive}
 use Rattle.fdc_chip.specs.Ending.{has_results, results_taken}
 use Rattle.laws_chip.specs.Sound.{ExecutesBehind, executes_single, is_single}
 use Rattle.laws_chip.proofs.FirstSectors.{IsBase}
-use Rattle.laws_chip.proofs.Rests.{board_base, through_step}
+use Rattle.laws_chip.proofs.Rests.{adapter_base, through_step}
 use Rattle.laws_chip.proofs.Sending.{IsObeyed}
 use Rattle.laws_chip.proofs.Standing.{Stands}
 
@@ -58,9 +58,9 @@ id_single unit _ is = absurd is
 none_counted : 0 < 65536
 none_counted = omega arith
 
-pub id_executes : (unit : ℕ) (start new : Front) → Stands start → IsObeyed (ReadId unit) start new → ExecutesBehind new × IsBase start.board.controller new.board.controller
+pub id_executes : (unit : ℕ) (start new : Front) → Stands start → IsObeyed (ReadId unit) start new → ExecutesBehind new × IsBase start.adapter.controller new.adapter.controller
 id_executes unit start new stands obeyed =
-    let begins : BeginsData (ReadId unit) (record start.board.controller { command = [] }) new.board.controller = (obeyed.obeys.0 stands.rests).1 stands.by_dma in
+    let begins : BeginsData (ReadId unit) (record start.adapter.controller { command = [] }) new.adapter.controller = (obeyed.obeys.0 stands.rests).1 stands.by_dma in
     let is = begins.3 in (
       record {
         through = obeyed.through;
@@ -75,9 +75,9 @@ format_single : (unit : ℕ) (numbers : Numbers) (begins : Task) → IsFormattin
 format_single unit numbers (task.Format formatting) is = refl
 format_single unit numbers _ is = absurd (is (emptied false 1) false refl)
 
-pub format_executes : (unit n sectors gap fill : ℕ) (start new : Front) → Stands start → IsObeyed (FormatTrack unit n sectors gap fill) start new → ExecutesBehind new × IsBase start.board.controller new.board.controller
+pub format_executes : (unit n sectors gap fill : ℕ) (start new : Front) → Stands start → IsObeyed (FormatTrack unit n sectors gap fill) start new → ExecutesBehind new × IsBase start.adapter.controller new.adapter.controller
 format_executes unit n sectors gap fill start new stands obeyed =
-    let begins : BeginsData (FormatTrack unit n sectors gap fill) (record start.board.controller { command = [] }) new.board.controller = (obeyed.obeys.0 stands.rests).1 stands.by_dma in
+    let begins : BeginsData (FormatTrack unit n sectors gap fill) (record start.adapter.controller { command = [] }) new.adapter.controller = (obeyed.obeys.0 stands.rests).1 stands.by_dma in
     let is = begins.3 in (
       record {
         through = obeyed.through;
@@ -162,8 +162,8 @@ module _ (polls new : Fdc) where
   phase_alone (Result ended) single does = absurd (false≢true single)
   phase_alone (Execute execution) single does = task_alone execution.task execution.head_drive execution.steps single does
 
-board_singly : (old new : BoardState) → StepsBoard old new → executes_single old.controller.phase ≡ true → GoesSingly (polled old.controller) new.controller
-board_singly old new steps single =
+adapter_singly : (old new : AdapterState) → StepsAdapter old new → executes_single old.controller.phase ≡ true → GoesSingly (polled old.controller) new.controller
+adapter_singly old new steps single =
     let fdc = old.controller in
     elim (which_drive (selected_at old)) [
       | inl at ↦ let works = (steps.at_first at).0 in
@@ -181,8 +181,8 @@ polled_bits old = by_poll (old.poll_due && not (is_held old))
     by_poll false = refl
 
 -- each device step leaves fewer
-pub board_ends : (old new : BoardState) → StepsBoard old new → EndsIn old.controller.phase new.controller.phase
-board_ends old new steps = elim (which_drive (selected_at old)) [
+pub adapter_ends : (old new : AdapterState) → StepsAdapter old new → EndsIn old.controller.phase new.controller.phase
+adapter_ends old new steps = elim (which_drive (selected_at old)) [
   | inl at ↦ (steps.at_first at).0.ends
   | inr (inl at) ↦ (steps.at_second at).0.ends
   | inr (inr at) ↦ (steps.at_none at).0.ends
@@ -198,23 +198,23 @@ pub record WaitsBehind (front : Front) : Type 0 where
   pub through : front.stage ≡ Through
   pub ending : Ending
   pub results : Results
-  pub at : front.board.controller.phase ≡ Result (Long ending results 0)
-  pub rests : seek_bits front.board.controller.seeks ≡ 0
+  pub at : front.adapter.controller.phase ≡ Result (Long ending results 0)
+  pub rests : seek_bits front.adapter.controller.seeks ≡ 0
 
-pub executes_step : (old new : Front) → StepsFront old new → old.board.controller.command ≡ [] → ExecutesBehind old
-    → (ExecutesBehind new ⊎ WaitsBehind new) × IsBase old.board.controller new.board.controller
+pub executes_step : (old new : Front) → StepsFront old new → old.adapter.controller.command ≡ [] → ExecutesBehind old
+    → (ExecutesBehind new ⊎ WaitsBehind new) × IsBase old.adapter.controller new.adapter.controller
 executes_step old new step none was =
-    let fdc = old.board.controller in
-    let goes = board_singly old.board step.between step.steps was.executes in
-    let ends = single_fewer fdc.phase step.between.controller.phase was.executes (board_ends old.board step.between step.steps) in
+    let fdc = old.adapter.controller in
+    let goes = adapter_singly old.adapter step.between step.steps was.executes in
+    let ends = single_fewer fdc.phase step.between.controller.phase was.executes (adapter_ends old.adapter step.between step.steps) in
     let rests = ap seek_bits goes.seeks ∙ (polled_bits fdc ∙ was.rests) in
     let is = through_step old new step was.through in
-    subst (λ (front : Front). (ExecutesBehind front ⊎ WaitsBehind front) × IsBase fdc front.board.controller) (sym is) (
+    subst (λ (front : Front). (ExecutesBehind front ⊎ WaitsBehind front) × IsBase fdc front.adapter.controller) (sym is) (
       elim goes.now [
         | inl single ↦ inl (record { through = was.through; executes = single; counted = ends.1; rests = rests })
         | inr (ending, results, at) ↦ inr (record { through = was.through; ending = ending; results = results; at = at; rests = rests })
       ],
-      board_base old.board step.between step.steps none,
+      adapter_base old.adapter step.between step.steps none,
     )
 
 -- ---- what MSR shows of it
@@ -229,30 +229,30 @@ single_bits begun Taking single = absurd (false≢true single)
 single_bits begun (Result ended) single = absurd (false≢true single)
 single_bits begun (Execute execution) single = refl
 
-shown_by : (front : Front) (value : ℕ) → front.stage ≡ Through → main_status front.board.controller ≡ value → has_results front ≡ (bit_and value 0xC0 == 0xC0)
+shown_by : (front : Front) (value : ℕ) → front.stage ≡ Through → main_status front.adapter.controller ≡ value → has_results front ≡ (bit_and value 0xC0 == 0xC0)
 shown_by front value through status =
-    ap (λ stage. bit_and (status_at stage front.board.controller) 0xC0 == 0xC0) through ∙ ap (λ shown. bit_and shown 0xC0 == 0xC0) status
+    ap (λ stage. bit_and (status_at stage front.adapter.controller) 0xC0 == 0xC0) through ∙ ap (λ shown. bit_and shown 0xC0 == 0xC0) status
 
-pub executes_none : (front : Front) → is_held front.board.controller ≡ false → ExecutesBehind front → has_results front ≡ false
+pub executes_none : (front : Front) → is_held front.adapter.controller ≡ false → ExecutesBehind front → has_results front ≡ false
 executes_none front free was =
-    let fdc = front.board.controller in
+    let fdc = front.adapter.controller in
     shown_by front 0x10 was.through (free_status fdc 0x10 free (single_bits (is_begun fdc.command) fdc.phase was.executes) was.rests)
 
-pub waits_shown : (front : Front) → is_held front.board.controller ≡ false → WaitsBehind front → has_results front ≡ true
+pub waits_shown : (front : Front) → is_held front.adapter.controller ≡ false → WaitsBehind front → has_results front ≡ true
 waits_shown front free waits =
-    let fdc = front.board.controller in
+    let fdc = front.adapter.controller in
     shown_by front 0xD0 waits.through (free_status fdc 0xD0 free (ap (phase_bits (is_begun fdc.command)) waits.at) waits.rests)
 
 -- once all seven were read the controller takes commands
-pub waits_taken : (front : Front) → is_held front.board.controller ≡ false → front.board.controller.command ≡ [] → front.board.controller.non_dma ≡ false → WaitsBehind front
-    → Stands (results_taken front) × IsBase front.board.controller (results_taken front).board.controller
+pub waits_taken : (front : Front) → is_held front.adapter.controller ≡ false → front.adapter.controller.command ≡ [] → front.adapter.controller.non_dma ≡ false → WaitsBehind front
+    → Stands (results_taken front) × IsBase front.adapter.controller (results_taken front).adapter.controller
 waits_taken front free none by_dma waits =
-    let fdc = front.board.controller in
-    let over : Front = record front { board = with_controller (record fdc { phase = Taking; interrupt = false }) front.board } in
+    let fdc = front.adapter.controller in
+    let over : Front = record front { adapter = with_controller (record fdc { phase = Taking; interrupt = false }) front.adapter } in
     let at_stage = ap (λ stage. results_taken (record front { stage = stage })) waits.through in
-    let at_phase = ap (λ phase. results_taken (record front { board = with_controller (record fdc { phase = phase }) front.board; stage = Through })) waits.at in
+    let at_phase = ap (λ phase. results_taken (record front { adapter = with_controller (record fdc { phase = phase }) front.adapter; stage = Through })) waits.at in
     let is : results_taken front ≡ record over { stage = Through } = at_stage ∙ at_phase in
-    subst (λ (f : Front). Stands f × IsBase fdc f.board.controller) (sym is) (
+    subst (λ (f : Front). Stands f × IsBase fdc f.adapter.controller) (sym is) (
       record { through = refl; takes = refl; none = none; free = free; rests = waits.rests; by_dma = by_dma },
       record { dor = refl; non_dma = refl; command = none },
     )

@@ -30,7 +30,7 @@ use Rattle.laws_chip.specs.Sound.{ExecutesBehind, IsSound, executes_single}
 use Rattle.laws_chip.proofs.Channels.{counts_executes, front_gives, front_takes, gives_executes, keeps_executes, port_executes, front_left, takes_executes}
 use Rattle.laws_chip.proofs.FirstSectors.{base_held}
 use Rattle.laws_chip.proofs.Rests.{through_step}
-use Rattle.laws_chip.proofs.Singles.{board_ends, executes_none, executes_step, single_fewer, waits_shown}
+use Rattle.laws_chip.proofs.Singles.{adapter_ends, executes_none, executes_step, single_fewer, waits_shown}
 use Rattle.laws_chip.proofs.SoundCalls.{call_sound}
 use Rattle.laws_chip.proofs.SoundParts.{IsBasis, busy_at, is_busy, is_ready, sound_basis}
 use Rattle.laws_chip.proofs.UnderWay.{either_way, not_through}
@@ -97,7 +97,7 @@ ends_leave (task.Track track) results old new ends same = place_leaves track.pla
 -- it is executed still, and fewer device steps are left by so many
 pub record StaysSingle (n : ℕ) (old new : Front) : Type 0 where
   pub executes : ExecutesBehind new
-  pub left : steps_left new.board.controller.phase + n ≤ steps_left old.board.controller.phase
+  pub left : steps_left new.adapter.controller.phase + n ≤ steps_left old.adapter.controller.phase
 
 same_left : (n m : ℕ) → n ≡ m → n + 0 ≤ m
 same_left n m same = omega arith
@@ -108,33 +108,33 @@ less_left n m less = omega arith
 same_single : (old new : Front) → new ≡ old → ExecutesBehind old → StaysSingle 0 old new
 same_single old new is was = record {
   executes = subst ExecutesBehind (sym is) was;
-  left = same_left (steps_left new.board.controller.phase) (steps_left old.board.controller.phase) (ap (λ (front : Front). steps_left front.board.controller.phase) is);
+  left = same_left (steps_left new.adapter.controller.phase) (steps_left old.adapter.controller.phase) (ap (λ (front : Front). steps_left front.adapter.controller.phase) is);
 }
 
-phase_left : (old new : Front) → new.board.controller.phase ≡ old.board.controller.phase → ExecutesBehind new → StaysSingle 0 old new
+phase_left : (old new : Front) → new.adapter.controller.phase ≡ old.adapter.controller.phase → ExecutesBehind new → StaysSingle 0 old new
 phase_left old new same executes =
-    record { executes = executes; left = same_left (steps_left new.board.controller.phase) (steps_left old.board.controller.phase) (ap steps_left same) }
+    record { executes = executes; left = same_left (steps_left new.adapter.controller.phase) (steps_left old.adapter.controller.phase) (ap steps_left same) }
 
 -- a device step
-pub step_fewer : (old between : Front) → StepsFront old between → ExecutesBehind old → steps_left between.board.controller.phase < steps_left old.board.controller.phase
+pub step_fewer : (old between : Front) → StepsFront old between → ExecutesBehind old → steps_left between.adapter.controller.phase < steps_left old.adapter.controller.phase
 step_fewer old between step was =
-    let phase = old.board.controller.phase in
-    let fewer = (single_fewer phase step.between.controller.phase was.executes (board_ends old.board step.between step.steps)).0 in
-    subst (λ (front : Front). steps_left front.board.controller.phase < steps_left phase) (sym (through_step old between step was.through)) fewer
+    let phase = old.adapter.controller.phase in
+    let fewer = (single_fewer phase step.between.controller.phase was.executes (adapter_ends old.adapter step.between step.steps)).0 in
+    subst (λ (front : Front). steps_left front.adapter.controller.phase < steps_left phase) (sym (through_step old between step was.through)) fewer
 
 may_single : (what : Task) (old : ChipState) (between : Front) (new : ChipState) → IsBasis old → StepsFront old.front between → ExecutesBehind old.front → MayEnd what (with_front between old) new
     → stage_kind new.stage ≡ kind_of what → StaysSingle 1 old.front new.front
 may_single what old between new basis step was may same =
-    let fdc = old.front.board.controller in
+    let fdc = old.front.adapter.controller in
     let (goes, base) = executes_step old.front between step basis.whole was in
-    let free = base_held fdc between.board.controller base ∙ basis.free in
+    let free = base_held fdc between.adapter.controller base ∙ basis.free in
     let less = step_fewer old.front between step was in
     elim goes [
       | inl still ↦
           let shown = executes_none between free still in
           let at : new ≡ with_front between old = subst (λ b. EndsIf b what (with_front between old) new) shown may in
           subst (λ (chip : ChipState). StaysSingle 1 old.front chip.front) (sym at)
-          (record { executes = still; left = less_left (steps_left between.board.controller.phase) (steps_left fdc.phase) less })
+          (record { executes = still; left = less_left (steps_left between.adapter.controller.phase) (steps_left fdc.phase) less })
       | inr waits ↦
           let shown = waits_shown between free waits in
           absurd (ends_leave what (results_behind between) (with_front (results_taken between) old) new (subst (λ b. EndsIf b what (with_front between old) new) shown may) same)
@@ -167,11 +167,11 @@ told_left (Execute execution) = refl
 
 counts_single : (old new : Front) → new ≡ told_front old → ExecutesBehind old → StaysSingle 0 old new
 counts_single old new is was =
-    let at : new ≡ record old { board = told_if true old.board } = subst (λ stage. new ≡ front_told stage old) was.through is in
+    let at : new ≡ record old { adapter = told_if true old.adapter } = subst (λ stage. new ≡ front_told stage old) was.through is in
     record {
       executes = counts_executes old new is was;
-      left = same_left (steps_left new.board.controller.phase) (steps_left old.board.controller.phase)
-          (ap (λ (front : Front). steps_left front.board.controller.phase) at ∙ told_left old.board.controller.phase);
+      left = same_left (steps_left new.adapter.controller.phase) (steps_left old.adapter.controller.phase)
+          (ap (λ (front : Front). steps_left front.adapter.controller.phase) at ∙ told_left old.adapter.controller.phase);
     }
 
 takes_if : (b : Bool) (byte : Option ℕ) (old new : ChipState) → TakesIf b old byte new → ExecutesBehind old.front → StaysSingle 0 old.front new.front
@@ -256,15 +256,15 @@ left_on old new steps n fewer few = omega arith
 steps_less : (steps more n : ℕ) → more < n - steps → steps + more < n
 steps_less steps more n less = omega arith
 
-singles_last : (calls : List Call) (what : Task) (n : ℕ) (old new : ChipState) → IsSound old → old.stage ≡ Busy what → ExecutesBehind old.front → steps_left old.front.board.controller.phase ≤ n
+singles_last : (calls : List Call) (what : Task) (n : ℕ) (old new : ChipState) → IsSound old → old.stage ≡ Busy what → ExecutesBehind old.front → steps_left old.front.adapter.controller.phase ≤ n
     → AreAt (Busy what) calls old new → steps_in calls < n
 singles_last [] what n old new sound at was few same =
-    let phase = old.front.board.controller.phase in none_less (steps_left phase) n (left_some phase was.executes was.counted) few
+    let phase = old.front.adapter.controller.phase in none_less (steps_left phase) n (left_some phase was.executes was.counted) few
 singles_last (call ∷ calls) what n old new sound at was few (between, does, writes, still, rest) =
     let on = single_call call what old between sound at was does (ap is_busy still) (ap stage_kind still) in
     let steps = steps_of call in
     steps_less steps (steps_in calls) n (singles_last calls what (n - steps) between new (call_sound call old between does writes sound) still on.executes
-    (left_on (steps_left old.front.board.controller.phase) (steps_left between.front.board.controller.phase) steps n on.left few) rest)
+    (left_on (steps_left old.front.adapter.controller.phase) (steps_left between.front.adapter.controller.phase) steps n on.left few) rest)
 
 pub single_last : (what : Task) (calls : List Call) (old new : ChipState) → IsSound old → old.stage ≡ Busy what → ExecutesBehind old.front → AreAt (Busy what) calls old new → steps_in calls < 65536
-single_last what calls old new sound at was are = singles_last calls what 65536 old new sound at was (left_most old.front.board.controller.phase) are
+single_last what calls old new sound at was are = singles_last calls what 65536 old new sound at was (left_most old.front.adapter.controller.phase) are

@@ -9,7 +9,7 @@ use Rattle.fdc_core.specs.Ports.{Writes, dor_resets, dsr_resets, resets}
 use Rattle.fdc_core.specs.State.{is_held, reset}
 use Rattle.fdc_core.specs.declared.controller.Fdc.{Fdc}
 use Rattle.fdc_core.specs.declared.controller.Lines.{Lines}
-use Rattle.fdc_board.specs.Boards.{lines_at}
+use Rattle.fdc_adapter.specs.Adapters.{lines_at}
 use Rattle.fdc_sequencer.specs.Fronts.{Front, KeepsFront, WritesFront}
 use Rattle.fdc_sequencer.specs.Fronts as fronts
 use Rattle.fdc_sequencer.specs.declared.stage.Stage.TheVariants.{Through}
@@ -44,7 +44,7 @@ use Rattle.laws_chip.proofs.UnderWay.{clash, either_way, port_stage}
 -- ---- bytes of what is executed
 
 -- while it is, its front may change
-busy_sound : (what : Task) (old new : ChipState) → old.stage ≡ Busy what → IsSound old → new ≡ with_front new.front old → IsBusyWith what new.front → IsBase old.front.board.controller new.front.board.controller → IsSound new
+busy_sound : (what : Task) (old new : ChipState) → old.stage ≡ Busy what → IsSound old → new ≡ with_front new.front old → IsBusyWith what new.front → IsBase old.front.adapter.controller new.front.adapter.controller → IsSound new
 busy_sound what old new at sound rest busy base =
     basis_busy new what (basis_same old new (sound_basis old (ap parts.is_ready at) sound) base (ap (λ (chip : ChipState). chip.count) rest) (ap (λ (chip : ChipState). chip.order) rest)) busy
     (ap (λ (chip : ChipState). chip.stage) rest ∙ at)
@@ -125,7 +125,7 @@ told_sound answer read old new at sound is =
     let set = byte_told answer read old in
     let stays = byte_stays answer read old in
     let basis = sound_basis old (ap parts.is_ready at) sound in
-    let base = subst (λ (front : Front). IsBase old.front.board.controller front.board.controller) (sym stays.front) (base_same old.front.board.controller sound.whole) in
+    let base = subst (λ (front : Front). IsBase old.front.adapter.controller front.adapter.controller) (sym stays.front) (base_same old.front.adapter.controller sound.whole) in
     subst IsSound (sym is) (basis_rests set set.stage (basis_same old set basis base stays.count stays.order)
     (subst RestsBehind (sym stays.front) (parts.at_rest old.stage old.front (ap is_busy at) sound.now)) refl stays.idle)
 
@@ -168,15 +168,15 @@ code_few place byte order few was = by_place (place == 0) (place == 1) (place ==
     by_place false false false false false false false false = was
 
 -- where one comes the controller isn't held in reset
-pub comes_free : (old : ChipState) → IsSound old → may_come old ≡ true → is_held old.front.board.controller ≡ false
+pub comes_free : (old : ChipState) → IsSound old → may_come old ≡ true → is_held old.front.adapter.controller ≡ false
 comes_free old sound comes = elim (or_cases (not (old.count == 0)) (senses.is_ready old.front) comes) [
-  | inl begun ↦ either_way (is_held old.front.board.controller)
+  | inl begun ↦ either_way (is_held old.front.adapter.controller)
       (λ held. clash (old.count == 0) (not-true (old.count == 0) begun) (ap (λ n. n == 0) (sound.held held).1))
       (λ free. free)
   | inr ready ↦ ready_free old.front ready
 ]
 
-collects_sound : (b : Bool) (byte : ℕ) (old new : ChipState) → old.stage ≡ Ready → byte < 256 → IsSound old → is_held old.front.board.controller ≡ false
+collects_sound : (b : Bool) (byte : ℕ) (old new : ChipState) → old.stage ≡ Ready → byte < 256 → IsSound old → is_held old.front.adapter.controller ≡ false
     → CollectsIf b (code_of (with_next byte old).order.code) (with_next byte old) new → IsSound new
 collects_sound true byte old new at few sound free attends =
     let set : ChipState = record (with_next byte old) { count = 0 } in
@@ -190,7 +190,7 @@ collects_sound true byte old new at few sound free attends =
 collects_sound false byte old new at few sound free is = subst IsSound (sym is) (record {
   by_dma = sound.by_dma;
   whole = sound.whole;
-  held = λ held. clash (is_held old.front.board.controller) free held;
+  held = λ held. clash (is_held old.front.adapter.controller) free held;
   comes = λ some. at;
   code = code_few old.count byte old.order few sound.code;
   now = sound.now;
@@ -238,11 +238,11 @@ port_anew port value lines old new writes no_byte anew = either_way (port == 0x3
     (sym (ap (λ b. if b then dsr_resets value else false) no_select)
     ∙ (sym (ap (λ b. if b then dor_resets value else (if port == 0x3F4 then dsr_resets value else false)) no_output) ∙ anew)))))
 
-front_anew : (port value : ℕ) (old new : Front) → WritesFront port value old new → (port == 0x3F5) ≡ false → resets port value ≡ true → IsAnew old.board.controller new.board.controller × (new.stage ≡ Through)
+front_anew : (port value : ℕ) (old new : Front) → WritesFront port value old new → (port == 0x3F5) ≡ false → resets port value ≡ true → IsAnew old.adapter.controller new.adapter.controller × (new.stage ≡ Through)
 front_anew port value old new writes no_byte anew =
     let (wrote, is) = writes.others no_byte in (
-      port_anew port value (lines_at old.board) old.board.controller new.board.controller wrote.writes no_byte anew,
-      ap (λ (front : Front). front.stage) (subst (λ b. new ≡ record (fronts.reset_if b old) { board = new.board }) anew is),
+      port_anew port value (lines_at old.adapter) old.adapter.controller new.adapter.controller wrote.writes no_byte anew,
+      ap (λ (front : Front). front.stage) (subst (λ b. new ≡ record (fronts.reset_if b old) { adapter = new.adapter }) anew is),
     )
 
 port_write : (b : Bool) (port value : ℕ) (old new : ChipState) → resets port value ≡ b → (port == 0x3F5) ≡ false → IsSound old → WritesFront port value old.front new.front
@@ -347,7 +347,7 @@ call_sound (made.StrapsSteps on) old new does few sound = steps_sound on old new
 
 pub new_sound : (bay0 bay1 : DriveState) (new : ChipState) → IsNewChip bay0 bay1 new → IsSound new
 new_sound bay0 bay1 new is =
-    let controller = is.front.board.controller in
+    let controller = is.front.adapter.controller in
     record {
       by_dma = ap (λ (fdc : Fdc). fdc.non_dma) controller;
       whole = ap (λ (fdc : Fdc). fdc.command) controller;

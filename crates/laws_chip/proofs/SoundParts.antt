@@ -58,9 +58,9 @@ busy_at chip task is sound = subst (λ stage. IsSoundAt stage chip.front) is sou
 -- ---- a chip that isn't held in reset, and that has no byte of a command
 
 pub record IsBasis (chip : ChipState) : Type 0 where
-  pub by_dma : chip.front.board.controller.non_dma ≡ false
-  pub whole : chip.front.board.controller.command ≡ []
-  pub free : is_held chip.front.board.controller ≡ false
+  pub by_dma : chip.front.adapter.controller.non_dma ≡ false
+  pub whole : chip.front.adapter.controller.command ≡ []
+  pub free : is_held chip.front.adapter.controller ≡ false
   pub none : chip.count ≡ 0
   pub code : chip.order.code < 256
 
@@ -69,26 +69,26 @@ pub sound_basis : (chip : ChipState) → is_ready chip.stage ≡ false → IsSou
 sound_basis chip other sound = record {
   by_dma = sound.by_dma;
   whole = sound.whole;
-  free = either_way (is_held chip.front.board.controller) (λ held. absurd (not_ready chip.stage other (sound.held held).0)) (λ free. free);
+  free = either_way (is_held chip.front.adapter.controller) (λ held. absurd (not_ready chip.stage other (sound.held held).0)) (λ free. free);
   none = either_way (chip.count == 0) (λ none. eqb-true chip.count 0 none) (λ some. absurd (not_ready chip.stage other (sound.comes some)));
   code = sound.code;
 }
 
 -- with another front
-pub basis_front : (front : Front) (old : ChipState) → IsBasis old → IsBase old.front.board.controller front.board.controller → IsBasis (with_front front old)
+pub basis_front : (front : Front) (old : ChipState) → IsBasis old → IsBase old.front.adapter.controller front.adapter.controller → IsBasis (with_front front old)
 basis_front front old basis base = record {
   by_dma = base.non_dma ∙ basis.by_dma;
   whole = base.command;
-  free = base_held old.front.board.controller front.board.controller base ∙ basis.free;
+  free = base_held old.front.adapter.controller front.adapter.controller base ∙ basis.free;
   none = basis.none;
   code = basis.code;
 }
 
-pub basis_same : (old new : ChipState) → IsBasis old → IsBase old.front.board.controller new.front.board.controller → new.count ≡ old.count → new.order ≡ old.order → IsBasis new
+pub basis_same : (old new : ChipState) → IsBasis old → IsBase old.front.adapter.controller new.front.adapter.controller → new.count ≡ old.count → new.order ≡ old.order → IsBasis new
 basis_same old new basis base count order = record {
   by_dma = base.non_dma ∙ basis.by_dma;
   whole = base.command;
-  free = base_held old.front.board.controller new.front.board.controller base ∙ basis.free;
+  free = base_held old.front.adapter.controller new.front.adapter.controller base ∙ basis.free;
   none = count ∙ basis.none;
   code = subst (λ (o : Order). o.code < 256) (sym order) basis.code;
 }
@@ -98,7 +98,7 @@ pub basis_sound : (chip : ChipState) → IsBasis chip → IsSoundAt chip.stage c
 basis_sound chip basis now = record {
   by_dma = basis.by_dma;
   whole = basis.whole;
-  held = λ held. clash (is_held chip.front.board.controller) basis.free held;
+  held = λ held. clash (is_held chip.front.adapter.controller) basis.free held;
   comes = λ some. clash (chip.count == 0) some (ap (λ n. n == 0) basis.none);
   code = basis.code;
   now = now;
@@ -112,12 +112,12 @@ basis_busy chip task basis busy is = basis_sound chip basis (subst (λ stage. Is
 
 -- ---- a chip whose stage and whose bytes stay
 
-pub stays_sound : (old new : ChipState) → IsSound old → IsBase old.front.board.controller new.front.board.controller → new.stage ≡ old.stage → new.count ≡ old.count → new.order ≡ old.order
+pub stays_sound : (old new : ChipState) → IsSound old → IsBase old.front.adapter.controller new.front.adapter.controller → new.stage ≡ old.stage → new.count ≡ old.count → new.order ≡ old.order
     → IsSoundAt old.stage new.front → IsSound new
 stays_sound old new sound base stage count order now = record {
   by_dma = base.non_dma ∙ sound.by_dma;
   whole = base.command;
-  held = λ held. let was = sound.held (sym (base_held old.front.board.controller new.front.board.controller base) ∙ held) in (stage ∙ was.0, count ∙ was.1);
+  held = λ held. let was = sound.held (sym (base_held old.front.adapter.controller new.front.adapter.controller base) ∙ held) in (stage ∙ was.0, count ∙ was.1);
   comes = λ some. stage ∙ sound.comes (sym (ap (λ n. n == 0) count) ∙ some);
   code = subst (λ (o : Order). o.code < 256) (sym order) sound.code;
   now = subst (λ s. IsSoundAt s new.front) (sym stage) now;

@@ -122,12 +122,12 @@ IsAtStep what front = IsBusyWith what front ⊎ IsOverBehind front
 serves_none : (front : Front) → ServesBehind front → has_results front ≡ false
 serves_none front serves = none_wait front serves.under_way
 
-place_none : (place : Place) (front : Front) → is_held front.board.controller ≡ false → IsBusyAt place front → has_results front ≡ false
+place_none : (place : Place) (front : Front) → is_held front.adapter.controller ≡ false → IsBusyAt place front → has_results front ≡ false
 place_none Index front free serves = serves_none front serves
 place_none Address front free executes = executes_none front free executes
 place_none Data front free serves = serves_none front serves
 
-busy_none : (what : Task) (front : Front) → is_held front.board.controller ≡ false → IsBusyWith what front → has_results front ≡ false
+busy_none : (what : Task) (front : Front) → is_held front.adapter.controller ≡ false → IsBusyWith what front → has_results front ≡ false
 busy_none task.Sent front free (inl serves) = serves_none front serves
 busy_none task.Sent front free (inr executes) = executes_none front free executes
 busy_none (task.Sought first) front free executes = executes_none front free executes
@@ -135,7 +135,7 @@ busy_none (task.Refused unit key mfm) front free executes = executes_none front 
 busy_none (task.Verify left) front free serves = serves_none front serves
 busy_none (task.Track track) front free busy = place_none track.place front free busy
 
-taken_sound : (what : Task) (chip new : ChipState) → IsBasis chip → has_results chip.front ≡ true → Stands (results_taken chip.front) × IsBase chip.front.board.controller (results_taken chip.front).board.controller
+taken_sound : (what : Task) (chip new : ChipState) → IsBasis chip → has_results chip.front ≡ true → Stands (results_taken chip.front) × IsBase chip.front.adapter.controller (results_taken chip.front).adapter.controller
     → MayEnd what chip new → IsSound new
 taken_sound what chip new basis shown (stands, base) may =
     ends_sound what (results_behind chip.front) (with_front (results_taken chip.front) chip) new (basis_front (results_taken chip.front) chip basis base) stands
@@ -155,21 +155,21 @@ may_end_sound what under chip new basis at (inr (inr waits)) may =
 -- it is at such a step, and the controller's base is this
 record IsStepped (what : Task) (old new : Front) : Type 0 where
   at : IsAtStep what new
-  base : IsBase old.board.controller new.board.controller
+  base : IsBase old.adapter.controller new.adapter.controller
 
-serves_stepped : (old new : Front) → StepsFront old new → old.board.controller.command ≡ [] → old.board.controller.non_dma ≡ false → ServesBehind old
-    → (ServesBehind new ⊎ IsOverBehind new) × IsBase old.board.controller new.board.controller
+serves_stepped : (old new : Front) → StepsFront old new → old.adapter.controller.command ≡ [] → old.adapter.controller.non_dma ≡ false → ServesBehind old
+    → (ServesBehind new ⊎ IsOverBehind new) × IsBase old.adapter.controller new.adapter.controller
 serves_stepped old new step none clear was = let (goes, base) = serves_step old new step none clear was in
     (elim goes [ inl still ↦ inl still | inr tells ↦ inr (inl tells) ], base)
 
-executes_stepped : (old new : Front) → StepsFront old new → old.board.controller.command ≡ [] → ExecutesBehind old → (ExecutesBehind new ⊎ IsOverBehind new) × IsBase old.board.controller new.board.controller
+executes_stepped : (old new : Front) → StepsFront old new → old.adapter.controller.command ≡ [] → ExecutesBehind old → (ExecutesBehind new ⊎ IsOverBehind new) × IsBase old.adapter.controller new.adapter.controller
 executes_stepped old new step none was = let (goes, base) = executes_step old new step none was in
     (elim goes [ inl still ↦ inl still | inr waits ↦ inr (inr waits) ], base)
 
-stepped_as : {A : Type 0} (what : Task) (old new : Front) → (A → IsBusyWith what new) → (A ⊎ IsOverBehind new) × IsBase old.board.controller new.board.controller → IsStepped what old new
+stepped_as : {A : Type 0} (what : Task) (old new : Front) → (A → IsBusyWith what new) → (A ⊎ IsOverBehind new) × IsBase old.adapter.controller new.adapter.controller → IsStepped what old new
 stepped_as what old new busy (goes, base) = record { at = elim goes [ inl still ↦ inl (busy still) | inr over ↦ inr over ]; base = base }
 
-place_stepped : (place : Place) (track : Track) (old new : Front) → track.place ≡ place → StepsFront old new → old.board.controller.command ≡ [] → old.board.controller.non_dma ≡ false → IsBusyAt place old
+place_stepped : (place : Place) (track : Track) (old new : Front) → track.place ≡ place → StepsFront old new → old.adapter.controller.command ≡ [] → old.adapter.controller.non_dma ≡ false → IsBusyAt place old
     → IsStepped (task.Track track) old new
 place_stepped Index track old new at step none clear busy =
     stepped_as (task.Track track) old new (λ serves. subst (λ place. IsBusyAt place new) (sym at) serves) (serves_stepped old new step none clear busy)
@@ -178,7 +178,7 @@ place_stepped Address track old new at step none clear busy =
 place_stepped Data track old new at step none clear busy =
     stepped_as (task.Track track) old new (λ serves. subst (λ place. IsBusyAt place new) (sym at) serves) (serves_stepped old new step none clear busy)
 
-front_stepped : (what : Task) (old new : Front) → StepsFront old new → old.board.controller.command ≡ [] → old.board.controller.non_dma ≡ false → IsBusyWith what old → IsStepped what old new
+front_stepped : (what : Task) (old new : Front) → StepsFront old new → old.adapter.controller.command ≡ [] → old.adapter.controller.non_dma ≡ false → IsBusyWith what old → IsStepped what old new
 front_stepped task.Sent old new step none clear (inl busy) = stepped_as task.Sent old new (λ serves. inl serves) (serves_stepped old new step none clear busy)
 front_stepped task.Sent old new step none clear (inr busy) = stepped_as task.Sent old new (λ executes. inr executes) (executes_stepped old new step none busy)
 front_stepped (task.Sought first) old new step none clear busy = stepped_as (task.Sought first) old new (λ executes. executes) (executes_stepped old new step none busy)
@@ -199,7 +199,7 @@ counts_step what old new is (inr over) = inr (counts_over old new is over)
 told_after : (b : Bool) (what : Task) (start between new : Front) → IsStepped what start between → new ≡ (if b then told_front between else between) → IsStepped what start new
 told_after true what start between new was is = record {
   at = counts_step what between new is was.at;
-  base = base_on start.board.controller between.board.controller new.board.controller was.base (counts_front_base between new was.base.command is);
+  base = base_on start.adapter.controller between.adapter.controller new.adapter.controller was.base (counts_front_base between new was.base.command is);
 }
 told_after false what start between new was is = subst (IsStepped what start) (sym is) was
 
@@ -211,7 +211,7 @@ swallows_one : (what : Task) (left now : ℕ) (start old new : Front) → IsStep
 swallows_one what left now start old new was one =
     swallows_after one.byte what left now start one.between new (record {
       at = takes_step what old one.byte one.between one.takes was.at;
-      base = base_on start.board.controller old.board.controller one.between.board.controller was.base (takes_front_base old one.byte one.between was.base.command one.takes);
+      base = base_on start.adapter.controller old.adapter.controller one.between.adapter.controller was.base (takes_front_base old one.byte one.between was.base.command one.takes);
     }) one.after
 
 swallows_many : (n : ℕ) (what : Task) (left now : ℕ) (start old new : Front) → IsStepped what start old → SwallowsBy n left old now new → IsStepped what start new
@@ -243,7 +243,7 @@ busy_step (task.Track track) old between new at basis was may =
 -- ---- of any chip
 
 -- its front rests, and the chip is as it was but for that
-stage_rests : (old new : ChipState) → IsSound old → is_busy old.stage ≡ false → RestsBehind new.front → IsBase old.front.board.controller new.front.board.controller → new.stage ≡ old.stage → new.count ≡ old.count
+stage_rests : (old new : ChipState) → IsSound old → is_busy old.stage ≡ false → RestsBehind new.front → IsBase old.front.adapter.controller new.front.adapter.controller → new.stage ≡ old.stage → new.count ≡ old.count
     → new.order ≡ old.order → IsSound new
 stage_rests old new sound idle rests base stage count order = stays_sound old new sound base stage count order (rests_at old.stage new.front idle rests)
 
@@ -256,7 +256,7 @@ gives_rests unit goal old set new stands front stage count order (sends, rest) =
     let (rests, base) = given_moves unit goal set.front new.front (subst Stands (sym front) stands) sends in
     record {
       rests = rests;
-      base = subst (λ (f : Front). IsBase f.board.controller new.front.board.controller) front base;
+      base = subst (λ (f : Front). IsBase f.adapter.controller new.front.adapter.controller) front base;
       stage = ap (λ (chip : ChipState). chip.stage) rest ∙ stage;
       count = ap (λ (chip : ChipState). chip.count) rest ∙ count;
       order = ap (λ (chip : ChipState). chip.order) rest ∙ order;
@@ -268,7 +268,7 @@ pulses_rest false pace old new stands pulses =
     let next : Pace = stepped (step_words old.settings) pace in
     gives_rests pace.unit (Some next.cylinder) old (record old { pace = Some next }) new stands refl refl refl refl pulses
 
-goes_rests : (b : Bool) (pace : Pace) (old new : ChipState) → old.front.board.controller.non_dma ≡ false → old.front.board.controller.command ≡ [] → RestsBehind old.front → is_due pace old ≡ b
+goes_rests : (b : Bool) (pace : Pace) (old new : ChipState) → old.front.adapter.controller.non_dma ≡ false → old.front.adapter.controller.command ≡ [] → RestsBehind old.front → is_due pace old ≡ b
     → GoesOnIf b pace old new → IsResting old new
 goes_rests true pace old new by_dma none rests due pulses =
     let waited = nat_le pace.wait 1 in
@@ -283,19 +283,19 @@ goes_rests true pace old new by_dma none rests due pulses =
       by_dma = by_dma;
     }) pulses
 goes_rests false pace old new by_dma none rests due is =
-    subst (IsResting old) (sym is) (record { rests = rests; base = base_same old.front.board.controller none; stage = refl; count = refl; order = refl })
+    subst (IsResting old) (sym is) (record { rests = rests; base = base_same old.front.adapter.controller none; stage = refl; count = refl; order = refl })
 
 -- what stands behind rests still
-paces_rest : (pace : Option Pace) (old new : ChipState) → old.front.board.controller.non_dma ≡ false → old.front.board.controller.command ≡ [] → RestsBehind old.front → Paces pace old new → IsResting old new
+paces_rest : (pace : Option Pace) (old new : ChipState) → old.front.adapter.controller.non_dma ≡ false → old.front.adapter.controller.command ≡ [] → RestsBehind old.front → Paces pace old new → IsResting old new
 paces_rest None old new by_dma none rests is =
-    subst (IsResting old) (sym is) (record { rests = rests; base = base_same old.front.board.controller none; stage = refl; count = refl; order = refl })
+    subst (IsResting old) (sym is) (record { rests = rests; base = base_same old.front.adapter.controller none; stage = refl; count = refl; order = refl })
 paces_rest (Some pace) old new by_dma none rests goes =
     let set = with_front (sensed_outside old.front) old in
     let (still, base) = front_sensed old.front none rests in
     let on = goes_rests (is_due pace set) pace set new (base.non_dma ∙ by_dma) base.command still refl goes in
     record {
       rests = on.rests;
-      base = base_on old.front.board.controller set.front.board.controller new.front.board.controller base on.base;
+      base = base_on old.front.adapter.controller set.front.adapter.controller new.front.adapter.controller base on.base;
       stage = on.stage;
       count = on.count;
       order = on.order;
@@ -307,7 +307,7 @@ stepped_rests old between new sound idle step paces =
     let on = paces_rest old.pace (with_front between old) new (base.non_dma ∙ sound.by_dma) base.command rests paces in
     record {
       rests = on.rests;
-      base = base_on old.front.board.controller between.board.controller new.front.board.controller base on.base;
+      base = base_on old.front.adapter.controller between.adapter.controller new.front.adapter.controller base on.base;
       stage = on.stage;
       count = on.count;
       order = on.order;
@@ -318,7 +318,7 @@ stepped_rests old between new sound idle step paces =
 ready_step : (b : Bool) (old set new : ChipState) → IsSound old → is_busy old.stage ≡ false → IsResting old set → new ≡ (if b then drained set else set) → IsSound new
 ready_step true old set new sound idle was is =
     let resting = drained_rests 4 set was.base.command was.rests in
-    subst IsSound (sym is) (stage_rests old (drained set) sound idle resting.rests (base_on old.front.board.controller set.front.board.controller (drained set).front.board.controller was.base resting.base)
+    subst IsSound (sym is) (stage_rests old (drained set) sound idle resting.rests (base_on old.front.adapter.controller set.front.adapter.controller (drained set).front.adapter.controller was.base resting.base)
     (resting.stage ∙ was.stage) (resting.count ∙ was.count) (resting.order ∙ was.order))
 ready_step false old set new sound idle was is = subst IsSound (sym is) (stage_rests old set sound idle was.rests was.base was.stage was.count was.order)
 

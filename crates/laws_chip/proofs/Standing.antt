@@ -21,11 +21,11 @@ use Rattle.laws_chip.specs.Beginning.{IsFreeBehind, IsOfFour}
 -- it takes the first byte of a command, and executes what comes: no seek bit is set, and SPECIFY's ND isn't
 pub record Stands (front : Front) : Type 0 where
   pub through : front.stage ≡ Through
-  pub takes : front.board.controller.phase ≡ Taking
-  pub none : front.board.controller.command ≡ []
-  pub free : is_held front.board.controller ≡ false
-  pub rests : seek_bits front.board.controller.seeks ≡ 0
-  pub by_dma : front.board.controller.non_dma ≡ false
+  pub takes : front.adapter.controller.phase ≡ Taking
+  pub none : front.adapter.controller.command ≡ []
+  pub free : is_held front.adapter.controller ≡ false
+  pub rests : seek_bits front.adapter.controller.seeks ≡ 0
+  pub by_dma : front.adapter.controller.non_dma ≡ false
 
 -- ---- what it is seen by
 
@@ -63,16 +63,16 @@ status_free fdc free takes none =
     ∙ (ap (λ phase. bit_or (phase_bits (is_begun fdc.command) phase) (seek_bits fdc.seeks)) takes
     ∙ ap (λ command. bit_or (phase_bits (is_begun command) Taking) (seek_bits fdc.seeks)) none)
 
-pub heads_stand : (front : Front) → front.stage ≡ Through → is_held front.board.controller ≡ false → front.board.controller.phase ≡ Taking → front.board.controller.command ≡ []
-    → IsOfFour front.board.controller.seeks.seek → moves_heads front ≡ false → seek_bits front.board.controller.seeks ≡ 0
+pub heads_stand : (front : Front) → front.stage ≡ Through → is_held front.adapter.controller ≡ false → front.adapter.controller.phase ≡ Taking → front.adapter.controller.command ≡ []
+    → IsOfFour front.adapter.controller.seeks.seek → moves_heads front ≡ false → seek_bits front.adapter.controller.seeks ≡ 0
 heads_stand front through free takes none few stands =
-    let fdc = front.board.controller in
+    let fdc = front.adapter.controller in
     let status = ap (λ stage. status_at stage fdc) through ∙ status_free fdc free takes none in
     no_seek fdc.seeks.seek few (sym (ap (λ value. bit_and value 0x0F == 0) status) ∙ not-false (bit_and (status_at front.stage fdc) 0x0F == 0) stands)
 
 pub stands_free : (front : Front) → IsFreeBehind front → Stands front
 stands_free front free =
-    let fdc = front.board.controller in
+    let fdc = front.adapter.controller in
     let (through, idle) = ready_through front.stage fdc free.ready in
     let (taking, first) = and_parts (is_taking fdc) (not (is_begun fdc.command)) idle in
     let (takes, unheld) = taking_phase fdc.phase (is_held fdc) taking in
@@ -87,20 +87,20 @@ stands_free front free =
     }
 
 -- it isn't held in reset
-pub ready_free : (front : Front) → is_ready front ≡ true → is_held front.board.controller ≡ false
+pub ready_free : (front : Front) → is_ready front ≡ true → is_held front.adapter.controller ≡ false
 ready_free front ready =
-    let fdc = front.board.controller in
+    let fdc = front.adapter.controller in
     let (through, idle) = ready_through front.stage fdc ready in
     (taking_phase fdc.phase (is_held fdc) (and_parts (is_taking fdc) (not (is_begun fdc.command)) idle).0).1
 
 -- ---- what follows
 
-pub stands_taking : (front : Front) → Stands front → is_taking front.board.controller ≡ true
+pub stands_taking : (front : Front) → Stands front → is_taking front.adapter.controller ≡ true
 stands_taking front stands =
-    let fdc = front.board.controller in
+    let fdc = front.adapter.controller in
     ap (λ phase. takes_in phase (is_held fdc)) stands.takes ∙ ap not stands.free
 
-pub stands_idle : (front : Front) → Stands front → is_idle front.board.controller ≡ true
+pub stands_idle : (front : Front) → Stands front → is_idle front.adapter.controller ≡ true
 stands_idle front stands =
-    let fdc = front.board.controller in
+    let fdc = front.adapter.controller in
     and_from (is_taking fdc) (not (is_begun fdc.command)) (stands_taking front stands) (ap (λ command. not (is_begun command)) stands.none)

@@ -18,7 +18,7 @@ use Rattle.laws_chip.specs.Told.{AddsCylinder, AreOfCylinder, LooksFor, LooksOrT
 -- ---- the results of a front that tells them
 
 pub results_wait : (front : Front) (results : Results) → front.stage ≡ behind.Telling results 0 → has_results front ≡ true
-results_wait front results is = ap (λ stage. bit_and (status_at stage front.board.controller) 0xC0 == 0xC0) is
+results_wait front results is = ap (λ stage. bit_and (status_at stage front.adapter.controller) 0xC0 == 0xC0) is
 
 pub results_are : (front : Front) (results : Results) → front.stage ≡ behind.Telling results 0 → results_behind front ≡ results
 results_are front results is = ap (λ stage. results_behind (record front { stage = stage })) is

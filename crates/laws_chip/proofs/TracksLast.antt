@@ -55,7 +55,7 @@ use Rattle.laws_chip.proofs.VerifiesLast.{IsWithin, none_within, one_within}
 -- of the search for the index and all sectors; of READ ID, its sector and those behind that; or of a sector and those behind
 abbrev LeavesAt : Place → ℕ → ℕ → Front → Type 0
 LeavesAt Index n left front = (here : ℕ) × Lasts here front × (here + 131328 * left ≤ n)
-LeavesAt Address n left front = steps_left front.board.controller.phase + (65792 + 131328 * left) ≤ n + 131328
+LeavesAt Address n left front = steps_left front.adapter.controller.phase + (65792 + 131328 * left) ≤ n + 131328
 LeavesAt Data n left front = (here : ℕ) × Lasts here front × (here + 131328 * left ≤ n + 131328)
 
 record Leaves (n : ℕ) (chip : ChipState) : Type 0 where
@@ -81,12 +81,12 @@ data_spent here n left one some few = omega arith
 
 -- while a sector is served a device step is left
 some_here : (here : ℕ) (front : Front) → ServesBehind front → Lasts here front → 1 ≤ here
-some_here here front serves lasts = lasts_some here front.stage serves.first serves.history front.board.controller serves.serves.now lasts serves.under_way
+some_here here front serves lasts = lasts_some here front.stage serves.first serves.history front.adapter.controller serves.serves.now lasts serves.under_way
 
 spent_at : (place : Place) (n left : ℕ) (front : Front) → IsBusyAt place front → 1 ≤ left → LeavesAt place n left front → SpentAt place n left
 spent_at Index n left front serves some (here, lasts, few) = index_spent here n left (some_here here front serves lasts) few
 spent_at Address n left front executes some few =
-    let phase = front.board.controller.phase in address_spent (steps_left phase) n left (left_some phase executes.executes executes.counted) some few
+    let phase = front.adapter.controller.phase in address_spent (steps_left phase) n left (left_some phase executes.executes executes.counted) some few
 spent_at Data n left front serves some (here, lasts, few) = data_spent here n left (some_here here front serves lasts) some few
 
 -- ---- it goes on
@@ -101,7 +101,7 @@ data_on : (here n left : ℕ) → 1 ≤ here → 1 ≤ left → here + 131328 * 
 data_on here n left one some few = omega arith
 
 -- the front's device step, behind which no results wait
-module _ (old between : Front) (step : StepsFront old between) (none : old.board.controller.command ≡ []) (clear : old.board.controller.non_dma ≡ false) (silent : has_results between ≡ false) where
+module _ (old between : Front) (step : StepsFront old between) (none : old.adapter.controller.command ≡ []) (clear : old.adapter.controller.non_dma ≡ false) (silent : has_results between ≡ false) where
   serves_on : (here : ℕ) → ServesBehind old → Lasts here old → Lasts (here - 1) between
   serves_on here was lasts = elim (serves_step old between step none clear was).0 [
     | inl still ↦ call_lasts behind.Steps here was.first was.history old between step (not_through between still.under_way) was.serves lasts
@@ -111,7 +111,7 @@ module _ (old between : Front) (step : StepsFront old between) (none : old.board
   leaves_on : (place : Place) (n left : ℕ) → IsBusyAt place old → 1 ≤ left → LeavesAt place n left old → LeavesAt place (n - 1) left between
   leaves_on Index n left was some (here, lasts, few) = (here - 1, serves_on here was lasts, index_on here n left (some_here here old was lasts) few)
   leaves_on Address n left was some few =
-      address_on (steps_left between.board.controller.phase) (steps_left old.board.controller.phase) n left (step_fewer old between step was) some few
+      address_on (steps_left between.adapter.controller.phase) (steps_left old.adapter.controller.phase) n left (step_fewer old between step was) some few
   leaves_on Data n left was some (here, lasts, few) = (here - 1, serves_on here was lasts, data_on here n left (some_here here old was lasts) some few)
 
 -- ---- a sector is given behind
@@ -134,12 +134,12 @@ first_bytes (Seeking at counted) first fdc (here, nothing) under bytes = subst H
 first_bytes (Moving moving) first fdc (here, counts, carries) under bytes = subst HasByteRecords here bytes
 
 sector_lasts : (unit : ℕ) (key : Chrn) (gap length : ℕ) (set new : Front) → Stands set → is_size key.n ≡ true → Sends (reading_one unit key gap length) set new → HasByteNumbers new.stage
-    → IsInRange new.board.controller → Lasts 65792 new
+    → IsInRange new.adapter.controller → Lasts 65792 new
 sector_lasts unit key gap length set new stands sized sends bytes range =
     let order = one_order unit key gap length in
     let (begins, carried) = order_begins read_one order set new stands refl sized sends in
     let first = transfer_sent read_one order in
-    let records = first_bytes new.stage first new.board.controller begins.serves.now carried.under_way bytes in
+    let records = first_bytes new.stage first new.adapter.controller begins.serves.now carried.under_way bytes in
     subst (λ n. Lasts n new) (one_sector unit key gap length) (first_lasts begins.byte first begins.start new begins.last records begins.writes begins.stays range)
 
 -- ---- what comes of results
@@ -150,7 +150,7 @@ looks_left steps n left few spent = omega arith
 -- READ ID looks for the next address field
 looks_leave : (n : ℕ) (track : Track) (old new : ChipState) → 1 ≤ track.left → 131328 * track.left ≤ n - 1 → LooksOn track old new → Leaves (n - 1) new
 looks_leave n track old new some spent (sends, rest) =
-    let phase = new.front.board.controller.phase in
+    let phase = new.front.adapter.controller.phase in
     record {
       track = record track { place = Address };
       at = ap (λ (chip : ChipState). chip.stage) rest;
@@ -215,7 +215,7 @@ data_leaves false n results track old new some spent tracks over looks =
 free_taken : (old : ChipState) (between : Front) → IsBasis old → StepsFront old.front between → IsBusyAt Address old.front → has_results between ≡ true → Stands (results_taken between)
 free_taken old between basis step executes waits =
     let (goes, base) = executes_step old.front between step basis.whole executes in
-    let free = base_held old.front.board.controller between.board.controller base ∙ basis.free in
+    let free = base_held old.front.adapter.controller between.adapter.controller base ∙ basis.free in
     elim goes [
       | inl still ↦ absurd (false≢true (sym (executes_none between free still) ∙ waits))
       | inr over ↦ (waits_taken between free base.command (base.non_dma ∙ basis.by_dma) over).0
@@ -359,9 +359,9 @@ leaves_within Address n left call track old new is sound at does none passing wa
     let kept = passing.kept in
     let same : stage_kind new.stage ≡ kind_of (task.Track track) = ap stage_kind kept.at ∙ ap place_kind kept.place in
     let on = single_call call (task.Track track) old new sound at was does (ap is_busy kept.at) same in
-    let phase = new.front.board.controller.phase in
-    as_many (steps_left phase) (steps_left old.front.board.controller.phase) (65792 + 131328 * left) (n + 131328)
-    (subst (λ steps. steps_left phase + steps ≤ steps_left old.front.board.controller.phase) none on.left) few
+    let phase = new.front.adapter.controller.phase in
+    as_many (steps_left phase) (steps_left old.front.adapter.controller.phase) (65792 + 131328 * left) (n + 131328)
+    (subst (λ steps. steps_left phase + steps ≤ steps_left old.front.adapter.controller.phase) none on.left) few
 leaves_within Data n left call track old new is sound at does none passing was now (here, lasts, few) =
     (here, serves_within here old.front new.front was lasts (passing.within now.under_way), few)
 
@@ -422,7 +422,7 @@ data_some here left n one some few = omega arith
 
 leaves_some : (place : Place) (n left : ℕ) (front : Front) → IsBusyAt place front → 1 ≤ left → LeavesAt place n left front → 0 < n
 leaves_some Index n left front serves some (here, lasts, few) = index_some here left n some few
-leaves_some Address n left front executes some few = address_some (steps_left front.board.controller.phase) left n some few
+leaves_some Address n left front executes some few = address_some (steps_left front.adapter.controller.phase) left n some few
 leaves_some Data n left front serves some (here, lasts, few) = data_some here left n (some_here here front serves lasts) some few
 
 steps_less : (steps more n : ℕ) → more < n - steps → steps + more < n

@@ -90,7 +90,7 @@ ignored_write port byte front here under = record {
 pub port_stage : (port value : ℕ) (old new : Front) → WritesFront port value old new → (port == 0x3F5) ≡ false → resets port value ≡ false → new.stage ≡ old.stage
 port_stage port value old new writes no_byte no_reset =
     let (wrote, is) = writes.others no_byte in
-    ap (λ front. front.stage) (subst (λ b. new ≡ record (reset_if b old) { board = new.board }) no_reset is)
+    ap (λ front. front.stage) (subst (λ b. new ≡ record (reset_if b old) { adapter = new.adapter }) no_reset is)
 
 pub writes_under : (port value : ℕ) (old new : Front) → is_under_way old.stage ≡ true → WritesFront port value old new → resets port value ≡ false → is_under_way new.stage ≡ true
 writes_under port value old new under writes no_reset = either_way (port == 0x3F5)

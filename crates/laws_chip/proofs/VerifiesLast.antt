@@ -39,7 +39,7 @@ use Rattle.laws_chip.proofs.UnderWay.{either_way, not_through}
 
 -- ---- a transfer
 
-pub transfer_last : (first : Transfer) (calls : List Call) (begun new : ChipState) → IsBegun first begun → HasByteRecords first → IsInRange begun.front.board.controller → AreServed calls begun new → steps_in calls < most_steps first
+pub transfer_last : (first : Transfer) (calls : List Call) (begun new : ChipState) → IsBegun first begun → HasByteRecords first → IsInRange begun.front.adapter.controller → AreServed calls begun new → steps_in calls < most_steps first
 transfer_last first calls begun new is bytes range served =
     let passed = all_passed calls begun new served is.serving in
     let begins = is.begins in
@@ -96,7 +96,7 @@ then_within first second old between new one two = record {
 
 -- where a command is under way behind a byte it was before
 takes_back : (stage : FrontStage) (byte : Option ℕ) (old new : Front) → old.stage ≡ stage → is_under_way new.stage ≡ true → TakesAt stage old byte new → is_under_way stage ≡ true
-takes_back Through byte old new at under (board, is) = sym (ap is_under_way (ap (λ (front : Front). front.stage) is ∙ at)) ∙ under
+takes_back Through byte old new at under (adapter, is) = sym (ap is_under_way (ap (λ (front : Front). front.stage) is ∙ at)) ∙ under
 takes_back (Collecting opcode) byte old new at under (none, is) = sym (ap is_under_way (ap (λ (front : Front). front.stage) is ∙ at)) ∙ under
 takes_back (Telling results read) byte old new at under (none, is) = sym (ap is_under_way (ap (λ (front : Front). front.stage) is ∙ at)) ∙ under
 takes_back (Seeking transfer counted) byte old new at under takes = refl
@@ -228,7 +228,7 @@ all_within (call ∷ calls) old new was (between, does, still, rest) =
     let more = all_within calls between new still rest in
     record { under_way = more.under_way; within = then_within (steps_of call) (steps_in calls) old.front between.front new.front (call_within call was.left old between was.verifies does still) more.within }
 
-pub verify_last : (first : Transfer) (calls : List Call) (begun new : ChipState) → BeginsBehind first begun.front → IsVerifying begun → HasByteRecords first → IsInRange begun.front.board.controller
+pub verify_last : (first : Transfer) (calls : List Call) (begun new : ChipState) → BeginsBehind first begun.front → IsVerifying begun → HasByteRecords first → IsInRange begun.front.adapter.controller
     → AreVerified calls begun new → steps_in calls < most_steps first
 verify_last first calls begun new begins was bytes range verified =
     let are = all_within calls begun new was verified in

@@ -72,7 +72,7 @@ record IsAttended (code : Code) (set new : ChipState) : Type 0 where
 
 free_of : (front : Front) → Stands front → RestsBehind front → moves_heads front ≡ false → IsFreeBehind front
 free_of front stands rests still = record {
-  ready = ap (λ stage. is_ready_at stage front.board.controller) stands.through ∙ stands_idle front stands;
+  ready = ap (λ stage. is_ready_at stage front.adapter.controller) stands.through ∙ stands_idle front stands;
   stands = still;
   seek = rests.seek;
   by_dma = stands.by_dma;

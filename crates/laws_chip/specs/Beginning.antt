@@ -32,8 +32,8 @@ IsOfFour (Some seek) = seek.drive < 4
 pub record IsFreeBehind (front : Front) : Type 0 where
   pub ready : is_ready front ≡ true
   pub stands : moves_heads front ≡ false
-  pub seek : IsOfFour front.board.controller.seeks.seek
-  pub by_dma : front.board.controller.non_dma ≡ false
+  pub seek : IsOfFour front.adapter.controller.seeks.seek
+  pub by_dma : front.adapter.controller.non_dma ≡ false
 
 -- the command that nine bytes spell, at its first sector
 abbrev pub transfer_sent : Opcode → Order → Transfer

@@ -44,7 +44,7 @@ pub record IsTracking (chip : ChipState) : Type 0 where
   pub track : Track
   pub reads : chip.stage ≡ Busy (task.Track track)
   pub bytes : HasByteNumbers chip.front.stage
-  pub range : IsInRange chip.front.board.controller
+  pub range : IsInRange chip.front.adapter.controller
 
 -- these calls, behind each of which it is
 abbrev pub AreTracked : List Call → ChipState → ChipState → Type 0

@@ -27,8 +27,8 @@ use Rattle.laws_chip.specs.Beginning.{IsOfFour}
 -- nothing is done there: the controller takes commands, or is held in reset
 pub record RestsBehind (front : Front) : Type 0 where
   pub through : front.stage ≡ Through
-  pub takes : front.board.controller.phase ≡ Taking
-  pub seek : IsOfFour front.board.controller.seeks.seek
+  pub takes : front.adapter.controller.phase ≡ Taking
+  pub seek : IsOfFour front.adapter.controller.seeks.seek
 
 -- a command of the controller's own that isn't of a sector
 abbrev pub is_single : Task → Bool
@@ -43,9 +43,9 @@ executes_single _ = false
 -- the controller executes a READ ID or a FORMAT TRACK, of which fewer than 65,536 device steps were made, and no seek bit is set
 pub record ExecutesBehind (front : Front) : Type 0 where
   pub through : front.stage ≡ Through
-  pub executes : executes_single front.board.controller.phase ≡ true
-  pub counted : IsCounted front.board.controller.phase
-  pub rests : seek_bits front.board.controller.seeks ≡ 0
+  pub executes : executes_single front.adapter.controller.phase ≡ true
+  pub counted : IsCounted front.adapter.controller.phase
+  pub rests : seek_bits front.adapter.controller.seeks ≡ 0
 
 -- while the heads seek first the controller executes nothing
 abbrev pub WaitsForHeads : Stage → Phase → Type 0
@@ -58,7 +58,7 @@ pub record ServesBehind (front : Front) : Type 0 where
   pub first : Transfer
   pub history : History
   pub serves : Serves first history front
-  pub waits : WaitsForHeads front.stage front.board.controller.phase
+  pub waits : WaitsForHeads front.stage front.adapter.controller.phase
 
 -- ---- the chip
 
@@ -82,11 +82,11 @@ IsSoundAt _ front = RestsBehind front
 
 pub record IsSound (chip : ChipState) : Type 0 where
   -- SPECIFY's ND is never set behind
-  pub by_dma : chip.front.board.controller.non_dma ≡ false
+  pub by_dma : chip.front.adapter.controller.non_dma ≡ false
   -- no byte of a command waits there
-  pub whole : chip.front.board.controller.command ≡ []
+  pub whole : chip.front.adapter.controller.command ≡ []
   -- held in reset nothing is under way, and no byte of a command came
-  pub held : is_held chip.front.board.controller ≡ true → (chip.stage ≡ Ready) × (chip.count ≡ 0)
+  pub held : is_held chip.front.adapter.controller ≡ true → (chip.stage ≡ Ready) × (chip.count ≡ 0)
   -- bytes of a command come while nothing is under way
   pub comes : (chip.count == 0) ≡ false → chip.stage ≡ Ready
   -- its code is a byte

@@ -21,7 +21,7 @@ ghost use Rattle.laws_chip.specs.Sound.{ExecutesBehind, IsSound};
 pub fn each_command_ends()
     ensures single { (task : Task) (calls : List Call) (old new : ChipState) → IsSound old → old.stage ≡ Busy task → ExecutesBehind old.front → AreAt (Busy task) calls old new
         → steps_in calls < 65536 }
-    ensures transfer { (first : Transfer) (calls : List Call) (begun new : ChipState) → IsBegun first begun → HasByteRecords first → IsInRange begun.front.board.controller
+    ensures transfer { (first : Transfer) (calls : List Call) (begun new : ChipState) → IsBegun first begun → HasByteRecords first → IsInRange begun.front.adapter.controller
         → AreServed calls begun new → steps_in calls < most_steps first }
 {}
 
@@ -33,7 +33,7 @@ pub fn a_verify_ends()
     ensures verifies { (opcode : Opcode) (old new : ChipState) → opcode_of (verifying old.order).code ≡ Some opcode → is_size old.order.key.n ≡ true → IsFreeBehind old.front
         → Obeys (VerifyCode true) old new → IsVerifying new }
     ensures within { (first : Transfer) (calls : List Call) (begun new : ChipState) → BeginsBehind first begun.front → IsVerifying begun → HasByteRecords first
-        → IsInRange begun.front.board.controller → AreVerified calls begun new → steps_in calls < most_steps first }
+        → IsInRange begun.front.adapter.controller → AreVerified calls begun new → steps_in calls < most_steps first }
 {}
 
 /// A READ TRACK ends in 65,792 device steps for the index, and 131,328 for each of its sectors, READ ID before it among them, whatever

@@ -1,7 +1,7 @@
 // A command of several sectors and the medium under it. The bodies are empty: the contracts say what follows from what each call
 // does.
 ghost use Rattle.std.specs.Prelude.{◌≡◌, ◌++◌, ◌∷◌, [], Bool, Some, List};
-ghost use Rattle.fdc_board.specs.Boards.{drive_at};
+ghost use Rattle.fdc_adapter.specs.Adapters.{drive_at};
 ghost use Rattle.fdc_commands.specs.declared.results.Results.{Results};
 ghost use Rattle.fdc_sequencer.specs.declared.opcode.Operation.TheVariants.{Read, Write};
 ghost use Rattle.fdc_sequencer.specs.declared.stage.Stage.TheVariants as behind;
@@ -27,5 +27,5 @@ pub fn what_is_written_stands_on_the_medium()
     ensures { (place : Place) (deleted : Bool) (first : Transfer) (calls : List Call) (begun last new : ChipState) (served : AreServed calls begun last) (step : StepsChip last new)
         (results : Results) → first.opcode.operation ≡ Write deleted → IsBegun first begun → step.between.stage ≡ behind.Telling results 0
         → (moves : IsServed first calls begun last new served step results) → KeepsIn place (moves.all ++ Steps ∷ []) begun.front step.between moves.within
-        → (drive_at begun.front.board place.bay).medium ≡ Some place.disk → IsWrittenTo place deleted first moves.moved.history results step.between }
+        → (drive_at begun.front.adapter place.bay).medium ≡ Some place.disk → IsWrittenTo place deleted first moves.moved.history results step.between }
 {}

@@ -20,7 +20,7 @@ media_serve old new keeps first history serves = (
   record {
     sized = serves.sized;
     parts = serves.parts;
-    now = subst (λ stage. ServesAt stage first history new.board.controller) (sym keeps.stage) (subst (ServesAt old.stage first history) (sym keeps.controller) serves.now);
+    now = subst (λ stage. ServesAt stage first history new.adapter.controller) (sym keeps.stage) (subst (ServesAt old.stage first history) (sym keeps.controller) serves.now);
   },
 )
 
@@ -36,7 +36,7 @@ strap_serves on old new is first history serves = (
 -- a step leaves a stage in which each access is the controller's
 through_before : (old new : Front) → StepsFront old new → old.stage ≡ Through → new.stage ≡ Through
 through_before old new step through =
-    let same : new ≡ record old { board = step.between } = subst (λ stage. FollowsStep stage (record old { board = step.between }) new) through step.follows in
+    let same : new ≡ record old { adapter = step.between } = subst (λ stage. FollowsStep stage (record old { adapter = step.between }) new) through step.follows in
     ap (λ front. front.stage) same ∙ through
 
 -- one call more

@@ -42,7 +42,7 @@ use Rattle.fdc_core.specs.Writes.{WritesIn, WritesTask}
 use Rattle.fdc_core.specs.Writing.{WriteDoes, after_next, without_byte}
 use Rattle.fdc_core.specs.declared.controller.Fdc.{Fdc}
 use Rattle.fdc_core.specs.declared.controller.Lines.{Lines}
-use Rattle.fdc_board.specs.Boards.{BoardState, StepsBoard, selected_at}
+use Rattle.fdc_adapter.specs.Adapters.{AdapterState, StepsAdapter, selected_at}
 use Rattle.fdc_sequencer.specs.Transfers.{command_for, command_of, next_cylinder, next_of, next_record, other_head, transfer_of, transfer_with}
 use Rattle.fdc_sequencer.specs.declared.opcode.Opcode.{Opcode}
 use Rattle.fdc_sequencer.specs.declared.opcode.Operation.{Operation}
@@ -128,7 +128,7 @@ nowhere_seeks deleted past sent (Execute execution) asking fifo polls new busy d
     in_task (WriteTask writing) head_drive steps does was = in_write head_drive steps writing does
     in_task _ head_drive steps does was = absurd was
 
-step_seeks : (operation : Operation) (past : Past) (sent : Sent) (old new : BoardState) → StepsBoard old new → is_executing old.controller.phase ≡ true → MayMove operation past sent old.controller
+step_seeks : (operation : Operation) (past : Past) (sent : Sent) (old new : AdapterState) → StepsAdapter old new → is_executing old.controller.phase ≡ true → MayMove operation past sent old.controller
     → new.controller.seeks ≡ (polled old.controller).seeks
 step_seeks (Read wanted skip) past sent old new steps busy was =
     let fdc = old.controller in
@@ -156,14 +156,14 @@ same_bits : (old new : Seeking) → new.seek ≡ old.seek → seek_bits new ≡ 
 same_bits old new same = ap (λ seek. seek_bits (record old { seek = seek })) same
 
 -- SPECIFY's ND stays
-pub step_dma : (old new : BoardState) → StepsBoard old new → new.controller.non_dma ≡ old.controller.non_dma
+pub step_dma : (old new : AdapterState) → StepsAdapter old new → new.controller.non_dma ≡ old.controller.non_dma
 step_dma old new steps = elim (which_drive (selected_at old)) [
   | inl at ↦ (steps.at_first at).0.stays.non_dma
   | inr (inl at) ↦ (steps.at_second at).0.stays.non_dma
   | inr (inr at) ↦ (steps.at_none at).0.stays.non_dma
 ]
 
-pub step_free : (operation : Operation) (past : Past) (sent : Sent) (old new : BoardState) → StepsBoard old new → is_executing old.controller.phase ≡ true → MayMove operation past sent old.controller
+pub step_free : (operation : Operation) (past : Past) (sent : Sent) (old new : AdapterState) → StepsAdapter old new → is_executing old.controller.phase ≡ true → MayMove operation past sent old.controller
     → IsFree old.controller → IsFree new.controller
 step_free operation past sent old new steps busy was free =
     let fdc = old.controller in

@@ -16,7 +16,7 @@ use Rattle.fdc_core.specs.declared.controller.Fdc.{Fdc}
 use Rattle.fdc_core.specs.declared.controller.Lines.{Lines}
 use Rattle.fdc_phases.specs.declared.phases.Phase.{Phase}
 use Rattle.fdc_phases.specs.declared.phases.Phase.TheVariants.{Command, Execute, Result}
-use Rattle.fdc_board.specs.Boards.{BoardState, StepsBoard, WritesBoard, lines_at, selected_at}
+use Rattle.fdc_adapter.specs.Adapters.{AdapterState, StepsAdapter, WritesAdapter, lines_at, selected_at}
 use Rattle.laws_sequencer.specs.Calls as call
 use Rattle.laws_sequencer.specs.Calls.{Call, Does, Waits, WaitsAt}
 use Rattle.fdc_sequencer.specs.Fronts.{BeginsSector, CollectsAs, Front, GivesAt, PassesAs, Starts, StartsIf, TakesAt, TakesByte, WritesFront, begins_with, begun_if, byte_given, count_told, reset_if}
@@ -46,8 +46,8 @@ idle_stays : (track0 : Bool) (old new : Fdc) → is_idle old ≡ true → RestsI
 idle_stays track0 old new idle rests =
     rest_idle track0 (polled old).phase (polled old) new refl (polled_idle (old.poll_due && not (is_held old)) old ∙ idle) rests
 
-board_idle : (old new : BoardState) → StepsBoard old new → is_idle old.controller ≡ true → is_idle new.controller ≡ true
-board_idle old new steps idle = elim (which_drive (selected_at old)) [
+adapter_idle : (old new : AdapterState) → StepsAdapter old new → is_idle old.controller ≡ true → is_idle new.controller ≡ true
+adapter_idle old new steps idle = elim (which_drive (selected_at old)) [
   | inl at ↦ idle_stays (old.first.cylinder == 0) old.controller new.controller idle (steps.at_first at).0.rests
   | inr (inl at) ↦ idle_stays (old.second.cylinder == 0) old.controller new.controller idle (steps.at_second at).0.rests
   | inr (inr at) ↦ idle_stays false old.controller new.controller idle (steps.at_none at).0.rests
@@ -81,11 +81,11 @@ port_idle port value lines old new writes no_byte no_reset idle =
 
 -- ---- what is done in front
 
-at_stage : (stage : Stage) (new : Front) → new.stage ≡ stage → WaitsAt stage new.board.controller → Waits new
-at_stage stage new is waits = subst (λ s. WaitsAt s new.board.controller) (sym is) waits
+at_stage : (stage : Stage) (new : Front) → new.stage ≡ stage → WaitsAt stage new.adapter.controller → Waits new
+at_stage stage new is waits = subst (λ s. WaitsAt s new.adapter.controller) (sym is) waits
 
 same_waits : (old new : Front) → new ≡ old → Waits old → Waits new
-same_waits old new is waits = subst (λ front. WaitsAt front.stage front.board.controller) (sym is) waits
+same_waits old new is waits = subst (λ front. WaitsAt front.stage front.adapter.controller) (sym is) waits
 
 begins_waits : (at : Transfer) (counted passed_over : Bool) (old new : Front) → BeginsSector at counted passed_over old new → Waits new
 begins_waits at counted passed_over old new begins = by_busy _ begins.begun
@@ -113,7 +113,7 @@ ends_waits Late moving old new ends = at_stage _ new (ap (λ front. front.stage)
 
 moves_waits : (ending : Option Ending) (moving : MovingSector) (old new : Front) → old.stage ≡ Moving moving → MovesOn ending moving old new → Waits new
 moves_waits (Some ending) moving old new stage_is moves = ends_waits ending moving _ new moves
-moves_waits None moving old new stage_is moves = by_mark (is_unwanted moving (mark_of old.board.controller)) moves
+moves_waits None moving old new stage_is moves = by_mark (is_unwanted moving (mark_of old.adapter.controller)) moves
   where
     by_mark : (b : Bool) → new ≡ passed_over_if b moving old → Waits new
     by_mark true is = at_stage _ new (ap (λ front. front.stage) is) tt
@@ -123,13 +123,13 @@ seeks_waits : (b : Bool) (at : Transfer) (counted : Bool) (old new : Front) → 
 seeks_waits true at counted old new stage_is seeks = begins_waits _ _ _ _ new seeks
 seeks_waits false at counted old new stage_is is = at_stage (Seeking at counted) new (ap (λ front. front.stage) is ∙ stage_is) tt
 
-step_waits : (stage : Stage) (old : Front) (between : BoardState) (new : Front) → old.stage ≡ stage → WaitsAt stage old.board.controller → StepsBoard old.board between
-    → FollowsStep stage (record old { board = between }) new → Waits new
+step_waits : (stage : Stage) (old : Front) (between : AdapterState) (new : Front) → old.stage ≡ stage → WaitsAt stage old.adapter.controller → StepsAdapter old.adapter between
+    → FollowsStep stage (record old { adapter = between }) new → Waits new
 step_waits Through old between new stage_is waits steps is = at_stage Through new (ap (λ front. front.stage) is ∙ stage_is) tt
 step_waits (Collecting opcode) old between new stage_is waits steps is =
-    at_stage (Collecting opcode) new (ap (λ front. front.stage) is ∙ stage_is) (ap (λ front. is_idle front.board.controller) is ∙ board_idle old.board between steps waits)
-step_waits (Seeking at counted) old between new stage_is waits steps follows = seeks_waits (has_ended_seek between.controller.seeks) at counted (record old { board = between }) new stage_is follows
-step_waits (Moving moving) old between new stage_is waits steps follows = moves_waits (judged_if moving (ending_told between.controller)) moving (record old { board = between }) new stage_is follows
+    at_stage (Collecting opcode) new (ap (λ front. front.stage) is ∙ stage_is) (ap (λ front. is_idle front.adapter.controller) is ∙ adapter_idle old.adapter between steps waits)
+step_waits (Seeking at counted) old between new stage_is waits steps follows = seeks_waits (has_ended_seek between.controller.seeks) at counted (record old { adapter = between }) new stage_is follows
+step_waits (Moving moving) old between new stage_is waits steps follows = moves_waits (judged_if moving (ending_told between.controller)) moving (record old { adapter = between }) new stage_is follows
 step_waits (Telling results read) old between new stage_is waits steps is = at_stage (Telling results read) new (ap (λ front. front.stage) is ∙ stage_is) tt
 
 -- ---- the channel
@@ -174,9 +174,9 @@ begun_idle : (b : Bool) (byte : ℕ) (opcode : Opcode) → (if b then opcode_of 
 begun_idle true byte opcode is = refl
 begun_idle false byte opcode is = absurd (cc is)
 
-passes_waits : (opcode : Option Opcode) (byte : ℕ) (old new : Front) → old.stage ≡ Through → begins_with byte old.board.controller ≡ opcode → PassesAs opcode byte old new → Waits new
+passes_waits : (opcode : Option Opcode) (byte : ℕ) (old new : Front) → old.stage ≡ Through → begins_with byte old.adapter.controller ≡ opcode → PassesAs opcode byte old new → Waits new
 passes_waits (Some opcode) byte old new stage_is begins is =
-    at_stage (Collecting opcode) new (ap (λ front. front.stage) is) (ap (λ front. is_idle front.board.controller) is ∙ begun_idle (is_idle old.board.controller) byte opcode begins)
+    at_stage (Collecting opcode) new (ap (λ front. front.stage) is) (ap (λ front. is_idle front.adapter.controller) is ∙ begun_idle (is_idle old.adapter.controller) byte opcode begins)
 passes_waits None byte old new stage_is begins (writes, is) = at_stage Through new (ap (λ front. front.stage) is ∙ stage_is) tt
 
 starts_waits : (transfer : Option Transfer) (old new : Front) → Starts transfer old new → Waits new
@@ -191,24 +191,24 @@ starts_waits (Some transfer) old new starts = by_seek (old.strapped || old.confi
     by_seek true seeks = by_idle _ (ap (λ front. front.stage) seeks.begun)
     by_seek false begins = begins_waits _ _ _ old new begins
 
-collects_waits : (accepted : Accepted) (opcode : Opcode) (old new : Front) → old.stage ≡ Collecting opcode → is_idle old.board.controller ≡ true → CollectsAs opcode accepted old new → Waits new
-collects_waits More opcode old new stage_is idle is = at_stage (Collecting opcode) new (ap (λ front. front.stage) is ∙ stage_is) (ap (λ front. is_idle front.board.controller) is ∙ idle)
+collects_waits : (accepted : Accepted) (opcode : Opcode) (old new : Front) → old.stage ≡ Collecting opcode → is_idle old.adapter.controller ≡ true → CollectsAs opcode accepted old new → Waits new
+collects_waits More opcode old new stage_is idle is = at_stage (Collecting opcode) new (ap (λ front. front.stage) is ∙ stage_is) (ap (λ front. is_idle front.adapter.controller) is ∙ idle)
 collects_waits (Ready command) opcode old new stage_is idle starts = starts_waits (transfer_of opcode command) old new starts
 collects_waits Invalid opcode old new stage_is idle refuses = at_stage Through new (ap (λ front. front.stage) refuses.after) tt
 
-byte_waits : (stage : Stage) (byte : ℕ) (old new : Front) → old.stage ≡ stage → WaitsAt stage old.board.controller → Waits old → TakesByte stage byte old new → Waits new
-byte_waits Through byte old new stage_is here waits passes = passes_waits (begins_with byte old.board.controller) byte old new stage_is refl passes
+byte_waits : (stage : Stage) (byte : ℕ) (old new : Front) → old.stage ≡ stage → WaitsAt stage old.adapter.controller → Waits old → TakesByte stage byte old new → Waits new
+byte_waits Through byte old new stage_is here waits passes = passes_waits (begins_with byte old.adapter.controller) byte old new stage_is refl passes
 byte_waits (Collecting opcode) byte old new stage_is idle waits collects =
     let bytes = old.bytes ++ byte ∷ [] in collects_waits (answer bytes) opcode (record old { bytes = kept (answer bytes) bytes }) new stage_is idle collects
 byte_waits (Seeking at counted) byte old new stage_is here waits is = same_waits old new is waits
 byte_waits (Moving moving) byte old new stage_is here waits is = same_waits old new is waits
 byte_waits (Telling results read) byte old new stage_is here waits is = same_waits old new is waits
 
-port_waits : (stage : Stage) (port value : ℕ) (old new : Front) → old.stage ≡ stage → WaitsAt stage old.board.controller → (port == 0x3F5) ≡ false → resets port value ≡ false
-    → WritesBoard port value old.board new.board → new.stage ≡ old.stage → Waits new
+port_waits : (stage : Stage) (port value : ℕ) (old new : Front) → old.stage ≡ stage → WaitsAt stage old.adapter.controller → (port == 0x3F5) ≡ false → resets port value ≡ false
+    → WritesAdapter port value old.adapter new.adapter → new.stage ≡ old.stage → Waits new
 port_waits Through port value old new stage_is here no_byte no_reset wrote same = at_stage Through new (same ∙ stage_is) tt
 port_waits (Collecting opcode) port value old new stage_is idle no_byte no_reset wrote same =
-    at_stage (Collecting opcode) new (same ∙ stage_is) (port_idle port value (lines_at old.board) old.board.controller new.board.controller wrote.writes no_byte no_reset idle)
+    at_stage (Collecting opcode) new (same ∙ stage_is) (port_idle port value (lines_at old.adapter) old.adapter.controller new.adapter.controller wrote.writes no_byte no_reset idle)
 port_waits (Seeking at counted) port value old new stage_is here no_byte no_reset wrote same = at_stage (Seeking at counted) new (same ∙ stage_is) tt
 port_waits (Moving moving) port value old new stage_is here no_byte no_reset wrote same = at_stage (Moving moving) new (same ∙ stage_is) tt
 port_waits (Telling results read) port value old new stage_is here no_byte no_reset wrote same = at_stage (Telling results read) new (same ∙ stage_is) tt
@@ -216,7 +216,7 @@ port_waits (Telling results read) port value old new stage_is here no_byte no_re
 writes_waits : (port value : ℕ) (old new : Front) → WritesFront port value old new → Waits old → Waits new
 writes_waits port value old new writes waits = by_port (port == 0x3F5) refl
   where
-    by_reset : (b : Bool) → (port == 0x3F5) ≡ false → resets port value ≡ b → WritesBoard port value old.board new.board → new ≡ record (reset_if b old) { board = new.board } → Waits new
+    by_reset : (b : Bool) → (port == 0x3F5) ≡ false → resets port value ≡ b → WritesAdapter port value old.adapter new.adapter → new ≡ record (reset_if b old) { adapter = new.adapter } → Waits new
     by_reset true no_byte reset wrote is = at_stage Through new (ap (λ front. front.stage) is) tt
     by_reset false no_byte no_reset wrote is = port_waits old.stage port value old new refl waits no_byte no_reset wrote (ap (λ front. front.stage) is)
 

@@ -39,7 +39,7 @@ use Rattle.fdc_phases.specs.declared.transfers.Writing.{Writing}
 use Rattle.fdc_core.proofs.MayRead.{out_reads, told_reads}
 use Rattle.fdc_core.proofs.MayWrite.{in_writes, told_writes, writes_on}
 use Rattle.fdc_phases.proofs.AtFirst.{rule_room}
-use Rattle.fdc_board.specs.Boards.{BoardState, StepsBoard, selected_at}
+use Rattle.fdc_adapter.specs.Adapters.{AdapterState, StepsAdapter, selected_at}
 use Rattle.laws_sequencer.specs.Serving.{IsNowhere, IsTimeOf, MayMove, PassesAt, StopsAtEnd, bytes_moved}
 use Rattle.fdc_sequencer.specs.declared.opcode.Operation.{Operation}
 use Rattle.fdc_sequencer.specs.declared.opcode.Operation.TheVariants.{Read, Write}
@@ -96,7 +96,7 @@ polled_rate true old = refl
 polled_rate false old = refl
 
 -- the drive that is selected
-module _ (head : ℕ) (old new : BoardState) where
+module _ (head : ℕ) (old new : AdapterState) where
   at_first_drive : selected_at old ≡ 0 → (time : WordTime) → IsTime time old.controller.rate head old.first new.first × StopsAtEnd time new.controller
       → PassesAt (selected_at old) head time old new
   at_first_drive at time is = record { at_first = λ same. is; at_second = λ other. absurd (omega (arith, at, other)); at_none = λ more. absurd (omega (arith, at, more)) }
@@ -143,7 +143,7 @@ read_seen past sent (Execute execution) asking fifo rate fdc before after word b
     }
     in_task _ head_drive steps was sees moves = absurd was
 
-reads_on : (wanted skip : Bool) (past : Past) (sent : Sent) (old new : BoardState) → StepsBoard old new → is_executing old.controller.phase ≡ true
+reads_on : (wanted skip : Bool) (past : Past) (sent : Sent) (old new : AdapterState) → StepsAdapter old new → is_executing old.controller.phase ≡ true
     → MayMove (Read wanted skip) past sent old.controller → KnownOn (Read wanted skip) past sent (mark_of old.controller) (λ time. IsTimeOf (Read wanted skip) time × PassesAt (selected_at old) (head_of sent.head_drive) time old new) new.controller
 reads_on wanted skip past sent old new steps busy was =
     let fdc = old.controller in
@@ -302,10 +302,10 @@ module _ (deleted : Bool) (past : Past) (sent : Sent) (mark : Option Bool) (befo
   nowhere_polled true old new busy does was = nowhere_in old.phase (record old { poll_due = false; interrupt = true; seeks = with_polls old.seeks }) new busy does was
   nowhere_polled false old new busy does was = nowhere_in old.phase old new busy does was
 
-writes_on_board : (deleted : Bool) (past : Past) (sent : Sent) (old new : BoardState) → StepsBoard old new → is_executing old.controller.phase ≡ true
+writes_on_adapter : (deleted : Bool) (past : Past) (sent : Sent) (old new : AdapterState) → StepsAdapter old new → is_executing old.controller.phase ≡ true
     → MayMove (Write deleted) past sent old.controller
     → KnownOn (Write deleted) past sent (mark_of old.controller) (λ time. PassesAt (selected_at old) (head_of sent.head_drive) time old new) new.controller
-writes_on_board deleted past sent old new steps busy was =
+writes_on_adapter deleted past sent old new steps busy was =
     let fdc = old.controller in
     let head = head_of sent.head_drive in
     let Is : WordTime → Type 0 = λ time. PassesAt (selected_at old) head time old new in
@@ -322,13 +322,13 @@ writes_on_board deleted past sent old new steps busy was =
     ]
 
 -- behind a device step of a data command: what passed in it under the sector's head, and with it added the same is known
-pub steps_on : (operation : Operation) (past : Past) (sent : Sent) (old new : BoardState) → StepsBoard old new → is_executing old.controller.phase ≡ true
+pub steps_on : (operation : Operation) (past : Past) (sent : Sent) (old new : AdapterState) → StepsAdapter old new → is_executing old.controller.phase ≡ true
     → MayMove operation past sent old.controller
     → KnownOn operation past sent (mark_of old.controller) (λ time. IsTimeOf operation time × PassesAt (selected_at old) (head_of sent.head_drive) time old new) new.controller
 steps_on (Read wanted skip) past sent old new steps busy was = reads_on wanted skip past sent old new steps busy was
 steps_on (Write deleted) past sent old new steps busy was =
     known_as (Write deleted) past sent (mark_of old.controller) (λ time. IsTimeOf (Write deleted) time × PassesAt (selected_at old) (head_of sent.head_drive) time old new)
-    (λ time. PassesAt (selected_at old) (head_of sent.head_drive) time old new) new.controller (λ time is. (tt, is)) (writes_on_board deleted past sent old new steps busy was)
+    (λ time. PassesAt (selected_at old) (head_of sent.head_drive) time old new) new.controller (λ time is. (tt, is)) (writes_on_adapter deleted past sent old new steps busy was)
 
 -- ---- the terminal count
 

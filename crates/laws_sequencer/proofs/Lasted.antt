@@ -25,7 +25,7 @@ use Rattle.fdc_core.specs.Steps.{EndsIn, IsCounted, steps_left}
 use Rattle.fdc_core.specs.Whole.{TakesWhole, ending_told, is_idle, mark_of}
 use Rattle.fdc_core.specs.declared.controller.Fdc.{Fdc}
 use Rattle.fdc_core.specs.declared.controller.Lines.{Lines}
-use Rattle.fdc_board.specs.Boards.{BoardState, StepsBoard, WritesBoard, lines_at, selected_at}
+use Rattle.fdc_adapter.specs.Adapters.{AdapterState, StepsAdapter, WritesAdapter, lines_at, selected_at}
 use Rattle.fdc_sequencer.specs.Fronts.{BeginsSector, CollectsAs, Front, GivesAt, SeeksFirst, Starts, StartsIf, TakesAt, TakesByte, WritesFront, begun_if, byte_given, count_told, passed_one, reset_if, told_if}
 use Rattle.fdc_sequencer.specs.Moves.{EndsIf, EndsSector, FollowsStep, MovesOn, SeeksOn, goes_on, has_met_other, is_unwanted, judged_if, passed_over_if, results_behind, results_failed, would_go_on}
 use Rattle.fdc_sequencer.specs.Transfers.{is_last, next_of}
@@ -44,12 +44,12 @@ use Rattle.laws_sequencer.proofs.Known.{SameCommand, clash, either_way, port_sam
 use Rattle.laws_sequencer.proofs.Started.{begun_busy}
 use Rattle.laws_sequencer.proofs.Whole.{begins_served}
 use Rattle.laws_sequencer.proofs.Sectors.{next_bytes, sectors_next, sectors_some}
-use Rattle.laws_sequencer.proofs.Sought.{NearsEnd, board_seeks, seek_few, seek_left, seek_some}
+use Rattle.laws_sequencer.proofs.Sought.{NearsEnd, adapter_seeks, seek_few, seek_left, seek_some}
 
 -- ---- a sector
 
-board_ends : (old new : BoardState) → StepsBoard old new → EndsIn old.controller.phase new.controller.phase
-board_ends old new steps = elim (which_drive (selected_at old)) [
+adapter_ends : (old new : AdapterState) → StepsAdapter old new → EndsIn old.controller.phase new.controller.phase
+adapter_ends old new steps = elim (which_drive (selected_at old)) [
   | inl at ↦ (steps.at_first at).0.ends
   | inr (inl at) ↦ (steps.at_second at).0.ends
   | inr (inr at) ↦ (steps.at_none at).0.ends
@@ -128,10 +128,10 @@ LastsAt n (Telling results read) fdc = Unit {0}
 LastsAt n _ fdc = ⊥
 
 abbrev pub Lasts : ℕ → Front → Type 0
-Lasts n front = LastsAt n front.stage front.board.controller
+Lasts n front = LastsAt n front.stage front.adapter.controller
 
-at_stage : (n : ℕ) (stage : Stage) (new : Front) → new.stage ≡ stage → LastsAt n stage new.board.controller → Lasts n new
-at_stage n stage new is lasts = subst (λ s. LastsAt n s new.board.controller) (sym is) lasts
+at_stage : (n : ℕ) (stage : Stage) (new : Front) → new.stage ≡ stage → LastsAt n stage new.adapter.controller → Lasts n new
+at_stage n stage new is lasts = subst (λ s. LastsAt n s new.adapter.controller) (sym is) lasts
 
 same_lasts : (n : ℕ) (old new : Front) → new ≡ old → Lasts n old → Lasts n new
 same_lasts n old new is lasts = subst (Lasts n) (sym is) lasts
@@ -151,7 +151,7 @@ told_within n at fdc was = same_within n at fdc (told_count fdc) (told_steps fdc
 some_within : (left sectors n : ℕ) → left ≤ 65536 → 65536 * sectors ≤ n → left + 65536 * sectors ≤ n + 65536
 some_within left sectors n most all = omega arith
 
-begun_within : (counted : Bool) (n : ℕ) (at : Transfer) (between : BoardState) → HasByteRecords at → 65536 * sectors_from at ≤ n → IsCounted between.controller.phase
+begun_within : (counted : Bool) (n : ℕ) (at : Transfer) (between : AdapterState) → HasByteRecords at → 65536 * sectors_from at ≤ n → IsCounted between.controller.phase
     → MovesWithin n at (told_if counted between).controller
 begun_within counted n at between bytes all fresh = by_count counted
   where
@@ -169,7 +169,7 @@ begins_lasts n at counted passed_over old new bytes all stays begins = by_busy (
     by_busy : (b : Bool) → is_executing begins.between.controller.phase ≡ b → new ≡ begun_if b at counted passed_over begins.between old → Lasts n new
     by_busy false idle is = absurd (stays (ap (λ front. front.stage) is))
     by_busy true busy is =
-        let begun = begun_busy at (lines_at old.board) old.board.controller begins.between.controller begins.takes.takes busy in
+        let begun = begun_busy at (lines_at old.adapter) old.adapter.controller begins.between.controller begins.takes.takes busy in
         let fresh = fresh_counted at.opcode.operation (sent_of at) begins.between.controller begun.moves in
         subst (Lasts n) (sym is) (begun_within counted n at begins.between bytes all fresh)
 
@@ -187,24 +187,24 @@ fewer_within now left sectors n fewer some all = omega arith
 next_within : (now left sectors next n : ℕ) → now < left → next + 1 ≡ sectors → left + 65536 * sectors ≤ n + 65536 → 65536 * next ≤ n - 1
 next_within now left sectors next n fewer one all = omega arith
 
-seek_lasts : (n : ℕ) (at : Transfer) (counted : Bool) (old : Front) (between : BoardState) (new : Front) → old.stage ≡ Seeking at counted → SeeksWithin n at old.board.controller → StepsBoard old.board between
-    → FollowsStep (Seeking at counted) (record old { board = between }) new → (new.stage ≡ Through → ⊥) → Lasts (n - 1) new
+seek_lasts : (n : ℕ) (at : Transfer) (counted : Bool) (old : Front) (between : AdapterState) (new : Front) → old.stage ≡ Seeking at counted → SeeksWithin n at old.adapter.controller → StepsAdapter old.adapter between
+    → FollowsStep (Seeking at counted) (record old { adapter = between }) new → (new.stage ≡ Through → ⊥) → Lasts (n - 1) new
 seek_lasts n at counted old between new stage_is was steps follows stays = by_end (has_ended_seek between.controller.seeks) refl follows
   where
-    on : NearsEnd old.board.controller between.controller
-    on = board_seeks old.board between steps was.idle was.runs
+    on : NearsEnd old.adapter.controller between.controller
+    on = adapter_seeks old.adapter between steps was.idle was.runs
 
-    some : 1 ≤ seek_left old.board.controller.seeks.seek
-    some = seek_some old.board.controller.seeks was.runs
+    some : 1 ≤ seek_left old.adapter.controller.seeks.seek
+    some = seek_some old.adapter.controller.seeks was.runs
 
-    by_end : (b : Bool) → has_ended_seek between.controller.seeks ≡ b → SeeksOn b at counted (record old { board = between }) new → Lasts (n - 1) new
+    by_end : (b : Bool) → has_ended_seek between.controller.seeks ≡ b → SeeksOn b at counted (record old { adapter = between }) new → Lasts (n - 1) new
     by_end true over begins =
-        begins_lasts (n - 1) at counted false _ new was.bytes (sought_within (seek_left old.board.controller.seeks.seek) (sectors_from at) n some was.within) stays begins
+        begins_lasts (n - 1) at counted false _ new was.bytes (sought_within (seek_left old.adapter.controller.seeks.seek) (sectors_from at) n some was.within) stays begins
     by_end false goes is = subst (Lasts (n - 1)) (sym is) (subst (λ stage. LastsAt (n - 1) stage between.controller) (sym stage_is) (record {
       bytes = was.bytes;
       idle = on.idle;
       runs = on.nearer.runs goes;
-      within = nearer_within (seek_left between.controller.seeks.seek) (seek_left old.board.controller.seeks.seek) (sectors_from at) n on.nearer.fewer some was.within;
+      within = nearer_within (seek_left between.controller.seeks.seek) (seek_left old.adapter.controller.seeks.seek) (sectors_from at) n on.nearer.fewer some was.within;
     }))
 
 -- behind a device step of a sector's command
@@ -236,28 +236,28 @@ module _ (n : ℕ) (moving : MovingSector) (old : Fdc) (was : MovesWithin n movi
   ends_last Protected phase front new fewer stays is = results_last (results_failed moving Protected) front new is
   ends_last Late phase front new fewer stays is = results_last (results_failed moving Late) front new is
 
-  passed_last : (b : Bool) (front new : Front) → front.stage ≡ Moving moving → MovesWithin (n - 1) moving.transfer front.board.controller → new ≡ passed_over_if b moving front → Lasts (n - 1) new
-  passed_last true front new stage_is within is = subst (Lasts (n - 1)) (sym is) (told_within (n - 1) moving.transfer front.board.controller within)
+  passed_last : (b : Bool) (front new : Front) → front.stage ≡ Moving moving → MovesWithin (n - 1) moving.transfer front.adapter.controller → new ≡ passed_over_if b moving front → Lasts (n - 1) new
+  passed_last true front new stage_is within is = subst (Lasts (n - 1)) (sym is) (told_within (n - 1) moving.transfer front.adapter.controller within)
   passed_last false front new stage_is within is = same_lasts (n - 1) front new is (at_stage (n - 1) (Moving moving) front stage_is within)
 
-  moves_last : (ending : Option Ending) (front new : Front) → front.stage ≡ Moving moving → steps_left front.board.controller.phase < steps_left old.phase → IsCounted front.board.controller.phase
+  moves_last : (ending : Option Ending) (front new : Front) → front.stage ≡ Moving moving → steps_left front.adapter.controller.phase < steps_left old.phase → IsCounted front.adapter.controller.phase
       → (new.stage ≡ Through → ⊥) → MovesOn ending moving front new → Lasts (n - 1) new
-  moves_last (Some ending) front new stage_is fewer counted stays ends = ends_last ending front.board.controller.phase _ new fewer stays ends
-  moves_last None front new stage_is fewer counted stays is = passed_last (is_unwanted moving (mark_of front.board.controller)) front new stage_is (record {
+  moves_last (Some ending) front new stage_is fewer counted stays ends = ends_last ending front.adapter.controller.phase _ new fewer stays ends
+  moves_last None front new stage_is fewer counted stays is = passed_last (is_unwanted moving (mark_of front.adapter.controller)) front new stage_is (record {
     bytes = was.bytes;
     counted = counted;
-    within = fewer_within (steps_left front.board.controller.phase) (steps_left old.phase) (sectors_from moving.transfer) n fewer (sectors_some moving.transfer) was.within;
+    within = fewer_within (steps_left front.adapter.controller.phase) (steps_left old.phase) (sectors_from moving.transfer) n fewer (sectors_some moving.transfer) was.within;
   }) is
 
-step_lasts : (n : ℕ) (first : Transfer) (history : History) (stage : Stage) (old : Front) (between : BoardState) (new : Front) → old.stage ≡ stage → ServesAt stage first history old.board.controller
-    → LastsAt n stage old.board.controller → StepsBoard old.board between → FollowsStep stage (record old { board = between }) new → (new.stage ≡ Through → ⊥) → Lasts (n - 1) new
+step_lasts : (n : ℕ) (first : Transfer) (history : History) (stage : Stage) (old : Front) (between : AdapterState) (new : Front) → old.stage ≡ stage → ServesAt stage first history old.adapter.controller
+    → LastsAt n stage old.adapter.controller → StepsAdapter old.adapter between → FollowsStep stage (record old { adapter = between }) new → (new.stage ≡ Through → ⊥) → Lasts (n - 1) new
 step_lasts n first history Through old between new stage_is now was steps follows stays = absurd was
 step_lasts n first history (Collecting opcode) old between new stage_is now was steps follows stays = absurd was
 step_lasts n first history (Telling results read) old between new stage_is now was steps is stays = at_stage (n - 1) (Telling results read) new (ap (λ front. front.stage) is ∙ stage_is) tt
 step_lasts n first history (Seeking at counted) old between new stage_is now was steps follows stays = seek_lasts n at counted old between new stage_is was steps follows stays
 step_lasts n first history (Moving moving) old between new stage_is (here, counts, carries) was steps follows stays =
-    let (fewer, counted) = step_fewer old.board.controller.phase between.controller.phase carries.busy (board_ends old.board between steps) in
-    moves_last n moving old.board.controller was (judged_if moving (ending_told between.controller)) (record old { board = between }) new stage_is fewer counted stays follows
+    let (fewer, counted) = step_fewer old.adapter.controller.phase between.controller.phase carries.busy (adapter_ends old.adapter between steps) in
+    moves_last n moving old.adapter.controller was (judged_if moving (ending_told between.controller)) (record old { adapter = between }) new stage_is fewer counted stays follows
 
 -- ---- the channel
 
@@ -268,30 +268,30 @@ passed_lasts n moving fdc old was = by_last (moving.left - 1 == 0)
     by_last true = told_within n moving.transfer fdc was
     by_last false = was
 
-takes_last : (n : ℕ) (stage : Stage) (byte : Option ℕ) (old new : Front) → LastsAt n stage old.board.controller → Lasts n old → TakesAt stage old byte new → Lasts n new
+takes_last : (n : ℕ) (stage : Stage) (byte : Option ℕ) (old new : Front) → LastsAt n stage old.adapter.controller → Lasts n old → TakesAt stage old byte new → Lasts n new
 takes_last n Through byte old new now was takes = absurd now
 takes_last n (Collecting opcode) byte old new now was takes = absurd now
 takes_last n (Seeking at counted) byte old new now was (none, is) = same_lasts n old new is was
 takes_last n (Telling results read) byte old new now was (none, is) = same_lasts n old new is was
 takes_last n (Moving moving) None old new now was (quiet, is) = same_lasts n old new is was
 takes_last n (Moving moving) (Some byte) old new now was (up, byte_is, is) =
-    subst (Lasts n) (sym is) (passed_lasts n moving (taken_out old.board.controller) old (record { bytes = now.bytes; counted = now.counted; within = now.within }))
+    subst (Lasts n) (sym is) (passed_lasts n moving (taken_out old.adapter.controller) old (record { bytes = now.bytes; counted = now.counted; within = now.within }))
 
-gives_last : (n : ℕ) (stage : Stage) (byte : ℕ) (given : Bool) (old new : Front) → LastsAt n stage old.board.controller → Lasts n old → GivesAt stage byte old given new → Lasts n new
+gives_last : (n : ℕ) (stage : Stage) (byte : ℕ) (given : Bool) (old new : Front) → LastsAt n stage old.adapter.controller → Lasts n old → GivesAt stage byte old given new → Lasts n new
 gives_last n Through byte given old new now was gives = absurd now
 gives_last n (Collecting opcode) byte given old new now was gives = absurd now
 gives_last n (Seeking at counted) byte given old new now was (none, is) = same_lasts n old new is was
 gives_last n (Telling results read) byte given old new now was (none, is) = same_lasts n old new is was
 gives_last n (Moving moving) byte false old new now was (quiet, is) = same_lasts n old new is was
 gives_last n (Moving moving) byte true old new now was (up, is) =
-    subst (Lasts n) (sym is) (passed_lasts n moving (taken_in byte old.board.controller) old (record { bytes = now.bytes; counted = now.counted; within = now.within }))
+    subst (Lasts n) (sym is) (passed_lasts n moving (taken_in byte old.adapter.controller) old (record { bytes = now.bytes; counted = now.counted; within = now.within }))
 
-counts_last : (n : ℕ) (stage : Stage) (old new : Front) → LastsAt n stage old.board.controller → Lasts n old → new ≡ count_told stage old → Lasts n new
+counts_last : (n : ℕ) (stage : Stage) (old new : Front) → LastsAt n stage old.adapter.controller → Lasts n old → new ≡ count_told stage old → Lasts n new
 counts_last n Through old new now was is = absurd now
 counts_last n (Collecting opcode) old new now was is = absurd now
 counts_last n (Telling results read) old new now was is = same_lasts n old new is was
 counts_last n (Seeking at counted) old new now was is = subst (Lasts n) (sym is) now
-counts_last n (Moving moving) old new now was is = subst (Lasts n) (sym is) (told_within n moving.transfer old.board.controller now)
+counts_last n (Moving moving) old new now was is = subst (Lasts n) (sym is) (told_within n moving.transfer old.adapter.controller now)
 
 -- ---- ports
 
@@ -299,7 +299,7 @@ result_lasts : (n : ℕ) (last : Bool) (results : Results) (read : ℕ) (old new
 result_lasts n true results read old new stays is = absurd (stays (ap (λ front. front.stage) is))
 result_lasts n false results read old new stays is = at_stage n (Telling results (read + 1)) new (ap (λ front. front.stage) is) tt
 
-reads_last : (n : ℕ) (stage : Stage) (b : Bool) (old new : Front) → LastsAt n stage old.board.controller → Lasts n old → (new.stage ≡ Through → ⊥) → new ≡ (if b then byte_given stage old else old) → Lasts n new
+reads_last : (n : ℕ) (stage : Stage) (b : Bool) (old new : Front) → LastsAt n stage old.adapter.controller → Lasts n old → (new.stage ≡ Through → ⊥) → new ≡ (if b then byte_given stage old else old) → Lasts n new
 reads_last n stage false old new now was stays is = same_lasts n old new is was
 reads_last n Through true old new now was stays is = absurd now
 reads_last n (Collecting opcode) true old new now was stays is = absurd now
@@ -307,7 +307,7 @@ reads_last n (Seeking at counted) true old new now was stays is = same_lasts n o
 reads_last n (Moving moving) true old new now was stays is = same_lasts n old new is was
 reads_last n (Telling results read) true old new now was stays is = result_lasts n (nat_le 6 read) results read old new stays is
 
-ignored : (n : ℕ) (stage : Stage) (byte : ℕ) (old new : Front) → LastsAt n stage old.board.controller → TakesByte stage byte old new → new ≡ old
+ignored : (n : ℕ) (stage : Stage) (byte : ℕ) (old new : Front) → LastsAt n stage old.adapter.controller → TakesByte stage byte old new → new ≡ old
 ignored n Through byte old new now takes = absurd now
 ignored n (Collecting opcode) byte old new now takes = absurd now
 ignored n (Seeking at counted) byte old new now takes = takes
@@ -329,10 +329,10 @@ port_lasts n (Seeking at counted) old new same was = record {
 writes_last : (n port value : ℕ) (old new : Front) → Lasts n old → (new.stage ≡ Through → ⊥) → WritesFront port value old new → Lasts n new
 writes_last n port value old new was stays writes = by_port (port == 0x3F5) refl
   where
-    by_reset : (b : Bool) → (port == 0x3F5) ≡ false → resets port value ≡ b → WritesBoard port value old.board new.board → new ≡ record (reset_if b old) { board = new.board } → Lasts n new
+    by_reset : (b : Bool) → (port == 0x3F5) ≡ false → resets port value ≡ b → WritesAdapter port value old.adapter new.adapter → new ≡ record (reset_if b old) { adapter = new.adapter } → Lasts n new
     by_reset true no_byte reset wrote is = absurd (stays (ap (λ front. front.stage) is))
     by_reset false no_byte no_reset wrote is = at_stage n old.stage new (ap (λ front. front.stage) is)
-        (port_lasts n old.stage old.board.controller new.board.controller (port_same port value (lines_at old.board) old.board.controller new.board.controller wrote.writes no_byte no_reset) was)
+        (port_lasts n old.stage old.adapter.controller new.adapter.controller (port_same port value (lines_at old.adapter) old.adapter.controller new.adapter.controller wrote.writes no_byte no_reset) was)
 
     by_port : (b : Bool) → (port == 0x3F5) ≡ b → Lasts n new
     by_port true is = same_lasts n old new (ignored n old.stage value old new was (writes.bytes (eqb-true port 0x3F5 is))) was
@@ -385,18 +385,18 @@ sought_first left sectors few = omega arith
 moved_first : (sectors : ℕ) → 65536 * sectors ≤ 256 + 65536 * sectors
 moved_first sectors = omega arith
 
-starts_last : (first : Transfer) (old new : Front) → HasByteRecords first → IsInRange new.board.controller → (new.stage ≡ Through → ⊥) → Starts (Some first) old new → Lasts (most_steps first) new
+starts_last : (first : Transfer) (old new : Front) → HasByteRecords first → IsInRange new.adapter.controller → (new.stage ≡ Through → ⊥) → Starts (Some first) old new → Lasts (most_steps first) new
 starts_last first old new bytes range stays starts = by_seek (old.strapped || old.configured) starts
   where
-    by_idle : (seeks : SeeksFirst first old new) (b : Bool) → is_idle seeks.between.controller ≡ b → new ≡ record old { board = seeks.between; stage = if b then Seeking first false else Through } → Lasts (most_steps first) new
+    by_idle : (seeks : SeeksFirst first old new) (b : Bool) → is_idle seeks.between.controller ≡ b → new ≡ record old { adapter = seeks.between; stage = if b then Seeking first false else Through } → Lasts (most_steps first) new
     by_idle seeks false busy is = absurd (stays (ap (λ front. front.stage) is))
     by_idle seeks true idle is =
         let fdc = seeks.between.controller in
-        let fits : IsInRange fdc = subst (λ front. IsInRange front.board.controller) is range in
+        let fits : IsInRange fdc = subst (λ front. IsInRange front.adapter.controller) is range in
         subst (Lasts (most_steps first)) (sym is) (record {
           bytes = bytes;
           idle = rests_idle fdc idle;
-          runs = seek_runs first.head_drive first.key.c (lines_at old.board) old.board.controller fdc seeks.takes.takes idle;
+          runs = seek_runs first.head_drive first.key.c (lines_at old.adapter) old.adapter.controller fdc seeks.takes.takes idle;
           within = sought_first (seek_left fdc.seeks.seek) (sectors_from first) (seek_few fdc.seeks.seek fits.seeks.motion);
         })
 
@@ -404,7 +404,7 @@ starts_last first old new bytes range stays starts = by_seek (old.strapped || ol
     by_seek true seeks = by_idle seeks (is_idle seeks.between.controller) refl seeks.begun
     by_seek false begins = begins_lasts (most_steps first) first false false old new bytes (moved_first (sectors_from first)) stays begins
 
-pub first_lasts : (byte : ℕ) (first : Transfer) (start begun : Front) → IsLastByte byte first start → HasByteRecords first → WritesFront 0x3F5 byte start begun → (begun.stage ≡ Through → ⊥) → IsInRange begun.board.controller
+pub first_lasts : (byte : ℕ) (first : Transfer) (start begun : Front) → IsLastByte byte first start → HasByteRecords first → WritesFront 0x3F5 byte start begun → (begun.stage ≡ Through → ⊥) → IsInRange begun.adapter.controller
     → Lasts (most_steps first) begun
 first_lasts byte first start begun last records writes stays range =
     let bytes = start.bytes ++ byte ∷ [] in
@@ -434,14 +434,14 @@ less_by : (n m : ℕ) → 1 ≤ n - m → m < n
 less_by n m some = omega arith
 
 pub command_within : (byte : ℕ) (first : Transfer) (start begun end : Front) (calls : List Call) → IsLastByte byte first start → HasByteRecords first → WritesFront 0x3F5 byte start begun
-    → (begun.stage ≡ Through → ⊥) → IsInRange begun.board.controller → AreWithin calls begun end → is_under_way end.stage ≡ true → steps_in calls < most_steps first
+    → (begun.stage ≡ Through → ⊥) → IsInRange begun.adapter.controller → AreWithin calls begun end → is_under_way end.stage ≡ true → steps_in calls < most_steps first
 command_within byte first start begun end calls last bytes writes stays range are under =
     let serves = begins_served byte first start begun last writes stays in
     let behind = calls_serve calls first (nothing_moved false) begun end are serves in
     let lasts = calls_last calls (most_steps first) first (nothing_moved false) begun end are serves (first_lasts byte first start begun last bytes writes stays range) in
-    less_by (most_steps first) (steps_in calls) (lasts_some (most_steps first - steps_in calls) end.stage first behind.history end.board.controller behind.serves.now lasts under)
+    less_by (most_steps first) (steps_in calls) (lasts_some (most_steps first - steps_in calls) end.stage first behind.history end.adapter.controller behind.serves.now lasts under)
 
-told_by : (stage : Stage) (first : Transfer) (history : History) (end : Front) → end.stage ≡ stage → ServesAt stage first history end.board.controller → (is_under_way stage ≡ true → ⊥) → HasResults end
+told_by : (stage : Stage) (first : Transfer) (history : History) (end : Front) → end.stage ≡ stage → ServesAt stage first history end.adapter.controller → (is_under_way stage ≡ true → ⊥) → HasResults end
 told_by Through first history end is now over = absurd now
 told_by (Collecting opcode) first history end is now over = absurd now
 told_by (Seeking at counted) first history end is now over = absurd (over refl)
@@ -452,7 +452,7 @@ not_both : (n m : ℕ) → n < m → m ≤ n → ⊥
 not_both n m less more = omega arith
 
 pub command_told : (byte : ℕ) (first : Transfer) (start begun end : Front) (calls : List Call) → IsLastByte byte first start → HasByteRecords first → WritesFront 0x3F5 byte start begun
-    → (begun.stage ≡ Through → ⊥) → IsInRange begun.board.controller → AreWithin calls begun end → most_steps first ≤ steps_in calls → HasResults end
+    → (begun.stage ≡ Through → ⊥) → IsInRange begun.adapter.controller → AreWithin calls begun end → most_steps first ≤ steps_in calls → HasResults end
 command_told byte first start begun end calls last bytes writes stays range are many =
     let serves = begins_served byte first start begun last writes stays in
     let behind = calls_serve calls first (nothing_moved false) begun end are serves in

@@ -25,7 +25,7 @@ use Rattle.fdc_core.specs.Times.{Closes, WordTime, Saw, KeptOut, Wrote, Stopped,
 use Rattle.fdc_core.specs.Whole.{ending_told, given_up, mark_of, without_seek}
 use Rattle.fdc_core.specs.declared.controller.Fdc.{Fdc}
 use Rattle.fdc_seek.specs.Seeking.{has_ended_seek}
-use Rattle.fdc_board.specs.Boards.{BoardState, WritesBoard, drive_at, selected_at}
+use Rattle.fdc_adapter.specs.Adapters.{AdapterState, WritesAdapter, drive_at, selected_at}
 use Rattle.fdc_drives.specs.Following.{FollowsDor, FollowsWrite}
 use Rattle.fdc_drives.specs.Heard.{IsHeardFrom, IsWholeFrom}
 use Rattle.fdc_drives.specs.Hearing.{Outset}
@@ -178,7 +178,7 @@ here_of first history = sector_after (length history.parts) first
 abbrev NowHeard : Stage → Place → Transfer → History → Front → Type 0
 NowHeard (Seeking at counted) place first history front = (at ≡ first) × (history.parts ≡ [])
 NowHeard (Moving moving) place first history front =
-    (moving.transfer ≡ here_of first history) × IsHearingAt place (here_of first history) history.past (drive_at front.board place.bay)
+    (moving.transfer ≡ here_of first history) × IsHearingAt place (here_of first history) history.past (drive_at front.adapter place.bay)
 NowHeard (Telling results read) place first history front = IsHeardAt place (here_of first history) history.past
 NowHeard _ place first history front = ⊥
 
@@ -191,9 +191,9 @@ heard_more place [] part were is = (is, tt)
 heard_more place (other ∷ parts) part (one, were) is = (one, heard_more place parts part were is)
 
 -- a search that begins where the drive is
-fresh_hearing : (place : Place) (front : Front) (at : Transfer) (past : Past) → IsAt place front → IsUnheard past → IsHearingAt place at past (drive_at front.board place.bay)
+fresh_hearing : (place : Place) (front : Front) (at : Transfer) (past : Past) → IsAt place front → IsUnheard past → IsHearingAt place at past (drive_at front.adapter place.bay)
 fresh_hearing place front at past is none =
-    let drive = drive_at front.board place.bay in
+    let drive = drive_at front.adapter place.bay in
     let outset = outset_at place at drive.place drive.faults in
     let turning : IsTurningIn outset drive =
     record { medium = is.medium; cylinder = is.cylinder; motor = is.motor; place = refl; inside = is.inside; never_falls = omega arith } in (
@@ -204,10 +204,10 @@ fresh_hearing place front at past is none =
     )
 
 -- a drive that turns on over the same medium
-kept_hearing : (place : Place) (front : Front) (at : Transfer) (past : Past) (drive : DriveState) → IsAt place front → TurnsOn drive (drive_at front.board place.bay) → IsHearingAt place at past drive
-    → IsHearingAt place at past (drive_at front.board place.bay)
+kept_hearing : (place : Place) (front : Front) (at : Transfer) (past : Past) (drive : DriveState) → IsAt place front → TurnsOn drive (drive_at front.adapter place.bay) → IsHearingAt place at past drive
+    → IsHearingAt place at past (drive_at front.adapter place.bay)
 kept_hearing place front at past drive is turns (from, since, was, began) =
-    let now = drive_at front.board place.bay in
+    let now = drive_at front.adapter place.bay in
     let outset = outset_at place at from since in
     let falls = turns.never_falls in
     let hears : IsHearingLed outset past now = elim was.drive_is [
@@ -261,7 +261,7 @@ told_unheard false = refl
 
 -- ---- a word
 
-is_time : (bay head : ℕ) (time : WordTime) (old new : BoardState) → bay ≤ 1 → selected_at old ≡ bay → PassesAt (selected_at old) head time old new
+is_time : (bay head : ℕ) (time : WordTime) (old new : AdapterState) → bay ≤ 1 → selected_at old ≡ bay → PassesAt (selected_at old) head time old new
     → IsTime time old.controller.rate head (drive_at old bay) (drive_at new bay)
 is_time zero head time old new few at passes = (passes.at_first at).0
 is_time (suc zero) head time old new few at passes = (passes.at_second at).0
@@ -284,7 +284,7 @@ time_hears wanted skip place at past Stopped before after valid reads is was = a
 
 module _ (place : Place) (first : Transfer) (wanted skip : Bool) (reads : first.opcode.operation ≡ Read wanted skip) where
   to_moving : (history : History) (moving : MovingSector) (new : Front) → new.stage ≡ Moving moving → AreHeardAt place history.parts → moving.transfer ≡ here_of first history
-      → IsHearingAt place (here_of first history) history.past (drive_at new.board place.bay) → Hears place first history new
+      → IsHearingAt place (here_of first history) history.past (drive_at new.adapter place.bay) → Hears place first history new
   to_moving history moving new is parts here hearing =
       record { parts = parts; now = subst (λ stage. NowHeard stage place first history new) (sym is) (here, hearing) }
 
@@ -301,56 +301,56 @@ module _ (place : Place) (first : Transfer) (wanted skip : Bool) (reads : first.
 
   -- ---- a device step
 
-  module _ (history : History) (moving : MovingSector) (old : Front) (between : BoardState) (new : Front) (now : Past) (parts : AreHeardAt place history.parts)
+  module _ (history : History) (moving : MovingSector) (old : Front) (between : AdapterState) (new : Front) (now : Past) (parts : AreHeardAt place history.parts)
       (here : moving.transfer ≡ here_of first history) (hearing : IsHearingAt place (here_of first history) now (drive_at between place.bay)) (stage_is : old.stage ≡ Moving moving)
       (stays : new.stage ≡ Through → ⊥) (at : IsAtWhile new.stage place new) where
     abbrev fronted : Front
-    fronted = record old { board = between }
+    fronted = record old { adapter = between }
 
     passes_hear : (b : Bool) → new ≡ passed_over_if b moving fronted → Hears place first (record history { past = told_in b now }) new
     passes_hear false is = to_moving (record history { past = now }) moving new (ap (λ front. front.stage) is ∙ stage_is) parts here
-        (subst (λ front. IsHearingAt place (here_of first history) now (drive_at front.board place.bay)) (sym is) hearing)
+        (subst (λ front. IsHearingAt place (here_of first history) now (drive_at front.adapter place.bay)) (sym is) hearing)
     passes_hear true is = to_moving (record history { past = told_in true now }) (record moving { left = 0; passed_over = true; skipped = true }) new (ap (λ front. front.stage) is) parts here
-        (subst (λ front. IsHearingAt place (here_of first history) (told_in true now) (drive_at front.board place.bay)) (sym is)
+        (subst (λ front. IsHearingAt place (here_of first history) (told_in true now) (drive_at front.adapter place.bay)) (sym is)
         (told_hearing place (here_of first history) true now (drive_at between place.bay) hearing))
 
     -- as the search was over
-    heard_behind : (front : Front) → drive_at front.board place.bay ≡ drive_at between place.bay → IsClean place front → IsHeardAt place (here_of first history) now
+    heard_behind : (front : Front) → drive_at front.adapter place.bay ≡ drive_at between place.bay → IsClean place front → IsHeardAt place (here_of first history) now
     heard_behind front same clean =
         hearing_over place (here_of first history) now (drive_at between place.bay) (subst (λ drive. place.clean ≡ true → (drive.faults ≡ place.faults) × (place.faults < last_count)) same clean) hearing
 
-    begins_hear : (marked passed_over executing : Bool) (then_board : BoardState) (begun_from : Front) → drive_at then_board place.bay ≡ drive_at between place.bay → new ≡ begun_if executing (next_of moving.transfer) false passed_over then_board begun_from
+    begins_hear : (marked passed_over executing : Bool) (then_adapter : AdapterState) (begun_from : Front) → drive_at then_adapter place.bay ≡ drive_at between place.bay → new ≡ begun_if executing (next_of moving.transfer) false passed_over then_adapter begun_from
         → Hears place first (history_ended true moving.transfer marked now history) new
-    begins_hear marked passed_over true then_board begun_from same is =
+    begins_hear marked passed_over true then_adapter begun_from same is =
         let part : Part = record { at = moving.transfer; past = now; marked = marked } in
         let next = moving_of (next_of moving.transfer) false passed_over in
         let then_history = history_ended true moving.transfer marked now history in
         let stage_now = ap (λ front. front.stage) is in
         to_moving then_history next new stage_now (heard_more place history.parts part parts (subst (λ a. IsHeardAt place a now) (sym here)
-        (heard_behind new (ap (λ front. drive_at front.board place.bay) is ∙ same) (at_new next new stage_now at).clean)))
+        (heard_behind new (ap (λ front. drive_at front.adapter place.bay) is ∙ same) (at_new next new stage_now at).clean)))
         (ap next_of here ∙ sym (sector_more first history.parts part))
         (fresh_hearing place new (here_of first then_history) new_past (at_new next new stage_now at) refl)
-    begins_hear marked passed_over false then_board begun_from same is = absurd (stays (ap (λ front. front.stage) is))
+    begins_hear marked passed_over false then_adapter begun_from same is = absurd (stays (ap (λ front. front.stage) is))
 
-    tells_hear : (results : Results) (front : Front) → drive_at front.board place.bay ≡ drive_at between place.bay → new ≡ record front { stage = Telling results 0 } → Hears place first (record history { past = now }) new
+    tells_hear : (results : Results) (front : Front) → drive_at front.adapter place.bay ≡ drive_at between place.bay → new ≡ record front { stage = Telling results 0 } → Hears place first (record history { past = now }) new
     tells_hear results front same is =
         let stage_now = ap (λ f. f.stage) is in
         to_telling (record history { past = now }) results 0 new stage_now parts
-        (heard_behind new (ap (λ f. drive_at f.board place.bay) is ∙ same) (subst (λ stage. IsAtWhile stage place new) stage_now at))
+        (heard_behind new (ap (λ f. drive_at f.adapter place.bay) is ∙ same) (subst (λ stage. IsAtWhile stage place new) stage_now at))
 
-    taken_drive : (bay : ℕ) (first_board second_board : BoardState) → second_board.first ≡ first_board.first → second_board.second ≡ first_board.second → drive_at second_board bay ≡ drive_at first_board bay
-    taken_drive bay first_board second_board one two = by_bay (bay == 0)
+    taken_drive : (bay : ℕ) (first_adapter second_adapter : AdapterState) → second_adapter.first ≡ first_adapter.first → second_adapter.second ≡ first_adapter.second → drive_at second_adapter bay ≡ drive_at first_adapter bay
+    taken_drive bay first_adapter second_adapter one two = by_bay (bay == 0)
       where
-        by_bay : (b : Bool) → (if b then second_board.first else second_board.second) ≡ (if b then first_board.first else first_board.second)
+        by_bay : (b : Bool) → (if b then second_adapter.first else second_adapter.second) ≡ (if b then first_adapter.first else first_adapter.second)
         by_bay true = one
         by_bay false = two
 
-    ends_if_hear : (b marked : Bool) (front : Front) → drive_at front.board place.bay ≡ drive_at between place.bay → EndsIf b moving marked front new → Hears place first (history_ended b moving.transfer marked now history) new
+    ends_if_hear : (b marked : Bool) (front : Front) → drive_at front.adapter place.bay ≡ drive_at between place.bay → EndsIf b moving marked front new → Hears place first (history_ended b moving.transfer marked now history) new
     ends_if_hear true marked front same begins = begins_hear marked (has_met_other moving marked) (is_executing begins.between.controller.phase) begins.between front
-        (taken_drive place.bay front.board begins.between begins.takes.first begins.takes.second ∙ same) begins.begun
+        (taken_drive place.bay front.adapter begins.between begins.takes.first begins.takes.second ∙ same) begins.begun
     ends_if_hear false marked front same is = tells_hear (results_behind moving marked) front same is
 
-    ends_hear : (ending : Ending) (mark : Option Bool) (front : Front) → drive_at front.board place.bay ≡ drive_at between place.bay → EndsSector moving ending front new → Hears place first (history_moved (Some ending) moving mark now history) new
+    ends_hear : (ending : Ending) (mark : Option Bool) (front : Front) → drive_at front.adapter place.bay ≡ drive_at between place.bay → EndsSector moving ending front new → Hears place first (history_moved (Some ending) moving mark now history) new
     ends_hear (Done marked) mark front same ends = ends_if_hear (goes_on moving marked) marked front same ends
     ends_hear NoMark mark front same ends = tells_hear (results_failed moving NoMark) front same ends
     ends_hear NoSector mark front same ends = tells_hear (results_failed moving NoSector) front same ends
@@ -363,7 +363,7 @@ module _ (place : Place) (first : Transfer) (wanted skip : Bool) (reads : first.
 
     moves_hear : (ending : Option Ending) → MovesOn ending moving fronted new → Hears place first (history_moved ending moving (mark_of between.controller) now history) new
     moves_hear None does = passes_hear (is_unwanted moving (mark_of between.controller)) does
-    moves_hear (Some ending) does = ends_hear ending (mark_of between.controller) (record fronted { board = with_controller (given_up between.controller) between }) refl does
+    moves_hear (Some ending) does = ends_hear ending (mark_of between.controller) (record fronted { adapter = with_controller (given_up between.controller) between }) refl does
 
   seeks_hear : (b : Bool) (at : Transfer) (counted : Bool) (history : History) (old new : Front) → old.stage ≡ Seeking at counted → AreHeardAt place history.parts → at ≡ first → history.parts ≡ []
       → (new.stage ≡ Through → ⊥) → IsAtWhile new.stage place new → SeeksOn b at counted old new → Hears place first (history_sought b counted history) new
@@ -371,7 +371,7 @@ module _ (place : Place) (first : Transfer) (wanted skip : Bool) (reads : first.
       same_front history old new does (record { parts = parts; now = subst (λ stage. NowHeard stage place first history old) (sym stage_is) (here, none) })
   seeks_hear true at counted history old new stage_is parts here none stays is_at begins = by_busy (is_executing begins.between.controller.phase) begins.begun
     where
-      by_busy : (b : Bool) → new ≡ begun_if b at counted false begins.between (record old { board = with_controller (without_seek old.board.controller) old.board })
+      by_busy : (b : Bool) → new ≡ begun_if b at counted false begins.between (record old { adapter = with_controller (without_seek old.adapter.controller) old.adapter })
           → Hears place first (record history { past = told_in counted new_past }) new
       by_busy true is =
           let moving = moving_of at counted false in
@@ -380,32 +380,32 @@ module _ (place : Place) (first : Transfer) (wanted skip : Bool) (reads : first.
           (fresh_hearing place new (here_of first history) (told_in counted new_past) (at_new moving new stage_now is_at) (told_unheard counted))
       by_busy false is = absurd (stays (ap (λ front. front.stage) is))
 
-  step_hears : (stage : Stage) (history : History) (time : WordTime) (old : Front) (between : BoardState) (new : Front) → old.stage ≡ stage → AreHeardAt place history.parts → NowHeard stage place first history old
-      → IsAtWhile stage place old → (new.stage ≡ Through → ⊥) → IsAtWhile new.stage place new → Passes stage time old.board between → FollowsStep stage (record old { board = between }) new
+  step_hears : (stage : Stage) (history : History) (time : WordTime) (old : Front) (between : AdapterState) (new : Front) → old.stage ≡ stage → AreHeardAt place history.parts → NowHeard stage place first history old
+      → IsAtWhile stage place old → (new.stage ≡ Through → ⊥) → IsAtWhile new.stage place new → Passes stage time old.adapter between → FollowsStep stage (record old { adapter = between }) new
       → Hears place first (history_stepped stage time between.controller history) new
   step_hears Through history time old between new stage_is parts now at stays at_then passes follows = absurd now
   step_hears (Collecting opcode) history time old between new stage_is parts now at stays at_then passes follows = absurd now
   step_hears (Seeking target counted) history time old between new stage_is parts (here, none) at stays at_then passes follows =
-      seeks_hear (has_ended_seek between.controller.seeks) target counted history (record old { board = between }) new stage_is parts here none stays at_then follows
+      seeks_hear (has_ended_seek between.controller.seeks) target counted history (record old { adapter = between }) new stage_is parts here none stays at_then follows
   step_hears (Telling results read) history time old between new stage_is parts now at stays at_then passes follows =
       to_telling history results read new (ap (λ front. front.stage) follows ∙ stage_is) parts now
   step_hears (Moving moving) history time old between new stage_is parts (here, hearing) at stays at_then (kind, passes) follows =
       let same : moving.transfer.opcode.operation ≡ Read wanted skip =
       ap (λ opcode. opcode.operation) (ap (λ a. a.opcode) here ∙ sector_opcode (length history.parts) first) ∙ reads in
-      let is = is_time place.bay (head_of moving.transfer.head_drive) time old.board between at.bay at.selects passes in
-      let there = subst (λ a. IsTime time place.rate (head_of a.head_drive) (drive_at old.board place.bay) (drive_at between place.bay)) here
-      (subst (λ rate. IsTime time rate (head_of moving.transfer.head_drive) (drive_at old.board place.bay) (drive_at between place.bay)) at.rate is) in
-      let on = time_hears wanted skip place (here_of first history) history.past time (drive_at old.board place.bay) (drive_at between place.bay) at.disk (subst (λ o. IsTimeOf o time) same kind) there hearing in
+      let is = is_time place.bay (head_of moving.transfer.head_drive) time old.adapter between at.bay at.selects passes in
+      let there = subst (λ a. IsTime time place.rate (head_of a.head_drive) (drive_at old.adapter place.bay) (drive_at between place.bay)) here
+      (subst (λ rate. IsTime time rate (head_of moving.transfer.head_drive) (drive_at old.adapter place.bay) (drive_at between place.bay)) at.rate is) in
+      let on = time_hears wanted skip place (here_of first history) history.past time (drive_at old.adapter place.bay) (drive_at between place.bay) at.disk (subst (λ o. IsTimeOf o time) same kind) there hearing in
       moves_hear history moving old between new (after_time time history.past) parts here on stage_is stays at_then (judged_if moving (ending_told between.controller)) follows
 
   -- ---- the channel
 
   one_hears : (history : History) (moving : MovingSector) (now : Past) (fdc : Fdc) (old new : Front) → AreHeardAt place history.parts → moving.transfer ≡ here_of first history
-      → IsHearingAt place (here_of first history) now (drive_at old.board place.bay) → new ≡ passed_one moving fdc old → Hears place first (history_passed moving now history) new
+      → IsHearingAt place (here_of first history) now (drive_at old.adapter place.bay) → new ≡ passed_one moving fdc old → Hears place first (history_passed moving now history) new
   one_hears history moving now fdc old new parts here hearing is =
       to_moving (history_passed moving now history) (record moving { left = moving.left - 1 }) new (ap (λ front. front.stage) is) parts here
-      (subst (λ front. IsHearingAt place (here_of first history) (told_in (moving.left - 1 == 0) now) (drive_at front.board place.bay)) (sym is)
-      (told_hearing place (here_of first history) (moving.left - 1 == 0) now (drive_at old.board place.bay) hearing))
+      (subst (λ front. IsHearingAt place (here_of first history) (told_in (moving.left - 1 == 0) now) (drive_at front.adapter place.bay)) (sym is)
+      (told_hearing place (here_of first history) (moving.left - 1 == 0) now (drive_at old.adapter place.bay) hearing))
 
   take_hears : (stage : Stage) (byte : Option ℕ) (history : History) (old new : Front) → NowHeard stage place first history old → Hears place first history old → TakesAt stage old byte new
       → Hears place first (history_taken stage byte history) new
@@ -415,8 +415,8 @@ module _ (place : Place) (first : Transfer) (wanted skip : Bool) (reads : first.
   take_hears (Telling results read) byte history old new now was (none, is) = same_front history old new is was
   take_hears (Moving moving) None history old new now was (quiet, is) = same_front history old new is was
   take_hears (Moving moving) (Some byte) history old new (here, hearing) was (up, byte_is, is) =
-      one_hears history moving (gave byte history.past) (taken_out old.board.controller) old new was.parts here
-      (bytes_hearing place (here_of first history) history.past (history.past.given ++ byte ∷ []) history.past.taken history.past.counted (drive_at old.board place.bay) hearing) is
+      one_hears history moving (gave byte history.past) (taken_out old.adapter.controller) old new was.parts here
+      (bytes_hearing place (here_of first history) history.past (history.past.given ++ byte ∷ []) history.past.taken history.past.counted (drive_at old.adapter place.bay) hearing) is
 
   give_hears : (stage : Stage) (byte : ℕ) (given : Bool) (history : History) (old new : Front) → NowHeard stage place first history old → Hears place first history old → GivesAt stage byte old given new
       → Hears place first (history_given stage byte given history) new
@@ -426,8 +426,8 @@ module _ (place : Place) (first : Transfer) (wanted skip : Bool) (reads : first.
   give_hears (Telling results read) byte given history old new now was (none, is) = same_front history old new is was
   give_hears (Moving moving) byte false history old new now was (quiet, is) = same_front history old new is was
   give_hears (Moving moving) byte true history old new (here, hearing) was (up, is) =
-      one_hears history moving (took byte history.past) (taken_in byte old.board.controller) old new was.parts here
-      (bytes_hearing place (here_of first history) history.past history.past.given (history.past.taken ++ byte ∷ []) history.past.counted (drive_at old.board place.bay) hearing) is
+      one_hears history moving (took byte history.past) (taken_in byte old.adapter.controller) old new was.parts here
+      (bytes_hearing place (here_of first history) history.past history.past.given (history.past.taken ++ byte ∷ []) history.past.counted (drive_at old.adapter place.bay) hearing) is
 
   count_hears : (stage : Stage) (history : History) (old new : Front) → NowHeard stage place first history old → Hears place first history old → new ≡ count_told stage old
       → Hears place first (history_counted stage history) new
@@ -438,8 +438,8 @@ module _ (place : Place) (first : Transfer) (wanted skip : Bool) (reads : first.
       record { parts = was.parts; now = subst (λ stage. NowHeard stage place first (record history { counted = true }) new) (sym (ap (λ front. front.stage) is)) (here, none) }
   count_hears (Moving moving) history old new (here, hearing) was is =
       to_moving (record history { past = told_in true history.past; counted = true }) (record moving { counted = true }) new (ap (λ front. front.stage) is) was.parts here
-      (subst (λ front. IsHearingAt place (here_of first history) (told_in true history.past) (drive_at front.board place.bay)) (sym is)
-      (told_hearing place (here_of first history) true history.past (drive_at old.board place.bay) hearing))
+      (subst (λ front. IsHearingAt place (here_of first history) (told_in true history.past) (drive_at front.adapter place.bay)) (sym is)
+      (told_hearing place (here_of first history) true history.past (drive_at old.adapter place.bay) hearing))
 
   -- ---- ports and media
 
@@ -459,14 +459,14 @@ module _ (place : Place) (first : Transfer) (wanted skip : Bool) (reads : first.
 
   -- the stage stays, and while a sector is moved the medium turns on
   turn_hears : (stage : Stage) (history : History) (old new : Front) → AreHeardAt place history.parts → NowHeard stage place first history old → new.stage ≡ stage → IsAtWhile new.stage place new
-      → ((moving : MovingSector) → stage ≡ Moving moving → IsAt place new → TurnsOn (drive_at old.board place.bay) (drive_at new.board place.bay)) → Hears place first history new
+      → ((moving : MovingSector) → stage ≡ Moving moving → IsAt place new → TurnsOn (drive_at old.adapter place.bay) (drive_at new.adapter place.bay)) → Hears place first history new
   turn_hears Through history old new parts now is at turns = absurd now
   turn_hears (Collecting opcode) history old new parts now is at turns = absurd now
   turn_hears (Seeking target counted) history old new parts now is at turns = record { parts = parts; now = subst (λ stage. NowHeard stage place first history new) (sym is) now }
   turn_hears (Telling results read) history old new parts now is at turns = to_telling history results read new is parts now
   turn_hears (Moving moving) history old new parts (here, hearing) is at turns =
       let there = at_new moving new is at in
-      to_moving history moving new is parts here (kept_hearing place new (here_of first history) history.past (drive_at old.board place.bay) there (turns moving refl there) hearing)
+      to_moving history moving new is parts here (kept_hearing place new (here_of first history) history.past (drive_at old.adapter place.bay) there (turns moving refl there) hearing)
 
   ignored : (stage : Stage) (byte : ℕ) (history : History) (old new : Front) → NowHeard stage place first history old → TakesByte stage byte old new → new ≡ old
   ignored Through byte history old new now takes = absurd now
@@ -501,8 +501,8 @@ module _ (place : Place) (first : Transfer) (wanted skip : Bool) (reads : first.
       let then_falls = closes.never_falls in
       record { place = closes.place ∙ turns.place; never_falls = omega arith; keeps_speed = λ fast. closes.keeps_speed (turns.keeps_speed fast) }
 
-  board_turns : (port value bay : ℕ) (old new : BoardState) → WritesBoard port value old new → (drive_at new bay).motor ≡ true → TurnsOn (drive_at old bay) (drive_at new bay)
-  board_turns port value bay old new writes = by_bay (bay == 0)
+  adapter_turns : (port value bay : ℕ) (old new : AdapterState) → WritesAdapter port value old new → (drive_at new bay).motor ≡ true → TurnsOn (drive_at old bay) (drive_at new bay)
+  adapter_turns port value bay old new writes = by_bay (bay == 0)
     where
       by_bay : (b : Bool) → (if b then new.first else new.second).motor ≡ true → TurnsOn (if b then old.first else old.second) (if b then new.first else new.second)
       by_bay true runs = write_turns port value 0 new.controller old.first new.first writes.first runs
@@ -512,9 +512,9 @@ module _ (place : Place) (first : Transfer) (wanted skip : Bool) (reads : first.
       → Hears place first history new
   write_hears port value history old new was stays at writes = by_port (port == 0x3F5) refl
     where
-      by_reset : (b : Bool) → WritesBoard port value old.board new.board → new ≡ record (reset_if b old) { board = new.board } → Hears place first history new
+      by_reset : (b : Bool) → WritesAdapter port value old.adapter new.adapter → new ≡ record (reset_if b old) { adapter = new.adapter } → Hears place first history new
       by_reset true wrote is = absurd (stays (ap (λ front. front.stage) is))
-      by_reset false wrote is = turn_hears old.stage history old new was.parts was.now (ap (λ front. front.stage) is) at (λ moving here there. board_turns port value place.bay old.board new.board wrote there.motor)
+      by_reset false wrote is = turn_hears old.stage history old new was.parts was.now (ap (λ front. front.stage) is) at (λ moving here there. adapter_turns port value place.bay old.adapter new.adapter wrote there.motor)
 
       by_port : (b : Bool) → (port == 0x3F5) ≡ b → Hears place first history new
       by_port true is = same_front history old new (ignored old.stage value history old new was.now (writes.bytes (eqb-true port 0x3F5 is))) was
@@ -523,7 +523,7 @@ module _ (place : Place) (first : Transfer) (wanted skip : Bool) (reads : first.
   -- ---- all calls
 
   call_hears : (call : Call) (history grown : History) (old new : Front) (does : Does call old new) → (new.stage ≡ Through → ⊥) → IsAtWhile old.stage place old → IsAtWhile new.stage place new
-      → TurnsOnIn old.stage call (drive_at old.board place.bay) (drive_at new.board place.bay) → Grows call old new does history grown → Hears place first history old → Hears place first grown new
+      → TurnsOnIn old.stage call (drive_at old.adapter place.bay) (drive_at new.adapter place.bay) → Grows call old new does history grown → Hears place first history old → Hears place first grown new
   call_hears Steps history grown old new step stays at at_then turns (time, passes, is) was =
       subst (λ h. Hears place first h new) (sym is) (step_hears old.stage history time old step.between new refl was.parts was.now at stays at_then passes step.follows)
   call_hears (Takes byte) history grown old new does stays at at_then turns is was = subst (λ h. Hears place first h new) (sym is) (take_hears old.stage byte history old new was.now was does)
@@ -543,7 +543,7 @@ module _ (place : Place) (first : Transfer) (wanted skip : Bool) (reads : first.
       strapped (Telling results read) now = now
   call_hears Changes history grown old new does stays at at_then turns is was =
       subst (λ h. Hears place first h new) (sym is) (turn_hears old.stage history old new was.parts was.now does.stage at_then
-      (λ moving here there. subst (λ stage. TurnsOnIn stage Changes (drive_at old.board place.bay) (drive_at new.board place.bay)) here turns))
+      (λ moving here there. subst (λ stage. TurnsOnIn stage Changes (drive_at old.adapter place.bay) (drive_at new.adapter place.bay)) here turns))
 
   first_at : (calls : List Call) (old new : Front) (within : AreWithin calls old new) → StaysIn place calls old new within → IsAtWhile old.stage place old
   first_at [] old new within is = is
@@ -605,7 +605,7 @@ module _ (place : Place) (first : Transfer) (wanted skip : Bool) (reads : first.
       subst (λ o. AreOnMedium place o history.parts) (sym reads) (all_on_medium first history.parts hears.parts (subst (λ o. AreMoved o first history.parts) reads moved))
 
   -- a command of which nothing was heard
-  nothing_heard : (stage : Stage) (begun : Front) → begun.stage ≡ stage → ServesAt stage first (nothing_moved false) begun.board.controller → IsAtWhile stage place begun → Hears place first (nothing_moved false) begun
+  nothing_heard : (stage : Stage) (begun : Front) → begun.stage ≡ stage → ServesAt stage first (nothing_moved false) begun.adapter.controller → IsAtWhile stage place begun → Hears place first (nothing_moved false) begun
   nothing_heard Through begun is now at = absurd now
   nothing_heard (Collecting opcode) begun is now at = absurd now
   nothing_heard (Seeking target counted) begun is (here, none) at =

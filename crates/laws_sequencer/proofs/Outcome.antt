@@ -151,7 +151,7 @@ pub results_say : (first : Transfer) (history : History) (front : Front) (result
 results_say first history front results read serves is =
     ended_so first.opcode.operation (has_other first.opcode.operation history.parts) history.counted (sector_after (length history.parts) first) history.past results
     (ap (λ opcode. opcode.operation) (sector_opcode (length history.parts) first))
-    (subst (λ stage. ServesAt stage first history front.board.controller) is serves.now)
+    (subst (λ stage. ServesAt stage first history front.adapter.controller) is serves.now)
 
 -- ---- whatever passed
 
@@ -168,7 +168,7 @@ passes_at (Moving moving) first history fdc (here, counts, carries) =
 passes_at (Telling results read) first history fdc ends = ends.of_sector
 
 pub passes_of : (first : Transfer) (history : History) (front : Front) → Serves first history front → PassesOfSector first history
-passes_of first history front serves = passes_at front.stage first history front.board.controller serves.now
+passes_of first history front serves = passes_at front.stage first history front.adapter.controller serves.now
 
 -- ---- a sector that is over
 

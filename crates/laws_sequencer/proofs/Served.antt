@@ -27,7 +27,7 @@ use Rattle.fdc_phases.specs.declared.phases.Phase.TheVariants.{Command as Taking
 use Rattle.fdc_core.proofs.MayRead.{starts_given}
 use Rattle.fdc_core.proofs.Meanings.{read_gives, read_tells}
 use Rattle.fdc_core.proofs.Tellings.{write_tells, writes_window}
-use Rattle.fdc_board.specs.Boards.{BoardState, StepsBoard, WritesBoard, lines_at, selected_at}
+use Rattle.fdc_adapter.specs.Adapters.{AdapterState, StepsAdapter, WritesAdapter, lines_at, selected_at}
 use Rattle.fdc_sequencer.specs.Fronts.{BeginsSector, CollectsAs, Front, GivesAt, GivesFront, GivesMoving, SeeksFirst, Starts, StartsIf, TakesAt, TakesByte, TakesFront, TakesMoving, WritesFront, after_reading, begun_if, byte_given, count_told, moving_of, passed_one, reset_if, told_front, told_if, with_controller}
 use Rattle.fdc_sequencer.specs.Moves.{EndsIf, EndsSector, FollowsStep, MovesOn, SeeksOn, StepsFront, goes_on, has_met_other, is_unwanted, judged, judged_if, passed_over_if}
 use Rattle.laws_sequencer.specs.Serving.{Accounts, AreLeft, AreMoved, BeginsAt, BeginsWith, Carries, GoesOn, History, IsFieldDone, IsLastOne, IsFree, IsLeft, IsMarkOf, IsOfOther, IsOfSector, IsRefused, IsTimeOf, KeepsServing, MayMove, Means, MeansJudged, Part, Passes, PassesAt, RefusesFirst, Serves, ServesAt, ServesCounted, ServesStep, ServesUnless, StepsTo, bytes_moved, gives_last, has_other, hears_count, history_counted, history_ended, history_given, history_moved, history_passed, history_sought, history_stepped, history_taken, nothing_moved, passed_in, passed_out, results_ended, sector_after, sent_of, still_seeks}
@@ -58,20 +58,20 @@ same_front first history old new is serves = (none_more first.opcode.operation h
 
 -- what is done in front
 pub same_stage : (first : Transfer) (history : History) (stage : Stage) (new : Front) → new.stage ≡ stage → IsSizeCode first.key.n → AreMoved first.opcode.operation first history.parts
-    → ServesAt stage first history new.board.controller → GoesOn [] false first history history new
+    → ServesAt stage first history new.adapter.controller → GoesOn [] false first history history new
 same_stage first history stage new is sized parts now =
-    (none_more first.opcode.operation history, none_told history.counted, record { sized = sized; parts = parts; now = subst (λ s. ServesAt s first history new.board.controller) (sym is) now })
+    (none_more first.opcode.operation history, none_told history.counted, record { sized = sized; parts = parts; now = subst (λ s. ServesAt s first history new.adapter.controller) (sym is) now })
 
 -- the sector goes on, and these bytes of it passed
 pub same_sector : (first : Transfer) (parts : List Part) (past now : Past) (counted told then_counted : Bool) (passed : List ℕ) (moving : MovingSector) (new : Front) → new.stage ≡ Moving moving
     → IsSizeCode first.key.n → AreMoved first.opcode.operation first parts → moving.transfer ≡ sector_after (length parts) first → moving.counted ≡ then_counted → then_counted ≡ (counted || told)
     → bytes_moved first.opcode.operation now ≡ bytes_moved first.opcode.operation past ++ passed
-    → Carries first.opcode.operation (has_other first.opcode.operation parts) moving now new.board.controller
+    → Carries first.opcode.operation (has_other first.opcode.operation parts) moving now new.adapter.controller
     → GoesOn passed told first (record { parts = parts; past = past; counted = counted }) (record { parts = parts; past = now; counted = then_counted }) new
 same_sector first parts past now counted told then_counted passed moving new is sized were here counts told_is bytes carries = (
   bytes_more first.opcode.operation parts past now counted then_counted passed bytes,
   told_is,
-  record { sized = sized; parts = were; now = subst (λ s. ServesAt s first (record { parts = parts; past = now; counted = then_counted }) new.board.controller) (sym is) (here, counts, carries) },
+  record { sized = sized; parts = were; now = subst (λ s. ServesAt s first (record { parts = parts; past = now; counted = then_counted }) new.adapter.controller) (sym is) (here, counts, carries) },
 )
 
 -- ---- a sector begins
@@ -83,18 +83,18 @@ begins_serve first parts at counted passed_over old new sized were here met begi
   where
     by_busy : (b : Bool) → is_executing begins.between.controller.phase ≡ b → new ≡ begun_if b at counted passed_over begins.between old → Serves first (record { parts = parts; past = told_in counted new_past; counted = counted }) new ⊎ IsRefused new
     by_busy true busy is =
-        let begun = begun_busy at (lines_at old.board) old.board.controller begins.between.controller begins.takes.takes busy in
+        let begun = begun_busy at (lines_at old.adapter) old.adapter.controller begins.between.controller begins.takes.takes busy in
         let same = ap (λ opcode. opcode.operation) (ap (λ a. a.opcode) here ∙ sector_opcode (length parts) first) in
         let carries = begun_carries first.opcode.operation passed_over at counted begins.between (subst (λ operation. Begun operation (sent_of at) begins.between.controller) same begun) in
         let known = subst (λ b. Carries first.opcode.operation b (moving_of at counted passed_over) (told_in counted new_past) (told_if counted begins.between).controller) met carries in
         inl (record {
           sized = sized;
           parts = were;
-          now = subst (λ front. ServesAt front.stage first (record { parts = parts; past = told_in counted new_past; counted = counted }) front.board.controller) (sym is) (here, refl, known);
+          now = subst (λ front. ServesAt front.stage first (record { parts = parts; past = told_in counted new_past; counted = counted }) front.adapter.controller) (sym is) (here, refl, known);
         })
     by_busy false idle is = inr (record {
       through = ap (λ front. front.stage) is;
-      answer_is = ap (λ front. front.board.controller.phase) is ∙ answered_idle at (lines_at old.board) old.board.controller begins.between.controller begins.takes.takes idle;
+      answer_is = ap (λ front. front.adapter.controller.phase) is ∙ answered_idle at (lines_at old.adapter) old.adapter.controller begins.between.controller begins.takes.takes idle;
     })
 
 -- it isn't where the controller executes its command
@@ -184,7 +184,7 @@ module _ (first : Transfer) (parts : List Part) (past : Past) (counted : Bool) (
     record {
       sized = sized;
       parts = were;
-      now = subst (λ s. ServesAt s first (record { parts = parts; past = now; counted = counted }) new.board.controller) (sym is) (record {
+      now = subst (λ s. ServesAt s first (record { parts = parts; past = now; counted = counted }) new.adapter.controller) (sym is) (record {
         moving = moving;
         here = here;
         counted = counts;
@@ -201,7 +201,7 @@ module _ (first : Transfer) (parts : List Part) (past : Past) (counted : Bool) (
   )
 
   -- the next sector begins, for which the controller is free
-  next_on : (now : Past) (mark : Option Bool) (marked : Bool) (old new : Front) → IsFree old.board.controller → bytes_moved operation now ≡ bytes_moved operation past → Accounts operation met moving now mark
+  next_on : (now : Past) (mark : Option Bool) (marked : Bool) (old new : Front) → IsFree old.adapter.controller → bytes_moved operation now ≡ bytes_moved operation past → Accounts operation met moving now mark
       → IsFieldDone moving.skipped operation now (sent_of moving.transfer) marked → mark ≡ Some marked → goes_on moving marked ≡ true
       → BeginsSector (next_of moving.transfer) false (has_met_other moving marked) old new
       → GoesOn [] false first so_far (history_ended true moving.transfer marked now so_far) new
@@ -213,13 +213,13 @@ module _ (first : Transfer) (parts : List Part) (past : Past) (counted : Bool) (
       let other = met_then operation met moving now mark marked same_operation mark_is accounts ∙ sym (other_more operation parts part) in
       let uncounted = sym (would_uncounted moving marked would) ∙ (counts ∙ none_told counted) in
       let fits = subst IsSizeCode (sym (next_size moving.transfer)) accounts.sized in
-      let busy = free_executes (next_of moving.transfer) (lines_at old.board) old.board.controller begins.between.controller fits free begins.takes.takes in
+      let busy = free_executes (next_of moving.transfer) (lines_at old.adapter) old.adapter.controller begins.between.controller fits free begins.takes.takes in
       elim (begins_serve first (parts ++ part ∷ []) (next_of moving.transfer) false (has_met_other moving marked) old new sized more behind other begins) [
         | inl serves ↦ (bytes_next operation parts part past counted false bytes, uncounted, serves)
         | inr refused ↦ not_refused (next_of moving.transfer) false (has_met_other moving marked) old new begins busy refused
       ]
 
-  ends_if : (b : Bool) (now : Past) (mark : Option Bool) (marked : Bool) (old new : Front) → goes_on moving marked ≡ b → IsFree old.board.controller → bytes_moved operation now ≡ bytes_moved operation past
+  ends_if : (b : Bool) (now : Past) (mark : Option Bool) (marked : Bool) (old new : Front) → goes_on moving marked ≡ b → IsFree old.adapter.controller → bytes_moved operation now ≡ bytes_moved operation past
       → Accounts operation met moving now mark → IsOfSector operation now (sent_of moving.transfer) → IsFieldDone moving.skipped operation now (sent_of moving.transfer) marked → mark ≡ Some marked
       → EndsIf b moving marked old new
       → GoesOn [] false first so_far (history_ended b moving.transfer marked now so_far) new
@@ -227,7 +227,7 @@ module _ (first : Transfer) (parts : List Part) (past : Past) (counted : Bool) (
   ends_if false now mark marked old new goes free bytes accounts of_sector done mark_is ends =
       tells_on now mark (Done marked) new bytes accounts of_sector done goes mark_is (ap (λ front. front.stage) ends)
 
-  ends_on : (ending : Ending) (now : Past) (mark : Option Bool) (old new : Front) → IsFree old.board.controller → bytes_moved operation now ≡ bytes_moved operation past → Accounts operation met moving now mark
+  ends_on : (ending : Ending) (now : Past) (mark : Option Bool) (old new : Front) → IsFree old.adapter.controller → bytes_moved operation now ≡ bytes_moved operation past → Accounts operation met moving now mark
       → IsOfSector operation now (sent_of moving.transfer) → MeansJudged ending moving.skipped operation now (sent_of moving.transfer) → IsMarkOf ending mark → EndsSector moving ending old new
       → GoesOn [] false first so_far (history_moved (Some ending) moving mark now so_far) new
   ends_on (Done marked) now mark old new free bytes accounts of_sector means mark_is ends = ends_if (goes_on moving marked) now mark marked old new refl free bytes accounts of_sector means mark_is ends
@@ -271,21 +271,21 @@ module _ (first : Transfer) (parts : List Part) (past : Past) (counted : Bool) (
           let full : moving.left ≡ content_size moving.transfer.key.n = omega arith in
           clash (is_unwanted moving mark) wanted (unwanted_at mark skips other (full ∙ sym same))
 
-  passes_over : (b : Bool) (now : Past) (old new : Front) → old.stage ≡ Moving moving → is_unwanted moving (mark_of old.board.controller) ≡ b → bytes_moved operation now ≡ bytes_moved operation past
-      → MayMove operation now (sent_of moving.transfer) old.board.controller → is_executing old.board.controller.phase ≡ true → IsFree old.board.controller → Accounts operation met moving now (mark_of old.board.controller)
+  passes_over : (b : Bool) (now : Past) (old new : Front) → old.stage ≡ Moving moving → is_unwanted moving (mark_of old.adapter.controller) ≡ b → bytes_moved operation now ≡ bytes_moved operation past
+      → MayMove operation now (sent_of moving.transfer) old.adapter.controller → is_executing old.adapter.controller.phase ≡ true → IsFree old.adapter.controller → Accounts operation met moving now (mark_of old.adapter.controller)
       → new ≡ passed_over_if b moving old → GoesOn [] false first so_far (record so_far { past = told_in b now }) new
   passes_over false now old new stage_is wanted bytes moves busy free accounts is =
       same_sector first parts past now counted false counted [] moving new (ap (λ front. front.stage) is ∙ stage_is) sized were here counts (none_told counted) (bytes ∙ sym (append-nil (bytes_moved operation past)))
-      (subst (λ front. Carries operation met moving now front.board.controller) (sym is)
-      (record { moves = moves; busy = busy; free = free; accounts = accounts; passes = wanted_passes now (mark_of old.board.controller) wanted accounts }))
+      (subst (λ front. Carries operation met moving now front.adapter.controller) (sym is)
+      (record { moves = moves; busy = busy; free = free; accounts = accounts; passes = wanted_passes now (mark_of old.adapter.controller) wanted accounts }))
   passes_over true now old new stage_is unwanted bytes moves busy free accounts is =
-      let (skips, other, full) = unwanted_is (mark_of old.board.controller) unwanted in
+      let (skips, other, full) = unwanted_is (mark_of old.adapter.controller) unwanted in
       let empty = accounts.clean skips other in
       let over : MovingSector = record moving { left = 0; passed_over = true; skipped = true } in
       same_sector first parts past (told_in true now) counted false counted [] over new (ap (λ front. front.stage) is) sized were here counts (none_told counted)
       (bytes_told operation true now ∙ (bytes ∙ sym (append-nil (bytes_moved operation past))))
-      (subst (λ front. Carries operation met over (told_in true now) front.board.controller) (sym is)
-      (told_carries operation met over now old.board.controller moves busy free (record {
+      (subst (λ front. Carries operation met over (told_in true now) front.adapter.controller) (sym is)
+      (told_carries operation met over now old.adapter.controller moves busy free (record {
         sized = accounts.sized;
         bytes = inr (refl, refl, skips, other, refl, bytes_told operation true now ∙ empty);
         clean = λ skipping unwanted. bytes_told operation true now ∙ empty;
@@ -305,43 +305,43 @@ module _ (first : Transfer) (parts : List Part) (past : Past) (counted : Bool) (
   any_mark Protected mark other now = refl
   any_mark Late mark other now = refl
 
-  moves_on : (ending : Option Ending) (now : Past) (was : Option Bool) (old new : Front) → old.stage ≡ Moving moving → ending_told old.board.controller ≡ ending → IsFree old.board.controller
-      → bytes_moved operation now ≡ bytes_moved operation past → Accounts operation met moving now (mark_then was old.board.controller.phase)
-      → MayMove operation now (sent_of moving.transfer) old.board.controller → (is_skipping operation ≡ true → IsOfOther operation was → moving.left ≡ 0)
-      → BadGoes operation now moving.transfer.key was old.board.controller → MovesOn (judged_if moving ending) moving old new
-      → GoesOn [] false first so_far (history_moved (judged_if moving ending) moving (mark_of old.board.controller) now so_far) new
+  moves_on : (ending : Option Ending) (now : Past) (was : Option Bool) (old new : Front) → old.stage ≡ Moving moving → ending_told old.adapter.controller ≡ ending → IsFree old.adapter.controller
+      → bytes_moved operation now ≡ bytes_moved operation past → Accounts operation met moving now (mark_then was old.adapter.controller.phase)
+      → MayMove operation now (sent_of moving.transfer) old.adapter.controller → (is_skipping operation ≡ true → IsOfOther operation was → moving.left ≡ 0)
+      → BadGoes operation now moving.transfer.key was old.adapter.controller → MovesOn (judged_if moving ending) moving old new
+      → GoesOn [] false first so_far (history_moved (judged_if moving ending) moving (mark_of old.adapter.controller) now so_far) new
   moves_on None now was old new stage_is none free bytes accounts moves passes bad does =
-      let busy = still_busy operation now (sent_of moving.transfer) old.board.controller moves none in
-      passes_over (is_unwanted moving (mark_of old.board.controller)) now old new stage_is refl bytes moves busy free
-      (subst (Accounts operation met moving now) (then_busy was old.board.controller.phase busy) accounts) does
+      let busy = still_busy operation now (sent_of moving.transfer) old.adapter.controller moves none in
+      passes_over (is_unwanted moving (mark_of old.adapter.controller)) now old new stage_is refl bytes moves busy free
+      (subst (Accounts operation met moving now) (then_busy was old.adapter.controller.phase busy) accounts) does
   moves_on (Some ending) now was old new stage_is some free bytes accounts moves passes bad does =
-      let fdc = old.board.controller in
+      let fdc = old.adapter.controller in
       let sent = sent_of moving.transfer in
       let (means, marked) = judges operation met moving now was fdc same_operation accounts passes bad ending some (ended_means operation now sent fdc ending accounts.sized moves some) in
       subst (λ h. GoesOn [] false first so_far h new) (any_mark (judged moving ending) (mark_then was fdc.phase) (mark_of fdc) now)
-      (ends_on (judged moving ending) now (mark_then was fdc.phase) (record old { board = with_controller (given_up fdc) old.board }) new (given_free fdc free) bytes accounts
+      (ends_on (judged moving ending) now (mark_then was fdc.phase) (record old { adapter = with_controller (given_up fdc) old.adapter }) new (given_free fdc free) bytes accounts
       (of_sector operation now sent fdc moves) means marked does)
 
   -- with whatever word time this is known of the controller
-  pub known_moves : (old : Front) (between : BoardState) (new : Front) (Is : WordTime → Type 0) → old.stage ≡ Moving moving → Carries operation met moving past old.board.controller → StepsBoard old.board between
-      → (known : KnownOn operation past (sent_of moving.transfer) (mark_of old.board.controller) Is between.controller) → MovesOn (judged_if moving (ending_told between.controller)) moving (record old { board = between }) new
+  pub known_moves : (old : Front) (between : AdapterState) (new : Front) (Is : WordTime → Type 0) → old.stage ≡ Moving moving → Carries operation met moving past old.adapter.controller → StepsAdapter old.adapter between
+      → (known : KnownOn operation past (sent_of moving.transfer) (mark_of old.adapter.controller) Is between.controller) → MovesOn (judged_if moving (ending_told between.controller)) moving (record old { adapter = between }) new
       → GoesOn [] false first so_far (history_moved (judged_if moving (ending_told between.controller)) moving (mark_of between.controller) (after_time known.time past) so_far) new
   known_moves old between new Is stage_is carries steps known does =
-      let was = mark_of old.board.controller in
+      let was = mark_of old.adapter.controller in
       let now = after_time known.time past in
-      let free = step_free operation past (sent_of moving.transfer) old.board between steps carries.busy carries.moves carries.free in
-      moves_on (ending_told between.controller) now was (record old { board = between }) new stage_is refl free known.bytes
+      let free = step_free operation past (sent_of moving.transfer) old.adapter between steps carries.busy carries.moves carries.free in
+      moves_on (ending_told between.controller) now was (record old { adapter = between }) new stage_is refl free known.bytes
       (accounts_on operation met moving past now was (mark_then was between.controller.phase) known.marks known.bytes known.counted carries.accounts) known.moves carries.passes known.bad does
 
-  step_moves : (old : Front) (between : BoardState) (new : Front) → old.stage ≡ Moving moving → Carries operation met moving past old.board.controller → StepsBoard old.board between
-      → MovesOn (judged_if moving (ending_told between.controller)) moving (record old { board = between }) new → StepsTo first so_far old between new
+  step_moves : (old : Front) (between : AdapterState) (new : Front) → old.stage ≡ Moving moving → Carries operation met moving past old.adapter.controller → StepsAdapter old.adapter between
+      → MovesOn (judged_if moving (ending_told between.controller)) moving (record old { adapter = between }) new → StepsTo first so_far old between new
   step_moves old between new stage_is carries steps does =
-      let known = steps_on operation past (sent_of moving.transfer) old.board between steps carries.busy carries.moves in
+      let known = steps_on operation past (sent_of moving.transfer) old.adapter between steps carries.busy carries.moves in
       record {
         time = known.time;
-        passes = subst (λ stage. Passes stage known.time old.board between) (sym stage_is) (subst (λ o. IsTimeOf o known.time) (sym same_operation) known.is.0, known.is.1);
+        passes = subst (λ stage. Passes stage known.time old.adapter between) (sym stage_is) (subst (λ o. IsTimeOf o known.time) (sym same_operation) known.is.0, known.is.1);
         goes = subst (λ stage. GoesOn [] false first so_far (history_stepped stage known.time between.controller so_far) new) (sym stage_is)
-            (known_moves old between new (λ time. IsTimeOf operation time × PassesAt (selected_at old.board) (head_of moving.transfer.head_drive) time old.board between) stage_is carries steps known does);
+            (known_moves old between new (λ time. IsTimeOf operation time × PassesAt (selected_at old.adapter) (head_of moving.transfer.head_drive) time old.adapter between) stage_is carries steps known does);
       }
 
   -- ---- bytes
@@ -371,54 +371,54 @@ module _ (first : Transfer) (parts : List Part) (past : Past) (counted : Bool) (
       by_last b last = subst (λ c. GoesOn (byte ∷ []) false first so_far (record so_far { past = told_in c now }) new) (sym last) (same_sector first parts past (told_in b now) counted false counted (byte ∷ []) (record moving { left = moving.left - 1 }) new (ap (λ front. front.stage) is) sized were here
           counts (none_told counted)
           (bytes_told operation b now ∙ moved.bytes)
-          (subst (λ front. Carries operation met (record moving { left = moving.left - 1 }) (told_in b now) front.board.controller) (sym is)
+          (subst (λ front. Carries operation met (record moving { left = moving.left - 1 }) (told_in b now) front.adapter.controller) (sym is)
           (subst (λ c. Carries operation met (record moving { left = moving.left - 1 }) (told_in b now) (if c then told_count fdc else fdc)) (sym last) (by_count b last))))
 
-  takes_one : (byte : Option ℕ) (old new : Front) → Serves first so_far old → Carries operation met moving past old.board.controller → TakesMoving moving old byte new
+  takes_one : (byte : Option ℕ) (old new : Front) → Serves first so_far old → Carries operation met moving past old.adapter.controller → TakesMoving moving old byte new
       → GoesOn (passed_out byte) false first so_far (history_taken (Moving moving) byte so_far) new
   takes_one None old new serves carries (quiet, is) = same_front first so_far old new is serves
   takes_one (Some byte) old new serves carries (up, byte_is, is) =
-      let fdc = old.board.controller in
+      let fdc = old.adapter.controller in
       let (some, asked) = and_parts (nat_lt 0 moving.left) (asks fdc && to_memory_of fdc) up in
       subst (λ b. GoesOn (b ∷ []) false first so_far (history_passed moving (gave b past) so_far) new) (sym byte_is)
       (passes_one (byte_out fdc) (gave (byte_out fdc) past) (taken_out fdc) old new some (out_on operation past (sent_of moving.transfer) fdc asked carries.moves) carries.busy
       (record { rests = carries.free.rests; by_dma = carries.free.by_dma }) carries.accounts carries.passes is)
 
-  gives_one : (byte : ℕ) (was : Bool) (old new : Front) → Serves first so_far old → Carries operation met moving past old.board.controller → GivesMoving moving byte old was new
+  gives_one : (byte : ℕ) (was : Bool) (old new : Front) → Serves first so_far old → Carries operation met moving past old.adapter.controller → GivesMoving moving byte old was new
       → GoesOn (passed_in was byte) false first so_far (history_given (Moving moving) byte was so_far) new
   gives_one byte false old new serves carries (quiet, is) = same_front first so_far old new is serves
   gives_one byte true old new serves carries (up, is) =
-      let fdc = old.board.controller in
+      let fdc = old.adapter.controller in
       let (some, asked) = and_parts (nat_lt 0 moving.left) (asks fdc && not (to_memory_of fdc)) up in
       passes_one byte (took byte past) (taken_in byte fdc) old new some (in_on operation past (sent_of moving.transfer) byte fdc carries.busy asked carries.moves) carries.busy
       (record { rests = carries.free.rests; by_dma = carries.free.by_dma }) carries.accounts carries.passes is
 
   -- ---- the terminal count
 
-  counts_one : (old new : Front) → Carries operation met moving past old.board.controller → new ≡ record old { board = told_if true old.board; stage = Moving (record moving { counted = true }) }
+  counts_one : (old new : Front) → Carries operation met moving past old.adapter.controller → new ≡ record old { adapter = told_if true old.adapter; stage = Moving (record moving { counted = true }) }
       → GoesOn [] true first so_far (history_counted (Moving moving) so_far) new
   counts_one old new carries is =
       let told : MovingSector = record moving { counted = true } in
       let accounts = carries.accounts in
       same_sector first parts past (told_in true past) counted true true [] told new (ap (λ front. front.stage) is) sized were here refl (over_told counted) (bytes_told operation true past ∙ sym (append-nil (bytes_moved operation past)))
-      (subst (λ front. Carries operation met told (told_in true past) front.board.controller) (sym is)
-      (told_carries operation met told past old.board.controller carries.moves carries.busy carries.free (record {
+      (subst (λ front. Carries operation met told (told_in true past) front.adapter.controller) (sym is)
+      (told_carries operation met told past old.adapter.controller carries.moves carries.busy carries.free (record {
         sized = accounts.sized;
-        bytes = subst (AreLeft operation met told (mark_of old.board.controller)) (sym (bytes_told operation true past)) accounts.bytes;
+        bytes = subst (AreLeft operation met told (mark_of old.adapter.controller)) (sym (bytes_told operation true past)) accounts.bytes;
         clean = λ skips other. bytes_told operation true past ∙ accounts.clean skips other;
         told = refl;
       }) carries.passes))
 
   -- ---- a write of another port
 
-  writes_one : (old new : Front) (port value : ℕ) → old.stage ≡ Moving moving → Carries operation met moving past old.board.controller → (port == 0x3F5) ≡ false → resets port value ≡ false
-      → WritesBoard port value old.board new.board → new.stage ≡ old.stage → GoesOn [] false first so_far so_far new
+  writes_one : (old new : Front) (port value : ℕ) → old.stage ≡ Moving moving → Carries operation met moving past old.adapter.controller → (port == 0x3F5) ≡ false → resets port value ≡ false
+      → WritesAdapter port value old.adapter new.adapter → new.stage ≡ old.stage → GoesOn [] false first so_far so_far new
   writes_one old new port value stage_is carries no_byte no_reset writes same =
-      let mark = port_mark port value (lines_at old.board) old.board.controller new.board.controller writes.writes no_byte no_reset in
+      let mark = port_mark port value (lines_at old.adapter) old.adapter.controller new.adapter.controller writes.writes no_byte no_reset in
       same_sector first parts past past counted false counted [] moving new (same ∙ stage_is) sized were here counts (none_told counted) (sym (append-nil (bytes_moved operation past))) (record {
-        moves = port_on operation past (sent_of moving.transfer) port value (lines_at old.board) old.board.controller new.board.controller writes.writes no_byte no_reset carries.moves;
-        busy = port_busy port value (lines_at old.board) old.board.controller new.board.controller writes.writes no_byte no_reset carries.busy;
-        free = port_free port value (lines_at old.board) old.board.controller new.board.controller writes.writes no_byte no_reset carries.free;
+        moves = port_on operation past (sent_of moving.transfer) port value (lines_at old.adapter) old.adapter.controller new.adapter.controller writes.writes no_byte no_reset carries.moves;
+        busy = port_busy port value (lines_at old.adapter) old.adapter.controller new.adapter.controller writes.writes no_byte no_reset carries.busy;
+        free = port_free port value (lines_at old.adapter) old.adapter.controller new.adapter.controller writes.writes no_byte no_reset carries.free;
         accounts = subst (Accounts operation met moving past) (sym mark) carries.accounts;
         passes = λ skips other. carries.passes skips (subst (IsOfOther operation) mark other);
       })
@@ -426,42 +426,42 @@ module _ (first : Transfer) (parts : List Part) (past : Past) (counted : Bool) (
 -- ---- a device step
 
 -- the heads have come to the command's cylinder, or not
-seeks_on : (b : Bool) (first : Transfer) (history : History) (at : Transfer) (counted : Bool) (old new : Front) → has_ended_seek old.board.controller.seeks ≡ b → old.stage ≡ Seeking at counted → IsSizeCode first.key.n
-    → at ≡ first → history ≡ nothing_moved counted → SeeksOn b at counted old new → GoesOn [] false first history (history_sought b counted history) new ⊎ ((old.board.controller.non_dma ≡ true) × IsRefused new)
+seeks_on : (b : Bool) (first : Transfer) (history : History) (at : Transfer) (counted : Bool) (old new : Front) → has_ended_seek old.adapter.controller.seeks ≡ b → old.stage ≡ Seeking at counted → IsSizeCode first.key.n
+    → at ≡ first → history ≡ nothing_moved counted → SeeksOn b at counted old new → GoesOn [] false first history (history_sought b counted history) new ⊎ ((old.adapter.controller.non_dma ≡ true) × IsRefused new)
 seeks_on true first history at counted old new ended stage_is sized here none does =
-    let fdc = old.board.controller in
-    let sought : Front = record old { board = with_controller (without_seek fdc) old.board } in
+    let fdc = old.adapter.controller in
+    let sought : Front = record old { adapter = with_controller (without_seek fdc) old.adapter } in
     elim (begins_serve first [] at counted false sought new sized tt here refl does) [
       | inl serves ↦ inl (subst (λ h. GoesOn [] false first h (history_sought true counted h) new) (sym none)
           (bytes_told first.opcode.operation counted new_past ∙ none_more first.opcode.operation (nothing_moved counted), none_told counted, serves))
       | inr refused ↦
           let fits = subst (λ transfer. IsSizeCode transfer.key.n) (sym here) sized in
-          let set : old.board.controller.non_dma ≡ true = either_way fdc.non_dma (λ is. is) (λ clear.
-          not_refused at counted false sought new does (free_executes at (lines_at sought.board) (without_seek fdc) does.between.controller fits (sought_free fdc ended clear) does.takes.takes) refused) in
+          let set : old.adapter.controller.non_dma ≡ true = either_way fdc.non_dma (λ is. is) (λ clear.
+          not_refused at counted false sought new does (free_executes at (lines_at sought.adapter) (without_seek fdc) does.between.controller fits (sought_free fdc ended clear) does.takes.takes) refused) in
           inr (set, refused)
     ]
 seeks_on false first history at counted old new ended stage_is sized here none does =
     inl (same_stage first history (Seeking at counted) new (ap (λ front. front.stage) does ∙ stage_is) sized (subst (λ h. AreMoved first.opcode.operation first h.parts) (sym none) tt) (here, none))
 
-step_at : (stage : Stage) (first : Transfer) (history : History) (old : Front) (between : BoardState) (new : Front) → old.stage ≡ stage → IsSizeCode first.key.n → AreMoved first.opcode.operation first history.parts
-    → ServesAt stage first history old.board.controller → StepsBoard old.board between → FollowsStep stage (record old { board = between }) new → StepsTo first history old between new ⊎ RefusesFirst old new
+step_at : (stage : Stage) (first : Transfer) (history : History) (old : Front) (between : AdapterState) (new : Front) → old.stage ≡ stage → IsSizeCode first.key.n → AreMoved first.opcode.operation first history.parts
+    → ServesAt stage first history old.adapter.controller → StepsAdapter old.adapter between → FollowsStep stage (record old { adapter = between }) new → StepsTo first history old between new ⊎ RefusesFirst old new
 step_at Through first history old between new stage_is sized parts now steps follows = absurd now
 step_at (Collecting opcode) first history old between new stage_is sized parts now steps follows = absurd now
 step_at (Seeking at counted) first history old between new stage_is sized parts (here, none) steps follows =
-    elim (seeks_on (has_ended_seek between.controller.seeks) first history at counted (record old { board = between }) new refl stage_is sized here none follows) [
+    elim (seeks_on (has_ended_seek between.controller.seeks) first history at counted (record old { adapter = between }) new refl stage_is sized here none follows) [
       | inl goes ↦ inl (record {
         time = Stopped;
-        passes = subst (λ stage. Passes stage Stopped old.board between) (sym stage_is) tt;
+        passes = subst (λ stage. Passes stage Stopped old.adapter between) (sym stage_is) tt;
         goes = subst (λ stage. GoesOn [] false first history (history_stepped stage Stopped between.controller history) new) (sym stage_is) goes;
       })
-      | inr (set, refused) ↦ inr (record { seeks = ap still_seeks stage_is; non_dma = sym (step_dma old.board between steps) ∙ set; refused = refused })
+      | inr (set, refused) ↦ inr (record { seeks = ap still_seeks stage_is; non_dma = sym (step_dma old.adapter between steps) ∙ set; refused = refused })
     ]
 step_at (Moving moving) first history old between new stage_is sized parts (here, counts, carries) steps follows =
     inl (step_moves first history.parts history.past history.counted moving sized parts here counts old between new stage_is carries steps follows)
 step_at (Telling results read) first history old between new stage_is sized parts now steps follows =
     inl (record {
       time = Stopped;
-      passes = subst (λ stage. Passes stage Stopped old.board between) (sym stage_is) tt;
+      passes = subst (λ stage. Passes stage Stopped old.adapter between) (sym stage_is) tt;
       goes = subst (λ stage. GoesOn [] false first history (history_stepped stage Stopped between.controller history) new) (sym stage_is)
           (same_stage first history (Telling results read) new (ap (λ front. front.stage) follows ∙ stage_is) sized parts now);
     })
@@ -471,7 +471,7 @@ steps_serve old new step first history serves = step_at old.stage first history 
 
 -- ---- the channel
 
-take_at : (stage : Stage) (byte : Option ℕ) (first : Transfer) (history : History) (old new : Front) → ServesAt stage first history old.board.controller → Serves first history old → TakesAt stage old byte new
+take_at : (stage : Stage) (byte : Option ℕ) (first : Transfer) (history : History) (old new : Front) → ServesAt stage first history old.adapter.controller → Serves first history old → TakesAt stage old byte new
     → GoesOn (passed_out byte) false first history (history_taken stage byte history) new
 take_at Through byte first history old new now serves takes = absurd now
 take_at (Collecting opcode) byte first history old new now serves takes = absurd now
@@ -482,7 +482,7 @@ take_at (Telling results read) byte first history old new now serves (none, is) 
 pub takes_serve : (old : Front) (byte : Option ℕ) (new : Front) → TakesFront old byte new → KeepsServing (passed_out byte) (history_taken old.stage byte) old new
 takes_serve old byte new takes first history serves = take_at old.stage byte first history old new serves.now serves takes
 
-give_at : (stage : Stage) (byte : ℕ) (was : Bool) (first : Transfer) (history : History) (old new : Front) → ServesAt stage first history old.board.controller → Serves first history old → GivesAt stage byte old was new
+give_at : (stage : Stage) (byte : ℕ) (was : Bool) (first : Transfer) (history : History) (old new : Front) → ServesAt stage first history old.adapter.controller → Serves first history old → GivesAt stage byte old was new
     → GoesOn (passed_in was byte) false first history (history_given stage byte was history) new
 give_at Through byte was first history old new now serves gives = absurd now
 give_at (Collecting opcode) byte was first history old new now serves gives = absurd now
@@ -498,10 +498,10 @@ seek_counted : (first : Transfer) (history : History) (at : Transfer) (counted :
 seek_counted first history at counted new sized here none is = subst (λ h. GoesOn [] true first h (record h { counted = true }) new) (sym none) (
   none_more first.opcode.operation (nothing_moved counted),
   over_told counted,
-  record { sized = sized; parts = tt; now = subst (λ s. ServesAt s first (nothing_moved true) new.board.controller) (sym is) (here, refl) },
+  record { sized = sized; parts = tt; now = subst (λ s. ServesAt s first (nothing_moved true) new.adapter.controller) (sym is) (here, refl) },
 )
 
-count_at : (stage : Stage) (first : Transfer) (history : History) (old new : Front) → ServesAt stage first history old.board.controller → Serves first history old → new ≡ count_told stage old
+count_at : (stage : Stage) (first : Transfer) (history : History) (old new : Front) → ServesAt stage first history old.adapter.controller → Serves first history old → new ≡ count_told stage old
     → GoesOn [] (hears_count stage) first history (history_counted stage history) new
 count_at Through first history old new now serves is = absurd now
 count_at (Collecting opcode) first history old new now serves is = absurd now
@@ -517,11 +517,11 @@ counts_serve old new is first history serves = count_at old.stage first history 
 result_read : (last : Bool) (results : Results) (read : ℕ) (old new : Front) → old.stage ≡ Telling results read → new ≡ record old { stage = if last then Through else Telling results (read + 1) } → ServesUnless last old new
 result_read true results read old new stage_is is = ap (λ front. front.stage) is
 result_read false results read old new stage_is is = λ first history serves.
-    same_stage first history (Telling results (read + 1)) new (ap (λ front. front.stage) is) serves.sized serves.parts (subst (λ stage. ServesAt stage first history old.board.controller) stage_is serves.now)
+    same_stage first history (Telling results (read + 1)) new (ap (λ front. front.stage) is) serves.sized serves.parts (subst (λ stage. ServesAt stage first history old.adapter.controller) stage_is serves.now)
 
 byte_read : (stage : Stage) (old new : Front) → old.stage ≡ stage → new ≡ byte_given stage old → ServesUnless (gives_last stage) old new
-byte_read Through old new stage_is is = λ first history serves. absurd (subst (λ stage. ServesAt stage first history old.board.controller) stage_is serves.now)
-byte_read (Collecting opcode) old new stage_is is = λ first history serves. absurd (subst (λ stage. ServesAt stage first history old.board.controller) stage_is serves.now)
+byte_read Through old new stage_is is = λ first history serves. absurd (subst (λ stage. ServesAt stage first history old.adapter.controller) stage_is serves.now)
+byte_read (Collecting opcode) old new stage_is is = λ first history serves. absurd (subst (λ stage. ServesAt stage first history old.adapter.controller) stage_is serves.now)
 byte_read (Seeking at counted) old new stage_is is = λ first history serves. same_front first history old new is serves
 byte_read (Moving moving) old new stage_is is = λ first history serves. same_front first history old new is serves
 byte_read (Telling results read) old new stage_is is = result_read (nat_le 6 read) results read old new stage_is is
@@ -535,7 +535,7 @@ reads_serve port old new is = by_port (port == 0x3F5) is
 
 -- ---- writes of a port
 
-byte_ignored : (stage : Stage) (byte : ℕ) (first : Transfer) (history : History) (old new : Front) → ServesAt stage first history old.board.controller → TakesByte stage byte old new → new ≡ old
+byte_ignored : (stage : Stage) (byte : ℕ) (first : Transfer) (history : History) (old new : Front) → ServesAt stage first history old.adapter.controller → TakesByte stage byte old new → new ≡ old
 byte_ignored Through byte first history old new now takes = absurd now
 byte_ignored (Collecting opcode) byte first history old new now takes = absurd now
 byte_ignored (Seeking at counted) byte first history old new now takes = takes
@@ -543,7 +543,7 @@ byte_ignored (Moving moving) byte first history old new now takes = takes
 byte_ignored (Telling results read) byte first history old new now takes = takes
 
 other_port : (stage : Stage) (port value : ℕ) (first : Transfer) (history : History) (old new : Front) → old.stage ≡ stage → IsSizeCode first.key.n → AreMoved first.opcode.operation first history.parts
-    → ServesAt stage first history old.board.controller → (port == 0x3F5) ≡ false → resets port value ≡ false → WritesBoard port value old.board new.board → new.stage ≡ old.stage → GoesOn [] false first history history new
+    → ServesAt stage first history old.adapter.controller → (port == 0x3F5) ≡ false → resets port value ≡ false → WritesAdapter port value old.adapter new.adapter → new.stage ≡ old.stage → GoesOn [] false first history history new
 other_port Through port value first history old new stage_is sized parts now no_byte no_reset writes same = absurd now
 other_port (Collecting opcode) port value first history old new stage_is sized parts now no_byte no_reset writes same = absurd now
 other_port (Seeking at counted) port value first history old new stage_is sized parts now no_byte no_reset writes same = same_stage first history (Seeking at counted) new (same ∙ stage_is) sized parts now
@@ -557,7 +557,7 @@ data_resets port value is = ap (λ p. resets p value) is
 pub writes_serve : (port value : ℕ) (old new : Front) → WritesFront port value old new → ServesUnless (resets port value) old new
 writes_serve port value old new writes = by_port (port == 0x3F5) refl
   where
-    by_reset : (b : Bool) → (port == 0x3F5) ≡ false → resets port value ≡ b → WritesBoard port value old.board new.board → new ≡ record (reset_if b old) { board = new.board } → ServesUnless b old new
+    by_reset : (b : Bool) → (port == 0x3F5) ≡ false → resets port value ≡ b → WritesAdapter port value old.adapter new.adapter → new ≡ record (reset_if b old) { adapter = new.adapter } → ServesUnless b old new
     by_reset true no_byte reset wrote is = ap (λ front. front.stage) is
     by_reset false no_byte no_reset wrote is = λ first history serves.
         other_port old.stage port value first history old new refl serves.sized serves.parts serves.now no_byte no_reset wrote (ap (λ front. front.stage) is)
@@ -575,11 +575,11 @@ starts_serve : (first : Transfer) (old new : Front) → IsSizeCode first.key.n �
 starts_serve first old new sized starts = by_seek (old.strapped || old.configured) starts
   where
     by_idle : (seeks : SeeksFirst first old new) (b : Bool) → is_idle seeks.between.controller ≡ b → new.stage ≡ (if b then Seeking first false else Through) → Serves first (nothing_moved false) new ⊎ IsLeft old new
-    by_idle seeks true idle is = inl (record { sized = sized; parts = tt; now = subst (λ s. ServesAt s first (nothing_moved false) new.board.controller) (sym is) (refl, refl) })
+    by_idle seeks true idle is = inl (record { sized = sized; parts = tt; now = subst (λ s. ServesAt s first (nothing_moved false) new.adapter.controller) (sym is) (refl, refl) })
     by_idle seeks false busy is = inr (
       is,
-      λ idle. ap (λ front. front.board.controller.phase) seeks.begun
-          ∙ seek_answered first.head_drive first.key.c (lines_at old.board) old.board.controller seeks.between.controller seeks.takes.takes idle busy,
+      λ idle. ap (λ front. front.adapter.controller.phase) seeks.begun
+          ∙ seek_answered first.head_drive first.key.c (lines_at old.adapter) old.adapter.controller seeks.between.controller seeks.takes.takes idle busy,
     )
 
     by_seek : (b : Bool) → StartsIf b first old new → Serves first (nothing_moved false) new ⊎ IsLeft old new

@@ -19,7 +19,7 @@ busy_at (Moving moving) fdc under = refl
 busy_at (Telling results read) fdc under = absurd (false≢true under)
 
 pub shows_busy : (front : Front) → is_under_way front.stage ≡ true → value_outside 0x3F4 front ≡ 0x10
-shows_busy front under = busy_at front.stage front.board.controller under
+shows_busy front under = busy_at front.stage front.adapter.controller under
 
 silent_at : (stage : Stage) (fdc : Fdc) → is_under_way stage ≡ true → interrupts_at stage fdc ≡ false
 silent_at Through fdc under = absurd (false≢true under)
@@ -29,19 +29,19 @@ silent_at (Moving moving) fdc under = refl
 silent_at (Telling results read) fdc under = absurd (false≢true under)
 
 pub interrupts_not : (front : Front) → is_under_way front.stage ≡ true → interrupts_outside front ≡ false
-interrupts_not front under = silent_at front.stage front.board.controller under
+interrupts_not front under = silent_at front.stage front.adapter.controller under
 
 pub shows_results : (front : Front) (results : Results) (read : ℕ) → front.stage ≡ Telling results read → value_outside 0x3F4 front ≡ 0xD0
-shows_results front results read is = ap (λ stage. status_at stage front.board.controller) is
+shows_results front results read is = ap (λ stage. status_at stage front.adapter.controller) is
 
-pub interrupts_first : (front : Front) (results : Results) (read : ℕ) → front.stage ≡ Telling results read → interrupts_outside front ≡ ((read == 0) && is_gated front.board.controller)
-interrupts_first front results read is = ap (λ stage. interrupts_at stage front.board.controller) is
+pub interrupts_first : (front : Front) (results : Results) (read : ℕ) → front.stage ≡ Telling results read → interrupts_outside front ≡ ((read == 0) && is_gated front.adapter.controller)
+interrupts_first front results read is = ap (λ stage. interrupts_at stage front.adapter.controller) is
 
 pub asks_not : (front : Front) (results : Results) (read : ℕ) → front.stage ≡ Telling results read → asks_outside front ≡ false
-asks_not front results read is = ap (λ stage. asks_at stage front.board.controller) is
+asks_not front results read is = ap (λ stage. asks_at stage front.adapter.controller) is
 
 pub gives_byte : (front : Front) (results : Results) (read : ℕ) → front.stage ≡ Telling results read → read < 7 → value_outside 0x3F5 front ≡ slice_index (result_bytes results) read
-gives_byte front results read is few = ap (λ stage. byte_at stage front.board.controller) is ∙ get_or_default (result_bytes results) read 0xFF 0 few
+gives_byte front results read is few = ap (λ stage. byte_at stage front.adapter.controller) is ∙ get_or_default (result_bytes results) read 0xFF 0 few
 
 pub gives_next : (front : Front) (results : Results) (read : ℕ) → front.stage ≡ Telling results read → (after_reading 0x3F5 front).stage ≡ (if nat_le 6 read then Through else Telling results (read + 1))
 gives_next front results read is = ap (λ stage. (byte_given stage front).stage) is

@@ -35,7 +35,7 @@ use Rattle.fdc_core.specs.Whole.{ending_told, given_up, mark_of}
 use Rattle.fdc_core.specs.Writes.{WritesIn, WritesTask}
 use Rattle.fdc_core.specs.Writing.{WriteDoes, after_next, without_byte}
 use Rattle.fdc_core.specs.declared.controller.Fdc.{Fdc}
-use Rattle.fdc_board.specs.Boards.{BoardState, StepsBoard, WritesBoard, lines_at, selected_at}
+use Rattle.fdc_adapter.specs.Adapters.{AdapterState, StepsAdapter, WritesAdapter, lines_at, selected_at}
 use Rattle.fdc_sequencer.specs.Fronts.{Front, GivesAt, TakesAt, TakesByte, WritesFront, begun_if, byte_given, count_told, moving_of, reset_if, told_front, with_controller}
 use Rattle.fdc_sequencer.specs.Moves.{EndsIf, EndsSector, FollowsStep, MovesOn, SeeksOn, goes_on, is_unwanted, judged_if, passed_over_if}
 use Rattle.fdc_sequencer.specs.declared.opcode.Operation.{Operation}
@@ -239,7 +239,7 @@ nowhere_in (Execute execution) polls new does = λ writing is counted.
       | inr (few, (next, hears, after)) ↦ subst Muted (sym after) (next_muted execution.head_drive (execution.steps + 1) writing next polls counted)
     ]
 
-step_muted : (old new : BoardState) → StepsBoard old new → is_executing old.controller.phase ≡ true → Muted old.controller → Muted new.controller
+step_muted : (old new : AdapterState) → StepsAdapter old new → is_executing old.controller.phase ≡ true → Muted old.controller → Muted new.controller
 step_muted old new steps busy was =
     let fdc = old.controller in
     elim (which_drive (selected_at old)) [
@@ -262,13 +262,13 @@ IsSilentAt (Moving moving) fdc = (moving.counted ≡ true) × Muted fdc
 IsSilentAt _ fdc = Unit {0}
 
 abbrev IsSilent : Front → Type 0
-IsSilent front = IsSilentAt front.stage front.board.controller
+IsSilent front = IsSilentAt front.stage front.adapter.controller
 
 goes_counted : (moving : MovingSector) (marked : Bool) → moving.counted ≡ true → goes_on moving marked ≡ false
 goes_counted moving marked counted = none_and _ _ (none_and (not moving.counted) _ (ap not counted))
 
-silent_telling : (stage : Stage) (new : Front) → new.stage ≡ stage → IsSilentAt stage new.board.controller → IsSilent new
-silent_telling stage new is silent = subst (λ s. IsSilentAt s new.board.controller) (sym is) silent
+silent_telling : (stage : Stage) (new : Front) → new.stage ≡ stage → IsSilentAt stage new.adapter.controller → IsSilent new
+silent_telling stage new is silent = subst (λ s. IsSilentAt s new.adapter.controller) (sym is) silent
 
 -- a device step of a sector: none begins behind it
 record GoesSilent (history now : History) (new : Front) : Type 0 where
@@ -290,21 +290,21 @@ module _ (history : History) (past : Past) (moving : MovingSector) (counted : mo
   silent_ends Protected mark old ends = record { silent = silent_telling _ new (ap (λ f. f.stage) ends) tt; parts = refl }
   silent_ends Late mark old ends = record { silent = silent_telling _ new (ap (λ f. f.stage) ends) tt; parts = refl }
 
-  silent_passes : (b : Bool) (old : Front) → old.stage ≡ Moving moving → Muted old.board.controller → new ≡ passed_over_if b moving old → IsSilent new
-  silent_passes false old stage_is was is = subst IsSilent (sym is) (subst (λ s. IsSilentAt s old.board.controller) (sym stage_is) (counted, was))
+  silent_passes : (b : Bool) (old : Front) → old.stage ≡ Moving moving → Muted old.adapter.controller → new ≡ passed_over_if b moving old → IsSilent new
+  silent_passes false old stage_is was is = subst IsSilent (sym is) (subst (λ s. IsSilentAt s old.adapter.controller) (sym stage_is) (counted, was))
   silent_passes true old stage_is was is =
-      subst IsSilent (sym is) (counted, told_muted old.board.controller (muted_kind old.board.controller.phase old.board.controller.asking old.board.controller.fifo.bytes was))
+      subst IsSilent (sym is) (counted, told_muted old.adapter.controller (muted_kind old.adapter.controller.phase old.adapter.controller.asking old.adapter.controller.fifo.bytes was))
 
-  silent_moves : (ending : Option Ending) (old : Front) → old.stage ≡ Moving moving → Muted old.board.controller → MovesOn ending moving old new
-      → GoesSilent history (history_moved ending moving (mark_of old.board.controller) past history) new
-  silent_moves None old stage_is was does = record { silent = silent_passes (is_unwanted moving (mark_of old.board.controller)) old stage_is was does; parts = refl }
-  silent_moves (Some ending) old stage_is was does = silent_ends ending (mark_of old.board.controller) (record old { board = with_controller (given_up old.board.controller) old.board }) does
+  silent_moves : (ending : Option Ending) (old : Front) → old.stage ≡ Moving moving → Muted old.adapter.controller → MovesOn ending moving old new
+      → GoesSilent history (history_moved ending moving (mark_of old.adapter.controller) past history) new
+  silent_moves None old stage_is was does = record { silent = silent_passes (is_unwanted moving (mark_of old.adapter.controller)) old stage_is was does; parts = refl }
+  silent_moves (Some ending) old stage_is was does = silent_ends ending (mark_of old.adapter.controller) (record old { adapter = with_controller (given_up old.adapter.controller) old.adapter }) does
 
 -- what a served command executes is a read or a write
-served_kind : (first : Transfer) (history : History) (moving : MovingSector) (new : Front) → Serves first history new → new.stage ≡ Moving moving → IsKind new.board.controller.phase
+served_kind : (first : Transfer) (history : History) (moving : MovingSector) (new : Front) → Serves first history new → new.stage ≡ Moving moving → IsKind new.adapter.controller.phase
 served_kind first history moving new serves is =
-    let (here, counts, carries) = subst (λ s. ServesAt s first history new.board.controller) is serves.now in
-    kind_of first.opcode.operation history.past _ new.board.controller carries.moves
+    let (here, counts, carries) = subst (λ s. ServesAt s first history new.adapter.controller) is serves.now in
+    kind_of first.opcode.operation history.past _ new.adapter.controller carries.moves
 
 -- ---- the calls
 
@@ -315,42 +315,42 @@ record StaysSilent (call : Call) (history now : History) (new : Front) : Type 0 
   none : passed_by call ≡ []
 
 -- the controller is busy with the sector
-served_busy : (first : Transfer) (history : History) (moving : MovingSector) (new : Front) → Serves first history new → new.stage ≡ Moving moving → is_executing new.board.controller.phase ≡ true
+served_busy : (first : Transfer) (history : History) (moving : MovingSector) (new : Front) → Serves first history new → new.stage ≡ Moving moving → is_executing new.adapter.controller.phase ≡ true
 served_busy first history moving new serves is =
-    let (here, counts, carries) = subst (λ s. ServesAt s first history new.board.controller) is serves.now in carries.busy
+    let (here, counts, carries) = subst (λ s. ServesAt s first history new.adapter.controller) is serves.now in carries.busy
 
 same_silent : (call : Call) (history : History) (old new : Front) → passed_by call ≡ [] → new ≡ old → IsSilent old → StaysSilent call history history new
 same_silent call history old new none is was = record { silent = subst IsSilent (sym is) was; parts = refl; none = none }
 
-stage_silent : (stage : Stage) (new : Front) → new.stage ≡ stage → IsSilentAt stage new.board.controller → IsSilent new
-stage_silent stage new is silent = subst (λ s. IsSilentAt s new.board.controller) (sym is) silent
+stage_silent : (stage : Stage) (new : Front) → new.stage ≡ stage → IsSilentAt stage new.adapter.controller → IsSilent new
+stage_silent stage new is silent = subst (λ s. IsSilentAt s new.adapter.controller) (sym is) silent
 
 module _ (first : Transfer) (served history : History) where
   -- where the next front is served too
-  silent_step : (stage : Stage) (time : WordTime) (old : Front) (between : BoardState) (new : Front) → old.stage ≡ stage → ServesAt stage first served old.board.controller → IsSilentAt stage old.board.controller
-      → StepsBoard old.board between → FollowsStep stage (record old { board = between }) new → (then_served : History) → Serves first then_served new → (new.stage ≡ Through → ⊥)
+  silent_step : (stage : Stage) (time : WordTime) (old : Front) (between : AdapterState) (new : Front) → old.stage ≡ stage → ServesAt stage first served old.adapter.controller → IsSilentAt stage old.adapter.controller
+      → StepsAdapter old.adapter between → FollowsStep stage (record old { adapter = between }) new → (then_served : History) → Serves first then_served new → (new.stage ≡ Through → ⊥)
       → GoesSilent history (history_stepped stage time between.controller history) new
   silent_step Through time old between new is now was steps follows then_served serves stays = absurd now
   silent_step (Collecting opcode) time old between new is now was steps follows then_served serves stays = absurd now
   silent_step (Telling results read) time old between new is now was steps follows then_served serves stays =
       record { silent = stage_silent (Telling results read) new (ap (λ f. f.stage) follows ∙ is) tt; parts = refl }
   silent_step (Moving moving) time old between new is (here, counts, carries) (counted, muted) steps follows then_served serves stays =
-      silent_moves history (after_time time history.past) moving counted new (judged_if moving (ending_told between.controller)) (record old { board = between }) is (step_muted old.board between steps carries.busy muted) follows
+      silent_moves history (after_time time history.past) moving counted new (judged_if moving (ending_told between.controller)) (record old { adapter = between }) is (step_muted old.adapter between steps carries.busy muted) follows
   silent_step (Seeking at counted) time old between new is now was steps follows then_served serves stays = by_sought (has_ended_seek between.controller.seeks) follows
     where
-      by_busy : (b : Bool) (board : BoardState) (front : Front) → new ≡ begun_if b at counted false board front → IsSilent new
-      by_busy false board front is = absurd (stays (ap (λ f. f.stage) is))
-      by_busy true board front is =
+      by_busy : (b : Bool) (adapter : AdapterState) (front : Front) → new ≡ begun_if b at counted false adapter front → IsSilent new
+      by_busy false adapter front is = absurd (stays (ap (λ f. f.stage) is))
+      by_busy true adapter front is =
           let stage_now = ap (λ f. f.stage) is in
-          let told : new ≡ begun_if true at true false board front = is ∙ ap (λ c. begun_if true at c false board front) was in
-          let kind = subst (λ f. IsKind f.board.controller.phase) told (served_kind first then_served (moving_of at counted false) new serves stage_now) in
-          subst IsSilent (sym told) (refl, told_muted board.controller kind)
+          let told : new ≡ begun_if true at true false adapter front = is ∙ ap (λ c. begun_if true at c false adapter front) was in
+          let kind = subst (λ f. IsKind f.adapter.controller.phase) told (served_kind first then_served (moving_of at counted false) new serves stage_now) in
+          subst IsSilent (sym told) (refl, told_muted adapter.controller kind)
 
-      by_sought : (b : Bool) → SeeksOn b at counted (record old { board = between }) new → GoesSilent history (history_sought b counted history) new
+      by_sought : (b : Bool) → SeeksOn b at counted (record old { adapter = between }) new → GoesSilent history (history_sought b counted history) new
       by_sought false does = record { silent = stage_silent (Seeking at counted) new (ap (λ f. f.stage) does ∙ is) was; parts = refl }
       by_sought true begins = record { silent = by_busy (is_executing begins.between.controller.phase) begins.between _ begins.begun; parts = refl }
 
-  silent_take : (stage : Stage) (byte : Option ℕ) (old new : Front) → ServesAt stage first served old.board.controller → IsSilentAt stage old.board.controller → IsSilent old → TakesAt stage old byte new
+  silent_take : (stage : Stage) (byte : Option ℕ) (old new : Front) → ServesAt stage first served old.adapter.controller → IsSilentAt stage old.adapter.controller → IsSilent old → TakesAt stage old byte new
       → StaysSilent (Takes byte) history (history_taken stage byte history) new
   silent_take Through byte old new now was silent takes = absurd now
   silent_take (Collecting opcode) byte old new now was silent takes = absurd now
@@ -358,11 +358,11 @@ module _ (first : Transfer) (served history : History) where
   silent_take (Telling results read) byte old new now was silent (none, is) = same_silent (Takes byte) history old new (ap passed_out none) is silent
   silent_take (Moving moving) None old new now was silent (quiet, is) = same_silent (Takes None) history old new refl is silent
   silent_take (Moving moving) (Some byte) old new (here, counts, carries) (counted, muted) silent (up, byte_is, is) =
-      let fdc = old.board.controller in
+      let fdc = old.adapter.controller in
       let (some, asked) = and_parts (nat_lt 0 moving.left) (asks fdc && to_memory_of fdc) up in
       clash fdc.asking (muted_asks fdc.phase fdc.asking fdc.fifo.bytes carries.busy muted) (and_parts (is_gated fdc) fdc.asking (and_parts (asks fdc) (to_memory_of fdc) asked).0).1
 
-  silent_give : (stage : Stage) (byte : ℕ) (given : Bool) (old new : Front) → ServesAt stage first served old.board.controller → IsSilentAt stage old.board.controller → IsSilent old → GivesAt stage byte old given new
+  silent_give : (stage : Stage) (byte : ℕ) (given : Bool) (old new : Front) → ServesAt stage first served old.adapter.controller → IsSilentAt stage old.adapter.controller → IsSilent old → GivesAt stage byte old given new
       → StaysSilent (Gives byte given) history (history_given stage byte given history) new
   silent_give Through byte given old new now was silent gives = absurd now
   silent_give (Collecting opcode) byte given old new now was silent gives = absurd now
@@ -370,19 +370,19 @@ module _ (first : Transfer) (served history : History) where
   silent_give (Telling results read) byte given old new now was silent (none, is) = same_silent (Gives byte given) history old new (ap (λ g. passed_in g byte) none) is silent
   silent_give (Moving moving) byte false old new now was silent (quiet, is) = same_silent (Gives byte false) history old new refl is silent
   silent_give (Moving moving) byte true old new (here, counts, carries) (counted, muted) silent (up, is) =
-      let fdc = old.board.controller in
+      let fdc = old.adapter.controller in
       let (some, asked) = and_parts (nat_lt 0 moving.left) (asks fdc && not (to_memory_of fdc)) up in
       clash fdc.asking (muted_asks fdc.phase fdc.asking fdc.fifo.bytes carries.busy muted) (and_parts (is_gated fdc) fdc.asking (and_parts (asks fdc) (not (to_memory_of fdc)) asked).0).1
 
   -- told again, or for the first time
-  silent_count : (stage : Stage) (old new : Front) → old.stage ≡ stage → ServesAt stage first served old.board.controller → new ≡ count_told stage old → StaysSilent Counts history (history_counted stage history) new
+  silent_count : (stage : Stage) (old new : Front) → old.stage ≡ stage → ServesAt stage first served old.adapter.controller → new ≡ count_told stage old → StaysSilent Counts history (history_counted stage history) new
   silent_count Through old new here_is now is = absurd now
   silent_count (Collecting opcode) old new here_is now is = absurd now
   silent_count (Telling results read) old new here_is now is =
       record { silent = stage_silent (Telling results read) new (ap (λ f. f.stage) is ∙ here_is) tt; parts = refl; none = refl }
   silent_count (Seeking at counted) old new here_is now is = record { silent = stage_silent (Seeking at true) new (ap (λ f. f.stage) is) refl; parts = refl; none = refl }
   silent_count (Moving moving) old new here_is (here, counts, carries) is = record {
-    silent = subst IsSilent (sym is) (refl, told_muted old.board.controller (kind_told old.board.controller.phase (kind_of first.opcode.operation served.past _ old.board.controller carries.moves)));
+    silent = subst IsSilent (sym is) (refl, told_muted old.adapter.controller (kind_told old.adapter.controller.phase (kind_of first.opcode.operation served.past _ old.adapter.controller carries.moves)));
     parts = refl;
     none = refl;
   }
@@ -392,7 +392,7 @@ module _ (first : Transfer) (served history : History) where
   silent_result true results read port old new stays is = absurd (stays (ap (λ f. f.stage) is))
   silent_result false results read port old new stays is = record { silent = stage_silent (Telling results (read + 1)) new (ap (λ f. f.stage) is) tt; parts = refl; none = refl }
 
-  silent_read : (stage : Stage) (b : Bool) (port : ℕ) (old new : Front) → ServesAt stage first served old.board.controller → IsSilent old → (new.stage ≡ Through → ⊥) → new ≡ (if b then byte_given stage old else old)
+  silent_read : (stage : Stage) (b : Bool) (port : ℕ) (old new : Front) → ServesAt stage first served old.adapter.controller → IsSilent old → (new.stage ≡ Through → ⊥) → new ≡ (if b then byte_given stage old else old)
       → StaysSilent (Reads port) history history new
   silent_read stage false port old new now was stays is = same_silent (Reads port) history old new refl is was
   silent_read Through true port old new now was stays is = absurd now
@@ -402,15 +402,15 @@ module _ (first : Transfer) (served history : History) where
   silent_read (Telling results read) true port old new now was stays is = silent_result (nat_le 6 read) results read port old new stays is
 
   -- the stage stays, and what the controller executes
-  silent_kept : (stage : Stage) (call : Call) (old new : Front) → passed_by call ≡ [] → IsSilentAt stage old.board.controller → new.stage ≡ stage
-      → (Muted old.board.controller → Muted new.board.controller) → StaysSilent call history history new
+  silent_kept : (stage : Stage) (call : Call) (old new : Front) → passed_by call ≡ [] → IsSilentAt stage old.adapter.controller → new.stage ≡ stage
+      → (Muted old.adapter.controller → Muted new.adapter.controller) → StaysSilent call history history new
   silent_kept Through call old new none was is same = record { silent = stage_silent Through new is tt; parts = refl; none = none }
   silent_kept (Collecting opcode) call old new none was is same = record { silent = stage_silent (Collecting opcode) new is tt; parts = refl; none = none }
   silent_kept (Telling results read) call old new none was is same = record { silent = stage_silent (Telling results read) new is tt; parts = refl; none = none }
   silent_kept (Seeking at counted) call old new none was is same = record { silent = stage_silent (Seeking at counted) new is was; parts = refl; none = none }
   silent_kept (Moving moving) call old new none (counted, muted) is same = record { silent = stage_silent (Moving moving) new is (counted, same muted); parts = refl; none = none }
 
-  silent_ignored : (stage : Stage) (byte : ℕ) (old new : Front) → ServesAt stage first served old.board.controller → TakesByte stage byte old new → new ≡ old
+  silent_ignored : (stage : Stage) (byte : ℕ) (old new : Front) → ServesAt stage first served old.adapter.controller → TakesByte stage byte old new → new ≡ old
   silent_ignored Through byte old new now takes = absurd now
   silent_ignored (Collecting opcode) byte old new now takes = absurd now
   silent_ignored (Seeking at counted) byte old new now takes = takes
@@ -420,14 +420,14 @@ module _ (first : Transfer) (served history : History) where
   silent_write : (port value : ℕ) (old new : Front) → Serves first served old → IsSilent old → (new.stage ≡ Through → ⊥) → WritesFront port value old new → StaysSilent (Writes port value) history history new
   silent_write port value old new serves was stays writes = by_port (port == 0x3F5) refl
     where
-      by_reset : (b : Bool) → resets port value ≡ b → (port == 0x3F5) ≡ false → WritesBoard port value old.board new.board → new ≡ record (reset_if b old) { board = new.board } → StaysSilent (Writes port value) history history new
+      by_reset : (b : Bool) → resets port value ≡ b → (port == 0x3F5) ≡ false → WritesAdapter port value old.adapter new.adapter → new ≡ record (reset_if b old) { adapter = new.adapter } → StaysSilent (Writes port value) history history new
       by_reset true reset other wrote is = absurd (stays (ap (λ f. f.stage) is))
       by_reset false reset other wrote is =
-          let same = port_same port value (lines_at old.board) old.board.controller new.board.controller wrote.writes other reset in
+          let same = port_same port value (lines_at old.adapter) old.adapter.controller new.adapter.controller wrote.writes other reset in
           silent_kept old.stage (Writes port value) old new refl was (ap (λ f. f.stage) is)
-          (λ muted. subst (λ p. MutedIn p new.board.controller.asking new.board.controller.fifo.bytes) (sym same.phase)
-          (subst (λ a. MutedIn old.board.controller.phase a new.board.controller.fifo.bytes) (sym same.asking)
-          (subst (λ f. MutedIn old.board.controller.phase old.board.controller.asking f.bytes) (sym same.fifo) muted)))
+          (λ muted. subst (λ p. MutedIn p new.adapter.controller.asking new.adapter.controller.fifo.bytes) (sym same.phase)
+          (subst (λ a. MutedIn old.adapter.controller.phase a new.adapter.controller.fifo.bytes) (sym same.asking)
+          (subst (λ f. MutedIn old.adapter.controller.phase old.adapter.controller.asking f.bytes) (sym same.fifo) muted)))
 
       by_port : (b : Bool) → (port == 0x3F5) ≡ b → StaysSilent (Writes port value) history history new
       by_port true is = same_silent (Writes port value) history old new refl (silent_ignored old.stage value old new serves.now (writes.bytes (eqb-true port 0x3F5 is))) was

@@ -12,7 +12,7 @@ use Rattle.fdc_phases.specs.declared.phases.Phase.TheVariants.{Command as Taking
 use Rattle.fdc_core.specs.Listening.{is_executing}
 use Rattle.fdc_core.specs.Steps.{RestsIn, polled, seek_stepped}
 use Rattle.fdc_core.specs.declared.controller.Fdc.{Fdc}
-use Rattle.fdc_board.specs.Boards.{BoardState, StepsBoard, selected_at}
+use Rattle.fdc_adapter.specs.Adapters.{AdapterState, StepsAdapter, selected_at}
 use Rattle.laws_sequencer.proofs.Known.{which_drive}
 
 -- the device steps that a seek still takes
@@ -120,8 +120,8 @@ rests_on old new track0 idle runs rests =
       nearer = subst (λ fdc. IsNearer (seek_left old.seeks.seek) fdc.seeks) (sym is) (subst (λ seek. IsNearer (seek_left seek) (stepped (polled old).seeks track0)) polls.seek near);
     }
 
-pub board_seeks : (old new : BoardState) → StepsBoard old new → is_executing old.controller.phase ≡ false → is_seeking old.controller.seeks ≡ true → NearsEnd old.controller new.controller
-board_seeks old new steps idle runs = elim (which_drive (selected_at old)) [
+pub adapter_seeks : (old new : AdapterState) → StepsAdapter old new → is_executing old.controller.phase ≡ false → is_seeking old.controller.seeks ≡ true → NearsEnd old.controller new.controller
+adapter_seeks old new steps idle runs = elim (which_drive (selected_at old)) [
   | inl at ↦ rests_on old.controller new.controller (old.first.cylinder == 0) idle runs (steps.at_first at).0.rests
   | inr (inl at) ↦ rests_on old.controller new.controller (old.second.cylinder == 0) idle runs (steps.at_second at).0.rests
   | inr (inr at) ↦ rests_on old.controller new.controller false idle runs (steps.at_none at).0.rests

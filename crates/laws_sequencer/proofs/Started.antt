@@ -22,7 +22,7 @@ use Rattle.fdc_phases.specs.declared.answers.Answer.TheVariants.{Short}
 use Rattle.fdc_core.specs.declared.controller.Fdc.{Fdc}
 use Rattle.fdc_core.specs.declared.controller.Lines.{Lines}
 use Rattle.fdc_phases.specs.declared.phases.Phase.TheVariants.{Result}
-use Rattle.fdc_board.specs.Boards.{BoardState}
+use Rattle.fdc_adapter.specs.Adapters.{AdapterState}
 use Rattle.fdc_sequencer.specs.Fronts.{told_if, moving_of}
 use Rattle.laws_sequencer.specs.Serving.{Accounts, Carries, IsFree, IsOfOther, MayMove, bytes_moved, sent_of}
 use Rattle.fdc_sequencer.specs.Transfers.{command_for, command_of, is_skipping, size_of}
@@ -222,7 +222,7 @@ told_carries operation met moving past fdc moves busy free accounts passes = rec
   passes = λ skips other. passes skips (subst (IsOfOther operation) (told_mark fdc.phase) other);
 }
 
-pub begun_carries : (operation : Operation) (met : Bool) (at : Transfer) (counted : Bool) (between : BoardState) → Begun operation (sent_of at) between.controller
+pub begun_carries : (operation : Operation) (met : Bool) (at : Transfer) (counted : Bool) (between : AdapterState) → Begun operation (sent_of at) between.controller
     → Carries operation met (moving_of at counted met) (told_in counted new_past) (told_if counted between).controller
 begun_carries operation met at true between begun =
     told_carries operation met (moving_of at true met) new_past between.controller begun.moves begun.busy begun.free

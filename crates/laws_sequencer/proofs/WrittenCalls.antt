@@ -23,7 +23,7 @@ use Rattle.fdc_core.specs.Times.{Closes}
 use Rattle.fdc_core.specs.Whole.{is_idle}
 use Rattle.fdc_core.specs.declared.controller.Fdc.{Fdc}
 use Rattle.fdc_drives.specs.Following.{FollowsDor, FollowsWrite}
-use Rattle.fdc_board.specs.Boards.{BoardState, WritesBoard, drive_at, lines_at}
+use Rattle.fdc_adapter.specs.Adapters.{AdapterState, WritesAdapter, drive_at, lines_at}
 use Rattle.fdc_sequencer.specs.Fronts.{CollectsAs, Front, GivesAt, SeeksFirst, Starts, StartsIf, TakesAt, TakesByte, WritesFront, begun_if, byte_given, count_told, moving_of, passed_one, reset_if}
 use Rattle.fdc_sequencer.specs.Transfers.{results_told}
 use Rattle.fdc_sequencer.specs.declared.opcode.Operation.TheVariants.{Write}
@@ -70,8 +70,8 @@ port_puts port value bay controller before after follows none = by_gate (resets 
     by_gate true clear closes puts = absurd (false≢true (sym clear))
     by_gate false clear same puts = subst (StaysPut before) (sym same) puts
 
-board_puts : (port value bay : ℕ) (old new : BoardState) → WritesBoard port value old new → resets port value ≡ false → StaysPut (drive_at old bay) (drive_at new bay)
-board_puts port value bay old new writes none = by_bay (bay == 0)
+adapter_puts : (port value bay : ℕ) (old new : AdapterState) → WritesAdapter port value old new → resets port value ≡ false → StaysPut (drive_at old bay) (drive_at new bay)
+adapter_puts port value bay old new writes none = by_bay (bay == 0)
   where
     by_bay : (b : Bool) → StaysPut (if b then old.first else old.second) (if b then new.first else new.second)
     by_bay true = port_puts port value 0 new.controller old.first new.first writes.first none
@@ -93,8 +93,8 @@ port_speed port value bay controller before after follows none runs = by_gate (r
     by_gate false clear same =
         subst (λ s. KeepsSpeed before s) (sym same) (motor_speed (port == 0x3F2) bay controller before follows.between follows.motor (sym (ap (λ s. s.motor) same) ∙ runs))
 
-board_speed : (port value bay : ℕ) (old new : BoardState) → WritesBoard port value old new → resets port value ≡ false → (drive_at new bay).motor ≡ true → KeepsSpeed (drive_at old bay) (drive_at new bay)
-board_speed port value bay old new writes none = by_bay (bay == 0)
+adapter_speed : (port value bay : ℕ) (old new : AdapterState) → WritesAdapter port value old new → resets port value ≡ false → (drive_at new bay).motor ≡ true → KeepsSpeed (drive_at old bay) (drive_at new bay)
+adapter_speed port value bay old new writes none = by_bay (bay == 0)
   where
     by_bay : (b : Bool) → (if b then new.first else new.second).motor ≡ true → KeepsSpeed (if b then old.first else old.second) (if b then new.first else new.second)
     by_bay true runs = port_speed port value 0 new.controller old.first new.first writes.first none runs
@@ -134,20 +134,20 @@ pub record AllWritten (place : Place) (deleted : Bool) (first : Transfer) (calls
   pub history : History
   pub gather : Gather calls old new within was history
   pub serves : Serves first history new
-  pub now : NowWritten new.stage place deleted first history new.board
+  pub now : NowWritten new.stage place deleted first history new.adapter
 
 module _ (place : Place) (deleted : Bool) (first : Transfer) (writes : first.opcode.operation ≡ Write deleted) where
   abbrev IsNow : History → Front → Type 0
-  IsNow history front = NowWritten front.stage place deleted first history front.board
+  IsNow history front = NowWritten front.stage place deleted first history front.adapter
 
-  same_now : (stage : Stage) (history : History) (old new : Front) → old.stage ≡ stage → new ≡ old → NowWritten stage place deleted first history old.board → IsNow history new
+  same_now : (stage : Stage) (history : History) (old new : Front) → old.stage ≡ stage → new ≡ old → NowWritten stage place deleted first history old.adapter → IsNow history new
   same_now stage history old new stage_is is now =
-      subst (λ front. IsNow history front) (sym is) (subst (λ s. NowWritten s place deleted first history old.board) (sym stage_is) now)
+      subst (λ front. IsNow history front) (sym is) (subst (λ s. NowWritten s place deleted first history old.adapter) (sym stage_is) now)
 
   -- ---- the channel
 
-  one_now : (history : History) (moving : MovingSector) (past : Past) (fdc : Fdc) (old new : Front) (under : IsUnderway place deleted first history old.board) → moving.transfer ≡ here_of first history
-      → IsAtSector place (here_of first history) under.disk past true (drive_at old.board place.bay) → new ≡ passed_one moving fdc old → IsNow (history_passed moving past history) new
+  one_now : (history : History) (moving : MovingSector) (past : Past) (fdc : Fdc) (old new : Front) (under : IsUnderway place deleted first history old.adapter) → moving.transfer ≡ here_of first history
+      → IsAtSector place (here_of first history) under.disk past true (drive_at old.adapter place.bay) → new ≡ passed_one moving fdc old → IsNow (history_passed moving past history) new
   one_now history moving past fdc old new under here sector is =
       subst (λ front. IsNow (history_passed moving past history) front) (sym is) (
         here,
@@ -155,11 +155,11 @@ module _ (place : Place) (deleted : Bool) (first : Transfer) (writes : first.opc
           disk = under.disk;
           like = under.like;
           parts = under.parts;
-          sector = sector_told place (here_of first history) under.disk past true (drive_at old.board place.bay) (moving.left - 1 == 0) sector;
+          sector = sector_told place (here_of first history) under.disk past true (drive_at old.adapter place.bay) (moving.left - 1 == 0) sector;
         },
       )
 
-  take_now : (stage : Stage) (byte : Option ℕ) (history : History) (old new : Front) → old.stage ≡ stage → NowWritten stage place deleted first history old.board → TakesAt stage old byte new
+  take_now : (stage : Stage) (byte : Option ℕ) (history : History) (old new : Front) → old.stage ≡ stage → NowWritten stage place deleted first history old.adapter → TakesAt stage old byte new
       → IsNow (history_taken stage byte history) new
   take_now Through byte history old new stage_is now takes = absurd now
   take_now (Collecting opcode) byte history old new stage_is now takes = absurd now
@@ -168,10 +168,10 @@ module _ (place : Place) (deleted : Bool) (first : Transfer) (writes : first.opc
   take_now (Moving moving) None history old new stage_is now (quiet, is) = same_now (Moving moving) history old new stage_is is now
   take_now (Moving moving) (Some byte) history old new stage_is (here, under) (up, byte_is, is) =
       let past = history.past in
-      one_now history moving (gave byte past) (taken_out old.board.controller) old new under here
-      (sector_moves place (here_of first history) under.disk past true (drive_at old.board place.bay) (past.given ++ byte ∷ []) past.taken past.counted under.sector) is
+      one_now history moving (gave byte past) (taken_out old.adapter.controller) old new under here
+      (sector_moves place (here_of first history) under.disk past true (drive_at old.adapter place.bay) (past.given ++ byte ∷ []) past.taken past.counted under.sector) is
 
-  give_now : (stage : Stage) (byte : ℕ) (given : Bool) (history : History) (old new : Front) → old.stage ≡ stage → NowWritten stage place deleted first history old.board → GivesAt stage byte old given new
+  give_now : (stage : Stage) (byte : ℕ) (given : Bool) (history : History) (old new : Front) → old.stage ≡ stage → NowWritten stage place deleted first history old.adapter → GivesAt stage byte old given new
       → IsNow (history_given stage byte given history) new
   give_now Through byte given history old new stage_is now gives = absurd now
   give_now (Collecting opcode) byte given history old new stage_is now gives = absurd now
@@ -180,10 +180,10 @@ module _ (place : Place) (deleted : Bool) (first : Transfer) (writes : first.opc
   give_now (Moving moving) byte false history old new stage_is now (quiet, is) = same_now (Moving moving) history old new stage_is is now
   give_now (Moving moving) byte true history old new stage_is (here, under) (up, is) =
       let past = history.past in
-      one_now history moving (took byte past) (taken_in byte old.board.controller) old new under here
-      (sector_moves place (here_of first history) under.disk past true (drive_at old.board place.bay) past.given (past.taken ++ byte ∷ []) past.counted under.sector) is
+      one_now history moving (took byte past) (taken_in byte old.adapter.controller) old new under here
+      (sector_moves place (here_of first history) under.disk past true (drive_at old.adapter place.bay) past.given (past.taken ++ byte ∷ []) past.counted under.sector) is
 
-  count_now : (stage : Stage) (history : History) (old new : Front) → old.stage ≡ stage → NowWritten stage place deleted first history old.board → new ≡ count_told stage old → IsNow (history_counted stage history) new
+  count_now : (stage : Stage) (history : History) (old new : Front) → old.stage ≡ stage → NowWritten stage place deleted first history old.adapter → new ≡ count_told stage old → IsNow (history_counted stage history) new
   count_now Through history old new stage_is now is = absurd now
   count_now (Collecting opcode) history old new stage_is now is = absurd now
   count_now (Seeking at counted) history old new stage_is (here, none, rests) is = subst (λ front. IsNow (record history { counted = true }) front) (sym is) (here, none, rests)
@@ -195,13 +195,13 @@ module _ (place : Place) (deleted : Bool) (first : Transfer) (writes : first.opc
           disk = under.disk;
           like = under.like;
           parts = under.parts;
-          sector = sector_told place (here_of first history) under.disk history.past true (drive_at old.board place.bay) true under.sector;
+          sector = sector_told place (here_of first history) under.disk history.past true (drive_at old.adapter place.bay) true under.sector;
         },
       )
 
   -- ---- ports and media
 
-  read_now : (stage : Stage) (b : Bool) (history : History) (old new : Front) → old.stage ≡ stage → NowWritten stage place deleted first history old.board → (new.stage ≡ Through → ⊥)
+  read_now : (stage : Stage) (b : Bool) (history : History) (old new : Front) → old.stage ≡ stage → NowWritten stage place deleted first history old.adapter → (new.stage ≡ Through → ⊥)
       → new ≡ (if b then byte_given stage old else old) → IsNow history new
   read_now stage false history old new stage_is now stays is = same_now stage history old new stage_is is now
   read_now Through true history old new stage_is now stays is = absurd now
@@ -215,27 +215,27 @@ module _ (place : Place) (deleted : Bool) (first : Transfer) (writes : first.opc
       by_last false is = subst (λ front. IsNow history front) (sym is) over
 
   -- the stage stays, and the drive stays put, at speed where a sector is moved
-  put_now : (stage : Stage) (history : History) (old new : Front) → NowWritten stage place deleted first history old.board → new.stage ≡ stage → IsOverCylinderWhile new.stage place new
-      → StaysPut (drive_at old.board place.bay) (drive_at new.board place.bay)
-      → ((moving : MovingSector) → stage ≡ Moving moving → (drive_at new.board place.bay).motor ≡ true → KeepsSpeed (drive_at old.board place.bay) (drive_at new.board place.bay))
-      → (is_executing old.board.controller.phase ≡ false → is_executing new.board.controller.phase ≡ false) → IsNow history new
+  put_now : (stage : Stage) (history : History) (old new : Front) → NowWritten stage place deleted first history old.adapter → new.stage ≡ stage → IsOverCylinderWhile new.stage place new
+      → StaysPut (drive_at old.adapter place.bay) (drive_at new.adapter place.bay)
+      → ((moving : MovingSector) → stage ≡ Moving moving → (drive_at new.adapter place.bay).motor ≡ true → KeepsSpeed (drive_at old.adapter place.bay) (drive_at new.adapter place.bay))
+      → (is_executing old.adapter.controller.phase ≡ false → is_executing new.adapter.controller.phase ≡ false) → IsNow history new
   put_now Through history old new now is at puts keeps idles = absurd now
   put_now (Collecting opcode) history old new now is at puts keeps idles = absurd now
   put_now (Seeking target counted) history old new (here, none, rests) is at puts keeps idles =
-      subst (λ stage. NowWritten stage place deleted first history new.board) (sym is) (here, none, record { medium = puts.medium ∙ rests.medium; idle = idles rests.idle })
+      subst (λ stage. NowWritten stage place deleted first history new.adapter) (sym is) (here, none, record { medium = puts.medium ∙ rests.medium; idle = idles rests.idle })
   put_now (Telling results read) history old new over is at puts keeps idles =
       to_telling place deleted first writes history results read new is
-      (over_rests place deleted first writes history old.board new.board over (record { medium = puts.medium ∙ over.rests.medium; idle = idles over.rests.idle }))
+      (over_rests place deleted first writes history old.adapter new.adapter over (record { medium = puts.medium ∙ over.rests.medium; idle = idles over.rests.idle }))
   put_now (Moving moving) history old new (here, under) is at puts keeps idles =
       let over = at_new place deleted first writes moving new is at in
       to_moving place deleted first writes history moving new is here (record {
         disk = under.disk;
         like = under.like;
         parts = under.parts;
-        sector = sector_stays place (here_of first history) under.disk history.past (drive_at old.board place.bay) new under.like over puts (keeps moving refl over.motor) under.sector;
+        sector = sector_stays place (here_of first history) under.disk history.past (drive_at old.adapter place.bay) new under.like over puts (keeps moving refl over.motor) under.sector;
       })
 
-  ignored : (stage : Stage) (byte : ℕ) (history : History) (old new : Front) → NowWritten stage place deleted first history old.board → TakesByte stage byte old new → new ≡ old
+  ignored : (stage : Stage) (byte : ℕ) (history : History) (old new : Front) → NowWritten stage place deleted first history old.adapter → TakesByte stage byte old new → new ≡ old
   ignored Through byte history old new now takes = absurd now
   ignored (Collecting opcode) byte history old new now takes = absurd now
   ignored (Seeking at counted) byte history old new now takes = takes
@@ -245,12 +245,12 @@ module _ (place : Place) (deleted : Bool) (first : Transfer) (writes : first.opc
   write_now : (port value : ℕ) (history : History) (old new : Front) → IsNow history old → (new.stage ≡ Through → ⊥) → IsOverCylinderWhile new.stage place new → WritesFront port value old new → IsNow history new
   write_now port value history old new now stays at written = by_port (port == 0x3F5) refl
     where
-      by_reset : (b : Bool) → resets port value ≡ b → (port == 0x3F5) ≡ false → WritesBoard port value old.board new.board → new ≡ record (reset_if b old) { board = new.board } → IsNow history new
+      by_reset : (b : Bool) → resets port value ≡ b → (port == 0x3F5) ≡ false → WritesAdapter port value old.adapter new.adapter → new ≡ record (reset_if b old) { adapter = new.adapter } → IsNow history new
       by_reset true reset no_byte wrote is = absurd (stays (ap (λ front. front.stage) is))
       by_reset false reset no_byte wrote is =
-          put_now old.stage history old new now (ap (λ front. front.stage) is) at (board_puts port value place.bay old.board new.board wrote reset)
-          (λ moving here runs. board_speed port value place.bay old.board new.board wrote reset runs)
-          (λ idle. ap is_executing (port_same port value (lines_at old.board) old.board.controller new.board.controller wrote.writes no_byte reset).phase ∙ idle)
+          put_now old.stage history old new now (ap (λ front. front.stage) is) at (adapter_puts port value place.bay old.adapter new.adapter wrote reset)
+          (λ moving here runs. adapter_speed port value place.bay old.adapter new.adapter wrote reset runs)
+          (λ idle. ap is_executing (port_same port value (lines_at old.adapter) old.adapter.controller new.adapter.controller wrote.writes no_byte reset).phase ∙ idle)
 
       by_port : (b : Bool) → (port == 0x3F5) ≡ b → IsNow history new
       by_port true is = same_now old.stage history old new refl (ignored old.stage value history old new now (written.bytes (eqb-true port 0x3F5 is))) now
@@ -259,7 +259,7 @@ module _ (place : Place) (deleted : Bool) (first : Transfer) (writes : first.opc
   -- ---- one call
 
   call_writes : (call : Call) (history : History) (old new : Front) (does : Does call old new) → (new.stage ≡ Through → ⊥) → IsOverCylinderWhile old.stage place old → IsOverCylinderWhile new.stage place new
-      → LeavesPut old.stage call (drive_at old.board place.bay) (drive_at new.board place.bay) → Serves first history old → IsNow history old → OneWritten place deleted first call history old new does
+      → LeavesPut old.stage call (drive_at old.adapter place.bay) (drive_at new.adapter place.bay) → Serves first history old → IsNow history old → OneWritten place deleted first call history old new does
   call_writes Steps history old new step stays at at_then leaves serves now = step_writes place deleted first writes old.stage history old new step refl serves now at stays at_then
   call_writes (Takes byte) history old new does stays at at_then leaves serves now =
       let one = call_serves (Takes byte) first history old new does stays serves in
@@ -284,7 +284,7 @@ module _ (place : Place) (deleted : Bool) (first : Transfer) (writes : first.opc
         serves = one.serves;
         now = subst (λ h. IsNow h new) (sym one.grows)
             (put_now old.stage history old new now does.stage at_then leaves.0
-            (λ moving here runs. subst (λ stage. KeepsSpeedWhile stage (drive_at old.board place.bay) (drive_at new.board place.bay)) here leaves.1) (λ idle. ap (λ fdc. is_executing fdc.phase) does.controller ∙ idle));
+            (λ moving here runs. subst (λ stage. KeepsSpeedWhile stage (drive_at old.adapter place.bay) (drive_at new.adapter place.bay)) here leaves.1) (λ idle. ap (λ fdc. is_executing fdc.phase) does.controller ∙ idle));
       }
   call_writes (Straps on) history old new does stays at at_then leaves serves now =
       let one = call_serves (Straps on) first history old new does stays serves in
@@ -317,7 +317,7 @@ module _ (place : Place) (deleted : Bool) (first : Transfer) (writes : first.opc
   -- ---- how it begins
 
   begins_now : (byte : ℕ) (start begun : Front) → IsLastByte byte first start → WritesFront 0x3F5 byte start begun → (begun.stage ≡ Through → ⊥) → IsOverCylinderWhile begun.stage place begun
-      → (drive_at begun.board place.bay).medium ≡ Some place.disk → IsNow (nothing_moved false) begun
+      → (drive_at begun.adapter place.bay).medium ≡ Some place.disk → IsNow (nothing_moved false) begun
   begins_now byte start begun last written stays at medium =
       let bytes = start.bytes ++ byte ∷ [] in
       let takes : TakesByte (Collecting last.opcode) byte start begun = subst (λ s. TakesByte s byte start begun) last.collects (written.bytes refl) in
@@ -327,11 +327,11 @@ module _ (place : Place) (deleted : Bool) (first : Transfer) (writes : first.opc
     where
       by_idle : (seeks : SeeksFirst first (record start { bytes = [] }) begun) (b : Bool) → is_idle seeks.between.controller ≡ b → begun.stage ≡ (if b then Seeking first false else Through) → IsNow (nothing_moved false) begun
       by_idle seeks true idle is =
-          subst (λ stage. NowWritten stage place deleted first (nothing_moved false) begun.board) (sym is)
-          (refl, refl, record { medium = medium; idle = ap (λ front. is_executing front.board.controller.phase) seeks.begun ∙ idle_phase seeks.between.controller idle })
+          subst (λ stage. NowWritten stage place deleted first (nothing_moved false) begun.adapter) (sym is)
+          (refl, refl, record { medium = medium; idle = ap (λ front. is_executing front.adapter.controller.phase) seeks.begun ∙ idle_phase seeks.between.controller idle })
       by_idle seeks false busy is = absurd (stays is)
 
-      by_busy : (between : BoardState) (b : Bool) → begun ≡ begun_if b first false false between (record start { bytes = [] }) → IsNow (nothing_moved false) begun
+      by_busy : (between : AdapterState) (b : Bool) → begun ≡ begun_if b first false false between (record start { bytes = [] }) → IsNow (nothing_moved false) begun
       by_busy between true is =
           let moving = moving_of first false false in
           let stage_now = ap (λ front. front.stage) is in
@@ -368,12 +368,12 @@ module _ (place : Place) (deleted : Bool) (first : Transfer) (writes : first.opc
       absurd (failed_st1 fails.ending fails.fails (elim told [ inl none ↦ inl (sym is ∙ none) | inr full ↦ inr (sym is ∙ full) ]))
 
   written_from : (byte : ℕ) (calls : List Call) (start begun end : Front) (within : AreWithin calls begun end) (results : Results) (read : ℕ) → IsLastByte byte first start → WritesFront 0x3F5 byte start begun
-      → (begun.stage ≡ Through → ⊥) → Serves first (nothing_moved false) begun → KeepsIn place calls begun end within → (drive_at begun.board place.bay).medium ≡ Some place.disk → end.stage ≡ Telling results read
+      → (begun.stage ≡ Through → ⊥) → Serves first (nothing_moved false) begun → KeepsIn place calls begun end within → (drive_at begun.adapter place.bay).medium ≡ Some place.disk → end.stage ≡ Telling results read
       → (history : History) × Gather calls begun end within (nothing_moved false) history × IsWrittenTo place deleted first history results end
   written_from byte calls start begun end within results read last written stays serves keeps medium tells =
       let all = calls_write calls (nothing_moved false) begun end within keeps serves
       (begins_now byte start begun last written stays (first_at calls begun end within keeps) medium) in
-      let over : IsOver place deleted first all.history end.board = subst (λ stage. NowWritten stage place deleted first all.history end.board) tells all.now in
+      let over : IsOver place deleted first all.history end.adapter = subst (λ stage. NowWritten stage place deleted first all.history end.adapter) tells all.now in
       let says = results_say first all.history end results read all.serves tells in (
         all.history,
         all.gather,
@@ -391,7 +391,7 @@ module _ (place : Place) (deleted : Bool) (first : Transfer) (writes : first.opc
 
   -- so it is with whatever was gathered
   pub written_to : (byte : ℕ) (calls : List Call) (start begun end : Front) (within : AreWithin calls begun end) (results : Results) (read : ℕ) → IsLastByte byte first start → WritesFront 0x3F5 byte start begun
-      → (begun.stage ≡ Through → ⊥) → Serves first (nothing_moved false) begun → KeepsIn place calls begun end within → (drive_at begun.board place.bay).medium ≡ Some place.disk → end.stage ≡ Telling results read
+      → (begun.stage ≡ Through → ⊥) → Serves first (nothing_moved false) begun → KeepsIn place calls begun end within → (drive_at begun.adapter place.bay).medium ≡ Some place.disk → end.stage ≡ Telling results read
       → (history : History) → Gather calls begun end within (nothing_moved false) history → IsWrittenTo place deleted first history results end
   written_to byte calls start begun end within results read last written stays serves keeps medium tells history gather =
       let (one, gathered, is) = written_from byte calls start begun end within results read last written stays serves keeps medium tells in

@@ -37,7 +37,7 @@ use Rattle.fdc_drives.specs.Spinning.{IsTurningIn, led, turn_led}
 use Rattle.fdc_drives.proofs.Fields.{address_heard}
 use Rattle.fdc_drives.proofs.LateFields.{address_in}
 use Rattle.fdc_drives.proofs.WritingWords.{heard_met}
-use Rattle.fdc_board.specs.Boards.{drive_at}
+use Rattle.fdc_adapter.specs.Adapters.{drive_at}
 use Rattle.fdc_sequencer.specs.Fronts.{Front}
 use Rattle.fdc_sequencer.specs.declared.transfer.Transfer.{Transfer}
 use Rattle.laws_sequencer.specs.Media.{Place}
@@ -74,10 +74,10 @@ abbrev pub IsCleanAt : Place → DriveState → Type 0
 IsCleanAt place drive = place.clean ≡ true → (drive.faults ≡ place.faults) × (place.faults < last_count)
 
 -- a sector begins where the drive is
-pub sector_begins : (place : Place) (at : Transfer) (disk : Disk) (front : Front) → IsOverCylinder place front → (drive_at front.board place.bay).medium ≡ Some disk → IsLike place disk
-    → IsAtSector place at disk new_past true (drive_at front.board place.bay)
+pub sector_begins : (place : Place) (at : Transfer) (disk : Disk) (front : Front) → IsOverCylinder place front → (drive_at front.adapter place.bay).medium ≡ Some disk → IsLike place disk
+    → IsAtSector place at disk new_past true (drive_at front.adapter place.bay)
 sector_begins place at disk front is medium like =
-    let drive = drive_at front.board place.bay in
+    let drive = drive_at front.adapter place.bay in
     let outset = outset_on place at disk drive.place drive.faults in
     let words = like.words in
     let inside = is.inside in
@@ -101,10 +101,10 @@ sector_told place at disk past executes drive false was = was
 
 -- while the drive stays put
 pub sector_stays : (place : Place) (at : Transfer) (disk : Disk) (past : Past) (old : DriveState) (front : Front) → IsLike place disk → IsOverCylinder place front
-    → StaysPut old (drive_at front.board place.bay) → KeepsSpeed old (drive_at front.board place.bay) → IsAtSector place at disk past true old
-    → IsAtSector place at disk past true (drive_at front.board place.bay)
+    → StaysPut old (drive_at front.adapter place.bay) → KeepsSpeed old (drive_at front.adapter place.bay) → IsAtSector place at disk past true old
+    → IsAtSector place at disk past true (drive_at front.adapter place.bay)
 sector_stays place at disk past old front like is stays keeps (from, since, was, began) =
-    (from, since, window_stays (outset_on place at disk from since) past old (drive_at front.board place.bay) like.valid stays keeps is.cylinder is.motor was, began)
+    (from, since, window_stays (outset_on place at disk from since) past old (drive_at front.adapter place.bay) like.valid stays keeps is.cylinder is.motor was, began)
 
 -- ---- a word time
 

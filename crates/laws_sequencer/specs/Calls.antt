@@ -60,7 +60,7 @@ WaitsAt (Collecting _) fdc = is_idle fdc ≡ true
 WaitsAt _ fdc = Unit {0}
 
 abbrev pub Waits : Front → Type 0
-Waits front = WaitsAt front.stage front.board.controller
+Waits front = WaitsAt front.stage front.adapter.controller
 
 -- these calls, behind none of which each access is the controller's again
 abbrev pub AreWithin : List Call → Front → Front → Type 0
@@ -71,7 +71,7 @@ AreWithin (call ∷ calls) old new =
 -- what a call adds to what was heard and moved: a device step the word that the drive gave, or that was written
 abbrev pub Grows : (call : Call) (old new : Front) → Does call old new → History → History → Type 0
 Grows Steps old new step was now =
-    (time : WordTime) × Passes old.stage time old.board step.between × (now ≡ history_stepped old.stage time step.between.controller was)
+    (time : WordTime) × Passes old.stage time old.adapter step.between × (now ≡ history_stepped old.stage time step.between.controller was)
 Grows (Takes byte) old new does was now = now ≡ history_taken old.stage byte was
 Grows (Gives byte given) old new does was now = now ≡ history_given old.stage byte given was
 Grows Counts old new does was now = now ≡ history_counted old.stage was

@@ -10,7 +10,7 @@ use Rattle.fdc_stages.specs.History.{Past}
 use Rattle.fdc_phases.specs.Phases.{head_of}
 use Rattle.fdc_phases.specs.Rates.{rate_fits}
 use Rattle.fdc_phases.specs.declared.rates.DataRate.{DataRate}
-use Rattle.fdc_board.specs.Boards.{drive_at, selected_at}
+use Rattle.fdc_adapter.specs.Adapters.{drive_at, selected_at}
 use Rattle.fdc_sequencer.specs.Fronts.{Front}
 use Rattle.fdc_sequencer.specs.Transfers.{is_other, is_skipping}
 use Rattle.fdc_sequencer.specs.declared.opcode.Operation.{Operation}
@@ -37,7 +37,7 @@ pub record Place : Type 0 where
 
 -- where no word is lost the drive's faults stay
 abbrev pub IsClean : Place → Front → Type 0
-IsClean place front = place.clean ≡ true → ((drive_at front.board place.bay).faults ≡ place.faults) × (place.faults < last_count)
+IsClean place front = place.clean ≡ true → ((drive_at front.adapter place.bay).faults ≡ place.faults) × (place.faults < last_count)
 
 -- the track that passes under a head: nothing is recorded where the medium has no such track, or another rate
 abbrev pub track_at : Place → ℕ → List ℕ
@@ -53,12 +53,12 @@ track_under place at = track_at place (head_of at.head_drive)
 pub record IsAt (place : Place) (front : Front) : Type 0 where
   pub bay : place.bay ≤ 1
   pub disk : IsDisk place.disk
-  pub selects : selected_at front.board ≡ place.bay
-  pub rate : front.board.controller.rate ≡ place.rate
-  pub medium : (drive_at front.board place.bay).medium ≡ Some place.disk
-  pub cylinder : (drive_at front.board place.bay).cylinder ≡ place.cylinder
-  pub motor : (drive_at front.board place.bay).motor ≡ true
-  pub inside : (drive_at front.board place.bay).place < place.disk.words_per_track
+  pub selects : selected_at front.adapter ≡ place.bay
+  pub rate : front.adapter.controller.rate ≡ place.rate
+  pub medium : (drive_at front.adapter place.bay).medium ≡ Some place.disk
+  pub cylinder : (drive_at front.adapter place.bay).cylinder ≡ place.cylinder
+  pub motor : (drive_at front.adapter place.bay).motor ≡ true
+  pub inside : (drive_at front.adapter place.bay).place < place.disk.words_per_track
   pub clean : IsClean place front
 
 -- while a sector is moved; and no word was lost of the last one
@@ -82,7 +82,7 @@ TurnsOnIn _ _ old new = Unit {0}
 abbrev pub StaysIn : Place → (calls : List Call) (old new : Front) → AreWithin calls old new → Type 0
 StaysIn place [] old new same = IsAtWhile old.stage place old
 StaysIn place (call ∷ calls) old new within =
-    IsAtWhile old.stage place old × TurnsOnIn old.stage call (drive_at old.board place.bay) (drive_at within.0.board place.bay)
+    IsAtWhile old.stage place old × TurnsOnIn old.stage call (drive_at old.adapter place.bay) (drive_at within.0.adapter place.bay)
     × StaysIn place calls within.0 new within.3
 
 -- the track has a field of the key, intact, with this mark and content

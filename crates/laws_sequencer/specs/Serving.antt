@@ -20,7 +20,7 @@ use Rattle.fdc_phases.specs.Phases.{head_of}
 use Rattle.fdc_phases.specs.Written.{took}
 use Rattle.fdc_core.specs.Times.{WordTime, Saw, KeptOut, Wrote, Stopped, IsTime, after_time}
 use Rattle.fdc_seek.specs.Seeking.{has_ended_seek, seek_bits}
-use Rattle.fdc_board.specs.Boards.{BoardState, selected_at}
+use Rattle.fdc_adapter.specs.Adapters.{AdapterState, selected_at}
 use Rattle.fdc_core.specs.Listening.{is_executing}
 use Rattle.fdc_core.specs.Meaning.{AreOfField, ReadMeans}
 use Rattle.fdc_core.specs.Tellings.{WriteMeans, WritesWindow}
@@ -250,7 +250,7 @@ ServesAt _ first history fdc = ⊥
 pub record Serves (first : Transfer) (history : History) (front : Front) : Type 0 where
   pub sized : IsSizeCode first.key.n
   pub parts : AreMoved first.opcode.operation first history.parts
-  pub now : ServesAt front.stage first history front.board.controller
+  pub now : ServesAt front.stage first history front.adapter.controller
 
 -- ---- what a call adds
 
@@ -267,7 +267,7 @@ StopsAtEnd Stopped fdc = (ending : Ending) × (ending_told fdc ≡ Some ending)
 StopsAtEnd _ fdc = Unit {0}
 
 -- what the selected drive did in a device step, at the controller's rate and under this head: the word that it gave, or took
-pub record PassesAt (selected head : ℕ) (time : WordTime) (old new : BoardState) : Type 0 where
+pub record PassesAt (selected head : ℕ) (time : WordTime) (old new : AdapterState) : Type 0 where
   pub at_first : selected ≡ 0 → IsTime time old.controller.rate head old.first new.first × StopsAtEnd time new.controller
   pub at_second : selected ≡ 1 → IsTime time old.controller.rate head old.second new.second × StopsAtEnd time new.controller
   pub at_none : 2 ≤ selected → IsNowhere time
@@ -279,7 +279,7 @@ IsTimeOf (Read _ _) time = ⊥
 IsTimeOf (Write _) time = Unit {0}
 
 -- while a sector is moved it is under the sector's head
-abbrev pub Passes : Stage → WordTime → BoardState → BoardState → Type 0
+abbrev pub Passes : Stage → WordTime → AdapterState → AdapterState → Type 0
 Passes (Moving moving) time old new =
     IsTimeOf moving.transfer.opcode.operation time × PassesAt (selected_at old) (head_of moving.transfer.head_drive) time old new
 Passes _ time old new = Unit {0}
@@ -356,7 +356,7 @@ ServesCounted old new =
 -- the controller answers 80 in place of a command for the sector
 pub record IsRefused (front : Front) : Type 0 where
   pub through : front.stage ≡ Through
-  pub answer_is : front.board.controller.phase ≡ Result (Short 0x80 None)
+  pub answer_is : front.adapter.controller.phase ≡ Result (Short 0x80 None)
 
 -- the heads seek, before the first sector
 abbrev pub still_seeks : Stage → Bool
@@ -366,13 +366,13 @@ still_seeks _ = false
 -- the first sector is refused, once the heads came to its cylinder, since SPECIFY set ND
 pub record RefusesFirst (old new : Front) : Type 0 where
   pub seeks : still_seeks old.stage ≡ true
-  pub non_dma : old.board.controller.non_dma ≡ true
+  pub non_dma : old.adapter.controller.non_dma ≡ true
   pub refused : IsRefused new
 
 -- this passed under the head in a device step, and it is added to what was heard and moved; no byte passed
-pub record StepsTo (first : Transfer) (history : History) (old : Front) (between : BoardState) (new : Front) : Type 0 where
+pub record StepsTo (first : Transfer) (history : History) (old : Front) (between : AdapterState) (new : Front) : Type 0 where
   pub time : WordTime
-  pub passes : Passes old.stage time old.board between
+  pub passes : Passes old.stage time old.adapter between
   pub goes : GoesOn [] false first history (history_stepped old.stage time between.controller history) new
 
 -- whatever command was served still is, with what passed in this step; or its first sector is refused
@@ -400,7 +400,7 @@ passed_in false byte = []
 
 -- each access is the controller's again, and it answers 80, where it took commands
 abbrev pub IsLeft : Front → Front → Type 0
-IsLeft old new = (new.stage ≡ Through) × (is_idle old.board.controller ≡ true → new.board.controller.phase ≡ Result (Short 0x80 None))
+IsLeft old new = (new.stage ≡ Through) × (is_idle old.adapter.controller ≡ true → new.adapter.controller.phase ≡ Result (Short 0x80 None))
 
 -- where this byte makes a command whole, it is served from then on, and nothing has passed; or it is left to the controller
 abbrev pub BeginsWith : Opcode → ℕ → Front → Front → Type 0

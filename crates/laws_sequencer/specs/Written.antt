@@ -11,7 +11,7 @@ use Rattle.fdc_commands.specs.declared.results.Results.{Results}
 use Rattle.fdc_phases.specs.Phases.{head_of}
 use Rattle.fdc_phases.specs.Rates.{rate_fits}
 use Rattle.fdc_phases.specs.Written.{IsContent}
-use Rattle.fdc_board.specs.Boards.{drive_at, selected_at}
+use Rattle.fdc_adapter.specs.Adapters.{drive_at, selected_at}
 use Rattle.fdc_sequencer.specs.Fronts.{Front}
 use Rattle.fdc_sequencer.specs.declared.stage.Stage.{Stage}
 use Rattle.fdc_sequencer.specs.declared.stage.Stage.TheVariants.{Moving, Telling}
@@ -26,11 +26,11 @@ use Rattle.laws_sequencer.specs.Serving.{History, Part, sector_after}
 pub record IsOverCylinder (place : Place) (front : Front) : Type 0 where
   pub bay : place.bay ≤ 1
   pub disk : IsDisk place.disk
-  pub selects : selected_at front.board ≡ place.bay
-  pub rate : front.board.controller.rate ≡ place.rate
-  pub cylinder : (drive_at front.board place.bay).cylinder ≡ place.cylinder
-  pub motor : (drive_at front.board place.bay).motor ≡ true
-  pub inside : (drive_at front.board place.bay).place < place.disk.words_per_track
+  pub selects : selected_at front.adapter ≡ place.bay
+  pub rate : front.adapter.controller.rate ≡ place.rate
+  pub cylinder : (drive_at front.adapter place.bay).cylinder ≡ place.cylinder
+  pub motor : (drive_at front.adapter place.bay).motor ≡ true
+  pub inside : (drive_at front.adapter place.bay).place < place.disk.words_per_track
   pub clean : IsClean place front
 
 -- while a sector is moved; and no word was lost of the last one
@@ -65,7 +65,7 @@ LeavesPut stage _ old new = Unit {0}
 abbrev pub KeepsIn : Place → (calls : List Call) (old new : Front) → AreWithin calls old new → Type 0
 KeepsIn place [] old new same = IsOverCylinderWhile old.stage place old
 KeepsIn place (call ∷ calls) old new within =
-    IsOverCylinderWhile old.stage place old × LeavesPut old.stage call (drive_at old.board place.bay) (drive_at within.0.board place.bay)
+    IsOverCylinderWhile old.stage place old × LeavesPut old.stage call (drive_at old.adapter place.bay) (drive_at within.0.adapter place.bay)
     × KeepsIn place calls within.0 new within.3
 
 -- ---- what it leaves
@@ -125,7 +125,7 @@ TellsDone results = (results.st1.0 ≡ 0x00) ⊎ (results.st1.0 ≡ 0x80)
 pub record IsWrittenTo (place : Place) (deleted : Bool) (first : Transfer) (history : History) (results : Results) (end : Front) : Type 0 where
   pub before : Disk
   pub now : Disk
-  pub medium : (drive_at end.board place.bay).medium ≡ Some now
+  pub medium : (drive_at end.adapter place.bay).medium ≡ Some now
   pub parts : AreWritten place deleted history.parts place.disk before
   pub last : IsBegun place deleted (sector_after (length history.parts) first) history.past before now
   pub done : TellsDone results → IsDone place deleted (sector_after (length history.parts) first) history.past.taken before now

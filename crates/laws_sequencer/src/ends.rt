@@ -17,10 +17,10 @@ ghost use Rattle.laws_sequencer.specs.Lasting.{HasByteRecords, HasResults, is_un
 pub fn a_command_ends()
     ensures within { (byte : ℕ) (first : Transfer) (start begun end : Front) (calls : List Call)
         → IsLastByte byte first start → HasByteRecords first → WritesFront 0x3F5 byte start begun → (begun.stage ≡ Through → ⊥)
-        → IsInRange begun.board.controller → AreWithin calls begun end → is_under_way end.stage ≡ true → steps_in calls < most_steps first }
+        → IsInRange begun.adapter.controller → AreWithin calls begun end → is_under_way end.stage ≡ true → steps_in calls < most_steps first }
     ensures ends { (byte : ℕ) (first : Transfer) (start begun end : Front) (calls : List Call)
         → IsLastByte byte first start → HasByteRecords first → WritesFront 0x3F5 byte start begun → (begun.stage ≡ Through → ⊥)
-        → IsInRange begun.board.controller → AreWithin calls begun end → most_steps first ≤ steps_in calls → HasResults end }
+        → IsInRange begun.adapter.controller → AreWithin calls begun end → most_steps first ≤ steps_in calls → HasResults end }
 {}
 
 /// A command has 512 sectors at most, and one fewer from each next sector on. A run is as many device steps.
@@ -38,7 +38,7 @@ pub fn results_are_told()
     ensures silent { (front : Front) → is_under_way front.stage ≡ true → interrupts_outside front ≡ false }
     ensures status { (front : Front) (results : Results) (read : ℕ) → front.stage ≡ Telling results read → value_outside 0x3F4 front ≡ 0xD0 }
     ensures interrupt { (front : Front) (results : Results) (read : ℕ) → front.stage ≡ Telling results read
-        → interrupts_outside front ≡ ((read == 0) && is_gated front.board.controller) }
+        → interrupts_outside front ≡ ((read == 0) && is_gated front.adapter.controller) }
     ensures request { (front : Front) (results : Results) (read : ℕ) → front.stage ≡ Telling results read → asks_outside front ≡ false }
     ensures byte { (front : Front) (results : Results) (read : ℕ) → front.stage ≡ Telling results read → read < 7
         → value_outside 0x3F5 front ≡ slice_index (result_bytes results) read }

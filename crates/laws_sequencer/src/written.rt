@@ -1,6 +1,6 @@
 // What is known of the medium under a command of several sectors that writes. The bodies are empty.
 ghost use Rattle.std.specs.Prelude.{◌≡◌, ℕ, Bool, Some, List};
-ghost use Rattle.fdc_board.specs.Boards.{drive_at};
+ghost use Rattle.fdc_adapter.specs.Adapters.{drive_at};
 ghost use Rattle.fdc_commands.specs.declared.results.Results.{Results};
 ghost use Rattle.fdc_sequencer.specs.Fronts.{Front, WritesFront};
 ghost use Rattle.fdc_sequencer.specs.declared.opcode.Operation.TheVariants.{Write};
@@ -16,6 +16,6 @@ pub fn what_is_written_stands_on_the_medium()
     ensures { (place : Place) (deleted : Bool) (byte : ℕ) (first : Transfer) (start begun end : Front) (calls : List Call) (results : Results) (read : ℕ)
         → first.opcode.operation ≡ Write deleted → IsLastByte byte first start → WritesFront 0x3F5 byte start begun → (begun.stage ≡ Through → ⊥)
         → (within : AreWithin calls begun end) → end.stage ≡ Telling results read → KeepsIn place calls begun end within
-        → (drive_at begun.board place.bay).medium ≡ Some place.disk
+        → (drive_at begun.adapter place.bay).medium ≡ Some place.disk
         → (served : Served first calls begun end within results) → IsWrittenTo place deleted first served.history results end }
 {}

@@ -1,6 +1,6 @@
 -- What a data command does at the ports.
-use Rattle.std.proofs.Common.{◌≡◌, inl, inr, ℕ, suc, ◌+◌, ◌*◌, Bool, true, false, [], ◌∷◌, subst, arith}
-use Rattle.machine_commands.proofs.Common.{read_gap_at, Chrn, Rate, Board, Outputs, sector_bytes, SetsChannel, Watch, Watches, AwaitsResults, Sends}
+use Rattle.std.proofs.Common.{◌≡◌, inl, inr, ℕ, suc, ◌+◌, ◌*◌, Bool, true, false, List, subst, arith}
+use Rattle.machine_commands.proofs.Common.{Board, Outputs, SetsChannel, Watch, Watches, AwaitsResults, Sends}
 
 pub output_as : (port a b : ℕ) (old new : Board) → a ≡ b → Outputs port a old new → Outputs port b old new
 output_as port a b old new same access = subst (λ value. Outputs port value old new) same access
@@ -8,10 +8,8 @@ output_as port a b old new same access = subst (λ value. Outputs port value old
 pub channel_as : (mode address a b : ℕ) (old new : Board) → a ≡ b → SetsChannel mode address a old new → SetsChannel mode address b old new
 channel_as mode address a b old new same sets = subst (λ last. SetsChannel mode address last old new) same sets
 
-pub sends_as : (command bay : ℕ) (key : Chrn) (rate : Rate) (gap : ℕ) (old new : Board) → gap ≡ read_gap_at rate
-    → Sends (command ∷ (key.h * 4 + bay) ∷ key.c ∷ key.h ∷ key.r ∷ key.n ∷ key.r ∷ gap ∷ 0xFF ∷ []) old new → Sends (sector_bytes command bay key rate) old new
-sends_as command bay key rate gap old new same sends =
-    subst (λ value. Sends (command ∷ (key.h * 4 + bay) ∷ key.c ∷ key.h ∷ key.r ∷ key.n ∷ key.r ∷ value ∷ 0xFF ∷ []) old new) same sends
+pub sends_as : (bytes spelled : List ℕ) (old new : Board) → bytes ≡ spelled → Sends bytes old new → Sends spelled old new
+sends_as bytes spelled old new same sends = subst (λ (bytes : List ℕ). Sends bytes old new) same sends
 
 -- ---- watches
 

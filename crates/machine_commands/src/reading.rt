@@ -2,7 +2,6 @@
 ghost use Rattle.std.specs.Prelude.{◌≡◌, ◌≤◌, ◌+◌, ◌-◌};
 ghost use Rattle.track_model.specs.Fields.{IsSizeCode, content_size};
 ghost use Rattle.machine_commands.specs.Awaited.{sector_bytes, SendsReadId, SendsRead};
-ghost use Rattle.machine_commands.specs.Sending.{Sends};
 ghost use Rattle.machine_commands.specs.Shown.{board_of};
 
 use crate::channel::Way;
@@ -48,27 +47,26 @@ impl<D: Drive> CommandedMachine<D> {
     {
         self.prepare(bay, rate);
         self.set_channel(Way::ToMemory, address, (sector_size(key.n) - 1) as u16);
-        self.send_sector(READ_DATA, bay, key, rate);
+        self.send(&sector_command(READ_DATA, bay, key, rate));
         self.finish()
     }
+}
 
-    /// Sends a command of one sector: it is the last of its track, so that the command ends with it.
-    pub(crate) fn send_sector(&mut self, command: u8, bay: u8, key: Chrn, rate: Rate)
-        requires bay { bay ≤ 1 }
-        requires head { key.h ≤ 1 }
-        ensures sends { Sends (sector_bytes command bay key rate) (board_of D.state self.old) (board_of D.state self.new) }
-        ensures motors { self.new.motors ≡ self.old.motors }
-    {
-        self.send(&[
-            command,
-            key.h * 4 + bay,
-            key.c,
-            key.h,
-            key.r,
-            key.n,
-            key.r,
-            rate.read_gap(),
-            DATA_LENGTH,
-        ]);
-    }
+/// The bytes of a command of one sector: it is the last of its track, so that the command ends with it.
+pub(crate) fn sector_command(command: u8, bay: u8, key: Chrn, rate: Rate) -> [u8; 9]
+    requires bay { bay ≤ 1 }
+    requires head { key.h ≤ 1 }
+    ensures { result ≡ sector_bytes command bay key rate }
+{
+    [
+        command,
+        key.h * 4 + bay,
+        key.c,
+        key.h,
+        key.r,
+        key.n,
+        key.r,
+        rate.read_gap(),
+        DATA_LENGTH,
+    ]
 }

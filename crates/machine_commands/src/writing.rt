@@ -7,6 +7,7 @@ ghost use Rattle.machine_commands.specs.WriteSent.{SendsWriteBytes, told_of};
 
 use crate::channel::Way;
 use crate::machine::CommandedMachine;
+use crate::reading::sector_command;
 use crate::results::Done;
 use drive_model::Drive;
 use fdc_commands::codes::{WRITE_DATA, WRITE_DELETED};
@@ -32,7 +33,7 @@ impl<D: Drive> CommandedMachine<D> {
         let command = write_byte(deleted);
         self.prepare(bay, rate);
         self.set_channel(Way::FromMemory, address, (sector_size(key.n) - 1) as u16);
-        self.send_sector(command, bay, key, rate);
+        self.send(&sector_command(command, bay, key, rate));
         self.finish()
     }
 }

@@ -1,4 +1,4 @@
--- The controller, the board with its two drives, commands of several sectors in front of it, and the whole controller.
+-- The controller, the adapter with its two drives, commands of several sectors in front of it, and the whole controller.
 pub use Rattle.fdc_core.specs.State
 pub use Rattle.fdc_core.specs.Ports
 pub use Rattle.fdc_core.specs.Heard
@@ -6,8 +6,8 @@ pub use Rattle.fdc_core.specs.Written
 pub use Rattle.fdc_drives.specs.Lines
 pub use Rattle.fdc_drives.specs.Following
 pub use Rattle.fdc_drives.specs.WordTimes
-pub use Rattle.fdc_board.specs.Boards
-pub use Rattle.fdc_board.specs.History
+pub use Rattle.fdc_adapter.specs.Adapters
+pub use Rattle.fdc_adapter.specs.History
 pub use Rattle.fdc_sequencer.specs.Fronts
 pub use Rattle.fdc_chip.specs.Chips
 pub use Rattle.fdc_chip.specs.Ports as ChipPorts

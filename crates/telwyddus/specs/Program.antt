@@ -6,4 +6,4 @@ pub use Rattle.sector_model.specs.Steps
 pub use Rattle.sector_model.specs.Plays
 pub use Rattle.floppy_tools.specs.Plans
 pub use Rattle.floppy_tools.specs.Runs
-pub use Rattle.floppy_tools.specs.Shelves
+pub use Rattle.memory_files.specs.Shelves

@@ -1,6 +1,6 @@
 // The controller at its ports, alone and with two drives.
 pub use drive_model::{Drive, Fault, Heard, Inspect, PlainDrive, ScriptDrive, Turn};
-pub use fdc_board::FdcBoard;
+pub use fdc_adapter::DisketteAdapter;
 pub use fdc_chip::Chip;
 pub use fdc_core::{DataRate, Fdc, Lines};
 pub use fdc_sequencer::Sequencer;

@@ -7,7 +7,7 @@ use Rattle.flop_base.specs.declared.answers.Rate.{Rate}
 use Rattle.flop_base.specs.declared.answers.Rate.TheVariants.{R500, R250}
 use Rattle.raw_image.specs.Disk.{Disk}
 use Rattle.drive_model.specs.Drive.{same_length}
-use Rattle.fdc_board.specs.declared.board.FdcBoard.{FdcBoard}
+use Rattle.fdc_adapter.specs.declared.adapter.DisketteAdapter.{DisketteAdapter}
 use Rattle.fdc_chip.specs.Chips.{chip_with_drive}
 use Rattle.fdc_chip.specs.declared.chip.Chip.{Chip}
 use Rattle.c_bay_drive.specs.Bays.{bay_state}
@@ -61,37 +61,37 @@ alike_none medium other none is = none_alike other (subst (λ (it : Option Disk)
 
 -- ---- a drive in a bay
 
-abbrev board_with : (first : Bool) → BayDrive → FdcBoard BayDrive → FdcBoard BayDrive
-board_with first drive board = if first then record board { first = drive } else record board { second = drive }
+abbrev adapter_with : (first : Bool) → BayDrive → DisketteAdapter BayDrive → DisketteAdapter BayDrive
+adapter_with first drive adapter = if first then record adapter { first = drive } else record adapter { second = drive }
 
-abbrev drive_on : (first : Bool) → FdcBoard BayDrive → BayDrive
-drive_on first board = if first then board.first else board.second
+abbrev drive_on : (first : Bool) → DisketteAdapter BayDrive → BayDrive
+drive_on first adapter = if first then adapter.first else adapter.second
 
-abbrev on_board : Chip BayDrive → FdcBoard BayDrive → ControllerValue
-on_board chip board = record chip { behind = record chip.behind { board = board } }
+abbrev on_adapter : Chip BayDrive → DisketteAdapter BayDrive → ControllerValue
+on_adapter chip adapter = record chip { behind = record chip.behind { adapter = adapter } }
 
-board_again : (first : Bool) (drive : BayDrive) (board : FdcBoard BayDrive) → board_with first (drive_on first board) (board_with first drive board) ≡ board
-board_again true drive board = refl
-board_again false drive board = refl
+adapter_again : (first : Bool) (drive : BayDrive) (adapter : DisketteAdapter BayDrive) → adapter_with first (drive_on first adapter) (adapter_with first drive adapter) ≡ adapter
+adapter_again true drive adapter = refl
+adapter_again false drive adapter = refl
 
-board_itself : (first : Bool) (board : FdcBoard BayDrive) → board ≡ board_with first (drive_on first board) board
-board_itself true board = refl
-board_itself false board = refl
+adapter_itself : (first : Bool) (adapter : DisketteAdapter BayDrive) → adapter ≡ adapter_with first (drive_on first adapter) adapter
+adapter_itself true adapter = refl
+adapter_itself false adapter = refl
 
-board_twice : (first : Bool) (one other : BayDrive) (board : FdcBoard BayDrive) → board_with first other (board_with first one board) ≡ board_with first other board
-board_twice true one other board = refl
-board_twice false one other board = refl
+adapter_twice : (first : Bool) (one other : BayDrive) (adapter : DisketteAdapter BayDrive) → adapter_with first other (adapter_with first one adapter) ≡ adapter_with first other adapter
+adapter_twice true one other adapter = refl
+adapter_twice false one other adapter = refl
 
 -- one drive behind another
 with_twice : (bay : ℕ) (one other : BayDrive) (c : ControllerValue) → chip_with_drive bay other (chip_with_drive bay one c) ≡ chip_with_drive bay other c
-with_twice bay one other c = ap (on_board c) (board_twice (bay == 0) one other c.behind.board)
+with_twice bay one other c = ap (on_adapter c) (adapter_twice (bay == 0) one other c.behind.adapter)
 
 -- the drive that was there is put back
 with_again : (bay : ℕ) (drive : BayDrive) (c : ControllerValue) → chip_with_drive bay (held c bay) (chip_with_drive bay drive c) ≡ c
-with_again bay drive c = ap (on_board c) (board_again (bay == 0) drive c.behind.board)
+with_again bay drive c = ap (on_adapter c) (adapter_again (bay == 0) drive c.behind.adapter)
 
 with_itself : (bay : ℕ) (c : ControllerValue) → c ≡ chip_with_drive bay (held c bay) c
-with_itself bay c = ap (on_board c) (board_itself (bay == 0) c.behind.board)
+with_itself bay c = ap (on_adapter c) (adapter_itself (bay == 0) c.behind.adapter)
 
 -- ---- a medium in a bay
 

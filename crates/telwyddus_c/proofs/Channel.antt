@@ -3,17 +3,17 @@ use Rattle.std.proofs.Common.{◌≡◌, ℕ, zero, suc, ◌+◌, ◌<◌, true,
 use Rattle.std.specs.Prelude.{slice_index, slice_set, Some, None}
 use Rattle.std.proofs.lemmas.Grind.{get_or-set_at}
 use Rattle.std.proofs.lemmas.List.{get_or-set_other, length-set}
-use Rattle.fdc_board.specs.Boards.{SameDrives}
-use Rattle.fdc_board.specs.declared.board.FdcBoard.{FdcBoard}
+use Rattle.fdc_adapter.specs.Adapters.{SameDrives}
+use Rattle.fdc_adapter.specs.declared.adapter.DisketteAdapter.{DisketteAdapter}
 use Rattle.fdc_chip.specs.Chips.{ChipState}
 use Rattle.fdc_chip.specs.Ports.{TakesChip, GivesChip}
 use Rattle.telwyddus_c.specs.Blocks.{TakesFirst, TakesSome, TakesBlock, GivesFirst, GivesBlock}
 
 -- the drives stay, over none and over another
-pub keeps_none : {D : Type 0} (board : FdcBoard D) → SameDrives board board
-keeps_none board = record { first = refl; second = refl }
+pub keeps_none : {D : Type 0} (adapter : DisketteAdapter D) → SameDrives adapter adapter
+keeps_none adapter = record { first = refl; second = refl }
 
-pub keeps_more : {D : Type 0} (old between new : FdcBoard D) → SameDrives old between → SameDrives between new → SameDrives old new
+pub keeps_more : {D : Type 0} (old between new : DisketteAdapter D) → SameDrives old between → SameDrives between new → SameDrives old new
 keeps_more old between new one more = record { first = more.first ∙ one.first; second = more.second ∙ one.second }
 
 -- ---- taken

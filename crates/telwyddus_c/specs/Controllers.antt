@@ -8,12 +8,12 @@ use Rattle.drive_model.specs.Fault.{total_left}
 use Rattle.drive_model.specs.Mechanics.{at_rest}
 use Rattle.drive_model.specs.ScriptDrive.{told}
 use Rattle.fault_plan.specs.Plan.{Plan}
-use Rattle.fdc_board.specs.Boards.{SameDrives, drive_at, selected_at}
+use Rattle.fdc_adapter.specs.Adapters.{SameDrives, drive_at, selected_at}
 use Rattle.fdc_chip.specs.Chips.{ChipState, chip_state, behind_of, IsNewChip, KeepsChip, interrupts_chip, asks_chip, indexes_chip}
 use Rattle.fdc_chip.specs.Ports.{TakesChip, GivesChip}
 use Rattle.fdc_core.specs.Dma.{to_memory_of}
 use Rattle.fdc_core.specs.State.{dor_of}
-use Rattle.fdc_sequencer.specs.Fronts.{board_of}
+use Rattle.fdc_sequencer.specs.Fronts.{adapter_of}
 use Rattle.telwyddus_c.specs.Media.{Inserts, Ejects}
 use Rattle.telwyddus_c.specs.Slots.{DoneOr}
 
@@ -23,7 +23,7 @@ state_of controller = chip_state bay_state controller
 
 -- both drives are as they were
 abbrev pub KeepsDrives : ControllerValue → ControllerValue → Type 0
-KeepsDrives old new = SameDrives (board_of (behind_of old)) (board_of (behind_of new))
+KeepsDrives old new = SameDrives (adapter_of (behind_of old)) (adapter_of (behind_of new))
 
 -- a new one whose drives have no faults
 abbrev pub IsPlain : ControllerValue → Type 0
@@ -36,12 +36,12 @@ IsPlanned plan controller =
 
 -- the drive in a bay
 abbrev pub drive_of : ControllerValue → ℕ → DriveState
-drive_of controller bay = drive_at (state_of controller).front.board bay
+drive_of controller bay = drive_at (state_of controller).front.adapter bay
 
 -- the lines in a byte: 1 is the interrupt line, 2 the request line, 4 the direction to memory, and 8 the index of the selected drive
 abbrev pub lines_byte : ChipState → ℕ
 lines_byte chip = (if interrupts_chip chip then 1 else 0) + (if asks_chip chip then 2 else 0)
-    + (if to_memory_of chip.front.board.controller then 4 else 0) + (if indexes_chip chip then 8 else 0)
+    + (if to_memory_of chip.front.adapter.controller then 4 else 0) + (if indexes_chip chip then 8 else 0)
 
 -- the channel takes a byte: 0. None is asked for in this direction: 8
 abbrev pub TakesByte : ℕ → ChipState → (was byte : ℕ) → ChipState → Type 0
@@ -64,7 +64,7 @@ pub record StrapsSteps (on : Bool) (old new : ControllerValue) : Type 0 where
 -- the controller and the drive of the other bay stay
 pub record KeepsBeside (bay : ℕ) (old new : ChipState) : Type 0 where
   pub chip : KeepsChip old new
-  pub other : drive_at new.front.board (1 - bay) ≡ drive_at old.front.board (1 - bay)
+  pub other : drive_at new.front.adapter (1 - bay) ≡ drive_at old.front.adapter (1 - bay)
 
 -- the medium of a tray goes into a bay
 pub record InsertsAt (bay code : ℕ) (tray left : Option TrayValue) (old new : ControllerValue) : Type 0 where
@@ -92,6 +92,6 @@ pub record TellsWritten (bay : ℕ) (old : ControllerValue) (told : ℕ) (new : 
 pub record Shows (bay : ℕ) (controller : ControllerValue) (cylinder signs : ℕ) : Type 0 where
   pub cylinder_is : cylinder ≡ (drive_of controller bay).cylinder
   pub motor : Bool
-  pub turns : IsTrue motor ↔ IsBitSet (dor_of (state_of controller).front.board.controller) (4 + bay)
-  pub signs_are : signs ≡ (if motor then 1 else 0) + (if selected_at (state_of controller).front.board == bay then 2 else 0)
+  pub turns : IsTrue motor ↔ IsBitSet (dor_of (state_of controller).front.adapter.controller) (4 + bay)
+  pub signs_are : signs ≡ (if motor then 1 else 0) + (if selected_at (state_of controller).front.adapter == bay then 2 else 0)
       + (if (drive_of controller bay).gate then 4 else 0) + (if is_some (drive_of controller bay).medium then 8 else 0)

@@ -10,14 +10,14 @@ use Rattle.drive_model.specs.Fault.{total_left}
 use Rattle.drive_model.specs.ScriptDrive.{told}
 use Rattle.drive_model.specs.declared.fault.Fault.{Fault}
 use Rattle.fault_plan.specs.Plan.{Plan, plan_spelled}
-use Rattle.fdc_board.specs.Boards.{drive_held}
+use Rattle.fdc_adapter.specs.Adapters.{drive_held}
 use Rattle.fdc_chip.specs.Chips.{behind_of, KeepsChip}
-use Rattle.fdc_sequencer.specs.Fronts.{board_of}
+use Rattle.fdc_sequencer.specs.Fronts.{adapter_of}
 use Rattle.telwyddus_c.specs.Controllers.{drive_of, state_of}
 
 -- the drive of a bay
 abbrev pub held : ControllerValue → ℕ → BayDrive
-held controller bay = drive_held (board_of (behind_of controller)) bay
+held controller bay = drive_held (adapter_of (behind_of controller)) bay
 
 -- the controller and the drive of the other bay stay
 pub record KeepsOther (bay : ℕ) (old new : ControllerValue) : Type 0 where

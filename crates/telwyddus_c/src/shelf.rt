@@ -1,14 +1,14 @@
 // The program over files in memory.
 ghost use Rattle.std.specs.Prelude.{◌≡◌, ⊤};
 ghost use Rattle.flop_base.specs.Shelf.{file_at};
-ghost use Rattle.floppy_tools.specs.Shelves.{outside_in, files_in};
+ghost use Rattle.memory_files.specs.Shelves.{outside_in, files_in};
 ghost use Rattle.telwyddus_c.specs.Shelves.{IsBare, Puts, Gets, RunsWords, HandsOut};
 ghost use Rattle.telwyddus_c.specs.Slots.{Fills, Frees, Serves};
 
 use crate::buffer::write_bytes;
 use crate::code::{DONE, EMPTY, FULL, NO_FILE, NO_MEMORY, NOT_TEXT};
 use c_slots::ShelfSlot;
-use floppy_tools::{RunShelf, WordsError, split_words};
+use floppy_tools::{WordsError, split_words};
 use std::alloc::Global;
 
 /// Makes a shelf with no file.

@@ -1,9 +1,8 @@
 // Shelves and sinks: those in memory, whose calls fail where they are told to, and those of the system.
 use crate::calls::{gives, gives_none, has_faults, same, takes, takes_none};
-use flop_base::{
-    Bytes, Chrn, Code, LoadError, MemShelf, MemSink, Name, PutError, Sink, Status, sector_size,
-};
+use flop_base::{Bytes, Chrn, Code, LoadError, Name, PutError, Sink, Status, sector_size};
 use flop_outside::{FileShelf, StreamSink};
+use memory_files::{MemShelf, MemSink};
 use std::fs;
 use std::fs::{OpenOptions, Permissions};
 use std::os::unix::fs::PermissionsExt;

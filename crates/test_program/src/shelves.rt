@@ -1,5 +1,5 @@
 // Shelves with a formatted disk.
-use flop_base::MemShelf;
+use memory_files::MemShelf;
 use std::alloc::{AllocError, Global};
 use std::test::Fail;
 use test_files::{Draft, Line, follow};

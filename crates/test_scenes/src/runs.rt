@@ -1,7 +1,7 @@
 // Runs of the program over a shelf and a sink in memory.
 use drive_model::Drive;
-use flop_base::{MemShelf, MemSink};
 use floppy_tools::{Ended, ProgramEnded, run_program};
+use memory_files::{MemShelf, MemSink};
 use pc_bus::MachineOf;
 use std::alloc::Global;
 use std::env::VarError;

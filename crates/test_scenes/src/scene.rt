@@ -1,8 +1,8 @@
 // Scenes: files, a plan, calls that fail, and runs.
 use crate::runs::{NO_COUNTS, Range, run};
 use crate::shown::{number_of, put_seen};
-use flop_base::{MemShelf, MemSink};
 use floppy_jobs::is_verb;
+use memory_files::{MemShelf, MemSink};
 use std::alloc::Global;
 use std::env::VarError;
 use test_files::{Draft, Line, Wrong, follow, put_file, words_in};

@@ -2,7 +2,7 @@
 ghost use Rattle.std.specs.Prelude.{All};
 ghost use Rattle.floppy_session.specs.Tries.{HasTries};
 ghost use Rattle.commands.specs.Leading.{Ran, RanPart};
-ghost use Rattle.text_commands.specs.JobRounds.{RoundGoes, RoundsGo, HasPlayed, PlaysJob, PlaysOrStarves};
+ghost use Rattle.text_commands.specs.JobRounds.{RoundGoes, RoundsGo, PlaysJob, PlaysOrStarves};
 
 use crate::ending::{either, finish};
 use commands::{AnyRun, bad_line, is_refusal};
@@ -42,23 +42,15 @@ fn run_requests<R: AnyRun>(run: &mut R, requests: &[Request]) -> Result<bool, St
     Ok(refused)
 }
 
-/// Plays the requests of a job.
-fn play_requests<R: AnyRun>(run: &mut R, requests: &[Request]) -> Status
-    requires { All HasTries requests.now }
-    ensures { Ran R.hand (HasPlayed requests.now) run.old run.new result }
-{
-    match run_requests(run, requests) {
-        Ok(refused) => finish(run, refused),
-        Err(ended) => ended,
-    }
-}
-
 /// Plays the job with this text.
 fn play_text<R: AnyRun>(run: &mut R, text: &[u8]) -> Status
     ensures { Ran R.hand (PlaysOrStarves text.now) run.old run.new result }
 {
     match parse_job(run.alloc(), text) {
-        Ok(requests) => play_requests(run, &requests),
+        Ok(requests) => match run_requests(run, &requests) {
+            Ok(refused) => finish(run, refused),
+            Err(ended) => ended,
+        },
         Err(JobError::BadLine { line }) => {
             run.finish(bad_line(run.alloc(), line), Status::BadJob)
         }

@@ -5,7 +5,7 @@ ghost use Rattle.track_model.specs.Bytes.{byte_at, bytes_at};
 ghost use Rattle.track_model.specs.Crc.{crc};
 ghost use Rattle.track_model.specs.Fields.{HasCheck, after_marks};
 
-use mfm_cells::{MARKS_CRC, cells16, crc_step, decode_word};
+use track_model::{MARKS_CRC, cells16, crc_step, decode_word};
 
 /// The byte whose first cell is `p`.
 pub(crate) fn byte_at_cell(words: &[u16], p: usize) -> u8

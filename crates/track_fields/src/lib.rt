@@ -15,7 +15,7 @@ mod writing;
 pub use bytes::content_byte;
 pub use fields::list_fields;
 pub use look::{Absent, data_at, find_address, find_sector, has_address, look_at};
-pub use mfm_cells::{crc_step, field_crc, mark_crc};
+pub use track_model::{crc_step, field_crc, mark_crc};
 pub use regular::{is_regular, window_word};
 pub use track_model::{Field, Look};
 pub use track_separator::{Seen, Separator};

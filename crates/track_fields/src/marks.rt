@@ -4,7 +4,7 @@ ghost use Rattle.track_model.specs.Cells.{IsTrackSized, IsInside};
 ghost use Rattle.track_model.specs.Marks.{IsRun, TouchesNoZero, IsAddressMark, IsDataRun};
 
 use crate::bytes::byte_at_cell;
-use mfm_cells::cells16;
+use track_model::cells16;
 
 /// A1 with a lost clock, as no byte is recorded.
 pub(crate) const MARK: u16 = 0x4489;

@@ -9,7 +9,7 @@ ghost use Rattle.track_fields.specs.Places.{HasNoRun, HasNoMark, StandsAlone, Is
 use crate::fields::{ADDRESS_CELLS, address_at};
 use crate::marks::{MARK, MARK_CELLS, RUN_CELLS, is_address_mark, is_run};
 use flop_base::{Chrn, sector_size};
-use mfm_cells::cells16;
+use track_model::cells16;
 
 /// How far behind the end of an address field its window begins, at the next word boundary.
 const WINDOW_DISTANCE: usize = 352;

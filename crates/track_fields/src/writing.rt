@@ -6,7 +6,7 @@ ghost use Rattle.track_model.specs.Fields.{after_marks};
 ghost use Rattle.track_model.specs.Writing.{sync_and_marks, address_field, window};
 
 use flop_base::{Chrn, NoMemory};
-use mfm_cells::{crc_step, encode_byte, field_crc, mark_crc};
+use track_model::{crc_step, encode_byte, field_crc, mark_crc};
 use std::alloc::Global;
 
 /// The three marks A1 in a row.

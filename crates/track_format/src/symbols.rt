@@ -5,8 +5,7 @@ ghost use Rattle.track_format.specs.Streams.{GoesOn};
 ghost use Rattle.track_model.specs.declared.symbol.Symbol.{Symbol};
 ghost use Rattle.track_model.specs.declared.symbol.Symbol.TheVariants.{Byte};
 
-use mfm_cells::{crc_step, decode_word, encode_byte};
-use track_model::Symbol;
+use track_model::{Symbol, crc_step, decode_word, encode_byte};
 
 /// The byte of all gaps.
 pub(crate) const GAP: Symbol = Symbol::Byte(0x4E);

@@ -25,3 +25,6 @@ pub mod Unique
 pub mod WindowMarks
 pub mod WindowWords
 pub mod Written
+mod CrcTable
+mod CellTables
+mod Pairs

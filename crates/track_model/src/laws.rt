@@ -1,6 +1,7 @@
-// What is found on a track is one, and what it says of sectors.
-ghost use Rattle.std.specs.Prelude.{◌≡◌, ◌+◌, ◌*◌};
-ghost use Rattle.track_model.specs.Cells.{IsInside};
+// What is found on a track is one, and what it says of sectors; the cells of bytes hold no mark. The bodies are empty.
+ghost use Rattle.std.specs.Prelude.{◌≡◌, ◌≢◌, ◌+◌, ◌*◌, ◌≤◌, length};
+ghost use Rattle.track_model.specs.Bytes.{legal};
+ghost use Rattle.track_model.specs.Cells.{cells_at, IsInside};
 ghost use Rattle.track_model.specs.Marks.{IsAddressMark};
 ghost use Rattle.track_model.specs.Fields.{IsAddressAt, content_at, content_size};
 ghost use Rattle.track_model.specs.Looks.{LookAt, LookFor};
@@ -79,4 +80,11 @@ pub fn written_is_laid(_words: &[u16], _place: usize, _deleted: bool, _content: 
 pub fn written_is_torn(_words: &[u16])
     ensures { (torn : IsTorn _words.now) (write : TornWrite)
         → IsOver (stops_of (λ p. 0) torn.writes) _words.now write → IsTorn (with_torn _words.now write) }
+{}
+
+/// No mark A1 stands in the cells of bytes, at any phase: its lost clock doesn't occur there.
+#[tactic(auto, using(crate::proofs::Legals::no_mark))]
+pub fn legal_has_no_mark(_last: bool, _bytes: &[u8], _p: usize)
+    requires { _p + 16 ≤ 16 * length _bytes.now }
+    ensures { cells_at (legal _last _bytes.now) _p ≢ 0x4489 }
 {}

@@ -1,10 +1,15 @@
-//! What a raw track holds: the definitions that the crates of cells, fields, formats and drives share, with
-//! the two types in which answers about a track are given.
+//! What a raw track holds: the definitions that the crates of fields, formats and drives share, with the two types in
+//! which answers about a track are given; bytes as the cells of an MFM track, and back, and the check of a field.
 #![tactic(auto)]
 
+mod cells;
+mod crc;
 pub mod laws;
 mod symbol;
+mod tables;
 
+pub use cells::{cells16, decode_word, encode_byte};
+pub use crc::{MARKS_CRC, crc_step, field_crc, mark_crc};
 use flop_base::Chrn;
 pub use symbol::Symbol;
 

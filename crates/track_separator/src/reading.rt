@@ -3,7 +3,7 @@ ghost use Rattle.std.specs.Prelude.{◌≡◌, ◌≢◌, ◌<◌, ◌≤◌, �
 
 use crate::register::{check_before, last_byte, shifted};
 use crate::state::{Seen, Separator, Stage};
-use mfm_cells::crc_step;
+use track_model::crc_step;
 
 /// Whether cells of the field weren't recorded, up to this word.
 fn is_touched(before: bool, word: u16) -> bool

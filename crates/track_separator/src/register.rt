@@ -5,7 +5,7 @@ ghost use Rattle.track_model.specs.Marks.{data_byte};
 ghost use Rattle.track_separator.specs.Register.{IsShifted, IsNext, HasRunBits, register_byte, register_check, IsKeyIn};
 
 use flop_base::Chrn;
-use mfm_cells::{decode_word, field_crc};
+use track_model::{decode_word, field_crc};
 
 /// No cell of which anything is known.
 pub(crate) const BLANK: u128 = u128::MAX;

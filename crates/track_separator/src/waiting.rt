@@ -4,7 +4,7 @@ ghost use Rattle.track_model.specs.Marks.{data_byte};
 
 use crate::register::{data_mark_before, next_cells, run_end};
 use crate::state::{Seen, Separator, Stage};
-use mfm_cells::mark_crc;
+use track_model::mark_crc;
 
 /// The cells of a run.
 const RUN_CELLS: u16 = 48;

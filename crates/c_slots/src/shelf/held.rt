@@ -3,7 +3,7 @@ ghost use Rattle.std.specs.Prelude.{◌≡◌, None, Some, Option};
 ghost use Rattle.c_slots.specs.Shelves.{ShelfValue, held_owns, held_coded};
 
 use crate::loose::Loose;
-use floppy_tools::RunShelf;
+use memory_files::RunShelf;
 use std::alloc::Global;
 use std::marker::Model;
 use std::ptr::null_mut;

@@ -4,7 +4,7 @@ ghost use Rattle.std.specs.Option.{is_some};
 ghost use Rattle.c_slots.specs.Shelves.{boxed};
 
 use crate::shelf::held::Held;
-use floppy_tools::RunShelf;
+use memory_files::RunShelf;
 use std::alloc::Global;
 use std::mem;
 

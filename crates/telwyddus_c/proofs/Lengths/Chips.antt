@@ -1,7 +1,7 @@
 -- How many bytes the whole controller has in a state, but for its drives.
 use Rattle.std.proofs.Common.{◌+◌, ◌≤◌, ℕ, List, length, arith}
-use Rattle.fdc_board.specs.Saving.{BoardFits, spelled_board}
-use Rattle.fdc_board.specs.declared.board.FdcBoard.{FdcBoard}
+use Rattle.fdc_adapter.specs.Saving.{AdapterFits, spelled_adapter}
+use Rattle.fdc_adapter.specs.declared.adapter.DisketteAdapter.{DisketteAdapter}
 use Rattle.fdc_chip.specs.Interrupts.{AreFour, Interrupting}
 use Rattle.fdc_chip.specs.Saving as chips
 use Rattle.fdc_chip.specs.Saving.{ChipFits, spelled_answer, spelled_chip, spelled_interrupts, spelled_order, spelled_pace, spelled_place, spelled_registers, spelled_settings, spelled_task, spelled_track}
@@ -22,13 +22,13 @@ use Rattle.telwyddus_c.proofs.Lengths.Fdcs.{most-fdc, most-results}
 abbrev IsWithin : {D : Type 0} → (D → List ℕ → List ℕ) → D → ℕ → Type 0
 IsWithin spelled drive most = (rest : List ℕ) → length (spelled drive rest) ≤ most + length rest
 
-most-board : {D : Type 0} (spelled : D → List ℕ → List ℕ) (fits : D → Type 0) (board : FdcBoard D) (first second : ℕ) (rest : List ℕ)
-    → BoardFits fits board → IsWithin spelled board.first first → IsWithin spelled board.second second
-    → length (spelled_board spelled board rest) ≤ 115 + first + second + length rest
-unfolding spelled_board
-most-board spelled fits board first second rest is one two =
-    let behind = spelled board.second rest in
-    omega (arith, most-fdc board.controller (spelled board.first behind) is.0, one behind, two rest)
+most-adapter : {D : Type 0} (spelled : D → List ℕ → List ℕ) (fits : D → Type 0) (adapter : DisketteAdapter D) (first second : ℕ) (rest : List ℕ)
+    → AdapterFits fits adapter → IsWithin spelled adapter.first first → IsWithin spelled adapter.second second
+    → length (spelled_adapter spelled adapter rest) ≤ 115 + first + second + length rest
+unfolding spelled_adapter
+most-adapter spelled fits adapter first second rest is one two =
+    let behind = spelled adapter.second rest in
+    omega (arith, most-fdc adapter.controller (spelled adapter.first behind) is.0, one behind, two rest)
 
 -- ---- the sequencer
 
@@ -58,7 +58,7 @@ most-front_stage (Moving moving) rest = omega (arith, most-moving)
 most-front_stage (Telling results read) rest = omega (arith, most-results, length-byte)
 
 most-sequencer : {D : Type 0} (spelled : D → List ℕ → List ℕ) (fits : D → Type 0) (sequencer : Sequencer D) (first second : ℕ) (rest : List ℕ)
-    → SequencerFits fits sequencer → IsWithin spelled sequencer.board.first first → IsWithin spelled sequencer.board.second second
+    → SequencerFits fits sequencer → IsWithin spelled sequencer.adapter.first first → IsWithin spelled sequencer.adapter.second second
     → length (spelled_sequencer spelled sequencer rest) ≤ 152 + first + second + length rest
 unfolding spelled_sequencer
 most-sequencer spelled fits sequencer first second rest is one two =
@@ -66,7 +66,7 @@ most-sequencer spelled fits sequencer first second rest is one two =
     let bytes = spelled_bytes sequencer.bytes last in
     omega (
       arith,
-      most-board spelled fits sequencer.board first second (spelled_stage sequencer.stage bytes) is.0 one two,
+      most-adapter spelled fits sequencer.adapter first second (spelled_stage sequencer.stage bytes) is.0 one two,
       most-front_stage sequencer.stage bytes,
       length-bytes sequencer.bytes last,
       is.1,
@@ -138,8 +138,8 @@ most-stage (stages.Busy task) rest = omega (arith, most-task)
 most-stage (stages.Telling answer read) rest = omega (arith, most-answer, length-byte)
 
 pub most-chip : {D : Type 0} (spelled : D → List ℕ → List ℕ) (fits : D → Type 0) (chip : Chip D) (first second : ℕ) (rest : List ℕ)
-    → ChipFits fits chip → ((left : List ℕ) → length (spelled chip.behind.board.first left) ≤ first + length left)
-    → ((left : List ℕ) → length (spelled chip.behind.board.second left) ≤ second + length left)
+    → ChipFits fits chip → ((left : List ℕ) → length (spelled chip.behind.adapter.first left) ≤ first + length left)
+    → ((left : List ℕ) → length (spelled chip.behind.adapter.second left) ≤ second + length left)
     → length (spelled_chip spelled chip rest) ≤ 211 + first + second + length rest
 unfolding spelled_chip
 most-chip spelled fits chip first second rest is one two =

@@ -88,12 +88,12 @@ most-bay (Detached drive) rest fits =
 most-controller : (controller : ControllerValue) → ControllerFits controller
     → length (spelled_controller controller []) ≤ state_most (faults_planned controller)
 most-controller controller fits =
-    let board = controller.behind.board in
-    let first = 67 + medium_most + 10 * length (faults_in_bay board.first) in
-    let second = 67 + medium_most + 10 * length (faults_in_bay board.second) in
+    let adapter = controller.behind.adapter in
+    let first = 67 + medium_most + 10 * length (faults_in_bay adapter.first) in
+    let second = 67 + medium_most + 10 * length (faults_in_bay adapter.second) in
     omega (
       arith,
-      most-chip spelled_bay BayFits controller first second [] fits (λ left. most-bay board.first left fits.0.0.1) (λ left. most-bay board.second left fits.0.0.2),
+      most-chip spelled_bay BayFits controller first second [] fits (λ left. most-bay adapter.first left fits.0.0.1) (λ left. most-bay adapter.second left fits.0.0.2),
     )
 
 told_by : (done short : Bool) (X Y other : Type 0) (told most : ℕ) → MatchBool done X (MatchBool short Y other)

@@ -1,7 +1,7 @@
 // The controller's straps, its ports, and what is looked at beside them.
 ghost use Rattle.std.specs.Prelude.{◌≡◌, ◌==◌, not, ⊤};
-ghost use Rattle.fdc_board.specs.Boards.{selected_at};
-ghost use Rattle.fdc_board.specs.WordTimes.{nanoseconds};
+ghost use Rattle.fdc_adapter.specs.Adapters.{selected_at};
+ghost use Rattle.fdc_adapter.specs.WordTimes.{nanoseconds};
 ghost use Rattle.fdc_chip.specs.Ports.{ReadsChip, WritesChip};
 ghost use Rattle.fdc_core.specs.State.{data_rate};
 ghost use Rattle.telwyddus_c.specs.Controllers.{state_of, KeepsDrives, lines_byte, StrapsSeeks, StrapsSteps};
@@ -12,7 +12,7 @@ use crate::controller::lines::lines_of;
 use c_slots::{ControllerSlot, WholeController};
 use std::alloc::Global;
 
-/// Lets each command that names a cylinder seek it first, whatever CONFIGURE sets, as a strap of a board would; or, where `on`
+/// Lets each command that names a cylinder seek it first, whatever CONFIGURE sets, as a strap of an adapter would; or, where `on`
 /// is 0, leaves that to CONFIGURE.
 #[unsafe(no_mangle)]
 pub extern "C" fn telwyddus_controller_strap_seeks(
@@ -125,7 +125,7 @@ pub extern "C" fn telwyddus_controller_selected(
     slot: &mut ControllerSlot,
     bay: &mut u8,
 ) -> u32
-    ensures { Serves (λ code old new. (code ≡ 0) × (new ≡ old) × (bay.new ≡ selected_at (state_of old).front.board)) (bay.new ≡ bay.old)
+    ensures { Serves (λ code old new. (code ≡ 0) × (new ≡ old) × (bay.new ≡ selected_at (state_of old).front.adapter)) (bay.new ≡ bay.old)
         result slot.old.held.controller slot.new.held.controller }
 {
     match slot.take(alloc) {
@@ -145,7 +145,7 @@ pub extern "C" fn telwyddus_controller_word_time(
     slot: &mut ControllerSlot,
     word_time: &mut u32,
 ) -> u32
-    ensures { Serves (λ code old new. (code ≡ 0) × (new ≡ old) × (word_time.new ≡ nanoseconds (data_rate (state_of old).front.board.controller))) (word_time.new ≡ word_time.old)
+    ensures { Serves (λ code old new. (code ≡ 0) × (new ≡ old) × (word_time.new ≡ nanoseconds (data_rate (state_of old).front.adapter.controller))) (word_time.new ≡ word_time.old)
         result slot.old.held.controller slot.new.held.controller }
 {
     match slot.take(alloc) {

@@ -2,7 +2,7 @@
 use super::print::{Runs, put_words};
 use super::{Asked, key, tracks, words_of};
 use floppy_jobs::is_verb;
-use mfm_cells::{cells16, decode_word, encode_byte};
+use track_model::{cells16, decode_word, encode_byte};
 use test_files::{Draft, Line, Wrong};
 use track_fields::{address_words, field_crc, field_words};
 

@@ -1,10 +1,14 @@
 use Rattle.std.proofs.Common.{rules, ◌≡◌, ◌∙◌, List, Option, Some, ℕ, refl, subst, sym}
 use Rattle.std.specs.Prelude.{IsSome, map, string_bytes}
-use Rattle.floppy_words.specs.Forms.{ports_file_of}
+use Rattle.pc_bus.specs.Boards.{board}
+use Rattle.floppy_words.specs.Forms.{form_of, ports_file_of}
+use Rattle.archive_commands.specs.Files.{outside_of}
+use Rattle.machine_station.specs.Shown.{all_counts}
 use Rattle.text_commands.specs.Benches.{Names, no_names}
 use Rattle.text_commands.specs.PortGuards.{RunsPorts}
 use Rattle.text_commands.specs.PortPlays.{world_of}
 use Rattle.text_commands.proofs.GuardingPorts.{starves}
+use Rattle.floppy_tools.specs.Machines.{RunsOver}
 use Rattle.floppy_tools.proofs.Ports.{named_file, wants_file}
 use Rattle.floppy_tools.proofs.program.floppy.Goals as goal
 
@@ -22,6 +26,31 @@ returns-in-Ok-Some g c =
             (world_of g.D.Drive.state g.S.Shelf.told g.K.Sink.told c.args.machine no_names c.args.shelf.now c.args.out.now)
             (world_of g.D.Drive.state g.S.Shelf.told g.K.Sink.told c.at_ports.result.1 names c.at_ports.new.shelf c.at_ports.new.out)
             c.at_ports.result.0) is c.at_ports.ensures.does;
+        bad_words = search rules;
+      };
+      shelf_faults = search rules;
+      sink_faults = search rules;
+    }
+
+pub returns-in-Ok-None : goal.returns-in-Ok-None
+returns-in-Ok-None g c =
+    let asked = form_of (map string_bytes c.args.words.now) in
+    let before = outside_of g.S.Shelf.told g.K.Sink.told c.args.shelf.now c.args.out.now in
+    let after = outside_of g.S.Shelf.told g.K.Sink.told c.run_asked-status.new.shelf c.run_asked-status.new.out in
+    let spares = all_counts g.D.Drive.state c.args.spare.items in
+    let old = board g.D.Drive.state c.args.machine in
+    let new = board g.D.Drive.state c.into_machine.result in
+    let ran : RunsOver asked old spares before new after c.run_asked-status.result = record {
+      start = c.new-session.result;
+      last = c.run_asked-status.new.session;
+      set_up = c.new-session.ensures;
+      shows = c.into_machine.ensures;
+      runs = rw (← c.session.view_is) (c.run_asked-status.ensures.runs asked c.form_named-asked.ensures.form);
+    } in
+    record {
+      does = record {
+        runs = λ none. ran;
+        ports = search rules;
         bad_words = search rules;
       };
       shelf_faults = search rules;

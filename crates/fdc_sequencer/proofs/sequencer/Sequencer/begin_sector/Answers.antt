@@ -1,5 +1,5 @@
 use Rattle.std.proofs.Common.{ap, ◌∙◌}
-use Rattle.fdc_board.specs.Boards.{board_state}
+use Rattle.fdc_adapter.specs.Adapters.{adapter_state}
 use Rattle.fdc_core.specs.Listening.{is_executing}
 use Rattle.fdc_sequencer.specs.Fronts.{front_state}
 use Rattle.fdc_sequencer.proofs.Begun.{begun_over}
@@ -7,7 +7,7 @@ use Rattle.fdc_sequencer.proofs.sequencer.Sequencer.begin_sector.Goals as goal
 
 pub returns : goal.returns
 returns g c =
-    let between = board_state g.D.Drive.state c.take_accepted.new.self in
+    let between = adapter_state g.D.Drive.state c.take_accepted.new.self in
     record {
       between = between;
       takes = record {

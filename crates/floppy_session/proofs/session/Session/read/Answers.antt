@@ -1,7 +1,6 @@
-use Rattle.floppy_requests.specs.declared.request.Request.TheVariants as request
-use Rattle.floppy_session.proofs.Serving.{replied}
+use Rattle.floppy_session.proofs.Named.{runs_on, keeps_reads}
 use Rattle.floppy_session.proofs.session.Session.read.Goals as goal
 
-pub returns : goal.returns
-returns g c = λ told. replied _ _ told (request.Read c.args.bay c.args.key c.args.address) c.reply_to_read.result _ c.reply_to_read.ensures
-    (c.read_record.ensures.step told)
+pub invariant_of-self : goal.invariant_of-self
+invariant_of-self g c =
+    runs_on _ _ _ (keeps_reads _ _ c.args.bay c.args.key c.args.address c.read.result c.read.ensures.step) c.self.invariant c.read.ensures.ready

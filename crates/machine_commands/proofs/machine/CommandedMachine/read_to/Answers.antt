@@ -1,5 +1,5 @@
 use Rattle.std.proofs.Common.{ap, ◌-◌}
-use Rattle.machine_commands.proofs.Awaiting.{channel_as}
+use Rattle.machine_commands.proofs.Awaiting.{channel_as, sends_as}
 use Rattle.machine_commands.proofs.machine.CommandedMachine.read_to.Goals as goal
 
 pub returns-clause-sends : goal.returns-clause-sends
@@ -9,6 +9,6 @@ returns-clause-sends g c = record {
   set = _;
   sets = channel_as 0x46 c.args.address _ _ _ _ (ap (λ n. n - 1) c.sector_size.ensures.size) c.set_channel.ensures.sets;
   sent = _;
-  sends = c.send_sector.ensures.sends;
+  sends = sends_as _ _ _ _ c.sector_command.ensures c.send.ensures.sends;
   finishes = c.finish.ensures.finishes;
 }

@@ -1,5 +1,5 @@
 use Rattle.std.proofs.Common.{ap, ◌-◌}
-use Rattle.machine_commands.proofs.Awaiting.{channel_as}
+use Rattle.machine_commands.proofs.Awaiting.{channel_as, sends_as}
 use Rattle.machine_commands.proofs.WriteDone.{code_as}
 use Rattle.machine_commands.proofs.machine.CommandedMachine.write_sector.Goals as goal
 
@@ -10,6 +10,6 @@ returns-clause-sends g c = record {
   set = _;
   sets = channel_as 0x4A c.args.address _ _ _ _ (ap (λ n. n - 1) c.sector_size.ensures.size) c.set_channel.ensures.sets;
   sent = _;
-  sends = code_as c.args.bay c.args.key c.args.rate _ _ _ _ c.write_byte-command.ensures c.send_sector.ensures.sends;
+  sends = code_as c.args.bay c.args.key c.args.rate _ _ _ _ c.write_byte-command.ensures (sends_as _ _ _ _ c.sector_command.ensures c.send.ensures.sends);
   finishes = c.finish.ensures.finishes;
 }

@@ -9,7 +9,7 @@ use denote.Param.Send.{IsSend, AllSend, owning_send, struct_send, sendable}
 use Rattle.std.proofs.Crossing as heap
 use Rattle.std.proofs.alloc.Global.TheSendSync as handle
 use Rattle.std.specs.Global.{Global}
-use Rattle.floppy_tools.proofs.shelf.RunShelf.TheSendSync.{the_send as whole_send}
+use Rattle.memory_files.proofs.shelf.RunShelf.TheSendSync.{the_send as whole_send}
 use Rattle.c_slots.proofs.Crossing.{quiet, lies}
 use Rattle.c_slots.specs.Shelves.{ShelfValue, shelf_row, held_owns}
 use Rattle.c_slots.specs.contracts.shelf.held.Held.{the_row, the_type}

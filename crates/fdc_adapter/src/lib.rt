@@ -1,0 +1,15 @@
+//! The diskette controller with its two drives, for a bus that isn't this repository's: its ports, its lines, its side of
+//! a DMA channel, media in and out, and what a front end shows of the drives.
+//!
+//! Nothing moves but in device steps. One is a word time: the time in which sixteen cells pass at the rate that was chosen.
+#![tactic(auto)]
+
+mod bays;
+mod adapter;
+mod rates;
+mod refitting;
+mod senses;
+mod still;
+mod whole;
+
+pub use adapter::DisketteAdapter;

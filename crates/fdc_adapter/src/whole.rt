@@ -1,0 +1,79 @@
+// Whole commands, their endings and seeks, for a layer in front of the adapter that collects the bytes itself.
+ghost use Rattle.std.specs.Prelude.{◌≡◌};
+ghost use Rattle.fdc_core.specs.Listening.{is_executing};
+ghost use Rattle.fdc_core.specs.State.{is_gated};
+ghost use Rattle.fdc_core.specs.Whole.{is_idle, options_with, TakesWhole, ending_told, given_up, mark_of, without_seek};
+ghost use Rattle.fdc_seek.specs.Seeking.{has_ended_seek};
+
+use crate::adapter::DisketteAdapter;
+use drive_model::Inspect;
+use fdc_commands::Accepted;
+use fdc_drives::lines;
+use fdc_stages::Ending;
+
+impl<D: Inspect> DisketteAdapter<D> {
+    ghost use Rattle.fdc_adapter.specs.Adapters.{adapter_state, controller_of, lines_at, SameDrives};
+
+    /// Whether the data port takes a byte, and none of a command has come.
+    pub fn is_idle(&self) -> bool
+        ensures { result ≡ is_idle (controller_of self.now) }
+    {
+        self.controller.is_idle()
+    }
+
+    /// Whether a data command is in execution.
+    pub fn is_executing(&self) -> bool
+        ensures { result ≡ is_executing (controller_of self.now).phase }
+    {
+        self.controller.is_executing()
+    }
+
+    /// Whether DOR lets INT and DRQ out.
+    pub fn is_gated(&self) -> bool
+        ensures { result ≡ is_gated (controller_of self.now) }
+    {
+        self.controller.is_gated()
+    }
+
+    /// The options of the CONFIGURE that this byte of a command would complete, where it would be done.
+    pub fn options_with(&self, byte: u8) -> Option<u8>
+        ensures { result ≡ options_with byte (controller_of self.now) }
+    {
+        self.controller.options_with(byte)
+    }
+
+    /// Takes what the bytes of a command came to elsewhere, in place of bytes that came to the data port.
+    pub fn take_accepted(&mut self, accepted: Accepted)
+        ensures takes { TakesWhole accepted (lines_at (adapter_state D.state self.old)) (controller_of self.old) (controller_of self.new) }
+        ensures drives { SameDrives self.old self.new }
+    {
+        let lines = lines(&self.controller, &self.first, &self.second);
+        self.controller.take_accepted(accepted, lines);
+    }
+
+    /// How a data command ended, while the host reads its results: they are given up, INT falls, and the controller takes
+    /// commands.
+    pub fn take_ending(&mut self) -> Option<Ending>
+        ensures ending { result ≡ ending_told (controller_of self.old) }
+        ensures after { controller_of self.new ≡ given_up (controller_of self.old) }
+        ensures drives { SameDrives self.old self.new }
+    {
+        self.controller.take_ending()
+    }
+
+    /// The mark of the data field that a READ DATA reads, once it is met: F8 is true.
+    pub fn mark(&self) -> Option<bool>
+        ensures { result ≡ mark_of (controller_of self.now) }
+    {
+        self.controller.mark()
+    }
+
+    /// Forgets a seek that has ended, with its interrupt, and tells whether there was one.
+    pub fn forget_seek(&mut self) -> bool
+        ensures told { result ≡ has_ended_seek (controller_of self.old).seeks }
+        ensures after { controller_of self.new ≡ without_seek (controller_of self.old) }
+        ensures drives { SameDrives self.old self.new }
+    {
+        self.controller.forget_seek()
+    }
+}

@@ -1,0 +1,4 @@
+pub mod Lines
+pub mod MemShelf
+pub mod MemSink
+pub mod Shelves

@@ -1,0 +1,74 @@
+// A shelf in memory on which the program runs.
+ghost use Rattle.std.specs.Prelude.{◌≡◌, [], map, string_bytes, OnOk, OnErr, MatchOption, option_copied};
+ghost use Rattle.flop_base.specs.Shelf.{no_files, file_at, stored};
+ghost use Rattle.flop_base.specs.Sink.{joined};
+ghost use Rattle.memory_files.specs.Shelves.{outside_in, files_in, report_in, RanPlain};
+
+use crate::memory::{MemShelf, MemSink};
+use flop_base::{NoMemory, Status};
+use floppy_tools::{Ended, run_plain};
+use std::alloc::Global;
+
+/// Files in memory, and what runs on them printed.
+#[derive(Drop)]
+pub struct RunShelf {
+    shelf: MemShelf,
+    sink: MemSink,
+}
+
+impl RunShelf {
+    /// No file, and nothing printed.
+    pub fn new(alloc: Global) -> RunShelf
+        ensures files { files_in result ≡ no_files }
+        ensures report { report_in result ≡ [] }
+    {
+        RunShelf {
+            shelf: MemShelf::new(alloc, Vec::new(alloc)),
+            sink: MemSink::new(alloc, Vec::new(alloc)),
+        }
+    }
+
+    /// Places a file, in place of one of that name.
+    pub fn put(&mut self, name: &str, bytes: &[u8]) -> Result<(), NoMemory>
+        ensures ok { OnOk result ((outside_in self.new).files ≡ stored (outside_in self.old).files name.now bytes.now) }
+        ensures err { OnErr result (files_in self.new ≡ files_in self.old) }
+        ensures report { report_in self.new ≡ report_in self.old }
+    {
+        self.shelf.put_file(name, bytes)
+    }
+
+    /// A file's bytes; nothing where no file has the name.
+    pub fn file(&self, name: &str) -> Option<&[u8]>
+        ensures { option_copied result ≡ file_at (files_in self.now) name.now }
+    {
+        self.shelf.file(name)
+    }
+
+    /// What was printed, and not forgotten: its lines, one behind the other.
+    pub fn report(&self) -> &[u8]
+        ensures { result.now ≡ joined (report_in self.now) }
+    {
+        self.sink.bytes()
+    }
+
+    /// Forgets what was printed.
+    pub fn forget_report(&mut self, alloc: Global)
+        ensures files { files_in self.new ≡ files_in self.old }
+        ensures report { report_in self.new ≡ [] }
+    {
+        self.sink = MemSink::new(alloc, Vec::new(alloc));
+    }
+
+    /// Runs the program with these words on a new machine, whose drives have no faults and which nothing delays. Nothing
+    /// is run where memory for the machine couldn't be had.
+    pub fn run(&mut self, alloc: Global, words: &[String]) -> Option<Status>
+        ensures { MatchOption result (outside_in self.new ≡ outside_in self.old)
+            (λ status. RanPlain (map string_bytes words.now) (outside_in self.old) (outside_in self.new) status) }
+    {
+        let Ended { status, machine } = run_plain(alloc, words, &mut self.shelf, &mut self.sink);
+        match machine {
+            None => None,
+            Some(_machine) => Some(status),
+        }
+    }
+}

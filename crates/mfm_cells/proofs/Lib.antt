@@ -1,3 +1,0 @@
-mod CrcTable
-pub mod CellTables
-pub mod Pairs
