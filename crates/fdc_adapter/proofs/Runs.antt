@@ -4,8 +4,8 @@ use Rattle.drive_model.specs.Drive.{DriveState}
 use Rattle.fdc_adapter.specs.Adapters.{AdapterState, HasLines, StepsAdapter, LeapsAdapter, RunsWith, selected_at}
 use Rattle.fdc_core.specs.State.{asks, interrupts}
 use Rattle.fdc_core.specs.declared.controller.Fdc.{Fdc}
-use Rattle.fdc_drives.specs.WordTimes.{WordTimes}
-use Rattle.fdc_drives.proofs.PassedTimes.{dor_stays}
+use Rattle.fdc_core.specs.Drives.WordTimes.{WordTimes}
+use Rattle.fdc_core.proofs.drives.PassedTimes.{dor_stays}
 
 pub runs_none : (int drq : Bool) (adapter : AdapterState) → RunsWith int drq 0 adapter adapter
 unfolding RunsWith

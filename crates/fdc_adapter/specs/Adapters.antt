@@ -7,9 +7,9 @@ use Rattle.fdc_core.specs.Ports.{Writes}
 use Rattle.fdc_core.specs.State.{at_power_up, asks, interrupts}
 use Rattle.fdc_core.specs.declared.controller.Fdc.{Fdc}
 use Rattle.fdc_core.specs.declared.controller.Lines.{Lines}
-use Rattle.fdc_drives.specs.Following.{FollowsWrite}
-use Rattle.fdc_drives.specs.Lines.{lines_of_selected, selected_by}
-use Rattle.fdc_drives.specs.WordTimes.{PassesWordTime}
+use Rattle.fdc_core.specs.Drives.Following.{FollowsWrite}
+use Rattle.fdc_core.specs.Drives.Lines.{lines_of_selected, selected_by}
+use Rattle.fdc_core.specs.Drives.WordTimes.{PassesWordTime}
 use Rattle.fdc_adapter.specs.declared.adapter.DisketteAdapter.{DisketteAdapter}
 
 -- the controller and the states of both drives

@@ -10,15 +10,15 @@ ghost use Rattle.fdc_core.specs.Ports.{value_read, after_read, Writes};
 ghost use Rattle.fdc_core.specs.State.{asks, interrupts, dor_of, data_rate};
 ghost use Rattle.fdc_core.specs.Written.{KeepsKnown, MayWrite};
 ghost use Rattle.fdc_stages.specs.History.{Past};
-ghost use Rattle.fdc_drives.specs.WordTimes.{WordTimes};
+ghost use Rattle.fdc_core.specs.Drives.WordTimes.{WordTimes};
 ghost use Rattle.fdc_core.specs.declared.controller.Lines.{Lines as LinesValue};
 
 mod saving;
 
 use crate::rates::word_time_after;
 use drive_model::Inspect;
+use fdc_core::drives::{follow_write, lines, may_leap, pass_word_time, pass_word_times};
 use fdc_core::{Fdc, Lines};
-use fdc_drives::{follow_write, lines, may_leap, pass_word_time, pass_word_times};
 use flop_base::NoMemory;
 use std::alloc::Global;
 

@@ -4,8 +4,8 @@
 //! Nothing moves but in device steps. One is a word time: the time in which sixteen cells pass at the rate that was chosen.
 #![tactic(auto)]
 
-mod bays;
 mod adapter;
+mod bays;
 mod rates;
 mod refitting;
 mod senses;

@@ -8,7 +8,7 @@ ghost use Rattle.fdc_seek.specs.Seeking.{has_ended_seek};
 use crate::adapter::DisketteAdapter;
 use drive_model::Inspect;
 use fdc_commands::Accepted;
-use fdc_drives::lines;
+use fdc_core::drives::lines;
 use fdc_stages::Ending;
 
 impl<D: Inspect> DisketteAdapter<D> {

@@ -21,3 +21,4 @@ pub mod Whole
 pub mod Saving
 pub mod Courses
 pub mod Contents
+pub mod Drives

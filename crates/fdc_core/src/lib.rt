@@ -7,6 +7,7 @@ mod contents;
 mod controller;
 mod courses;
 mod dma;
+pub mod drives;
 mod formatting;
 pub mod laws;
 mod ports;

@@ -110,7 +110,10 @@ impl<D: Inspect> Sequencer<D> {
         match self.opcode_with(byte) {
             Some(opcode) => self.begin_bytes(opcode),
             None => {
-                self.configured = configured_after(self.adapter.options_with(byte), self.configured);
+                self.configured = configured_after(
+                    self.adapter.options_with(byte),
+                    self.configured,
+                );
                 self.adapter.write(DATA, byte);
             }
         }

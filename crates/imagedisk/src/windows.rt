@@ -7,9 +7,9 @@ ghost use Rattle.imagedisk.specs.Made.{sector_window};
 
 use crate::{ImdKind, ImdSector};
 use flop_base::{NoMemory, sector_size};
-use track_model::encode_byte;
 use std::alloc::Global;
 use track_fields::{field_crc, field_words};
+use track_model::encode_byte;
 
 /// The words of a window besides its content.
 const WINDOW_WORDS: usize = 18;

@@ -67,9 +67,9 @@ pub use Rattle.flop_base.specs.declared.key.Chrn.{Chrn}
 pub use Rattle.laws_machine.specs.OnAwaits.Awaits.{HoldsSet, IsAwaited, IsLetOut, TurnsOn, is_unread}
 pub use Rattle.pc_bus.specs.Counts.{CountsGoOn, counts_of}
 pub use Rattle.laws_machine.specs.OnFormats.Results.{AreKeysOf}
-pub use Rattle.fdc_drives.specs.Heard.{AreHeard, IsHeard, IsHeardFrom, IsHeardWhole, IsWholeFrom, place_in, start_of}
-pub use Rattle.fdc_drives.specs.Hearing.{IsCalm}
-pub use Rattle.fdc_drives.specs.Spinning.{IsUnheard, led, turn_led, turns_led, unheard}
+pub use Rattle.fdc_core.specs.Drives.Heard.{AreHeard, IsHeard, IsHeardFrom, IsHeardWhole, IsWholeFrom, place_in, start_of}
+pub use Rattle.fdc_core.specs.Drives.Hearing.{IsCalm}
+pub use Rattle.fdc_core.specs.Drives.Spinning.{IsUnheard, led, turn_led, turns_led, unheard}
 pub use Rattle.laws_machine.specs.OnLead.Leads.{IsGuarded, IsLed, IsSpinning, IsTurningIn, WarmsUp}
 pub use Rattle.laws_machine.specs.OnOrders.Orders.{AtDrive, CanBegin, GoesOn, Identify, IsDoneBy, IsLast, IsSetFor, Laid, LaysOn, Leaves, May, MayIn, MayLay, MayLayIn, Order, Read, Shows, Track, Underway, Window, Write}
 pub use Rattle.laws_machine.specs.OnOrders.Results.{IsFor, Only}
@@ -100,10 +100,10 @@ pub use Rattle.irq_events.specs.Entries.{is_stray_due, next_entry, rest_of}
 pub use Rattle.irq_events.specs.Holds.{AreShort, Holds, IsInTime, IsReady, IsShort, counted, is_due, looked, shown, waited}
 pub use Rattle.irq_events.specs.declared.holding.DmaRequest.{DmaRequest}
 pub use Rattle.irq_events.specs.declared.holding.DmaRequest.TheVariants.{High, Low}
-pub use Rattle.fdc_drives.proofs.FollowedWrites.{drive_stays, write_leaves}
+pub use Rattle.fdc_core.proofs.drives.FollowedWrites.{drive_stays, write_leaves}
 pub use Rattle.pc_bus.specs.Boards.{Board, channel_of, controller_of, drive_in, holds_of, latch_of, lines_of, memory_of, selected_of}
 pub use Rattle.pc_bus.specs.Handling.{irq_taken}
-pub use Rattle.fdc_drives.specs.Following.{FollowsWrite, sets_lines}
+pub use Rattle.fdc_core.specs.Drives.Following.{FollowsWrite, sets_lines}
 pub use Rattle.pc_bus.specs.Ports.{Inputs, Outputs, RunsGap, WritesPort, is_controllers, port_read}
 pub use Rattle.pc_bus.specs.Steps.{Step, Waits, lined, stirred, strayed_if}
 pub use Rattle.fdc_core.specs.Courses.{Works, WorksAlone}

@@ -4,7 +4,7 @@ use Rattle.fdc_phases.specs.declared.phases.Task.TheVariants.{Read}
 use Rattle.irq_events.specs.Latch.{Latch}
 use Rattle.std.proofs.Common.{◌∙◌, Option, ◌⊎◌, inl, inr, ◌≡◌, ◌+◌, ◌≤◌, ◌<◌, ◌==◌, ◌||◌, ◌&&◌, if◌then◌else◌, Bool, true, false, refl, ℕ, nat_le, arith, [], Some, None, not, nat_lt}
 use Rattle.std.proofs.lemmas.Bool.Decides.{nat_tests}
-pub use Rattle.fdc_drives.proofs.Facts.{if_both, different, le_true, length_more, lt_true, not_granting, number_is}
+pub use Rattle.fdc_core.proofs.drives.Facts.{if_both, different, le_true, length_more, lt_true, not_granting, number_is}
 use Rattle.laws_machine.proofs.Common.{Channel, after_transfer, answer, after_byte, IsReadingData, fifo_told, phase_told, task_asks, Sent, is_executing, is_held, polled, Short, Long, Answer, Fdc, Command, Execute, Result, Phase, Task, Fifo, with_polls, Holds, shown, strayed_if, lined, phase_after, Ending, Results}
 
 pub either_is : (b : Bool) → (b ≡ true) ⊎ (b ≡ false)

@@ -6,11 +6,11 @@ use Rattle.fdc_stages.specs.History.{Past, heard}
 use Rattle.fdc_phases.specs.Heard.{stepped}
 use Rattle.fdc_core.specs.Listening.{SeesUnder}
 use Rattle.fdc_core.specs.Steps.{let_pass}
-use Rattle.fdc_drives.specs.Hearing.{IsHearing, Outset}
-use Rattle.fdc_drives.specs.Spinning.{IsSpinning, IsTurningIn, IsUnheard, led}
-use Rattle.fdc_drives.proofs.Late.{heard_led, longer_led, passed_by, still_unheard}
-use Rattle.fdc_drives.proofs.Passing.{hearing_on}
-use Rattle.fdc_drives.proofs.Spinning.{hearing_none, hears_none, no_index, slow_or_fast, turning_on}
+use Rattle.fdc_core.specs.Drives.Hearing.{IsHearing, Outset}
+use Rattle.fdc_core.specs.Drives.Spinning.{IsSpinning, IsTurningIn, IsUnheard, led}
+use Rattle.fdc_core.proofs.drives.Late.{heard_led, longer_led, passed_by, still_unheard}
+use Rattle.fdc_core.proofs.drives.Passing.{hearing_on}
+use Rattle.fdc_core.proofs.drives.Spinning.{hearing_none, hears_none, no_index, slow_or_fast, turning_on}
 
 -- so many words 0000 were heard: the medium still spins up; or it is at speed, and what was heard behind them is of the track
 pub record IsHearingLed (outset : Outset) (past : Past) (drive : DriveState) : Type 0 where

@@ -14,12 +14,12 @@ use Rattle.fdc_stages.specs.History.{Past}
 use Rattle.fdc_stages.specs.Readings.{IsToldFrom, IsToldOf}
 use Rattle.fdc_stages.specs.Searches.{IsBetween}
 use Rattle.fdc_core.specs.Meaning.{AreOfField}
-use Rattle.fdc_drives.specs.Heard.{IsHeardWhole}
-use Rattle.fdc_drives.specs.Spinning.{led, turn_led, turns_led}
-use Rattle.fdc_drives.proofs.Fields.{data_field_on, data_mark_back, data_mark_on, intact_on, whole_back}
-use Rattle.fdc_drives.proofs.Late.{few_led, length_front, turn_of_led}
-use Rattle.fdc_drives.proofs.LateFields.{address_in}
-use Rattle.fdc_drives.proofs.Shifted.{shifted_bytes_at}
+use Rattle.fdc_core.specs.Drives.Heard.{IsHeardWhole}
+use Rattle.fdc_core.specs.Drives.Spinning.{led, turn_led, turns_led}
+use Rattle.fdc_core.proofs.drives.Fields.{data_field_on, data_mark_back, data_mark_on, intact_on, whole_back}
+use Rattle.fdc_core.proofs.drives.Late.{few_led, length_front, turn_of_led}
+use Rattle.fdc_core.proofs.drives.LateFields.{address_in}
+use Rattle.fdc_core.proofs.drives.Shifted.{shifted_bytes_at}
 use Rattle.laws_sequencer.specs.Serving.{FindsField}
 
 -- ---- words behind words 0000

@@ -15,14 +15,14 @@ use Rattle.fdc_core.specs.Times.{WordTime, Saw, KeptOut, Wrote, Stopped, IsTime,
 use Rattle.fdc_core.specs.Writing.{WriteDoes}
 use Rattle.fdc_core.specs.Written.{MayWrite}
 use Rattle.fdc_core.specs.declared.controller.Fdc.{Fdc}
-use Rattle.fdc_drives.specs.Hearing.{IsRecorded, Outset}
-use Rattle.fdc_drives.specs.Spinning.{IsSpinning, IsTurningIn, IsUnheard, led, unheard}
-use Rattle.fdc_drives.specs.Writing.{IsAtDrive, IsAtWindow}
-use Rattle.fdc_drives.proofs.Late.{few_led, longer_led, passed_by, still_unheard, time_led}
-use Rattle.fdc_drives.proofs.LateFields.{address_in}
-use Rattle.fdc_drives.proofs.Spinning.{hearing_none, hears_none, no_index as spins_on, slow_or_fast, turning_on}
-use Rattle.fdc_drives.proofs.Writing.{drive_less, rests_on, saw_on, still_unprotected, stopped_on, wrote_on}
-use Rattle.fdc_drives.proofs.WritingWords.{heard_met}
+use Rattle.fdc_core.specs.Drives.Hearing.{IsRecorded, Outset}
+use Rattle.fdc_core.specs.Drives.Spinning.{IsSpinning, IsTurningIn, IsUnheard, led, unheard}
+use Rattle.fdc_core.specs.Drives.Writing.{IsAtDrive, IsAtWindow}
+use Rattle.fdc_core.proofs.drives.Late.{few_led, longer_led, passed_by, still_unheard, time_led}
+use Rattle.fdc_core.proofs.drives.LateFields.{address_in}
+use Rattle.fdc_core.proofs.drives.Spinning.{hearing_none, hears_none, no_index as spins_on, slow_or_fast, turning_on}
+use Rattle.fdc_core.proofs.drives.Writing.{drive_less, rests_on, saw_on, still_unprotected, stopped_on, wrote_on}
+use Rattle.fdc_core.proofs.drives.WritingWords.{heard_met}
 use Rattle.laws_sequencer.specs.Written.{KeepsSpeed, StaysPut}
 use Rattle.laws_sequencer.proofs.WriteStages.{IsDueNow, IsInExecution, due_now, due_words, ended_rests, in_execution, is_stopped, no_index, opens_due}
 

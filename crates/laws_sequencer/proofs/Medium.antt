@@ -26,20 +26,20 @@ use Rattle.fdc_core.specs.Whole.{ending_told, given_up, mark_of, without_seek}
 use Rattle.fdc_core.specs.declared.controller.Fdc.{Fdc}
 use Rattle.fdc_seek.specs.Seeking.{has_ended_seek}
 use Rattle.fdc_adapter.specs.Adapters.{AdapterState, WritesAdapter, drive_at, selected_at}
-use Rattle.fdc_drives.specs.Following.{FollowsDor, FollowsWrite}
-use Rattle.fdc_drives.specs.Heard.{IsHeardFrom, IsWholeFrom}
-use Rattle.fdc_drives.specs.Hearing.{Outset}
-use Rattle.fdc_drives.specs.Spinning.{IsTurningIn, IsUnheard, led}
-use Rattle.fdc_drives.proofs.Fields.{address_heard, data_mark_heard, field_heard, whole_shifted}
-use Rattle.fdc_drives.proofs.Late.{led_none}
-use Rattle.fdc_drives.proofs.LateFields.{found_late}
+use Rattle.fdc_core.specs.Drives.Following.{FollowsDor, FollowsWrite}
+use Rattle.fdc_core.specs.Drives.Heard.{IsHeardFrom, IsWholeFrom}
+use Rattle.fdc_core.specs.Drives.Hearing.{Outset}
+use Rattle.fdc_core.specs.Drives.Spinning.{IsTurningIn, IsUnheard, led}
+use Rattle.fdc_core.proofs.drives.Fields.{address_heard, data_mark_heard, field_heard, whole_shifted}
+use Rattle.fdc_core.proofs.drives.Late.{led_none}
+use Rattle.fdc_core.proofs.drives.LateFields.{found_late}
 use Rattle.laws_sequencer.proofs.LateHearing.{IsHearingLed, hearing_first, hearing_led, hearing_led_bytes}
 use Rattle.laws_sequencer.proofs.LateLooks.{bad_check_late, between_late, field_late, no_field_late, of_field_late}
-use Rattle.fdc_drives.proofs.Looks.{bad_met, no_field_met}
-use Rattle.fdc_drives.proofs.Shifted.{shifted_bytes_at}
+use Rattle.fdc_core.proofs.drives.Looks.{bad_met, no_field_met}
+use Rattle.fdc_core.proofs.drives.Shifted.{shifted_bytes_at}
 use Rattle.fdc_core.specs.Meaning.{AreOfField}
 use Rattle.laws_sequencer.specs.Outcomes.{PassesOfSector}
-use Rattle.fdc_drives.proofs.Turns.{between_is, turn_heard}
+use Rattle.fdc_core.proofs.drives.Turns.{between_is, turn_heard}
 use Rattle.fdc_sequencer.specs.Fronts.{Front, GivesAt, TakesAt, TakesByte, WritesFront, begun_if, byte_given, count_told, moving_of, passed_one, reset_if, with_controller}
 use Rattle.fdc_sequencer.specs.Moves.{EndsIf, EndsSector, FollowsStep, MovesOn, SeeksOn, goes_on, has_met_other, is_unwanted, judged_if, passed_over_if, results_behind, results_failed}
 use Rattle.fdc_sequencer.specs.Transfers.{next_of}

@@ -22,7 +22,7 @@ use Rattle.fdc_core.specs.Ports.{resets}
 use Rattle.fdc_core.specs.Times.{Closes}
 use Rattle.fdc_core.specs.Whole.{is_idle}
 use Rattle.fdc_core.specs.declared.controller.Fdc.{Fdc}
-use Rattle.fdc_drives.specs.Following.{FollowsDor, FollowsWrite}
+use Rattle.fdc_core.specs.Drives.Following.{FollowsDor, FollowsWrite}
 use Rattle.fdc_adapter.specs.Adapters.{AdapterState, WritesAdapter, drive_at, lines_at}
 use Rattle.fdc_sequencer.specs.Fronts.{CollectsAs, Front, GivesAt, SeeksFirst, Starts, StartsIf, TakesAt, TakesByte, WritesFront, begun_if, byte_given, count_told, moving_of, passed_one, reset_if}
 use Rattle.fdc_sequencer.specs.Transfers.{results_told}

@@ -30,13 +30,13 @@ use Rattle.fdc_core.specs.Times.{WordTime, IsTime, after_time}
 use Rattle.fdc_core.specs.Writes.{WritesIn, WritesTask}
 use Rattle.fdc_core.specs.Written.{MayWrite}
 use Rattle.fdc_core.specs.declared.controller.Fdc.{Fdc}
-use Rattle.fdc_drives.specs.Heard.{start_of}
-use Rattle.fdc_drives.specs.Hearing.{Outset, track_heard}
-use Rattle.fdc_drives.specs.Writing.{ArePut, IsAtWindow, start_in}
-use Rattle.fdc_drives.specs.Spinning.{IsTurningIn, led, turn_led}
-use Rattle.fdc_drives.proofs.Fields.{address_heard}
-use Rattle.fdc_drives.proofs.LateFields.{address_in}
-use Rattle.fdc_drives.proofs.WritingWords.{heard_met}
+use Rattle.fdc_core.specs.Drives.Heard.{start_of}
+use Rattle.fdc_core.specs.Drives.Hearing.{Outset, track_heard}
+use Rattle.fdc_core.specs.Drives.Writing.{ArePut, IsAtWindow, start_in}
+use Rattle.fdc_core.specs.Drives.Spinning.{IsTurningIn, led, turn_led}
+use Rattle.fdc_core.proofs.drives.Fields.{address_heard}
+use Rattle.fdc_core.proofs.drives.LateFields.{address_in}
+use Rattle.fdc_core.proofs.drives.WritingWords.{heard_met}
 use Rattle.fdc_adapter.specs.Adapters.{drive_at}
 use Rattle.fdc_sequencer.specs.Fronts.{Front}
 use Rattle.fdc_sequencer.specs.declared.transfer.Transfer.{Transfer}

@@ -55,19 +55,19 @@ pub use Rattle.laws_machine.specs.OnOrders.Orders.{Order, Track, Window, Write}
 pub use Rattle.laws_machine.specs.OnReads.Begins.{scene_of}
 pub use Rattle.laws_machine.specs.OnReads.Scenes.{Scene, data_rate, head_sent, track_met}
 pub use Rattle.laws_machine.specs.OnReads.Underway.{HasBytes}
-pub use Rattle.fdc_drives.specs.Hearing.{IsCalm}
+pub use Rattle.fdc_core.specs.Drives.Hearing.{IsCalm}
 pub use Rattle.laws_machine.specs.OnSteps.Stalls.{Stalled}
 pub use Rattle.laws_machine.specs.OnSteps.Steady.{Marching, Steady, regapped}
 pub use Rattle.laws_machine.specs.OnWrites.Results.{IsUnchanged}
 pub use Rattle.irq_events.specs.Entries.{next_entry}
 pub use Rattle.irq_events.specs.Holds.{Holds, counted, shown}
 pub use Rattle.irq_events.specs.declared.holding.DmaRequest.TheVariants.{Low}
-pub use Rattle.fdc_drives.proofs.FollowedWrites.{drive_stays}
+pub use Rattle.fdc_core.proofs.drives.FollowedWrites.{drive_stays}
 pub use Rattle.pc_bus.specs.Boards.{Board, channel_of, controller_of, drive_in, holds_of, lines_of, memory_of}
-pub use Rattle.fdc_drives.specs.Lines.{lines_of_drive}
+pub use Rattle.fdc_core.specs.Drives.Lines.{lines_of_drive}
 pub use Rattle.pc_bus.specs.Handling.{byte_set}
 pub use Rattle.pc_bus.specs.Ports.{Inputs, Outputs, RunsGap, is_controllers}
-pub use Rattle.fdc_drives.specs.Following.{sets_lines}
+pub use Rattle.fdc_core.specs.Drives.Following.{sets_lines}
 pub use Rattle.pc_bus.specs.Steps.{Step, stirred}
 pub use Rattle.pc_bus.specs.Transfers.{shown_again}
 pub use Rattle.pc_bus.specs.declared.bus.Bus.{Bus}

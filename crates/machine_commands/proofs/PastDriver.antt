@@ -12,7 +12,7 @@ use Rattle.flop_base.proofs.Counted.{drive_same}
 use Rattle.drive_model.specs.Drive.{at_speed, loaded, unloaded}
 use Rattle.pc_bus.specs.Boards.{IsEmpty}
 use Rattle.pc_bus.specs.Handling.{Touches, touched}
-use Rattle.fdc_drives.specs.Following.{FollowsMotor}
+use Rattle.fdc_core.specs.Drives.Following.{FollowsMotor}
 use Rattle.machine_commands.specs.Handled.{Exchanged, ExchangesDrive, PutsIn, PutsMemory, TakesDrive, TakesOut, Untouched}
 use Rattle.machine_commands.specs.Shown.{page_part, user_part}
 use Rattle.machine_commands.proofs.Selecting.{is_dor, switched}

@@ -4,7 +4,7 @@ use Rattle.std.specs.Prelude.{bit_and}
 use Rattle.std.specs.Option.{option_map_or}
 use Rattle.machine_commands.proofs.Common.{in_bay, InRange, has_ended, is_executing, is_held, dor_of, data_commands_of, Fdc, Board, controller_of, drive_in, lines_of, lines_of_drive, OnlyAsks, dor_with, IsReady, IsIdle, rig_of, Motors}
 use Rattle.fdc_core.specs.Ports.{line_bits}
-use Rattle.fdc_drives.specs.Lines.{absent_lines}
+use Rattle.fdc_core.specs.Drives.Lines.{absent_lines}
 use Rattle.machine_commands.specs.Asked.{ReadsLine}
 use Rattle.machine_commands.proofs.Idling.{IsResting, Idles}
 use Rattle.machine_commands.proofs.Accesses.{input_idles}

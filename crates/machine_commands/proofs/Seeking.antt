@@ -4,7 +4,7 @@ use Rattle.std.proofs.lemmas.Bool.{or_right}
 use Rattle.machine_commands.proofs.Common.{DriveState, Seeking, with_motion, ended, stepped_seek, is_seeking, has_ended, pulse_due, pulse_of, Motion, is_executing, is_held, dor_of, polled, seek_stepped, RestsIn, MovesIn, Moves, Fdc, Low, Board, controller_of, memory_of, holds_of, drive_in, regapped, Marching, march_wait, next_entry, RunsGap, Step, stirred, Chips}
 use Rattle.pc_bus.specs.Boards.{selected_of}
 use Rattle.laws_machine.proofs.OnSteps.Runs.{march_gap}
-use Rattle.fdc_drives.specs.WordTimes.{PassesWordTime}
+use Rattle.fdc_core.specs.Drives.WordTimes.{PassesWordTime}
 use Rattle.pc_bus.specs.Steps.{Runs}
 use Rattle.machine_commands.proofs.Idling.{Idles, KeepsAll, KeepsDrive, KeepsSpeed}
 use Rattle.machine_commands.proofs.Bays.{drive_kept, kept_in}

@@ -5,8 +5,8 @@ use Rattle.drive_model.specs.Drive.{DriveState}
 use Rattle.fdc_core.specs.Courses.{HoldsLines}
 use Rattle.fdc_core.specs.State.{asks, interrupts}
 use Rattle.fdc_core.specs.declared.controller.Fdc.{Fdc}
-use Rattle.fdc_drives.specs.WordTimes.{WordTimes}
-use Rattle.fdc_drives.proofs.PassedTimes.{dor_stays}
+use Rattle.fdc_core.specs.Drives.WordTimes.{WordTimes}
+use Rattle.fdc_core.proofs.drives.PassedTimes.{dor_stays}
 use Rattle.irq_events.specs.Latch.{Latch}
 use Rattle.irq_events.specs.Entries.{is_stray_due, strays_after, strays_later, AreQuiet}
 use Rattle.irq_events.specs.Holds.{is_low, counted}

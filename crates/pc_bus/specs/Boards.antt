@@ -11,7 +11,7 @@ use Rattle.fdc_core.specs.Ranges.{IsInRange as IsFdcInRange}
 use Rattle.fdc_core.specs.State.{at_power_up}
 use Rattle.fdc_core.specs.declared.controller.Fdc.{Fdc}
 use Rattle.fdc_core.specs.declared.controller.Lines.{Lines}
-use Rattle.fdc_drives.specs.Lines.{lines_of_selected, selected_by}
+use Rattle.fdc_core.specs.Drives.Lines.{lines_of_selected, selected_by}
 use Rattle.pc_bus.specs.declared.bus.Bus.{Bus}
 use Rattle.pc_bus.specs.declared.machine.MachineOf.{MachineOf}
 

@@ -2,7 +2,7 @@
 use Rattle.std.specs.Prelude.{◌≡◌, ◌≤◌, ℕ, zero, suc, Bool}
 use Rattle.raw_image.specs.Disk.{Disk}
 use Rattle.drive_model.specs.Drive.{DriveState, Becomes, loaded, unloaded}
-use Rattle.fdc_drives.specs.Following.{FollowsMotor}
+use Rattle.fdc_core.specs.Drives.Following.{FollowsMotor}
 use Rattle.pc_bus.specs.Boards.{Board, IsEmpty, controller_of, drive_in}
 use Rattle.pc_bus.specs.Handling.{Touches, byte_set, irq_taken}
 use Rattle.pc_bus.specs.Ports.{Inputs, Outputs}

@@ -4,7 +4,7 @@ use Rattle.dma_8237.specs.Channel.{after_write, after_read, value_read}
 use Rattle.fdc_core.specs.Ports.{Writes, value_read as controller_value, after_read as controller_after}
 use Rattle.fdc_core.specs.declared.controller.Fdc.{Fdc}
 use Rattle.fdc_core.specs.declared.controller.Lines.{Lines}
-use Rattle.fdc_drives.specs.Following.{FollowsWrite}
+use Rattle.fdc_core.specs.Drives.Following.{FollowsWrite}
 use Rattle.irq_events.specs.Entries.{next_entry, rest_of}
 use Rattle.pc_bus.specs.Boards.{Board, lines_of}
 use Rattle.pc_bus.specs.Steps.{Runs}

@@ -5,7 +5,7 @@ use Rattle.irq_events.specs.Entries.{is_stray_due, strays_after}
 use Rattle.irq_events.specs.Holds.{counted}
 use Rattle.fdc_core.specs.State.{interrupts}
 use Rattle.fdc_core.specs.declared.controller.Fdc.{Fdc}
-use Rattle.fdc_drives.specs.WordTimes.{PassesWordTime}
+use Rattle.fdc_core.specs.Drives.WordTimes.{PassesWordTime}
 use Rattle.pc_bus.specs.Boards.{Board, controller_of, selected_of, latch_of}
 use Rattle.pc_bus.specs.Transfers.{dma_stepped}
 use Rattle.pc_bus.specs.declared.bus.Bus.{Bus}

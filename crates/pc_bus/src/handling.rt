@@ -1,13 +1,13 @@
 // Calls past the controller: memory, media and drives, and the latch.
 ghost use Rattle.std.specs.Prelude.{◌≡◌, ◌≤◌, ◌<◌, ◌^◌, ◌↔◌, ℕ, IsErr, IsSome, OnOk, IfErr, length, slice_index, true};
 ghost use Rattle.drive_model.specs.Drive.{Becomes, loaded, unloaded};
-ghost use Rattle.fdc_drives.specs.Following.{FollowsMotor};
+ghost use Rattle.fdc_core.specs.Drives.Following.{FollowsMotor};
 ghost use Rattle.pc_bus.specs.Boards.{board, drive_in, controller_of, memory_of, latch_of, IsEmpty};
 ghost use Rattle.pc_bus.specs.Handling.{Touches, byte_set, irq_taken};
 
 use crate::machine::MachineOf;
 use drive_model::Drive;
-use fdc_drives::follow_motor;
+use fdc_core::drives::follow_motor;
 use raw_image::Medium;
 use std::mem;
 

@@ -4,7 +4,7 @@ ghost use Rattle.pc_bus.specs.Ports.{Inputs, Outputs, RunsGap, WritesPort};
 
 use crate::machine::MachineOf;
 use drive_model::Drive;
-use fdc_drives::{follow_write, lines};
+use fdc_core::drives::{follow_write, lines};
 
 impl<D: Drive> MachineOf<D> {
     /// Reads a port, and lets the device steps of the next gap pass. FF where nothing answers.

@@ -6,7 +6,7 @@ ghost use Rattle.pc_bus.specs.Steps.{Step, Runs, RunsUnset, RunsToIrq, Waits, st
 
 use crate::machine::MachineOf;
 use drive_model::Drive;
-use fdc_drives::{may_leap, pass_word_time, pass_word_times};
+use fdc_core::drives::{may_leap, pass_word_time, pass_word_times};
 
 /// How many device steps are made alone where a try to make many found none, since such a try costs as much as one step or
 /// two. In so many a data mark passes, and in twice as many an address field.

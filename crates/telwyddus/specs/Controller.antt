@@ -3,9 +3,9 @@ pub use Rattle.fdc_core.specs.State
 pub use Rattle.fdc_core.specs.Ports
 pub use Rattle.fdc_core.specs.Heard
 pub use Rattle.fdc_core.specs.Written
-pub use Rattle.fdc_drives.specs.Lines
-pub use Rattle.fdc_drives.specs.Following
-pub use Rattle.fdc_drives.specs.WordTimes
+pub use Rattle.fdc_core.specs.Drives.Lines
+pub use Rattle.fdc_core.specs.Drives.Following
+pub use Rattle.fdc_core.specs.Drives.WordTimes
 pub use Rattle.fdc_adapter.specs.Adapters
 pub use Rattle.fdc_adapter.specs.History
 pub use Rattle.fdc_sequencer.specs.Fronts

@@ -8,7 +8,7 @@ use Rattle.laws_machine.proofs.OnWrites.Guards.{step_guards}
 use Rattle.pc_bus.specs.Boards.{Board}
 use Rattle.pc_bus.specs.Ports.{WritesPort, Inputs, Outputs}
 use Rattle.pc_bus.specs.Steps.{Runs, stirred}
-use Rattle.fdc_drives.proofs.FollowedWrites.{write_leaves}
+use Rattle.fdc_core.proofs.drives.FollowedWrites.{write_leaves}
 use Rattle.text_commands.specs.Benches.{Names, AreNamed}
 use Rattle.text_commands.specs.PortGuards.{SameMedia}
 

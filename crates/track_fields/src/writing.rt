@@ -6,8 +6,8 @@ ghost use Rattle.track_model.specs.Fields.{after_marks};
 ghost use Rattle.track_model.specs.Writing.{sync_and_marks, address_field, window};
 
 use flop_base::{Chrn, NoMemory};
-use track_model::{crc_step, encode_byte, field_crc, mark_crc};
 use std::alloc::Global;
+use track_model::{crc_step, encode_byte, field_crc, mark_crc};
 
 /// The three marks A1 in a row.
 const MARKS: [u16; 3] = [0x4489; 3];

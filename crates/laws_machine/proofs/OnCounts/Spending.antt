@@ -4,7 +4,7 @@ use Rattle.laws_machine.proofs.Common.{drive_twice, DriveState, Becomes, Pulses,
 use Rattle.flop_base.specs.Counters.{DriveGoesOn}
 use Rattle.flop_base.proofs.Counted.{drive_same}
 use Rattle.drive_model.specs.Drive.{moved, with_motor}
-use Rattle.fdc_drives.specs.Following.{FollowsDor}
+use Rattle.fdc_core.specs.Drives.Following.{FollowsDor}
 use Rattle.pc_bus.specs.Ports.{SetsLines}
 use Rattle.fdc_core.specs.Ports.{resets}
 use Rattle.laws_machine.proofs.OnSteps.Drives.{both}

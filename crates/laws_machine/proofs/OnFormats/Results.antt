@@ -11,9 +11,9 @@ use Rattle.fdc_stages.specs.declared.formatting.FormatStage.{FormatStage}
 use Rattle.fdc_phases.specs.declared.phases.Task.TheVariants.{Format as Formats}
 use Rattle.laws_machine.proofs.OnWrites.Content.{handed_rest}
 use Rattle.laws_machine.proofs.OnWrites.Results.{take_less}
-use Rattle.fdc_drives.proofs.WritingWords.{none_or_some}
+use Rattle.fdc_core.proofs.drives.WritingWords.{none_or_some}
 use Rattle.laws_machine.specs.OnFormats.Results.{EndedIn, EndsAs, FitsOn, HasLaying, IsSameOrLaid, LaysTo, LaysTurn, layout_in}
-use Rattle.fdc_drives.proofs.Writing.{there_or_not}
+use Rattle.fdc_core.proofs.drives.Writing.{there_or_not}
 use Rattle.laws_machine.specs.OnReads.Scenes.{outset_of}
 
 -- ---- the words

@@ -7,8 +7,8 @@ use Rattle.fdc_stages.specs.declared.formatting.FormatNext.TheVariants as next
 use Rattle.fdc_phases.specs.Formatting.{is_ended}
 use Rattle.fdc_core.specs.Written.{MayFormat}
 use Rattle.fdc_phases.specs.Written.{IsFormattingOn}
-use Rattle.fdc_drives.proofs.Late.{few_led}
-use Rattle.fdc_drives.proofs.Writing.{kept_on, saw_on, wrote_on, stopped_on}
+use Rattle.fdc_core.proofs.drives.Late.{few_led}
+use Rattle.fdc_core.proofs.drives.Writing.{kept_on, saw_on, wrote_on, stopped_on}
 use Rattle.laws_machine.specs.OnReads.Scenes.{outset_of}
 use Rattle.laws_machine.proofs.OnWrites.Steps.{is_stopped, time_here, unprotected_led}
 use Rattle.laws_machine.proofs.OnFormats.Covered.{does_covered}

@@ -4,7 +4,7 @@ use Rattle.laws_machine.proofs.Common.{DriveState, drive_in, Board, controller_o
 use Rattle.fdc_stages.specs.History.{begun as new_past}
 use Rattle.fdc_phases.specs.declared.phases.Phase.TheVariants as phase
 use Rattle.laws_machine.specs.OnLead.Leads.{CanWarm}
-use Rattle.fdc_drives.proofs.Spinning.{slow_or_fast}
+use Rattle.fdc_core.proofs.drives.Spinning.{slow_or_fast}
 use Rattle.laws_machine.proofs.OnLead.Spinning.{nothing_heard, turning_of}
 use Rattle.laws_machine.proofs.OnLead.Steps.{led_keeps}
 use Rattle.laws_machine.proofs.OnOrders.Accesses.{inputs_go, begins_on}

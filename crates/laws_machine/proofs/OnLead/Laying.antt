@@ -4,9 +4,9 @@ use Rattle.std.proofs.lemmas.Bool.{false_from_ne_true, false≢true}
 use Rattle.laws_machine.proofs.Common.{Chrn, DriveState, Becomes, is_protected, Fifo, Past, heard, Numbers, is_first, is_next, IsAtPart, IsWriting, FormatPart, Await, Due, Lay, Barred, WriteStage, FormatDoes, stepped, is_executing, let_pass, WordTime, Saw, KeptOut, Wrote, Stopped, IsTime, after_time, WritesIn, WritesTask, WriteDoes, MayWriteTask, MayFormatTask, Fdc, Execution, Execute, Task, Formatting, Writing, turns_led, turn_led, led, IsSpinning, IsUnheard, IsLed, Laid, Window, Track, Write, MayLayIn, LaysOn, Scene, IsScene, head_sent, IsAtDrive}
 use Rattle.fdc_stages.specs.Writings.{is_due}
 use Rattle.fdc_phases.specs.declared.phases.Task.TheVariants as task
-use Rattle.fdc_drives.proofs.LateFields.{address_in}
-use Rattle.fdc_drives.proofs.Late.{few_led, time_led}
-use Rattle.fdc_drives.proofs.Spinning.{no_index, hears_none, turning_on}
+use Rattle.fdc_core.proofs.drives.LateFields.{address_in}
+use Rattle.fdc_core.proofs.drives.Late.{few_led, time_led}
+use Rattle.fdc_core.proofs.drives.Spinning.{no_index, hears_none, turning_on}
 use Rattle.laws_machine.specs.OnReads.Scenes.{outset_of}
 use Rattle.laws_machine.proofs.OnLead.Listening.{led_over, spun}
 use Rattle.laws_machine.proofs.OnLead.Spinning.{nothing_heard}

@@ -2,8 +2,8 @@
 use Rattle.std.proofs.Common.{◌≡◌, inl, inr, ℕ, ◌+◌, ◌≤◌, Bool, true, false, length, refl, sym, ◌∙◌, ap, subst, arith}
 use Rattle.std.proofs.lemmas.Bool.{false≢true}
 use Rattle.laws_machine.proofs.Common.{DriveState, Becomes, at_index, Past, heard, words_heard, stepped, SeesUnder, let_pass, led, IsSpinning, IsUnheard, IsGuarded, IsLed, Order, Identify, Read, Write, AtDrive, Scene, IsScene, head_sent, track_met}
-use Rattle.fdc_drives.proofs.Late.{heard_led, longer_led, passed_by, still_unheard, few_led, words_led}
-use Rattle.fdc_drives.proofs.Spinning.{slow_or_fast, no_index, hears_none, turning_on, spin_on}
+use Rattle.fdc_core.proofs.drives.Late.{heard_led, longer_led, passed_by, still_unheard, few_led, words_led}
+use Rattle.fdc_core.proofs.drives.Spinning.{slow_or_fast, no_index, hears_none, turning_on, spin_on}
 use Rattle.laws_machine.specs.OnReads.Scenes.{outset_of}
 use Rattle.laws_machine.proofs.OnLead.Spinning.{nothing_heard}
 use Rattle.laws_machine.proofs.OnOrders.Steps.{drive_on}

@@ -3,7 +3,7 @@ use Rattle.std.proofs.Common.{◌≡◌, ◌≤◌, Bool, true, refl, sym, subst
 use Rattle.std.proofs.lemmas.Bool.{false≢true}
 use Rattle.laws_machine.proofs.Common.{DriveState, Past, IsTurningIn, unheard, IsUnheard, Window, Track, Order, Identify, Read, Write, AtDrive, IsDriveOf, Scene, IsScene, IsHearing, IsAtDrive}
 use Rattle.fdc_stages.specs.History.{begun as new_past}
-use Rattle.fdc_drives.proofs.Spinning as spinning
+use Rattle.fdc_core.proofs.drives.Spinning as spinning
 use Rattle.laws_machine.specs.OnReads.Scenes.{outset_of}
 
 -- ---- where no word of the track was heard

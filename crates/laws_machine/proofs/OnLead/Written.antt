@@ -4,8 +4,8 @@ use Rattle.laws_machine.proofs.Common.{Chrn, content_size, Results, Past, Done, 
 use Rattle.laws_machine.specs.OnFormats.Results as format_says
 use Rattle.laws_machine.specs.OnFormats.Results.{FormatEnded, FormatsOnly}
 use Rattle.laws_machine.proofs.OnFormats.Results as formats
-use Rattle.fdc_drives.proofs.LateFields.{address_in}
-use Rattle.fdc_drives.proofs.Late.{few_led}
+use Rattle.fdc_core.proofs.drives.LateFields.{address_in}
+use Rattle.fdc_core.proofs.drives.Late.{few_led}
 use Rattle.laws_machine.proofs.OnLead.Listening.{led_over}
 use Rattle.laws_machine.specs.OnOrders.Orders.{IsDoneOn}
 use Rattle.laws_machine.specs.OnWrites.Results as write_says

@@ -6,7 +6,7 @@ use Rattle.irq_events.specs.declared.pace.Pace.{Pace}
 use Rattle.pc_bus.specs.Boards.{AreSetIfEmpty, IsEmpty, IsNew, IsSetIfEmpty}
 use Rattle.pc_bus.specs.Calls.{AreCalled, IsCalled, ByEject, ByExchange, ByInb, ByInsert, ByOutb, ByRamSet, ByRefusal, ByTakeIrq, ByWait, ByWaitIrq}
 use Rattle.pc_bus.specs.Handling.{Touches, byte_set}
-use Rattle.fdc_drives.specs.Following.{FollowsMotor}
+use Rattle.fdc_core.specs.Drives.Following.{FollowsMotor}
 use Rattle.pc_bus.specs.declared.bus.Bus.{Bus}
 use Rattle.laws_machine.proofs.OnAwaits.Turning.{on_let, on_time}
 use Rattle.laws_machine.proofs.OnSteps.Runs.{inputs, outputs, wait, waits}

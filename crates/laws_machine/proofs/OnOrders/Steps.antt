@@ -12,7 +12,7 @@ use Rattle.pc_bus.specs.Transfers.{moved}
 use Rattle.laws_machine.proofs.OnReads.Steps as reads
 use Rattle.laws_machine.proofs.OnWrites.Bytes as taking_bytes
 use Rattle.laws_machine.specs.OnReads.Scenes.{outset_of}
-use Rattle.fdc_drives.proofs.Writing.{drive_less}
+use Rattle.fdc_core.proofs.drives.Writing.{drive_less}
 use Rattle.laws_machine.proofs.OnSteps.Transfers.{after_moves}
 use Rattle.laws_machine.proofs.OnSteps.Words.{selected}
 use Rattle.laws_machine.proofs.OnOrders.Behind.{KeepsOn, laid_on, IsDoing, IsOfWords}

@@ -7,11 +7,11 @@ use Rattle.laws_machine.proofs.OnReads.IdWords as ids
 use Rattle.laws_machine.proofs.OnReads.Steps as reads
 use Rattle.laws_machine.proofs.OnReads.Steps.{moves_faults}
 use Rattle.laws_machine.specs.OnReads.Scenes.{outset_of}
-use Rattle.fdc_drives.proofs.Writing.{rests_on}
+use Rattle.fdc_core.proofs.drives.Writing.{rests_on}
 use Rattle.laws_machine.proofs.OnWrites.Guards.{moves_same}
 use Rattle.laws_machine.proofs.OnWrites.Steps as writes
 use Rattle.laws_machine.proofs.OnFormats.Steps as formats
-use Rattle.fdc_drives.proofs.Late.{led_none}
+use Rattle.fdc_core.proofs.drives.Late.{led_none}
 use Rattle.laws_machine.proofs.OnOrders.Behind.{IsDoing, IsBehind, IsTimed, IsTimedLed, Laying, laid_on}
 
 -- ---- of a command that writes

@@ -3,9 +3,9 @@ use Rattle.std.proofs.Common.{◌≡◌, ℕ, ◌+◌, ◌*◌, false, [], None,
 use Rattle.std.proofs.lemmas.Bool.{false≢true}
 use Rattle.laws_machine.proofs.Common.{Chrn, IsAddressAt, HasAddressMark, HasAddress, FindsNoSector, Past, HasNoClear, Ending, Done, NoMark, NoSector, NoField, BadCheck, Overrun, NoCount, Protected, Late, IdMeansIn, Short, Long, Phase, Command, Execute, Result, IsHeardFrom, IsWholeFrom, Scene, track_met, ends_late, is_late, IdEndedIn}
 use Rattle.fdc_core.specs.Meaning.{IdMeans}
-use Rattle.fdc_drives.proofs.Fields.{mark_heard, address_heard}
-use Rattle.fdc_drives.specs.Hearing.{IsCalm}
-use Rattle.fdc_drives.proofs.Turns.{turn_heard, between_is}
+use Rattle.fdc_core.proofs.drives.Fields.{mark_heard, address_heard}
+use Rattle.fdc_core.specs.Drives.Hearing.{IsCalm}
+use Rattle.fdc_core.proofs.drives.Turns.{turn_heard, between_is}
 use Rattle.laws_machine.proofs.OnReads.Results.{mark_ends}
 use Rattle.laws_machine.specs.OnReads.Ids.{IdEndsAs}
 

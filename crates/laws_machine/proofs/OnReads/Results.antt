@@ -5,10 +5,10 @@ use Rattle.laws_machine.proofs.Common.{NoData, BadCrc, IsSizeCode, content_size,
 use Rattle.sector_map.specs.Met.{HasLook}
 use Rattle.fdc_stages.specs.Findings.{FindsBadCheck, FindsNoField, FindsNoMark}
 use Rattle.fdc_core.specs.Meaning.{ReadMeans, FindsUncounted}
-use Rattle.fdc_drives.proofs.Fields.{mark_heard, address_heard, data_mark_heard, field_heard, found_on, lone_found}
-use Rattle.fdc_drives.proofs.Looks.{bad_met, no_field_met}
-use Rattle.fdc_drives.specs.Hearing.{IsCalm}
-use Rattle.fdc_drives.proofs.Turns.{between_is, turn_heard}
+use Rattle.fdc_core.proofs.drives.Fields.{mark_heard, address_heard, data_mark_heard, field_heard, found_on, lone_found}
+use Rattle.fdc_core.proofs.drives.Looks.{bad_met, no_field_met}
+use Rattle.fdc_core.specs.Drives.Hearing.{IsCalm}
+use Rattle.fdc_core.proofs.drives.Turns.{between_is, turn_heard}
 use Rattle.laws_machine.specs.OnReads.Results.{FindsField, EndsAs}
 
 -- ---- the endings

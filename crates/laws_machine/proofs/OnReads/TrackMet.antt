@@ -6,7 +6,7 @@ use Rattle.flop_base.specs.declared.answers.Rate.TheVariants.{R500, R250}
 use Rattle.sector_map.specs.Met.{unrecorded, same_rate, met_in}
 use Rattle.sector_map.proofs.MetTracks.{rates_same}
 use Rattle.laws_machine.specs.OnReads.Scenes.{data_rate, outset_of}
-use Rattle.fdc_drives.proofs.Passing.{recorded as recorded_since}
+use Rattle.fdc_core.proofs.drives.Passing.{recorded as recorded_since}
 
 fits_same : (a b : Rate) → rate_fits (data_rate a) b ≡ same_rate b a
 fits_same R500 R500 = refl

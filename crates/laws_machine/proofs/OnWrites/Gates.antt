@@ -9,7 +9,7 @@ use Rattle.fdc_phases.specs.Formatting as laying
 use Rattle.fdc_phases.specs.declared.phases.Task.TheVariants.{Read, Write}
 use Rattle.laws_machine.specs.OnWrites.Guards.{GatesDrives, HoldsGates, IsGated, IsGateOf, IsGivenIn, MakesTask, MakesTime, PassesClosed, is_recording}
 use Rattle.laws_machine.proofs.OnQuiet.Steps.{listens_told}
-use Rattle.fdc_drives.proofs.WritingWords.{closes_same, opens_same}
+use Rattle.fdc_core.proofs.drives.WritingWords.{closes_same, opens_same}
 use Rattle.laws_machine.proofs.OnWrites.Guards.{moves_same, step_leaves}
 use Rattle.laws_machine.proofs.OnSteps.Controllers.{dma_controller}
 use Rattle.laws_machine.proofs.OnSteps.Words.{bays}

@@ -3,7 +3,7 @@ use Rattle.std.proofs.Common.{◌≡◌, inl, inr, ℕ, ◌%◌, ◌==◌, ◌&&
 use Rattle.std.proofs.lemmas.Bool.{false≢true}
 use Rattle.laws_machine.proofs.Common.{Disk, DriveState, Writes, can_write, has_track, is_protected, rewritten, dor_of, Moves, WordTime, Saw, KeptOut, Wrote, Stopped, IsTime, Opens, Closes, DataRate, Board, controller_of, drive_in, selected_of, Step, LeavesOthers, Steady, Progress}
 use Rattle.raw_image.specs.Disk.{with_word}
-use Rattle.fdc_drives.proofs.WritingWords.{closes_same, opens_same}
+use Rattle.fdc_core.proofs.drives.WritingWords.{closes_same, opens_same}
 use Rattle.laws_machine.specs.OnWrites.Guards.{IsGuarded, GuardsMedia}
 use Rattle.laws_machine.proofs.OnSteps.Words.{controller, first_passes, second_passes}
 use Rattle.laws_machine.proofs.OnSteps.Controllers.{dma_dor}

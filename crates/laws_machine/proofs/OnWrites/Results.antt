@@ -17,13 +17,13 @@ use Rattle.fdc_stages.specs.Writings.{HasBegun, HasNoWindow, HasWritten}
 use Rattle.fdc_stages.specs.declared.writing.WriteStage.TheVariants as stage
 use Rattle.fdc_phases.specs.Phases.{overran}
 use Rattle.fdc_phases.specs.declared.phases.Task.TheVariants.{Write}
-use Rattle.fdc_drives.proofs.Fields.{address_heard, mark_heard}
+use Rattle.fdc_core.proofs.drives.Fields.{address_heard, mark_heard}
 use Rattle.laws_machine.proofs.OnReads.Words.{length-met}
 use Rattle.laws_machine.specs.OnWrites.Results.{ChangesTo, ChangesWhole, EndedIn, EndsAs, HasChanged, IsUnchanged, WritesWell, window_in, written_in}
 use Rattle.laws_machine.proofs.OnWrites.Content.{handed_all, handed_rest, not_all}
-use Rattle.fdc_drives.proofs.WritingWords.{heard_met}
+use Rattle.fdc_core.proofs.drives.WritingWords.{heard_met}
 use Rattle.laws_machine.specs.OnReads.Scenes.{outset_of}
-use Rattle.fdc_drives.proofs.Turns.{between_is}
+use Rattle.fdc_core.proofs.drives.Turns.{between_is}
 
 -- ---- the words
 

@@ -9,11 +9,11 @@ use Rattle.fdc_stages.specs.declared.writing.WriteStage.TheVariants as stage
 use Rattle.fdc_core.specs.Written.{MayWrite}
 use Rattle.fdc_phases.specs.Written.{IsWritingOn}
 use Rattle.fdc_phases.specs.declared.phases.Task.TheVariants.{Write}
-use Rattle.fdc_drives.proofs.LateFields.{address_in}
-use Rattle.fdc_drives.proofs.Late.{few_led}
+use Rattle.fdc_core.proofs.drives.LateFields.{address_in}
+use Rattle.fdc_core.proofs.drives.Late.{few_led}
 use Rattle.laws_machine.proofs.OnWrites.Covered.{does_covered}
-use Rattle.fdc_drives.proofs.Writing.{saw_on, wrote_on, stopped_on, still_unprotected}
-use Rattle.fdc_drives.proofs.WritingWords.{heard_met}
+use Rattle.fdc_core.proofs.drives.Writing.{saw_on, wrote_on, stopped_on, still_unprotected}
+use Rattle.fdc_core.proofs.drives.WritingWords.{heard_met}
 use Rattle.laws_machine.specs.OnReads.Scenes.{outset_of}
 use Rattle.laws_machine.proofs.OnOrders.Behind.{IsTimedLed}
 

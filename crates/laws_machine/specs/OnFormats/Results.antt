@@ -16,7 +16,7 @@ use Rattle.fdc_phases.specs.Rates.{rate_fits}
 use Rattle.fdc_phases.specs.declared.answers.Answer.TheVariants.{Long}
 use Rattle.fdc_phases.specs.declared.phases.Phase.{Phase}
 use Rattle.fdc_phases.specs.declared.phases.Phase.TheVariants.{Result}
-use Rattle.fdc_drives.specs.Hearing.{IsCalm}
+use Rattle.fdc_core.specs.Drives.Hearing.{IsCalm}
 use Rattle.pc_bus.specs.Boards.{Board, controller_of, memory_of, drive_in}
 use Rattle.laws_machine.specs.OnReads.Scenes.{Scene, head_sent}
 use Rattle.laws_machine.specs.OnWrites.Results.{IsUnchanged}

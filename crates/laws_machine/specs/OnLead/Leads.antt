@@ -2,7 +2,7 @@
 use Rattle.std.specs.Prelude.{◌≡◌, ◌⊎◌, ℕ, ◌≤◌, Bool, false}
 use Rattle.drive_model.specs.Drive.{DriveState}
 use Rattle.fdc_stages.specs.History.{Past}
-use Rattle.fdc_drives.specs.Spinning.{IsUnheard, led, IsTurningIn as IsTurningSince, IsSpinning as IsSpinningSince}
+use Rattle.fdc_core.specs.Drives.Spinning.{IsUnheard, led, IsTurningIn as IsTurningSince, IsSpinning as IsSpinningSince}
 use Rattle.pc_bus.specs.Boards.{Board}
 use Rattle.laws_machine.specs.OnReads.Scenes.{Scene, outset_of}
 use Rattle.laws_machine.specs.OnOrders.Orders.{Order, Write, AtDrive, GoesOn, CanBeginAt}

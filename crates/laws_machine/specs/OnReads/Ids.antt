@@ -22,7 +22,7 @@ use Rattle.pc_bus.specs.Boards.{Board, controller_of, drive_in}
 use Rattle.laws_machine.specs.OnQuiet.Settings.{Setting}
 use Rattle.laws_machine.specs.OnReads.Begins.{scene_of}
 use Rattle.laws_machine.specs.OnReads.Scenes.{Scene, track_met}
-use Rattle.fdc_drives.specs.Hearing.{IsCalm}
+use Rattle.fdc_core.specs.Drives.Hearing.{IsCalm}
 
 -- ---- how it begins
 

@@ -14,7 +14,7 @@ use Rattle.fdc_stages.specs.declared.ending.Ending.{Ending}
 use Rattle.fdc_stages.specs.declared.ending.Ending.TheVariants.{Done, NoMark, NoSector, NoField, BadCheck, NoCount, Protected}
 use Rattle.pc_bus.specs.Boards.{Board, controller_of, memory_of, drive_in}
 use Rattle.laws_machine.specs.OnReads.Scenes.{Scene, track_met}
-use Rattle.fdc_drives.specs.Hearing.{IsCalm}
+use Rattle.fdc_core.specs.Drives.Hearing.{IsCalm}
 use Rattle.laws_machine.specs.OnReads.Underway.{HasBytes}
 
 -- a field of the key with this mark and content is on the track, and the content is in memory; where the drive had no fault,

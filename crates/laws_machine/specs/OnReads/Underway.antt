@@ -3,7 +3,7 @@ use Rattle.std.specs.Prelude.{◌≡◌, ◌⊎◌, ℕ, ◌+◌, ◌<◌, ◌�
 use Rattle.drive_model.specs.Drive.{DriveState}
 use Rattle.dma_8237.specs.Channel.{Channel, grants, writes_memory, place_of}
 use Rattle.fdc_stages.specs.History.{Past}
-use Rattle.fdc_drives.specs.Hearing.{IsHearing as IsHearingSince}
+use Rattle.fdc_core.specs.Drives.Hearing.{IsHearing as IsHearingSince}
 use Rattle.laws_machine.specs.OnReads.Scenes.{Scene, outset_of}
 
 -- ---- the words

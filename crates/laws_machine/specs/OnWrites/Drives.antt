@@ -2,7 +2,7 @@
 use Rattle.std.specs.Prelude.{ℕ, Bool}
 use Rattle.drive_model.specs.Drive.{DriveState}
 use Rattle.fdc_stages.specs.History.{Past}
-use Rattle.fdc_drives.specs.Writing.{IsAtDrive as IsAtDriveSince, IsAtWindow as IsAtWindowSince, IsThere as IsThereSince, start_in as start_since}
+use Rattle.fdc_core.specs.Drives.Writing.{IsAtDrive as IsAtDriveSince, IsAtWindow as IsAtWindowSince, IsThere as IsThereSince, start_in as start_since}
 use Rattle.laws_machine.specs.OnReads.Scenes.{Scene, outset_of}
 
 -- A FORMAT's scene is that of a command that sends a sector; of what was sent, the head and drive alone count.

@@ -8,7 +8,7 @@ ghost use Rattle.fdc_phases.specs.Phases.{is_overrun};
 ghost use Rattle.fdc_phases.specs.declared.answers.Answer.TheVariants.{Long};
 ghost use Rattle.fdc_stages.specs.declared.ending.Ending.{Ending};
 ghost use Rattle.fdc_commands.specs.declared.results.Results.{Results};
-ghost use Rattle.fdc_drives.specs.Hearing.{IsCalm};
+ghost use Rattle.fdc_core.specs.Drives.Hearing.{IsCalm};
 ghost use Rattle.laws_machine.specs.OnOrders.Orders.{Underway, Window, Write};
 ghost use Rattle.laws_machine.specs.OnReads.Scenes.{Scene, head_sent};
 ghost use Rattle.laws_machine.specs.OnWrites.Results.{ChangesTo, WriteEnded, WritesOnly, WritesWell, written_in};

@@ -2,9 +2,9 @@
 use super::print::{Runs, put_words};
 use super::{Asked, key, tracks, words_of};
 use floppy_jobs::is_verb;
-use track_model::{cells16, decode_word, encode_byte};
 use test_files::{Draft, Line, Wrong};
 use track_fields::{address_words, field_crc, field_words};
+use track_model::{cells16, decode_word, encode_byte};
 
 pub(crate) fn answer(
     verb: &[u8],

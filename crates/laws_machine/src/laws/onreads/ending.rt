@@ -14,7 +14,7 @@ ghost use Rattle.irq_events.specs.Holds.{AreShort};
 ghost use Rattle.laws_machine.specs.OnReads.Ids.{IdEnded};
 ghost use Rattle.laws_machine.specs.OnReads.Results.{ReadEnded};
 ghost use Rattle.laws_machine.specs.OnReads.Timely.{Stalled};
-ghost use Rattle.fdc_drives.specs.Hearing.{IsCalm};
+ghost use Rattle.fdc_core.specs.Drives.Hearing.{IsCalm};
 ghost use Rattle.laws_machine.specs.OnQuiet.Quiet.{StandsStill};
 ghost use Rattle.laws_machine.specs.OnOrders.Orders.{CanBegin, Read};
 ghost use Rattle.laws_machine.specs.OnReads.Scenes.{Scene, track_met};

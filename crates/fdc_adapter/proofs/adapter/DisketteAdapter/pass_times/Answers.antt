@@ -1,7 +1,7 @@
 use Rattle.std.proofs.Common.{sym, ap, ◌∙◌}
 use Rattle.fdc_adapter.specs.Adapters.{adapter_state, selected_at}
 use Rattle.fdc_adapter.specs.WordTimes.{nanoseconds}
-use Rattle.fdc_drives.proofs.PassedTimes.{rate_stays_on, times_none}
+use Rattle.fdc_core.proofs.drives.PassedTimes.{rate_stays_on, times_none}
 use Rattle.fdc_adapter.proofs.adapter.DisketteAdapter.pass_times.Goals as goal
 
 pub returns-then-not-may_leap-clause-passes : goal.returns-then-not-may_leap-clause-passes

@@ -1,7 +1,7 @@
 use Rattle.std.proofs.Common.{sym, ap, ◌∙◌}
 use Rattle.fdc_adapter.specs.Adapters.{adapter_state, selected_at}
 use Rattle.fdc_adapter.specs.WordTimes.{nanoseconds}
-use Rattle.fdc_drives.proofs.PassedTimes.{rate_stays}
+use Rattle.fdc_core.proofs.drives.PassedTimes.{rate_stays}
 use Rattle.fdc_adapter.proofs.adapter.DisketteAdapter.step.Goals as goal
 
 pub invariant_of-self : goal.invariant_of-self
