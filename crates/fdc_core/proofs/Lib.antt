@@ -17,4 +17,3 @@ pub mod Feeding
 pub mod Given
 mod Taking
 pub mod Coursing
-pub mod drives
