@@ -6,7 +6,7 @@ use Rattle.flop_base.specs.declared.answers.Rate.{Rate}
 use Rattle.flop_base.specs.declared.answers.LoadError.{LoadError}
 use Rattle.flop_base.specs.declared.answers.LoadError.TheVariants as load
 use Rattle.raw_image.specs.declared.error.ImageError.{ImageError}
-use Rattle.flat_files.specs.Flat.{sectors_told}
+use Rattle.sector_map.specs.Flat.{sectors_told}
 use Rattle.sector_model.specs.declared.reply.Stop.{Stop}
 use Rattle.sector_model.specs.declared.reply.Stop.TheVariants as stop
 use Rattle.sector_model.specs.Steps.{IsAbsent, IsLonger}

@@ -1,7 +1,7 @@
 -- How a flat file is loaded.
 use Rattle.std.specs.Prelude.{◌≡◌, List, ℕ, length, Result, IfOk, IfErr, IsErrOf}
 use Rattle.flop_base.specs.Standard.{sectors_at}
-use Rattle.flat_files.specs.Flat.{flat_length}
+use Rattle.sector_map.specs.Flat.{flat_length}
 use Rattle.sector_model.specs.declared.reply.Stop.{Stop}
 use Rattle.sector_model.specs.declared.reply.Stop.TheVariants as stop
 use Rattle.sector_model.specs.Faults.{Blames}

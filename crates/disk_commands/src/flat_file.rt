@@ -1,13 +1,13 @@
 // Flat files on a shelf.
 ghost use Rattle.std.specs.Prelude.{◌≡◌};
 ghost use Rattle.flop_base.specs.Standard.{sectors_at};
-ghost use Rattle.flat_files.specs.Flat.{IsDensity};
+ghost use Rattle.sector_map.specs.Flat.{IsDensity};
 ghost use Rattle.disk_commands.specs.FlatFiles.{StopsFor};
 ghost use Rattle.disk_commands.specs.FlatLoads.{LoadsFlat};
 
 use commands::AnyRun;
-use flat_files::check;
 use flop_base::{LoadError, Name, Rate};
+use sector_map::flat::check;
 use sector_model::Stop;
 
 /// The most bytes of a flat file: 80 cylinders of 2 heads with 18 records.

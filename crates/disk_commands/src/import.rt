@@ -1,17 +1,17 @@
 // The import of a flat file to a disk.
 ghost use Rattle.std.specs.Prelude.{◌≡◌, ◌+◌, ◌≤◌, ◌<◌, length, IfOk, string_bytes};
 ghost use Rattle.flop_base.specs.Standard.{sectors_at};
-ghost use Rattle.flat_files.specs.Flat.{IsDensity, flat_length};
+ghost use Rattle.sector_map.specs.Flat.{IsDensity, flat_length};
 ghost use Rattle.commands.specs.Parts.{by_track};
 ghost use Rattle.commands.specs.Leading.{Goes, RanPart, Ran, Runs};
 ghost use Rattle.disk_commands.specs.Import.{fills_record, fills_track, writes_track, imports_track, imports_disk, import_text, sectors_of, Imports};
 
 use crate::flat_file::load_flat;
 use commands::{AnyRun, acknowledge, blank_request, record_address};
-use flat_files::place;
 use flop_base::standard::SIZE_CODE;
 use flop_base::{Chrn, Name, Rate, Status};
 use floppy_requests::Request;
+use sector_map::flat::place;
 use std::alloc::{AllocError, Global};
 
 /// The cylinders of a disk that has the sectors of a flat file.

@@ -15,7 +15,7 @@ use Rattle.imagedisk.specs.declared.sector.ImdKind.TheVariants.{Good}
 use Rattle.imagedisk.specs.declared.sector.ImdSector.{ImdSector}
 use Rattle.imagedisk.specs.declared.track.ImdTrack.{ImdTrack}
 use Rattle.flat_files.specs.Files.{GivesFlat, IsFlatAgain, standard_form}
-use Rattle.flat_files.specs.Flat.{sector_place, sectors_told}
+use Rattle.sector_map.specs.Flat.{sector_place, sectors_told}
 use Rattle.flat_files.specs.Flats.{HasFlat, flat_image, flat_sector, flat_track, rate_of}
 use Rattle.flat_files.specs.FormMaking.{HasForm, form_image, form_sector, form_track}
 use Rattle.flat_files.specs.Forms.{IsForm}

@@ -7,7 +7,7 @@ use Rattle.std.proofs.lemmas.List.FromFn.{length-map-range_with_len, get_or-map-
 use Rattle.flop_base.specs.Standard.{gap_at, words_at}
 use Rattle.flop_base.specs.declared.answers.Rate.{Rate}
 use Rattle.flop_base.specs.declared.answers.Rate.TheVariants.{R500, R250}
-use Rattle.flat_files.specs.Flat.{IsDensity}
+use Rattle.sector_map.specs.Flat.{IsDensity}
 use Rattle.imagedisk.specs.Images.{AreApart, IsImdImage, IsImdTrack}
 use Rattle.imagedisk.specs.Made.{IsCrowded, IsFirstCrowded}
 use Rattle.imagedisk.specs.declared.track.ImdTrack.{ImdTrack}

@@ -6,7 +6,7 @@ use Rattle.flop_base.specs.declared.answers.Rate.TheVariants.{R500, R250}
 use Rattle.raw_image.specs.Disk.{Disk}
 use Rattle.raw_image.specs.Image.{OrNoMemory}
 use Rattle.raw_image.specs.declared.error.ImageError.{ImageError}
-use Rattle.flat_files.specs.Flat.{sector_place, sectors_told}
+use Rattle.sector_map.specs.Flat.{sector_place, sectors_told}
 use Rattle.imagedisk.specs.Found.{HasImage}
 use Rattle.imagedisk.specs.Made.{IsMediumOf}
 use Rattle.imagedisk.specs.declared.image.ImdImage.{ImdImage}

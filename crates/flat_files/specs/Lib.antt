@@ -1,4 +1,4 @@
-pub mod Flat
+pub mod Zeroes
 pub mod Flats
 pub mod Files
 pub mod Forms

@@ -1,13 +1,13 @@
 // The sectors of a flat file, track by track.
 ghost use Rattle.std.specs.Prelude.{◌≡◌, ◌+◌, ◌<◌, ◌≤◌, length, IfOk};
-ghost use Rattle.flat_files.specs.Flat.{IsDensity, IsSector, flat_length};
+ghost use Rattle.sector_map.specs.Flat.{IsDensity, IsSector, flat_length};
 ghost use Rattle.imagedisk.specs.Images.{IsImdImage, IsImdSector, IsImdTrack};
 ghost use Rattle.flat_files.specs.Flats.{flat_image as flat_image_of, flat_sector as flat_sector_of, flat_track as flat_track_of};
 
-use crate::sectors::place;
 use flop_base::standard::SIZE_CODE;
 use flop_base::{Bytes, Chrn, NoMemory, Rate};
 use imagedisk::{ImdImage, ImdKind, ImdSector, ImdSectors, ImdTrack, ImdTracks};
+use sector_map::flat::place;
 use std::alloc::Global;
 
 /// The tracks of a file: 80 cylinders of 2 heads.

@@ -16,7 +16,6 @@ mod form_making;
 mod imaging;
 pub mod laws;
 mod making;
-mod sectors;
 mod whole;
 
 pub use fault::FlatFault;
@@ -26,5 +25,4 @@ pub use form::FlatForm;
 pub use form_fault::FormFault;
 pub use form_making::flat_medium_as;
 pub use making::flat_medium;
-pub use sectors::place;
-pub use whole::{blank_flat, check};
+pub use whole::blank_flat;

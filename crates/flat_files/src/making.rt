@@ -3,10 +3,10 @@ ghost use Rattle.flat_files.specs.Flats.{MakesFlat, rate_of as rate_of_density};
 ghost use Rattle.std.specs.Prelude.{◌≡◌, ℕ};
 
 use crate::imaging::flat_image;
-use crate::whole::check;
 use flop_base::Rate;
 use imagedisk::{ImdError, to_medium};
 use raw_image::{ImageError, Medium};
+use sector_map::flat::check;
 use std::alloc::Global;
 
 /// The rate at which a diskette has 18 sectors a track, or 9.

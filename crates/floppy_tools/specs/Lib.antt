@@ -5,4 +5,3 @@ pub mod Drives
 pub mod Plans
 pub mod PlanVariable
 pub mod Runs
-pub mod Words

@@ -11,7 +11,6 @@ mod plan_variable;
 mod program;
 mod run;
 mod session;
-mod words;
 
 pub use forms::{run_asked, run_words};
 pub use laws::{accesses_of_a_job, counts_of_a_run};
@@ -20,4 +19,3 @@ pub use program::floppy;
 pub use run::{Ended, run_plain, run_planned};
 pub use sector_model::{Reason, Reply, Stop};
 pub use session::Session;
-pub use words::{WordsError, split_words};

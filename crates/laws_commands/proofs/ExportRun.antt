@@ -13,7 +13,7 @@ use Rattle.flop_base.specs.Counters.{Counters}
 use Rattle.flop_base.specs.Memory.{user_bytes, bytes_from}
 use Rattle.floppy_requests.specs.declared.request.Request.{Request}
 use Rattle.floppy_requests.specs.declared.request.Request.TheVariants as request
-use Rattle.flat_files.specs.Flat.{IsSector, sector_place}
+use Rattle.sector_map.specs.Flat.{IsSector, sector_place}
 use Rattle.sector_map.specs.Standard.{key_of}
 use Rattle.sector_model.specs.declared.reply.Reply.{Reply}
 use Rattle.sector_model.specs.Stations.{Bay, bay_of, StationState}

@@ -8,7 +8,7 @@ use Rattle.flop_base.specs.declared.answers.Rate.TheVariants.{R500, R250}
 use Rattle.flop_base.specs.declared.answers.Status.{Status}
 use Rattle.raw_image.specs.declared.error.ImageError.{ImageError}
 use Rattle.flop_base.specs.Memory.{user_bytes, bytes_from}
-use Rattle.flat_files.specs.Flat.{sector_place, sectors_told}
+use Rattle.sector_map.specs.Flat.{sector_place, sectors_told}
 use Rattle.floppy_requests.specs.declared.request.Request.TheVariants as request
 use Rattle.sector_map.specs.Standard.{key_of}
 use Rattle.sector_model.specs.declared.reply.Stop.{Stop}

@@ -9,7 +9,7 @@ use Rattle.flop_base.specs.declared.answers.Status.TheVariants as status
 use Rattle.flop_base.specs.Bays.{Two, in_bay}
 use Rattle.flop_base.specs.Memory.{user_bytes, bytes_from}
 use Rattle.floppy_requests.specs.declared.request.Request.TheVariants as request
-use Rattle.flat_files.specs.Flat.{sector_place, IsSector, flat_length, sectors_told}
+use Rattle.sector_map.specs.Flat.{sector_place, IsSector, flat_length, sectors_told}
 use Rattle.sector_model.specs.Stations.{StationState, Bay, bay_of}
 use Rattle.sector_model.specs.Runs.{Taken}
 use Rattle.sector_model.specs.Plays.{World}

@@ -9,7 +9,7 @@ use Rattle.flop_base.specs.declared.key.Chrn.{Chrn}
 use Rattle.raw_image.specs.Disk.{Disk, IsDisk, HasTrack, track_of}
 use Rattle.raw_image.specs.Image.{file_of}
 use Rattle.track_model.specs.Sectors.{IsSector}
-use Rattle.flat_files.specs.Flat.{IsSector as IsFlatSector}
+use Rattle.sector_map.specs.Flat.{IsSector as IsFlatSector}
 use Rattle.sector_map.specs.Disks.{IsRegularDisk}
 use Rattle.sector_model.specs.Runs.{Taken}
 use Rattle.sector_model.specs.Steps.{IsImageOf}

@@ -6,7 +6,7 @@ use Rattle.raw_image.specs.Disk.{Disk, track_of}
 use Rattle.track_model.specs.Sectors as track
 use Rattle.flop_base.specs.Counters.{Counters}
 use Rattle.sector_map.specs.Standard.{key_of}
-use Rattle.flat_files.specs.Flat.{IsSector, flat_length}
+use Rattle.sector_map.specs.Flat.{IsSector, flat_length}
 use Rattle.sector_model.specs.Runs.{Taken}
 use Rattle.sector_model.specs.Steps.{IsImageOf}
 use Rattle.laws_commands.specs.Copied.{SomeStep, Gave, IsFieldOf, IsSure}

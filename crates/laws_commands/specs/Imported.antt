@@ -7,7 +7,7 @@ use Rattle.raw_image.specs.Disk.{Disk, IsDisk}
 use Rattle.raw_image.specs.Image.{file_of}
 use Rattle.flop_base.specs.Memory.{bytes_from}
 use Rattle.sector_map.specs.Disks.{IsOnMap, IsRegularDisk}
-use Rattle.flat_files.specs.Flat.{IsSector, sector_place}
+use Rattle.sector_map.specs.Flat.{IsSector, sector_place}
 use Rattle.disk_commands.specs.FlatFiles.{IsFlatFile}
 use Rattle.laws_commands.specs.Copied.{copied_entry}
 use Rattle.laws_commands.specs.LaidFields.{HasLaidFields}

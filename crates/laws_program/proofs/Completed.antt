@@ -9,7 +9,7 @@ use Rattle.flop_base.specs.declared.answers.Rate.TheVariants.{R250, R500}
 use Rattle.flop_base.specs.declared.answers.Status.{Status}
 use Rattle.flop_base.specs.declared.key.Chrn.{Chrn}
 use Rattle.raw_image.specs.Disk.{Disk}
-use Rattle.flat_files.specs.Flat.{sector_place}
+use Rattle.sector_map.specs.Flat.{sector_place}
 use Rattle.sector_map.specs.Standard.{key_of}
 use Rattle.floppy_requests.specs.declared.request.Request.TheVariants as request
 use Rattle.sector_model.specs.declared.reply.Reply.{Reply}

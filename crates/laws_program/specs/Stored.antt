@@ -9,7 +9,7 @@ use Rattle.track_model.specs.Laid.{IsLaid}
 use Rattle.track_model.specs.Sectors.{IsSector as IsSectorOf}
 use Rattle.sector_map.specs.Disks.{IsRegularDisk}
 use Rattle.sector_map.specs.Standard.{key_of}
-use Rattle.flat_files.specs.Flat.{IsSector, flat_length}
+use Rattle.sector_map.specs.Flat.{IsSector, flat_length}
 use Rattle.pc_bus.specs.Boards.{Board}
 use Rattle.track_model.specs.declared.Look.{Look}
 use Rattle.sector_map.specs.Failing.{AreFailing}

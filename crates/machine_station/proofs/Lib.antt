@@ -6,7 +6,3 @@ mod Attaching
 mod Replacing
 mod Starting
 mod Standing
-pub mod Readying
-pub mod Calming
-pub mod Placing
-pub mod Fetching

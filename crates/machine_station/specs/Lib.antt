@@ -2,6 +2,3 @@ pub mod Flagged
 pub mod Shown
 pub mod Ready
 pub mod Started
-pub mod Desks
-pub mod Quiet
-pub mod Sectors

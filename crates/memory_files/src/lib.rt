@@ -1,9 +1,17 @@
-//! Files and printed lines in memory, which tell what they hold, and the program on them.
+//! Files and printed lines in memory, which tell what they hold, with the program on them; and a desk for single sectors.
+//!
+//! A desk is a station with two drives that have no faults. Media go into its bays, and each call reads, writes or formats there: a
+//! step of the sector model, which nothing disturbs.
 #![tactic(auto)]
 
+mod desk;
 mod lines;
 mod memory;
+mod sectors;
 mod shelf;
+mod words;
 
+pub use desk::SectorDesk;
 pub use memory::{MemShelf, MemSink};
 pub use shelf::RunShelf;
+pub use words::{WordsError, split_words};

@@ -2,6 +2,7 @@ pub mod ChangedDisks
 pub mod Changes
 pub mod Disks
 pub mod Failing
+pub mod Flat
 pub mod KeptDisks
 pub mod LaidDisks
 pub mod Layings

@@ -1,7 +1,8 @@
-//! The sectors of a medium, and one of them written over.
+//! The sectors of a medium, and one of them written over; where sectors stand in a flat file.
 #![tactic(auto)]
 
 mod disks;
+pub mod flat;
 pub mod laws;
 mod standard;
 mod window;

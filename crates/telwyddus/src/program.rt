@@ -3,7 +3,5 @@ pub use archive_commands::Halt;
 pub use flop_base::{Bytes, LoadError, Name, PutError, Shelf, Sink, Status, StoreError};
 pub use floppy_jobs::{JobError, parse_job};
 pub use floppy_requests::{Address, MemoryByte, Request};
-pub use floppy_tools::{
-    Ended, Reason, Reply, Session, Stop, WordsError, run_plain, run_planned, run_words, split_words,
-};
-pub use memory_files::{MemShelf, MemSink, RunShelf};
+pub use floppy_tools::{Ended, Reason, Reply, Session, Stop, run_plain, run_planned, run_words};
+pub use memory_files::{MemShelf, MemSink, RunShelf, WordsError, split_words};

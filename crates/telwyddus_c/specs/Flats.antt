@@ -2,7 +2,7 @@
 use Rattle.std.specs.Prelude.{◌≡◌, ◌==◌, ℕ, List, length, Option, None, Some, Result, Ok, Err, MatchBool, MatchOption, ⊤}
 use Rattle.std.specs.Global.{Vec}
 use Rattle.c_slots.specs.Trays.{TrayValue}
-use Rattle.flat_files.specs.Flat.{sectors_told}
+use Rattle.sector_map.specs.Flat.{sectors_told}
 use Rattle.flat_files.specs.Files.{GivesFlat}
 use Rattle.flat_files.specs.Flats.{HasFlat}
 use Rattle.flat_files.specs.declared.fault.FlatFault.{FlatFault}

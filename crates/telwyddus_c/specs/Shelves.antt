@@ -8,7 +8,7 @@ use Rattle.flop_base.specs.Shelf.{no_files, stored}
 use Rattle.flop_base.specs.Sink.{joined}
 use Rattle.flop_base.specs.declared.answers.Status.{Status}
 use Rattle.memory_files.specs.Shelves.{files_in, report_in, RanPlain}
-use Rattle.floppy_tools.specs.Words.{words_in}
+use Rattle.memory_files.specs.Words.{words_in}
 use Rattle.telwyddus_c.specs.Buffers.{WritesOr, WritesBytes}
 
 -- no file, and nothing printed

@@ -4,7 +4,7 @@ ghost use Rattle.std.specs.Option.{is_some};
 ghost use Rattle.c_slots.specs.Disks.{boxed};
 
 use crate::disk::held::Held;
-use machine_station::SectorDesk;
+use memory_files::SectorDesk;
 use std::alloc::Global;
 use std::mem;
 

@@ -4,7 +4,7 @@ ghost use Rattle.telwyddus_c.specs.Slots.{Fills, Frees};
 
 use crate::code::{DONE, EMPTY, FULL, NO_MEMORY};
 use c_slots::DiskSlot;
-use machine_station::SectorDesk;
+use memory_files::SectorDesk;
 use std::alloc::Global;
 
 /// Makes a desk with two empty bays.

@@ -9,7 +9,7 @@ use crate::code::{DONE, EMPTY, OUT_OF_RANGE, TOO_SHORT};
 use crate::disk::answers::{answer_code, refusal_code};
 use c_slots::DiskSlot;
 use flop_base::{Chrn, sector_size};
-use machine_station::SectorDesk;
+use memory_files::SectorDesk;
 use std::alloc::Global;
 
 /// Reads the sector of a key, cylinder, head, record and size code, to the beginning of a buffer, and tells by 1 or 0 whether it is

@@ -1,11 +1,12 @@
 // Files of media: images, ImageDisk files and flat files.
 use super::print::put_bytes;
 use super::{Asked, medium_of, texts};
-use flat_files::{blank_flat, check, place};
+use flat_files::blank_flat;
 use flop_base::Rate;
 use floppy_jobs::is_verb;
 use imagedisk::read_imd;
 use raw_image::{ImageError, ImageReader, Medium, read_image, write_image};
+use sector_map::flat::{check, place};
 use std::alloc::Global;
 use test_files::{Draft, Line, Wrong};
 

@@ -1,5 +1,5 @@
 use Rattle.commands.specs.Leading.{IsTurning}
-use Rattle.flat_files.specs.Flat.{sector_place}
+use Rattle.sector_map.specs.Flat.{sector_place}
 use Rattle.commands.specs.Records.{record_address}
 use Rattle.disk_commands.specs.Import.{fills_record}
 use Rattle.disk_commands.proofs.import.fill_track.Given as goal

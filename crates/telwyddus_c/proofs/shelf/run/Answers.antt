@@ -1,6 +1,6 @@
 use Rattle.std.proofs.Common.{◌≡◌, ◌∙◌, ℕ, List, map, string_bytes, subst}
 use Rattle.memory_files.specs.Shelves.{outside_in, RanPlain}
-use Rattle.floppy_tools.specs.Words.{words_in}
+use Rattle.memory_files.specs.Words.{words_in}
 use Rattle.telwyddus_c.proofs.shelf.run.Goals as goal
 
 pub returns : goal.returns
