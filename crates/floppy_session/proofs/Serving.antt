@@ -34,10 +34,6 @@ use Rattle.int13.specs.declared.work.Work.TheVariants.{Changed, Move}
 use Rattle.floppy_session.specs.Services.{MovesRecord, MovesIn, VerifiesRecords, DoesWork, AcksAlone, Transfers, look_at, ack_code, AreDone, MovesRecords, record_request, record_behind, place_of_record, record_requests, put_requests, put_request}
 use Rattle.floppy_session.proofs.Named.{by_refusal}
 
--- a step, by what was answered
-pub replied : (old new : State) (told : Option Files) (asked : Request) (given answer : Reply) → given ≡ answer → Step asked old told answer new told → Step asked old told given new told
-replied old new told asked given answer is step = subst (λ (r : Reply). Step asked old told r new told) (sym is) step
-
 -- ---- Requests that are done, one after the other.
 
 pub done_none : (old : State) (told : Option Files) → AreDone [] old told [] old

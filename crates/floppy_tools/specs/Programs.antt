@@ -64,27 +64,9 @@ abbrev pub Does : Option Form → World → List Taken → World → Status → 
 Does (Some asked) old course new ended = DoesOrStarves asked old course new ended
 Does None old course new ended = TellsAlone bad_words_text status.BadWords old course new ended
 
--- a world, with the faults that its shelf and its sink counted
-pub record Faulty : Type 0 where
-  pub world : World
-  pub shelf_faults : ℕ
-  pub sink_faults : ℕ
-
 -- a session, a shelf and a sink, by what they show
 abbrev pub world_of : {S K : Type 0} → (S → Option Files) → (K → Option (List (List ℕ))) → State → S → K → World
 world_of files report session shelf out = record { state = session; files = files shelf; report = report out }
-
--- with the faults that they counted
-abbrev pub faulty_of : {S K : Type 0} → (S → Option Files) → (S → ℕ) → (K → Option (List (List ℕ))) → (K → ℕ) → State → S → K → Faulty
-faulty_of files shelf_count report sink_count session shelf out =
-    record { world = world_of files report session shelf out; shelf_faults = shelf_count shelf; sink_faults = sink_count out }
-
--- what words ask for was done, the words are no form where the status says so, and one fault was counted where it tells one, and else none
-pub record Performed (Does : World → World → Status → Type 0) (NoForm : Type 0) (old new : Faulty) (ended : Status) : Type 0 where
-  pub runs : Does old.world new.world ended
-  pub bad_words : ended ≡ status.BadWords → NoForm
-  pub shelf_faults : Blames (ended ≡ status.FileFault) old.shelf_faults new.shelf_faults
-  pub sink_faults : Blames (ended ≡ status.SinkFault) old.sink_faults new.sink_faults
 
 -- a world of a station, under whose media no names are told, and of an outside
 abbrev pub begun_on : StationState → Outside → World

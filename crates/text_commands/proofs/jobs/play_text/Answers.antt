@@ -20,8 +20,8 @@ returns-in-Ok-run_requests g c = record {
 
 pub returns-in-Ok : goal.returns-in-Ok
 returns-in-Ok g c = record {
-  does = parsed_plays _ _ c.args.text.now c.deref.result.now c.in-Ok.requests.items c.in-Err-run_requests.ended c.in-Ok.ensures.read
-      c.deref.ensures.value c.in-Err-run_requests.ensures.goes;
+  does = parsed_plays _ _ c.args.text.now c.deref.result.now c.in-Ok.requests.items c.in-Err.ended c.in-Ok.ensures.read
+      c.deref.ensures.value c.in-Err.ensures.goes;
   is_form = search rules;
   shelf_faults = search rules;
   sink_faults = search rules;
@@ -30,9 +30,9 @@ returns-in-Ok g c = record {
 
 pub returns-in-Err-BadLine : goal.returns-in-Err-BadLine
 returns-in-Err-BadLine g c = record {
-  does = unparsed_tells _ _ c.args.text.now c.in-Err-BadLine.line c.finish-2.result
+  does = unparsed_tells _ _ c.args.text.now c.in-Err-BadLine.line c.finish-in-Err-BadLine.result
       (read_bad (λ (requests : Vec Request Global). requests.items) c.in-Err-BadLine.field-0 (job_of c.args.text.now) c.in-Err-BadLine.line
-      c.in-Err-BadLine.ensures.read c.in-Err-BadLine.field-0-is) (c.finish-2.ensures.tells (bad_line_text c.in-Err-BadLine.line) c.bad_line.ensures);
+      c.in-Err-BadLine.ensures.read c.in-Err-BadLine.field-0-is) (c.finish-in-Err-BadLine.ensures.tells (bad_line_text c.in-Err-BadLine.line) c.bad_line.ensures);
   is_form = search rules;
   shelf_faults = search rules;
   sink_faults = search rules;
