@@ -1,5 +1,4 @@
-//! Flat files: the sectors of a diskette and nothing else, by cylinder, then head, then record, 512 bytes each. And media of flat
-//! files, without a drive: each sector of the file under its key on a formatted medium, and back.
+//! Media of flat files, and back, without a drive: each sector of the file under its key on a formatted medium.
 //!
 //! A flat file has 80 cylinders of 2 heads. Its tracks have 9 sectors (720 KB) or 18 (1.44 MB). Flat files of any other geometry
 //! make media too, as far as tracks have room, and are made of them.
