@@ -1,6 +1,9 @@
 -- What a data command does at the ports.
 use Rattle.std.proofs.Common.{◌≡◌, inl, inr, ℕ, suc, ◌+◌, ◌*◌, Bool, true, false, List, subst, arith}
-use Rattle.machine_commands.proofs.Common.{Board, SetsChannel, Watch, Watches, AwaitsResults, Sends}
+use Rattle.machine_commands.proofs.Common.{Board, Outputs, SetsChannel, Watch, Watches, AwaitsResults, Sends}
+
+pub output_as : (port a b : ℕ) (old new : Board) → a ≡ b → Outputs port a old new → Outputs port b old new
+output_as port a b old new same access = subst (λ value. Outputs port value old new) same access
 
 pub channel_as : (mode address a b : ℕ) (old new : Board) → a ≡ b → SetsChannel mode address a old new → SetsChannel mode address b old new
 channel_as mode address a b old new same sets = subst (λ last. SetsChannel mode address last old new) same sets
