@@ -8,7 +8,7 @@ ghost use Rattle.telwyddus_c.specs.Slots.{Fills, Frees, Serves};
 use crate::buffer::write_bytes;
 use crate::code::{DONE, EMPTY, FULL, NO_FILE, NO_MEMORY, NOT_TEXT};
 use c_slots::ShelfSlot;
-use memory_files::{WordsError, split_words};
+use memory_files::{RunShelf, WordsError, split_words};
 use std::alloc::Global;
 
 /// Makes a shelf with no file.
