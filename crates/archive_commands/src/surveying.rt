@@ -9,9 +9,9 @@ use commands::{put_last, put_last_line, put_line};
 use flop_base::{Name, NoMemory, Shelf, Sink, Status};
 use raw_image::Medium;
 use remaster::{SurveyEnd, SurveyLine, survey};
+use sector_map::Look;
 use sector_model::Stop;
 use std::alloc::{AllocError, Global};
-use track_fields::Look;
 
 /// Whether a look found a sector.
 fn is_found(look: Look) -> bool

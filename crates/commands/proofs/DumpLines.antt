@@ -6,7 +6,7 @@ use Rattle.std.proofs.lemmas.Bool.{cases_lt}
 use Rattle.std.specs.Prelude.{Result, Ok, Err, OnErr}
 use Rattle.flop_base.specs.declared.answers.Status.{Status}
 use Rattle.flop_base.specs.Sink.{grown, IsCutOf, GrowsByPart}
-use Rattle.floppy_requests.specs.Spelling.{hex5}
+use Rattle.floppy_jobs.specs.Spelling.{hex5}
 use Rattle.sector_model.specs.Texts.{dump_byte, dump_line, dump_lines, line_end}
 
 -- the first lines of a dump

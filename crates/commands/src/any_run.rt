@@ -12,9 +12,8 @@ ghost use Rattle.commands.specs.Parts.{asks, needs, carries, opens};
 ghost use Rattle.commands.specs.Leading.{Hand, Answers, Goes, SaysLine, FinishesBy, StoresBy, AsksOne, PutsLines, PutsLine, TellsLine, TellsStop, LoadsText, Leaves, IsTold, Ran, RanPart, RanLast, HasLoaded, IsInSession};
 
 use flop_base::{LoadError, Name, Status};
-use floppy_requests::Request;
-use floppy_session::Shape;
-use int13::{Int13, Regs};
+use floppy_jobs::Request;
+use floppy_session::{Int13, Regs, Shape};
 use sector_model::{Reply, Stop};
 use std::alloc::{AllocError, Global};
 

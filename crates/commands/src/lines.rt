@@ -9,7 +9,7 @@ ghost use Rattle.commands.specs.Puts.{printed_of, Puts, PutsLast};
 ghost use Rattle.commands.specs.LastLines.{bad_words_text, stopped_text, unfit_text};
 
 use flop_base::{PutError, Sink, Status};
-use floppy_requests::{Address, MemoryByte, Request};
+use floppy_jobs::{Address, MemoryByte, Request};
 use raw_image::ImageError;
 use sector_model::{Reason, Reply, Stop};
 use std::alloc::{AllocError, Global};

@@ -8,7 +8,7 @@ ghost use Rattle.commands.specs.Leading.{Goes, RanPart};
 
 use crate::any_run::AnyRun;
 use flop_base::{Name, Rate, Status};
-use floppy_requests::Request;
+use floppy_jobs::Request;
 
 /// Sets an acknowledged bay to a rate; 500 kbit/s needs no request.
 #[tactic(auto, unfolding(crate::specs::Parts::sets_rate))]

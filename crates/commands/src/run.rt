@@ -6,9 +6,8 @@ use crate::asking::refusal;
 use crate::lines::{put_last, put_last_line, put_last_stopped, put_line, put_reply, stop_status};
 use crate::texts::tell_missing_text;
 use flop_base::{LoadError, Shelf, Sink, Status, StoreError};
-use floppy_requests::Request;
-use floppy_session::{Session, Shape};
-use int13::{Int13, Regs};
+use floppy_jobs::Request;
+use floppy_session::{Int13, Regs, Session, Shape};
 use sector_model::{Reply, Station, Stop};
 use std::alloc::{AllocError, Global};
 

@@ -7,7 +7,7 @@ use Rattle.flop_base.specs.declared.answers.Status.{Status}
 use Rattle.flop_base.specs.declared.answers.Status.TheVariants as status
 use Rattle.flop_base.specs.Memory.{bytes_from}
 use Rattle.sector_map.specs.Standard.{key_of}
-use Rattle.floppy_requests.specs.declared.request.Request.TheVariants as request
+use Rattle.floppy_jobs.specs.declared.request.Request.TheVariants as request
 use Rattle.sector_model.specs.Plays.{World}
 use Rattle.commands.specs.Scripts.{Script, Stores}
 use Rattle.commands.specs.Parts.{Part, needs, may_starve, opens, acknowledges, each, by_track}

@@ -11,7 +11,7 @@ use crate::import::CYLINDERS;
 use commands::{AnyRun, acknowledge, record_address};
 use flop_base::standard::SIZE_CODE;
 use flop_base::{Chrn, Name, NoMemory, Rate, Status};
-use floppy_requests::Request;
+use floppy_jobs::Request;
 use std::alloc::{AllocError, Global};
 
 /// Puts bytes of memory behind those of a flat file.

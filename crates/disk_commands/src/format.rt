@@ -6,7 +6,7 @@ ghost use Rattle.disk_commands.specs.Format.{format_text, formats_disk, format_s
 
 use commands::{AnyRun, acknowledge, blank_request, format_tracks};
 use flop_base::{Name, Rate, Status};
-use floppy_requests::Request;
+use floppy_jobs::Request;
 use std::alloc::{AllocError, Global};
 
 #[tactic(auto, unfolding(crate::specs::Format::format_text))]

@@ -10,7 +10,7 @@ use crate::flat_file::load_flat;
 use commands::{AnyRun, acknowledge, blank_request, record_address};
 use flop_base::standard::SIZE_CODE;
 use flop_base::{Chrn, Name, Rate, Status};
-use floppy_requests::Request;
+use floppy_jobs::Request;
 use sector_map::flat::place;
 use std::alloc::{AllocError, Global};
 

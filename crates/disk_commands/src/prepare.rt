@@ -6,7 +6,7 @@ ghost use Rattle.disk_commands.specs.Rescue.{acknowledges_both, prepares_old, pr
 
 use commands::{AnyRun, acknowledge, blank_request, format_tracks};
 use flop_base::{Name, Rate, Status};
-use floppy_requests::Request;
+use floppy_jobs::Request;
 use floppy_session::Shape;
 
 /// Acknowledges both bays.

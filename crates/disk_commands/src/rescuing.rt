@@ -10,7 +10,7 @@ use crate::prepare::prepare;
 use crate::records::rescue_records;
 use commands::AnyRun;
 use flop_base::{Chrn, Name, NoMemory, Status};
-use floppy_requests::Request;
+use floppy_jobs::Request;
 use floppy_session::Shape;
 use rescue::{LogLine, Outcome, logged_keys, standard_keys, write_log};
 use std::alloc::{AllocError, Global};

@@ -12,7 +12,7 @@ use crate::shape::sector_count;
 use commands::{AnyRun, TRACK_ADDRESS, acknowledge, is_refusal, reason_word, whole_status};
 use flop_base::standard::SIZE_CODE;
 use flop_base::{Chrn, Name, Status};
-use floppy_requests::Request;
+use floppy_jobs::Request;
 use floppy_session::Shape;
 use sector_model::{Reason, Reply};
 use std::alloc::{AllocError, Global};

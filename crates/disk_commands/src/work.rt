@@ -10,7 +10,7 @@ use crate::draws::Draws;
 use crate::work_tally::Tally;
 use commands::{AnyRun, is_refusal};
 use flop_base::{Chrn, Status};
-use floppy_requests::Request;
+use floppy_jobs::Request;
 
 /// Where a read puts its bytes.
 const READ_ADDRESS: u32 = 0x10000;

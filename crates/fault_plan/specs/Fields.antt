@@ -1,6 +1,6 @@
 -- What the words of a plan's lines spell.
 use Rattle.std.specs.Prelude.{◌==◌, ℕ, List, Option, option_map, if◌then◌else◌}
-use Rattle.floppy_requests.specs.Numbers.{number_of}
+use Rattle.floppy_jobs.specs.Numbers.{number_of}
 use Rattle.fault_plan.specs.declared.line.PlannedDrive.{PlannedDrive}
 use Rattle.fault_plan.specs.declared.line.PlannedDrive.TheVariants.{Bay0, Bay1, Spare0, Spare1}
 

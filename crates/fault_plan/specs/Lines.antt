@@ -1,8 +1,8 @@
 -- What the lines of a plan spell.
 use Rattle.std.specs.Prelude.{ℕ, List, [], ◌∷◌, Option, Some, None, codes, if◌then◌else◌}
 use Rattle.std.specs.Str.{bytes_eq}
-use Rattle.floppy_requests.specs.Numbers.{byte_of}
-use Rattle.floppy_requests.specs.Requests.{◌>>=◌}
+use Rattle.floppy_jobs.specs.Numbers.{byte_of}
+use Rattle.floppy_jobs.specs.Requests.{◌>>=◌}
 use Rattle.drive_model.specs.declared.fault.Fault.TheVariants as fault
 use Rattle.fault_plan.specs.Fields.{drive_of, cylinder_of, head_of, word_of, count_of, span_of}
 use Rattle.fault_plan.specs.declared.line.PlanLine.{PlanLine}

@@ -2,7 +2,7 @@
 use Rattle.std.specs.Prelude.{◌≡◌, ℕ, List, [], ◌++◌, Option, Some, None, Result, Ok, Err, replicate}
 use Rattle.std.specs.List.{filter_map, flat_map}
 use Rattle.drive_model.specs.declared.fault.Fault.{Fault}
-use Rattle.floppy_requests.specs.Lines.{text_of}
+use Rattle.floppy_jobs.specs.Lines.{text_of}
 use Rattle.fault_plan.specs.Lines.{plan_line_of}
 use Rattle.fault_plan.specs.declared.line.PlannedDrive.TheVariants.{Bay0, Bay1, Spare0, Spare1}
 use Rattle.fault_plan.specs.declared.line.PlanLine.{PlanLine}

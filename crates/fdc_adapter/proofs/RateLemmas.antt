@@ -9,7 +9,7 @@ use Rattle.fdc_commands.specs.declared.bytes.Accepted.{Accepted}
 use Rattle.fdc_commands.specs.declared.bytes.Accepted.TheVariants.{More, Ready, Invalid}
 use Rattle.fdc_commands.specs.declared.command.Command.{Command}
 use Rattle.fdc_commands.specs.declared.command.Command.TheVariants as command
-use Rattle.fdc_seek.specs.Seeking.{seek_bits, sensed, has_ended_seek, without_ended}
+use Rattle.fdc_commands.specs.Seeking.{seek_bits, sensed, has_ended_seek, without_ended}
 use Rattle.fdc_stages.specs.declared.ending.Ending.{Ending}
 use Rattle.fdc_core.specs.Commands.{answered, sensing_by, BeginsData, Begins, ObeysAtRest, Obeys, TakesAs, Takes}
 use Rattle.fdc_core.specs.Ports.{is_taking, Writes}

@@ -10,7 +10,7 @@ use Rattle.fdc_core.specs.Steps.{EndsIn, RestsIn, let_pass, polled}
 use Rattle.fdc_core.specs.declared.controller.Fdc.{Fdc}
 use Rattle.fdc_phases.specs.declared.phases.Phase.{Phase}
 use Rattle.fdc_phases.specs.declared.phases.Phase.TheVariants.{Command, Execute, Result}
-use Rattle.fdc_seek.specs.Seeking.{with_polls}
+use Rattle.fdc_commands.specs.Seeking.{with_polls}
 use Rattle.fdc_core.specs.Drives.WordTimes.{PassesWordTime}
 use Rattle.fdc_adapter.specs.Adapters.{AdapterState, StepsAdapter, selected_at}
 use Rattle.fdc_adapter.specs.Still.{Stands}

@@ -1,6 +1,6 @@
 -- SENSE INTERRUPT whose results are read at once.
 use Rattle.std.specs.Prelude.{ℕ, false, Option, Some, None, [], if◌then◌else◌}
-use Rattle.fdc_seek.specs.Seeking.{sensed, after_sense}
+use Rattle.fdc_commands.specs.Seeking.{sensed, after_sense}
 use Rattle.fdc_core.specs.Whole.{is_idle}
 use Rattle.fdc_core.specs.declared.controller.Fdc.{Fdc}
 use Rattle.fdc_phases.specs.declared.phases.Phase.TheVariants.{Command}

@@ -3,7 +3,7 @@ ghost use Rattle.std.specs.Prelude.{◌≡◌};
 ghost use Rattle.fdc_core.specs.Listening.{is_executing};
 ghost use Rattle.fdc_core.specs.State.{is_gated};
 ghost use Rattle.fdc_core.specs.Whole.{is_idle, options_with, TakesWhole, ending_told, given_up, mark_of, without_seek};
-ghost use Rattle.fdc_seek.specs.Seeking.{has_ended_seek};
+ghost use Rattle.fdc_commands.specs.Seeking.{has_ended_seek};
 
 use crate::adapter::DisketteAdapter;
 use drive_model::Inspect;

@@ -4,3 +4,5 @@ pub mod Table
 pub mod Results
 pub mod Saving
 pub mod Spelled
+pub mod Seeking
+pub mod Runs

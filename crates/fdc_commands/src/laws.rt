@@ -1,12 +1,13 @@
-// What follows of the command table. The bodies are empty.
-ghost use Rattle.std.specs.Prelude.{◌≡◌, ◌≤◌, ℕ, Bool};
-ghost use Rattle.flop_base.specs.declared.key.Chrn.{Chrn};
+// What follows of the command table, and what whole seeks give. The bodies are empty.
 ghost use Rattle.fdc_commands.specs.Reads.{SpellsRead, SpellsReadId};
+ghost use Rattle.fdc_commands.specs.Runs.{SeekLaw, RecalibrateLaw, PollLaw};
 ghost use Rattle.fdc_commands.specs.Spelled.{spelled};
 ghost use Rattle.fdc_commands.specs.Table.{answer, SizeInRange};
+ghost use Rattle.fdc_commands.specs.Writes.{SpellsWrite, SpellsFormat};
 ghost use Rattle.fdc_commands.specs.declared.bytes.Accepted.TheVariants.{Ready};
 ghost use Rattle.fdc_commands.specs.declared.command.Command.{Command};
-ghost use Rattle.fdc_commands.specs.Writes.{SpellsWrite, SpellsFormat};
+ghost use Rattle.flop_base.specs.declared.key.Chrn.{Chrn};
+ghost use Rattle.std.specs.Prelude.{◌≡◌, ◌≤◌, ℕ, Bool};
 
 /// The nine bytes of a READ DATA of a size code from 1 to 6, and the two of a READ ID.
 pub fn reads_are_spelled()
@@ -24,4 +25,22 @@ pub fn writes_are_spelled()
 /// The bytes of a command are read as that command, where its size code is from 1 to 6 or it has none.
 pub fn commands_are_read_back()
     ensures { (command : Command) → SizeInRange command → answer (spelled command) ≡ Ready command }
+{}
+
+/// A SEEK gives one pulse per device step, as many as its cylinders are apart, all toward the target.
+/// Then it ends on the target. Until then no present cylinder number and no result changes.
+pub fn seek_gives_its_pulses()
+    ensures { SeekLaw }
+{}
+
+/// A RECALIBRATE gives one outward pulse per device step until track 0, at most 79. Then it ends on
+/// cylinder 0.
+pub fn recalibrate_gives_its_pulses()
+    ensures { RecalibrateLaw }
+{}
+
+/// After the poll that follows a reset, four SENSE INTERRUPTs give the drives' results in order, and a
+/// fifth none.
+pub fn poll_gives_four_results()
+    ensures { PollLaw }
 {}

@@ -5,7 +5,7 @@ use Rattle.std.specs.Option.{option_map_or}
 use Rattle.drive_model.specs.Drive.{DriveState, Becomes, at_index, passed, rate_of, word_under}
 use Rattle.drive_model.specs.Ahead.{LetsPass, AreAhead}
 use Rattle.drive_model.proofs.Passing.{ahead_same}
-use Rattle.fdc_fifo.specs.Fifo.{wants}
+use Rattle.fdc_registers.specs.Fifo.{wants}
 use Rattle.fdc_stages.specs.declared.searching.Search.{Search}
 use Rattle.fdc_stages.specs.declared.reading.ReadStage.TheVariants as stages
 use Rattle.fdc_stages.specs.Searches.{HearsNothing, HearsNothingIn}
@@ -25,10 +25,10 @@ use Rattle.fdc_phases.specs.Rates.{rate_fits, seen_of}
 use Rattle.fdc_core.specs.Reading.{at_stage, gone_on_reading}
 use Rattle.fdc_core.proofs.Following.{at_reading}
 use Rattle.fdc_core.proofs.Passing.{passed_by}
-use Rattle.fdc_seek.specs.declared.motion.Motion.{Motion}
-use Rattle.fdc_seek.specs.declared.motion.Motion.TheVariants.{Outward, Toward, Ended}
-use Rattle.fdc_seek.specs.declared.motion.Seek.{Seek}
-use Rattle.fdc_seek.specs.Seeking.{Seeking, with_polls, has_ended, is_seeking, stepped_seek, pulse_of, pulse_due}
+use Rattle.fdc_commands.specs.declared.motion.Motion.{Motion}
+use Rattle.fdc_commands.specs.declared.motion.Motion.TheVariants.{Outward, Toward, Ended}
+use Rattle.fdc_commands.specs.declared.motion.Seek.{Seek}
+use Rattle.fdc_commands.specs.Seeking.{Seeking, with_polls, has_ended, is_seeking, stepped_seek, pulse_of, pulse_due}
 use Rattle.fdc_phases.specs.declared.answers.Answer.{Answer}
 use Rattle.fdc_phases.specs.declared.phases.Execution.{Execution}
 use Rattle.fdc_phases.specs.declared.phases.Phase.{Phase}

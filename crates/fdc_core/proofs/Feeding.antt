@@ -2,14 +2,14 @@
 use Rattle.std.proofs.Common.{◌≡◌, ◌⊎◌, ◌<◌, ◌≤◌, ℕ, ◌-◌, Bool, true, false, not, ◌&&◌, ◌||◌, if◌then◌else◌, ◌==◌, List, [], ◌∷◌, ◌++◌, length, drop, bit_and, nat_le, max, refl, sym, ap, subst, ◌∙◌, arith, inl, inr, length-append, length-drop}
 use Rattle.std.proofs.lemmas.Bool.{false≢true, eqb-true}
 use Rattle.std.proofs.lemmas.Bool.Decides.{nat_tests}
-use Rattle.fdc_fifo.specs.Fifo.{Fifo, room_of, worth_fetching, low_level, wants}
+use Rattle.fdc_registers.specs.Fifo.{Fifo, room_of, worth_fetching, low_level, wants}
 use Rattle.fdc_core.specs.Dma.{with_byte, taken_out, taken_in, fifo_told, asking_told, told_count}
 use Rattle.fdc_phases.specs.Dma.{task_asks, phase_asks, task_told, phase_told}
 use Rattle.fdc_phases.specs.Phases.{is_over, is_read, is_reading, moves_bytes, is_moving}
 use Rattle.fdc_core.specs.State.{asks, is_gated, is_held}
 use Rattle.fdc_core.specs.Steps.{Stays, polled, seek_stepped}
 use Rattle.fdc_registers.specs.Dor.{gate}
-use Rattle.fdc_seek.specs.Seeking.{with_polls}
+use Rattle.fdc_commands.specs.Seeking.{with_polls}
 use Rattle.fdc_core.specs.Waiting.{CanWait, Feeds}
 use Rattle.fdc_phases.specs.Waiting.{TaskWaits, PhaseWaits}
 use Rattle.fdc_core.specs.declared.controller.Fdc.{Fdc}

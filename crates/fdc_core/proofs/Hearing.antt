@@ -2,7 +2,7 @@
 use Rattle.std.proofs.Common.{◌≡◌, ℕ, ◌+◌, Bool, true, false, not, ◌&&◌, if◌then◌else◌, ◌==◌, length, Some, refl, sym, subst, ◌∙◌, inl, inr}
 use Rattle.std.proofs.lemmas.Bool.{false≢true}
 use Rattle.drive_model.specs.Drive.{DriveState, at_index}
-use Rattle.fdc_seek.specs.Seeking.{with_polls}
+use Rattle.fdc_commands.specs.Seeking.{with_polls}
 use Rattle.fdc_stages.specs.Searches.{IsMiss, MissesWell}
 use Rattle.fdc_stages.specs.Readings.{IsFailure}
 use Rattle.fdc_stages.specs.declared.ending.Ending.{Ending}

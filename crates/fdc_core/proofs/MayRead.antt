@@ -19,7 +19,7 @@ use Rattle.fdc_core.specs.Heard.{MayRead}
 use Rattle.fdc_phases.specs.Heard.{Sent, sent_of, IsUnderway, HasEndedAs, IsSpent, MayReadIn, MayReadTask, MayReadIdIn, told_in, stepped, gave}
 use Rattle.fdc_core.specs.Listening.{SeesWord, is_executing, after_step, Hears, StageHears}
 use Rattle.fdc_core.specs.State.{finished}
-use Rattle.fdc_fifo.specs.Fifo.{Fifo}
+use Rattle.fdc_registers.specs.Fifo.{Fifo}
 use Rattle.fdc_phases.specs.Answers.{key_after, results_of}
 use Rattle.fdc_core.specs.Dma.{fifo_told, asking_told}
 use Rattle.fdc_phases.specs.Dma.{phase_asks, task_asks, phase_told, task_told}

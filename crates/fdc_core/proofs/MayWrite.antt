@@ -4,7 +4,7 @@ use Rattle.std.proofs.lemmas.Bool.{false≢true}
 use Rattle.std.proofs.lemmas.List.{replicate_more}
 use Rattle.flop_base.specs.declared.key.Chrn.{Chrn}
 use Rattle.drive_model.specs.Drive.{DriveState, is_protected}
-use Rattle.fdc_fifo.specs.Fifo.{Fifo, room_of}
+use Rattle.fdc_registers.specs.Fifo.{Fifo, room_of}
 use Rattle.fdc_stages.specs.History.{Past, heard, kept_out, wrote}
 use Rattle.fdc_stages.specs.declared.ending.Ending.{Ending}
 use Rattle.fdc_stages.specs.declared.ending.Ending.TheVariants.{Done, NoMark, NoSector, NoField, BadCheck, Overrun, NoCount, Protected, Late}

@@ -3,7 +3,7 @@ use Rattle.std.proofs.Common.{◌≡◌, ◌<◌, ◌≤◌, ◌+◌, ℕ, zero,
 use Rattle.std.proofs.lemmas.Bool.{false≢true}
 use Rattle.drive_model.specs.Drive.{DriveState}
 use Rattle.flop_base.specs.declared.key.Chrn.{Chrn}
-use Rattle.fdc_fifo.specs.Fifo.{Fifo}
+use Rattle.fdc_registers.specs.Fifo.{Fifo}
 use Rattle.fdc_stages.specs.History.{Past}
 use Rattle.fdc_stages.specs.Windows.{lead_behind}
 use Rattle.fdc_stages.specs.Writings.{is_open, is_due, opens, needs_byte, is_last, lead_of, rest_behind, handed_with, IsWriting, IsNextWord}

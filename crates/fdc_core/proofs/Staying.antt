@@ -1,6 +1,6 @@
 -- What a device step leaves as it was, and DRQ in execution.
 use Rattle.std.proofs.Common.{◌≡◌, ℕ, Bool, true, false, not, ◌&&◌, if◌then◌else◌, ◌==◌, [], ◌∷◌, length, Option, None, Some, refl, sym, subst, arith, length-append, length-drop, inl, inr, ◌+◌}
-use Rattle.fdc_seek.specs.Seeking.{with_polls}
+use Rattle.fdc_commands.specs.Seeking.{with_polls}
 use Rattle.fdc_stages.specs.declared.ending.Ending.{Ending}
 use Rattle.fdc_stages.specs.declared.ending.Ending.TheVariants.{Done, Overrun, Late}
 use Rattle.fdc_stages.specs.Readings.{ReadOutcome}

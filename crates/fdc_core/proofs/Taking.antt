@@ -4,7 +4,7 @@ use Rattle.std.proofs.lemmas.Bool.{false≢true, ne_eqb}
 use Rattle.std.proofs.lemmas.List.{append-nil, take_more}
 use Rattle.drive_model.specs.Drive.{DriveState, Becomes, at_index, rate_of, word_under}
 use Rattle.drive_model.specs.Ahead.{LetsPass, AreAhead}
-use Rattle.fdc_fifo.specs.Fifo.{Fifo, room_of, wants}
+use Rattle.fdc_registers.specs.Fifo.{Fifo, room_of, wants}
 use Rattle.fdc_stages.specs.declared.ending.Ending.TheVariants.{Overrun}
 use Rattle.fdc_stages.specs.declared.reading.ReadStage.{ReadStage}
 use Rattle.fdc_stages.specs.declared.reading.ReadStage.TheVariants as stages

@@ -2,8 +2,8 @@
 use Rattle.std.proofs.Common.{◌≡◌, ◌≤◌, ℕ, ◌+◌, ◌-◌, Bool, true, false, not, ◌&&◌, if◌then◌else◌, ◌==◌, List, [], ◌∷◌, length, Option, Some, None, refl, sym, ap, subst, ◌∙◌, arith, inl, inr, length-append, length-drop}
 use Rattle.std.proofs.lemmas.Bool.{false≢true, eqb-true}
 use Rattle.drive_model.specs.Drive.{DriveState, at_index, is_protected}
-use Rattle.fdc_fifo.specs.Fifo.{room_of}
-use Rattle.fdc_seek.specs.Seeking.{with_polls}
+use Rattle.fdc_registers.specs.Fifo.{room_of}
+use Rattle.fdc_commands.specs.Seeking.{with_polls}
 use Rattle.fdc_stages.specs.declared.ending.Ending.{Ending}
 use Rattle.fdc_stages.specs.declared.ending.Ending.TheVariants.{Done, NoMark, NoSector, NoField, BadCheck, Overrun, NoCount, Protected, Late}
 use Rattle.fdc_stages.specs.Readings.{ReadOutcome}

@@ -1,8 +1,8 @@
 -- A device step of a command that writes, put together.
 use Rattle.std.proofs.Common.{◌≡◌, ℕ, Bool, true, false, not, ◌&&◌, if◌then◌else◌, refl, sym, subst}
 use Rattle.drive_model.specs.Drive.{DriveState}
-use Rattle.fdc_fifo.specs.Fifo.{Fifo}
-use Rattle.fdc_seek.specs.Seeking.{with_polls}
+use Rattle.fdc_registers.specs.Fifo.{Fifo}
+use Rattle.fdc_commands.specs.Seeking.{with_polls}
 use Rattle.fdc_core.specs.State.{is_held}
 use Rattle.fdc_core.specs.Steps.{polled, seek_stepped}
 use Rattle.fdc_core.specs.Tasks.{TaskSteps}

@@ -8,9 +8,9 @@ use Rattle.fdc_commands.specs.declared.bytes.Accepted.{Accepted}
 use Rattle.fdc_commands.specs.declared.bytes.Accepted.TheVariants.{More, Ready, Invalid}
 use Rattle.fdc_commands.specs.declared.command.Command.{Command}
 use Rattle.fdc_commands.specs.declared.command.Command.TheVariants as command
-use Rattle.fdc_fifo.specs.Fifo.{emptied}
-use Rattle.fdc_seek.specs.Seeking.{with_motion, seek_bits, sensed, after_sense}
-use Rattle.fdc_seek.specs.declared.motion.Motion.TheVariants.{Outward, Toward}
+use Rattle.fdc_registers.specs.Fifo.{emptied}
+use Rattle.fdc_commands.specs.Seeking.{with_motion, seek_bits, sensed, after_sense}
+use Rattle.fdc_commands.specs.declared.motion.Motion.TheVariants.{Outward, Toward}
 use Rattle.fdc_phases.specs.declared.answers.Answer.TheVariants.{Short}
 use Rattle.fdc_core.specs.declared.controller.Fdc.{Fdc}
 use Rattle.fdc_core.specs.declared.controller.Lines.{Lines}

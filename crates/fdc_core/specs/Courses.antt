@@ -5,7 +5,7 @@ use Rattle.drive_model.specs.Ahead.{LetsPass, AreAhead}
 use Rattle.fdc_phases.specs.Phases.{ending_of_phase, mark_of_phase}
 use Rattle.fdc_phases.specs.declared.phases.Phase.{Phase}
 use Rattle.fdc_phases.specs.declared.phases.Phase.TheVariants.{Execute}
-use Rattle.fdc_seek.specs.Seeking.{is_seeking}
+use Rattle.fdc_commands.specs.Seeking.{is_seeking}
 use Rattle.fdc_stages.specs.declared.searching.Search.{Search}
 use Rattle.fdc_stages.specs.Searches.{HearsNothingIn}
 use Rattle.fdc_core.specs.Listening.{Listens, ListensToNone}

@@ -1,6 +1,6 @@
 -- The controller's side of the DMA channel.
 use Rattle.std.specs.Prelude.{ℕ, Bool, true, false, ◌==◌, [], ◌∷◌, ◌++◌, length, drop, get_or, if◌then◌else◌}
-use Rattle.fdc_fifo.specs.Fifo.{Fifo, emptied, room_of}
+use Rattle.fdc_registers.specs.Fifo.{Fifo, emptied, room_of}
 use Rattle.fdc_phases.specs.Phases.{is_reading, is_moving}
 use Rattle.fdc_core.specs.declared.controller.Fdc.{Fdc}
 use Rattle.fdc_phases.specs.declared.phases.Phase.TheVariants.{Execute}

@@ -1,7 +1,7 @@
 -- FORMAT TRACK, word by word.
 use Rattle.std.specs.Prelude.{◌≡◌, ◌<◌, ℕ, ◌+◌, Bool, true, false, Option, Some, None}
 use Rattle.drive_model.specs.Drive.{DriveState, is_protected, at_index, Writes, InRange}
-use Rattle.fdc_fifo.specs.Fifo.{wants}
+use Rattle.fdc_registers.specs.Fifo.{wants}
 use Rattle.fdc_stages.specs.declared.ending.Ending.{Ending}
 use Rattle.fdc_stages.specs.Formats.{opens, is_due, Takes}
 use Rattle.fdc_stages.specs.Leads.{HasLead}

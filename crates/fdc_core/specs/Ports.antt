@@ -5,7 +5,7 @@ use Rattle.fdc_registers.specs.Dir.{changed}
 use Rattle.fdc_registers.specs.Dor.{not_reset}
 use Rattle.fdc_registers.specs.Msr.{rqm, dio, busy}
 use Rattle.fdc_commands.specs.Table.{is_begun}
-use Rattle.fdc_seek.specs.Seeking.{seek_bits}
+use Rattle.fdc_commands.specs.Seeking.{seek_bits}
 use Rattle.fdc_phases.specs.Answers.{next_byte, after_byte, is_fresh}
 use Rattle.fdc_core.specs.Commands.{Takes}
 use Rattle.fdc_phases.specs.Rates.{rate_chosen}

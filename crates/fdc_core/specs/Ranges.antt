@@ -1,5 +1,5 @@
 -- The numbers of the controller.
-use Rattle.fdc_seek.specs.Seeking.{InRange}
+use Rattle.fdc_commands.specs.Seeking.{InRange}
 use Rattle.fdc_core.specs.Steps.{IsCounted}
 use Rattle.fdc_core.specs.declared.controller.Fdc.{Fdc}
 

@@ -1,6 +1,6 @@
 -- READ ID and READ DATA, word by word.
 use Rattle.std.specs.Prelude.{◌≡◌, ℕ, Bool, false, ◌==◌, [], ◌∷◌, ◌++◌, length, Option, Some, None, if◌then◌else◌}
-use Rattle.fdc_fifo.specs.Fifo.{room_of}
+use Rattle.fdc_registers.specs.Fifo.{room_of}
 use Rattle.fdc_stages.specs.declared.ending.Ending.{Ending}
 use Rattle.fdc_stages.specs.declared.ending.Ending.TheVariants.{Done, Overrun}
 use Rattle.fdc_stages.specs.Readings.{ReadOutcome}

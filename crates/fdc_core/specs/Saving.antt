@@ -2,9 +2,9 @@
 use Rattle.std.specs.Prelude.{ℕ, List}
 use Rattle.saved_state.specs.Saved.{spelled_byte, spelled_bytes, spelled_count, spelled_flag}
 use Rattle.fdc_commands.specs.Saving.{IsPart}
-use Rattle.fdc_fifo.specs.Saving.{spelled_fifo, IsFifo}
-use Rattle.fdc_seek.specs.Saving.{spelled_seeking}
-use Rattle.fdc_seek.specs.Seeking.{InRange}
+use Rattle.fdc_registers.specs.Saving.{spelled_fifo, IsFifo}
+use Rattle.fdc_commands.specs.Saving.{spelled_seeking}
+use Rattle.fdc_commands.specs.Seeking.{InRange}
 use Rattle.fdc_core.specs.declared.controller.Fdc.{Fdc}
 use Rattle.fdc_phases.specs.Saving.{spelled_rate, spelled_phase}
 

@@ -2,8 +2,8 @@
 use Rattle.std.specs.Prelude.{ℕ, Bool, true, false, not, ◌&&◌, ◌==◌, [], bit_and}
 use Rattle.flop_base.specs.declared.key.Chrn.{Chrn}
 use Rattle.fdc_registers.specs.Dor.{not_reset, gate}
-use Rattle.fdc_fifo.specs.Fifo.{emptied}
-use Rattle.fdc_seek.specs.Seeking.{at_rest}
+use Rattle.fdc_registers.specs.Fifo.{emptied}
+use Rattle.fdc_commands.specs.Seeking.{at_rest}
 use Rattle.fdc_stages.specs.declared.ending.Ending.{Ending}
 use Rattle.fdc_phases.specs.Answers.{results_of}
 use Rattle.fdc_phases.specs.declared.answers.Answer.TheVariants.{Long}

@@ -1,7 +1,7 @@
 -- Device steps.
 use Rattle.std.specs.Prelude.{◌≡◌, ◌<◌, ◌≤◌, length, ℕ, ◌+◌, ◌-◌, ◌==◌, Option, Some, None, Bool, true, false, not, ◌&&◌, ◌||◌, if◌then◌else◌}
 use Rattle.drive_model.specs.Drive.{DriveState, Becomes, Pulses, passed, with_gate}
-use Rattle.fdc_seek.specs.Seeking.{with_polls, stepped, pulse_due, is_seeking}
+use Rattle.fdc_commands.specs.Seeking.{with_polls, stepped, pulse_due, is_seeking}
 use Rattle.fdc_phases.specs.Dma.{phase_asks}
 use Rattle.fdc_phases.specs.Phases.{is_listening}
 use Rattle.fdc_core.specs.State.{is_held}

@@ -4,7 +4,7 @@ use Rattle.fdc_commands.specs.Table.{answer, is_begun, whole}
 use Rattle.fdc_commands.specs.declared.bytes.Accepted.{Accepted}
 use Rattle.fdc_commands.specs.declared.bytes.Accepted.TheVariants.{Ready}
 use Rattle.fdc_commands.specs.declared.command.Command.TheVariants.{Configure}
-use Rattle.fdc_seek.specs.Seeking.{seek_bits, has_ended_seek, without_ended}
+use Rattle.fdc_commands.specs.Seeking.{seek_bits, has_ended_seek, without_ended}
 use Rattle.fdc_stages.specs.declared.ending.Ending.{Ending}
 use Rattle.fdc_core.specs.Commands.{TakesAs}
 use Rattle.fdc_core.specs.Ports.{is_taking}

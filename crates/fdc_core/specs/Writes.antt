@@ -1,7 +1,7 @@
 -- Device steps of the commands that write: their word time, and what is then known of them.
 use Rattle.std.specs.Prelude.{ℕ, Bool}
 use Rattle.drive_model.specs.Drive.{DriveState}
-use Rattle.fdc_fifo.specs.Fifo.{Fifo}
+use Rattle.fdc_registers.specs.Fifo.{Fifo}
 use Rattle.fdc_stages.specs.History.{Past}
 use Rattle.fdc_stages.specs.Formats.{Numbers}
 use Rattle.fdc_core.specs.Formatting.{IsFormatStep}

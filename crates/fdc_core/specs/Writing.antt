@@ -1,7 +1,7 @@
 -- WRITE DATA and WRITE DELETED, word by word.
 use Rattle.std.specs.Prelude.{◌≡◌, ◌<◌, ℕ, ◌+◌, Bool, true, false, List, [], ◌∷◌, Option, Some, None, if◌then◌else◌, drop}
 use Rattle.drive_model.specs.Drive.{DriveState, is_protected, at_index, Writes, InRange}
-use Rattle.fdc_fifo.specs.Fifo.{Fifo, wants}
+use Rattle.fdc_registers.specs.Fifo.{Fifo, wants}
 use Rattle.fdc_stages.specs.declared.ending.Ending.{Ending}
 use Rattle.fdc_stages.specs.declared.ending.Ending.TheVariants.{Protected, Overrun, Late}
 use Rattle.fdc_stages.specs.Writings.{opens, is_due, needs_byte}

@@ -1,7 +1,7 @@
 // The bytes of a content, in many device steps at once.
 ghost use Rattle.std.specs.Prelude.{◌≡◌, ◌≤◌, ◌+◌, ◌∷◌, [], true, false, length, take};
 ghost use Rattle.drive_model.specs.Drive.{rate_of};
-ghost use Rattle.fdc_fifo.specs.Fifo.{wants};
+ghost use Rattle.fdc_registers.specs.Fifo.{wants};
 ghost use Rattle.fdc_phases.specs.Rates.{rate_fits};
 ghost use Rattle.fdc_core.specs.Contents.{with_bytes, TakesByte, TakesBytes, HasSpace, HasRoom, TakesMany};
 ghost use Rattle.fdc_core.specs.Courses.{Courses, IsQuiet};
@@ -9,8 +9,8 @@ ghost use Rattle.fdc_core.specs.Courses.{Courses, IsQuiet};
 use crate::controller::Fdc;
 use crate::courses::first_words;
 use drive_model::Drive;
-use fdc_fifo::Fifo;
 use fdc_phases::{Phase, Task, head_of};
+use fdc_registers::Fifo;
 use fdc_stages::ReadStage;
 
 impl Fdc {

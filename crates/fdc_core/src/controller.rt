@@ -3,11 +3,9 @@ ghost use Rattle.std.specs.Prelude.{◌≡◌, ◌<◌, ◌+◌, ◌↔◌, ◌%
 ghost use Rattle.fdc_core.specs.Ranges.{IsInRange};
 ghost use Rattle.fdc_core.specs.State.{at_power_up, reset, is_held, interrupts, asks, is_gated, data_commands_of, dor_of, data_rate, finished};
 
-use fdc_commands::CommandBytes;
-use fdc_fifo::Fifo;
+use fdc_commands::{CommandBytes, Seeks};
 use fdc_phases::{Answer, DataRate, Phase, results};
-use fdc_registers::{Dor, Flags};
-use fdc_seek::Seeks;
+use fdc_registers::{Dor, Fifo, Flags};
 use fdc_stages::Ending;
 use flop_base::{Chrn, NoMemory};
 use std::alloc::Global;

@@ -1,11 +1,9 @@
 // A controller as bytes.
 
 use crate::controller::Fdc;
-use fdc_commands::CommandBytes;
-use fdc_fifo::Fifo;
+use fdc_commands::{CommandBytes, Seeks};
 use fdc_phases::{DataRate, Phase};
-use fdc_registers::Dor;
-use fdc_seek::Seeks;
+use fdc_registers::{Dor, Fifo};
 use flop_base::NoMemory;
 use saved_state::{Saved, SavedWhole, Sink, Source};
 use std::alloc::Global;

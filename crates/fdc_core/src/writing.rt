@@ -11,8 +11,8 @@ ghost use Rattle.fdc_phases.specs.Writing.{IsWritingAt};
 use crate::controller::Fdc;
 use crate::steps::listen;
 use drive_model::Drive;
-use fdc_fifo::Fifo;
 use fdc_phases::{LAST_STEP, Task, Writing, head_of, is_write_over};
+use fdc_registers::Fifo;
 use fdc_stages::{Ending, WriteNext};
 
 /// What is recorded where no byte is needed, or where none came before the terminal count.

@@ -1,7 +1,7 @@
 -- What is so of the data commands as they begin.
 use Rattle.std.proofs.Common.{◌≡◌, ◌≤◌, ℕ, ◌+◌, Bool, true, false, not, ◌&&◌, ◌||◌, ◌==◌, [], length, nat_le, refl, ap, arith}
 use Rattle.std.proofs.lemmas.Bool.{false≢true}
-use Rattle.fdc_fifo.specs.Fifo.{Fifo, room_of, low_level, wants}
+use Rattle.fdc_registers.specs.Fifo.{Fifo, room_of, low_level, wants}
 use Rattle.fdc_phases.specs.Written.{AsksWithRoom}
 
 -- DRQ by the FIFO's rule is up only where there is room

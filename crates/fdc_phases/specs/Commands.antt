@@ -1,6 +1,6 @@
 -- The data commands as they begin.
 use Rattle.std.specs.Prelude.{◌≡◌, ℕ, Bool, true, false, []}
-use Rattle.fdc_fifo.specs.Fifo.{Fifo}
+use Rattle.fdc_registers.specs.Fifo.{Fifo}
 use Rattle.fdc_stages.specs.History.{begun as new_past}
 use Rattle.fdc_phases.specs.Heard.{Sent, MayReadTask, MayReadIdTask}
 use Rattle.fdc_phases.specs.declared.phases.Task.{Task}

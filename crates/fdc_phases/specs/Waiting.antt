@@ -1,6 +1,6 @@
 -- How long a data command can wait for DMA: so many device steps, no byte finds the FIFO full or is missing.
 use Rattle.std.specs.Prelude.{◌≡◌, ℕ, ◌+◌, ◌≤◌, Bool, true, false, length}
-use Rattle.fdc_fifo.specs.Fifo.{Fifo, room_of}
+use Rattle.fdc_registers.specs.Fifo.{Fifo, room_of}
 use Rattle.fdc_stages.specs.Leads.{HasLead}
 use Rattle.fdc_stages.specs.Writings.{lead_of}
 use Rattle.fdc_phases.specs.declared.phases.Phase.{Phase}

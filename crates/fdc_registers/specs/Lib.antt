@@ -5,3 +5,5 @@ pub mod St0
 pub mod St1
 pub mod St2
 pub mod St3
+pub mod Fifo
+pub mod Saving

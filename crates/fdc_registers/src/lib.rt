@@ -1,10 +1,11 @@
 //! The registers of the diskette controller in PC/AT mode (Intel 82077AA data sheet) as sets of named
 //! bits. A set is its byte: any byte is a set, bits without a name among them. `specs/` has a word for
 //! each bit. Call `union` and the other methods of `Flags`, whose contracts are exact: the operators,
-//! as `|`, have none.
+//! as `|`, have none. Beside them the data FIFO, with the rule by which it asks for DMA.
 #![tactic(auto)]
 
 mod drive_lines;
+mod fifo;
 mod main_status;
 pub mod ports;
 mod results;
@@ -12,5 +13,6 @@ mod saving;
 
 pub use bitflags::Flags;
 pub use drive_lines::{Dir, Dor};
+pub use fifo::{DEPTH, Fifo};
 pub use main_status::Msr;
 pub use results::{St0, St1, St2, St3};

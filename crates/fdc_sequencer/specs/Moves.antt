@@ -1,6 +1,6 @@
 -- Device steps of a controller and what stands in front of it: a sector ends, and the next begins or results are told.
 use Rattle.std.specs.Prelude.{◌≡◌, ◌≤◌, ℕ, zero, suc, Bool, true, false, not, ◌==◌, ◌&&◌, ◌||◌, Option, Some, None, if◌then◌else◌}
-use Rattle.fdc_seek.specs.Seeking.{has_ended_seek}
+use Rattle.fdc_commands.specs.Seeking.{has_ended_seek}
 use Rattle.fdc_stages.specs.declared.ending.Ending.{Ending}
 use Rattle.fdc_stages.specs.declared.ending.Ending.TheVariants.{Done, BadCheck, NoCount}
 use Rattle.fdc_commands.specs.declared.results.Results.{Results}

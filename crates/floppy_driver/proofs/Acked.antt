@@ -15,7 +15,7 @@ use Rattle.flop_base.proofs.Counted.{faults_go_on}
 use Rattle.sector_map.specs.Met.{met_in, HasClearAddress}
 use Rattle.sector_map.specs.MetTracks.{MeetsTrack}
 use Rattle.sector_map.proofs.MetTracks.{met_from_mark, met_track, one_met}
-use Rattle.single_commands.specs.Rigs.{Rig, IsSound, OnlyAsks, track_under}
+use Rattle.floppy_driver.specs.Rigs.{Rig, IsSound, OnlyAsks, track_under}
 use Rattle.sector_model.specs.Stations.{Bay, StationState, bay_of, set_bay, fresh_bay}
 use Rattle.sector_model.specs.Orders.{IsRefusedAtOnce}
 use Rattle.sector_model.specs.Calls.{HasClearStart, HasNoStart, AcksDrive, Acks}

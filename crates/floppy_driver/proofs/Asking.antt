@@ -8,7 +8,7 @@ use Rattle.flop_base.specs.declared.answers.Code.{Code}
 use Rattle.flop_base.specs.declared.answers.Code.TheVariants.{BadRequest, Changed}
 use Rattle.flop_base.specs.Bays.{Two, in_bay}
 use Rattle.flop_base.specs.Counters.{DriveCounts}
-use Rattle.single_commands.specs.Rigs.{Rig, OnlyAsks}
+use Rattle.floppy_driver.specs.Rigs.{Rig, OnlyAsks}
 use Rattle.sector_model.specs.Stations.{Bay, StationState, bay_of, set_bay}
 use Rattle.sector_model.specs.Orders.{is_acknowledged, IsRefusedAtOnce}
 use Rattle.sector_model.specs.Calls.{SetsRate, RatesTo, TellsChange}

@@ -6,8 +6,8 @@ use Rattle.floppy_driver.specs.declared.retry_plan.Prepare.TheVariants as prepar
 use Rattle.flop_base.specs.Bays.{Two, in_bay}
 use Rattle.flop_base.specs.Counters.{DriveCounts, Counters, faults_of, DisturbedLess, IsUndisturbed, GoesOn}
 use Rattle.flop_base.proofs.Counted.{faults_go_on}
-use Rattle.single_commands.specs.Rigs.{Rig, IsSound, OnlyAsks}
-use Rattle.single_commands.specs.Reading.{SendsRead}
+use Rattle.floppy_driver.specs.Rigs.{Rig, IsSound, OnlyAsks}
+use Rattle.floppy_driver.specs.Reading.{SendsRead}
 use Rattle.sector_model.specs.Stations.{Bay, StationState, IsSteady}
 use Rattle.sector_model.specs.Reads.{spoilable}
 use Rattle.floppy_driver.specs.declared.driver.Notes.{Notes}

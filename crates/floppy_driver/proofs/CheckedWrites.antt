@@ -22,9 +22,9 @@ use Rattle.sector_map.proofs.MetTracks.{met_track}
 use Rattle.sector_map.specs.Changes.{Change, Written}
 use Rattle.sector_model.specs.Writes.{HasOtherContent}
 use Rattle.sector_model.specs.Orders.{IsDeviceRefusal}
-use Rattle.single_commands.specs.Rigs.{Rig, AreBytes, track_under}
-use Rattle.single_commands.specs.Reading.{FindsField, ReadsBack, IsReadMiss, IsReadReason, IsReadCode}
-use Rattle.single_commands.specs.Writing.{ChangesMedium, WritesData, IsWriteMiss, IsWriteReason, IsWriteCode}
+use Rattle.floppy_driver.specs.Rigs.{Rig, AreBytes, track_under}
+use Rattle.floppy_driver.specs.Reading.{FindsField, ReadsBack, IsReadMiss, IsReadReason, IsReadCode}
+use Rattle.floppy_driver.specs.Writing.{ChangesMedium, WritesData, IsWriteMiss, IsWriteReason, IsWriteCode}
 use Rattle.floppy_driver.specs.Writings.{AreBytesAlike, WroteWhole, IsMissCause, IsReadBack, WritesChecked}
 use Rattle.floppy_driver.proofs.Shows.{driven_after, driven_within, undisturbed_faultless}
 use Rattle.floppy_driver.proofs.Rising.{less_first, less_later, less_than_two, disturbed_first, disturbed_later, stalls_later}

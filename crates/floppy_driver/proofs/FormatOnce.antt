@@ -18,9 +18,9 @@ use Rattle.sector_map.proofs.MetTracks.{met_cases}
 use Rattle.sector_map.specs.Layings.{Format, Laying, IsFormattable}
 use Rattle.sector_model.specs.Orders.{IsDeviceRefusal}
 use Rattle.sector_model.specs.Formats.{IsFormatted}
-use Rattle.single_commands.specs.Rigs.{Rig, IsSound, track_under}
-use Rattle.single_commands.specs.Reading.{IsReadCode}
-use Rattle.single_commands.specs.Writing.{FormatsTrack, LaysMedium, HasTrackUnder, CanFormatUnder, IsFormatCode}
+use Rattle.floppy_driver.specs.Rigs.{Rig, IsSound, track_under}
+use Rattle.floppy_driver.specs.Reading.{IsReadCode}
+use Rattle.floppy_driver.specs.Writing.{FormatsTrack, LaysMedium, HasTrackUnder, CanFormatUnder, IsFormatCode}
 use Rattle.floppy_driver.specs.Prepared.{IsPrepared}
 use Rattle.floppy_driver.specs.Formattings.{IsValidFormat, IsBlankUnder, HoldsRecords, IsReadBackMiss, ReadsRecords, IsAttemptRefusal, FormatsIn}
 use Rattle.floppy_driver.specs.declared.driver.Notes.{Notes}

@@ -6,8 +6,8 @@ use Rattle.raw_image.specs.Disk.{Disk}
 use Rattle.flop_base.specs.Bays.{Two, in_bay}
 use Rattle.sector_map.specs.Layings.{Format, Laying}
 use Rattle.floppy_driver.specs.declared.retry_plan.Prepare.{Prepare}
-use Rattle.single_commands.specs.Rigs.{Rig, IsSound, HeadsStay, OnlyAsks}
-use Rattle.single_commands.specs.Writing.{FormatsTrack, LaysMedium}
+use Rattle.floppy_driver.specs.Rigs.{Rig, IsSound, HeadsStay, OnlyAsks}
+use Rattle.floppy_driver.specs.Writing.{FormatsTrack, LaysMedium}
 use Rattle.floppy_driver.specs.Shown.{notes_of, is_held, with_notes}
 use Rattle.floppy_driver.specs.Attached.{IsAttached}
 use Rattle.floppy_driver.specs.Attempts.{CanTry}

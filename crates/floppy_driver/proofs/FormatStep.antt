@@ -16,7 +16,7 @@ use Rattle.sector_map.specs.Layings.{Format, IsFormattable}
 use Rattle.sector_model.specs.Stations.{Bay, StationState, bay_of, set_bay}
 use Rattle.sector_model.specs.Orders.{is_bay, is_place, is_acknowledged, is_protected, most_format_gap, is_format_request, IsRefusedAtOnce}
 use Rattle.sector_model.specs.Formats.{IsFormatCause, FormatsDrive, FormatsTo}
-use Rattle.single_commands.specs.Rigs.{Rig, OnlyAsks}
+use Rattle.floppy_driver.specs.Rigs.{Rig, OnlyAsks}
 use Rattle.floppy_driver.specs.Shown.{notes_of, is_held, with_waiting, shown, HasAsked}
 use Rattle.floppy_driver.specs.Formattings.{IsAttemptRefusal, FormatsIn, HasOnlyMedium}
 use Rattle.floppy_driver.specs.declared.driver.Driver.{Driver}

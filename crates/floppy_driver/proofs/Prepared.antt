@@ -7,8 +7,8 @@ use Rattle.floppy_driver.specs.declared.retry_plan.Prepare.TheVariants as prepar
 use Rattle.flop_base.specs.Bays.{Two, in_bay}
 use Rattle.flop_base.specs.Counters.{faults_of}
 use Rattle.flop_base.proofs.Counted.{faults_go_on}
-use Rattle.single_commands.specs.Rigs.{Rig}
-use Rattle.single_commands.specs.Heads.{MovesHeads}
+use Rattle.floppy_driver.specs.Rigs.{Rig}
+use Rattle.floppy_driver.specs.Heads.{MovesHeads}
 use Rattle.floppy_driver.specs.declared.driver.Notes.{Notes}
 use Rattle.floppy_driver.specs.declared.driver.Driver.{Driver}
 use Rattle.floppy_driver.specs.Shown.{notes_of, is_held, with_notes}

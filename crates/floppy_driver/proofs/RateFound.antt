@@ -11,8 +11,8 @@ use Rattle.flop_base.specs.Bays.{Two, in_bay}
 use Rattle.flop_base.specs.Counters.{Counters, faults_of, IsFaultless, FaultsRoseBy, GoesOn}
 use Rattle.flop_base.proofs.Counted.{goes_on_after, faults_go_on}
 use Rattle.sector_map.specs.Met.{met_in, HasClearAddress}
-use Rattle.single_commands.specs.Rigs.{Rig, StaysSpun, track_under}
-use Rattle.single_commands.specs.Reading.{SendsRead, ReadsId}
+use Rattle.floppy_driver.specs.Rigs.{Rig, StaysSpun, track_under}
+use Rattle.floppy_driver.specs.Reading.{SendsRead, ReadsId}
 use Rattle.floppy_driver.specs.Acknowledged.{OnlyReads, FindsRate}
 use Rattle.floppy_driver.proofs.Rounds.{HasFoundNone}
 use Rattle.floppy_driver.proofs.Shows.{driven_after, driven_within}

@@ -19,8 +19,8 @@ use Rattle.flop_base.specs.Counters.{IsUndisturbed}
 use Rattle.flop_base.specs.Lists.{with_items}
 use Rattle.sector_map.specs.MetTracks.{HasNothing}
 use Rattle.sector_map.proofs.MetTracks.{met_track}
-use Rattle.single_commands.specs.Rigs.{Rig, HeadsStay, track_under}
-use Rattle.single_commands.specs.Reading.{IsReadReason, ReadsBack}
+use Rattle.floppy_driver.specs.Rigs.{Rig, HeadsStay, track_under}
+use Rattle.floppy_driver.specs.Reading.{IsReadReason, ReadsBack}
 use Rattle.floppy_driver.specs.Formattings.{IsFilled, IsBlankUnder, HoldsRecord, HoldsRecords, ReadsRecords}
 use Rattle.floppy_driver.proofs.Shows.{driven_after, driven_within, undisturbed_part, undisturbed_faultless}
 

@@ -14,8 +14,8 @@ use Rattle.flop_base.specs.Lists.{with_items}
 use Rattle.flop_base.specs.Memory.{SameOutside}
 use Rattle.flop_base.proofs.Counted.{goes_on_after, goes_on_itself, faults_go_on}
 use Rattle.sector_map.specs.Met.{met_in}
-use Rattle.single_commands.specs.Rigs.{Rig, track_under}
-use Rattle.single_commands.specs.Reading.{IsReadReason, IsReadCode, IsReadMiss, FindsField, ReadsData}
+use Rattle.floppy_driver.specs.Rigs.{Rig, track_under}
+use Rattle.floppy_driver.specs.Reading.{IsReadReason, IsReadCode, IsReadMiss, FindsField, ReadsData}
 use Rattle.sector_model.specs.Stations.{Bay, StationState, bay_of, met}
 use Rattle.sector_model.specs.Orders.{IsDeviceRefusal}
 use Rattle.floppy_driver.specs.declared.driver.Driver.{Driver}

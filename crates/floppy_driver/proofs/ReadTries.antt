@@ -14,7 +14,7 @@ use Rattle.flop_base.specs.Lists.{with_items}
 use Rattle.flop_base.specs.Memory.{SameOutside}
 use Rattle.flop_base.proofs.Counted.{goes_on_after, goes_on_itself, faults_go_on}
 use Rattle.sector_map.specs.Met.{HasClearAddress, HasLook, AllFound}
-use Rattle.single_commands.specs.Reading.{IsReadReason}
+use Rattle.floppy_driver.specs.Reading.{IsReadReason}
 use Rattle.sector_model.specs.Stations.{StationState, bay_of, met}
 use Rattle.sector_model.specs.Reads.{IsRead, ReadsDrive}
 use Rattle.floppy_driver.specs.Shown.{HasAsked}

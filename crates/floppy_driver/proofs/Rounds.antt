@@ -2,7 +2,7 @@
 use Rattle.std.proofs.Common.{◌≡◌, ℕ, ◌*◌, true, IsSome}
 use Rattle.flop_base.specs.Bays.{in_bay}
 use Rattle.flop_base.specs.Counters.{FaultsRoseBy, IsDriven}
-use Rattle.single_commands.specs.Rigs.{Rig}
+use Rattle.floppy_driver.specs.Rigs.{Rig}
 use Rattle.floppy_driver.specs.Acknowledged.{Works, OnlyReads, IsSpoilt}
 
 -- the change line stayed set in so many rounds of steps: with a medium in, which is at speed, a pulse of each was lost

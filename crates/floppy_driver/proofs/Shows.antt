@@ -7,10 +7,10 @@ use Rattle.raw_image.specs.Disk.{Disk}
 use Rattle.flop_base.specs.Bays.{Two, in_bay, with_bay}
 use Rattle.flop_base.specs.Counters.{DriveCounts, Counters, faults_of, IsFaultless, DisturbedLess, IsUndisturbed, GoesOn, IsDriven}
 use Rattle.flop_base.proofs.Counted.{faults_go_on}
-use Rattle.single_commands.specs.Rigs.{Rig, StaysSpun, HeadsStay, OnlyAsks}
-use Rattle.single_commands.specs.Heads.{MovesHeads}
-use Rattle.single_commands.specs.Reading.{SendsRead}
-use Rattle.single_commands.specs.Writing.{SendsWrite}
+use Rattle.floppy_driver.specs.Rigs.{Rig, StaysSpun, HeadsStay, OnlyAsks}
+use Rattle.floppy_driver.specs.Heads.{MovesHeads}
+use Rattle.floppy_driver.specs.Reading.{SendsRead}
+use Rattle.floppy_driver.specs.Writing.{SendsWrite}
 use Rattle.sector_model.specs.Stations.{Bay, StationState, Becomes, Stays, bay_of, set_bay}
 use Rattle.sector_model.specs.Orders.{is_acknowledged}
 use Rattle.floppy_driver.specs.declared.driver.Notes.{Notes}

@@ -17,7 +17,7 @@ use Rattle.sector_map.specs.Changes.{Change, Written, window_of}
 use Rattle.sector_map.proofs.Writable.{FitsKey, IsSameOrChanged}
 use Rattle.sector_model.specs.Stations.{StationState, Becomes, bay_of, set_bay, met, IsSteady}
 use Rattle.sector_model.specs.Orders.{IsDeviceRefusal}
-use Rattle.single_commands.specs.Rigs.{Rig}
+use Rattle.floppy_driver.specs.Rigs.{Rig}
 use Rattle.floppy_driver.specs.declared.driver.Driver.{Driver}
 use Rattle.floppy_driver.specs.Shown.{shown, HasAsked}
 use Rattle.floppy_driver.specs.Attempts.{IsSure}

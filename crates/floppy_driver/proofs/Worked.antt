@@ -5,7 +5,7 @@ use Rattle.raw_image.specs.Disk.{Disk}
 use Rattle.flop_base.specs.Bays.{Two, in_bay}
 use Rattle.flop_base.specs.Counters.{DriveCounts, faults_of, IsDriven}
 use Rattle.flop_base.proofs.Counted.{goes_on_after, faults_go_on}
-use Rattle.single_commands.specs.Rigs.{Rig, OnlyAsks}
+use Rattle.floppy_driver.specs.Rigs.{Rig, OnlyAsks}
 use Rattle.sector_model.specs.Stations.{Bay, StationState, set_bay}
 use Rattle.floppy_driver.specs.declared.driver.Notes.{Notes}
 use Rattle.floppy_driver.specs.declared.driver.Driver.{Driver}

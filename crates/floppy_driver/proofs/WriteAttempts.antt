@@ -16,8 +16,8 @@ use Rattle.sector_map.specs.Met.{met_in}
 use Rattle.sector_map.specs.Changes.{Change, Written}
 use Rattle.sector_map.proofs.Changed.{change_keeps_tracks}
 use Rattle.sector_model.specs.Stations.{Bay, StationState, Becomes, Stays, bay_of, set_bay, met}
-use Rattle.single_commands.specs.Rigs.{Rig, IsSound, HeadsStay, track_under}
-use Rattle.single_commands.specs.Writing.{ChangesMedium}
+use Rattle.floppy_driver.specs.Rigs.{Rig, IsSound, HeadsStay, track_under}
+use Rattle.floppy_driver.specs.Writing.{ChangesMedium}
 use Rattle.floppy_driver.specs.declared.driver.Notes.{Notes}
 use Rattle.floppy_driver.specs.declared.driver.Driver.{Driver}
 use Rattle.floppy_driver.specs.Shown.{notes_of, is_held, bay_shown, with_waiting, shown, with_notes, HasAsked}

@@ -16,7 +16,7 @@ use Rattle.sector_map.proofs.Writable.{FitsKey}
 use Rattle.sector_model.specs.Stations.{Bay, StationState, bay_of}
 use Rattle.sector_model.specs.Asked.{IsAsked}
 use Rattle.sector_model.specs.Writes.{WritesDrive, written_from}
-use Rattle.single_commands.specs.Rigs.{Rig, AreBytes, IsSound}
+use Rattle.floppy_driver.specs.Rigs.{Rig, AreBytes, IsSound}
 use Rattle.floppy_driver.specs.declared.driver.Driver.{Driver}
 use Rattle.floppy_driver.specs.Shown.{notes_of, shown, HasAsked}
 use Rattle.floppy_driver.specs.Attempts.{IsSure}

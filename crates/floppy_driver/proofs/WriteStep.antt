@@ -10,7 +10,7 @@ use Rattle.track_model.specs.Fields.{content_size}
 use Rattle.flop_base.specs.Bays.{Two, in_bay}
 use Rattle.flop_base.specs.Counters.{DriveCounts}
 use Rattle.flop_base.proofs.Counted.{goes_on_after}
-use Rattle.single_commands.specs.Rigs.{Rig, IsSound, OnlyAsks}
+use Rattle.floppy_driver.specs.Rigs.{Rig, IsSound, OnlyAsks}
 use Rattle.sector_model.specs.Stations.{Bay, StationState}
 use Rattle.sector_model.specs.Orders.{is_sector_request, crosses_page, is_acknowledged, is_protected, IsRefusedAtOnce}
 use Rattle.sector_model.specs.Writes.{WritesDrive, WritesTo, written_from}

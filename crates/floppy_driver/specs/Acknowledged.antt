@@ -7,7 +7,7 @@ use Rattle.track_model.specs.Fields.{IsAddress}
 use Rattle.flop_base.specs.Bays.{in_bay}
 use Rattle.flop_base.specs.Counters.{faults_of, FaultsRoseBy, GoesOn, IsDriven}
 use Rattle.sector_map.specs.Met.{HasClearAddress}
-use Rattle.single_commands.specs.Rigs.{Rig, StaysSpun, HeadsStay, track_under}
+use Rattle.floppy_driver.specs.Rigs.{Rig, StaysSpun, HeadsStay, track_under}
 use Rattle.floppy_driver.specs.declared.driver.Notes.{Notes}
 
 -- a drive was worked with: neither media nor memory changed, nor the other drive

@@ -1,7 +1,7 @@
 -- What the attempts of a call have in common.
 use Rattle.std.specs.Prelude.{◌≡◌, ℕ, ◌≤◌, true, ◌⊎◌}
 use Rattle.flop_base.specs.Bays.{in_bay}
-use Rattle.single_commands.specs.Rigs.{Rig, IsSound}
+use Rattle.floppy_driver.specs.Rigs.{Rig, IsSound}
 use Rattle.floppy_driver.specs.declared.driver.Driver.{Driver}
 use Rattle.floppy_driver.specs.Shown.{notes_of, is_held}
 use Rattle.floppy_driver.specs.Attached.{IsAttached}

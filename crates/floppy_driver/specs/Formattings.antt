@@ -16,8 +16,8 @@ use Rattle.sector_map.specs.Layings.{Format, Laying, IsFormattable}
 use Rattle.sector_model.specs.Stations.{StationState, Becomes, bay_of, set_bay}
 use Rattle.sector_model.specs.Orders.{IsDeviceRefusal}
 use Rattle.sector_model.specs.Formats.{Lays, IsFormatted, IsUnformatted}
-use Rattle.single_commands.specs.Rigs.{Rig, HeadsStay, track_under}
-use Rattle.single_commands.specs.Reading.{IsReadCode}
+use Rattle.floppy_driver.specs.Rigs.{Rig, HeadsStay, track_under}
+use Rattle.floppy_driver.specs.Reading.{IsReadCode}
 use Rattle.floppy_driver.specs.declared.formatting.Asked.{Asked}
 
 -- the format that is asked for

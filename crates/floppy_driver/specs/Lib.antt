@@ -6,3 +6,7 @@ pub mod Readings
 pub mod Acknowledged
 pub mod Writings
 pub mod Formattings
+pub mod Rigs
+pub mod Heads
+pub mod Reading
+pub mod Writing

@@ -4,8 +4,8 @@ use Rattle.flop_base.specs.Bays.{in_bay}
 use Rattle.flop_base.specs.Counters.{FaultsRoseBy, FaultsRoseLess}
 use Rattle.floppy_driver.specs.declared.retry_plan.Prepare.{Prepare}
 use Rattle.floppy_driver.specs.declared.retry_plan.Prepare.TheVariants as prepare
-use Rattle.single_commands.specs.Rigs.{Rig}
-use Rattle.single_commands.specs.Heads.{MovesHeads}
+use Rattle.floppy_driver.specs.Rigs.{Rig}
+use Rattle.floppy_driver.specs.Heads.{MovesHeads}
 use Rattle.floppy_driver.specs.declared.driver.Notes.{Notes}
 
 -- steps outward to track 0, once more where the first time doesn't reach it

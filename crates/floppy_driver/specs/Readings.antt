@@ -7,7 +7,7 @@ use Rattle.flop_base.specs.declared.answers.Code.TheVariants.{Overrun, Seek}
 use Rattle.track_model.specs.Fields.{content_size}
 use Rattle.flop_base.specs.Counters.{IsUndisturbed, FaultsRoseBy, GoesOn, IsDriven}
 use Rattle.flop_base.specs.Memory.{SameOutside}
-use Rattle.single_commands.specs.Reading.{IsReadReason}
+use Rattle.floppy_driver.specs.Reading.{IsReadReason}
 use Rattle.sector_model.specs.Stations.{StationState, Becomes, bay_of, met}
 use Rattle.sector_model.specs.Orders.{IsDeviceRefusal}
 use Rattle.sector_model.specs.Reads.{IsRead}

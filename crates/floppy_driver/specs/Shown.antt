@@ -4,7 +4,7 @@ use Rattle.flop_base.specs.declared.answers.Rate.TheVariants.{R500}
 use Rattle.raw_image.specs.Disk.{Disk}
 use Rattle.flop_base.specs.Counters.{DriveCounts, Counters, GoesOn, IsDriven}
 use Rattle.sector_model.specs.Stations.{Bay, StationState, Stays}
-use Rattle.single_commands.specs.Rigs.{Rig}
+use Rattle.floppy_driver.specs.Rigs.{Rig}
 use Rattle.floppy_driver.specs.declared.driver.Notes.{Notes}
 use Rattle.floppy_driver.specs.declared.driver.Driver.{Driver}
 

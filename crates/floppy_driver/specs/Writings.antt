@@ -17,8 +17,8 @@ use Rattle.sector_map.specs.Changes.{Change, Written, IsChange}
 use Rattle.sector_map.specs.ChangedDisks.{IsWholeChange}
 use Rattle.sector_model.specs.Stations.{StationState, Becomes, bay_of, set_bay, met, IsSteady}
 use Rattle.sector_model.specs.Orders.{IsDeviceRefusal}
-use Rattle.single_commands.specs.Rigs.{Rig, HeadsStay, track_under}
-use Rattle.single_commands.specs.Writing.{ChangesMedium}
+use Rattle.floppy_driver.specs.Rigs.{Rig, HeadsStay, track_under}
+use Rattle.floppy_driver.specs.Writing.{ChangesMedium}
 use Rattle.floppy_driver.specs.declared.driver.Driver.{Driver}
 use Rattle.floppy_driver.specs.Attempts.{CanTry}
 use Rattle.sector_model.specs.Writes.{HasWindowCut, HasOtherContent}

@@ -2,14 +2,14 @@
 ghost use Rattle.std.specs.Prelude.{◌≡◌, ◌≤◌, true, List, ℕ};
 ghost use Rattle.flop_base.specs.Bays.{in_bay};
 ghost use Rattle.flop_base.specs.Counters.{DriveCounts, GoesOn};
-ghost use Rattle.single_commands.specs.Rigs.{IsSound};
+ghost use Rattle.floppy_driver.specs.Rigs.{IsSound};
 ghost use Rattle.floppy_driver.specs.Acknowledged.{ClearsChange, FindsRate};
 
+use crate::Commands;
 use crate::change_line::Gate;
 use crate::driver::{Driver, Notes};
 use crate::preparing::go_to_track_0;
 use flop_base::{Code, Rate};
-use single_commands::Commands;
 
 /// How often a change line is looked at behind pulses, and how often each rate is tried.
 const ROUNDS: u8 = 3;

@@ -4,10 +4,10 @@ ghost use Rattle.flop_base.specs.declared.answers.Rate.TheVariants.{R500};
 ghost use Rattle.flop_base.specs.Bays.{in_bay};
 ghost use Rattle.flop_base.specs.Counters.{DriveCounts, GoesOn};
 
+use crate::Commands;
 use crate::change_line::Gate;
 use crate::retry_plan::START_TRIES;
 use flop_base::{Code, Rate};
-use single_commands::Commands;
 
 /// What a driver notes of a bay.
 #[derive(Clone, Copy)]
@@ -49,7 +49,7 @@ impl Driver {
     ghost use Rattle.floppy_driver.specs.Shown.{shown, notes_of, with_notes, is_held, IsFreshDriver};
     ghost use Rattle.floppy_driver.specs.Attached.{IsAttached, CanSetUp};
     ghost use Rattle.floppy_driver.specs.Attempts.{CanTry};
-    ghost use Rattle.single_commands.specs.Rigs.{Rig, IsReset, OnlyAsks};
+    ghost use Rattle.floppy_driver.specs.Rigs.{Rig, IsReset, OnlyAsks};
     ghost use Rattle.sector_model.specs.Calls.{RatesTo, SetsTries, TellsChange};
 
     /// Sets a machine up, whose empty drives have their change lines set.

@@ -6,17 +6,17 @@ ghost use Rattle.flop_base.specs.Standard.{sectors_at};
 ghost use Rattle.track_model.specs.Fields.{IsSizeCode};
 ghost use Rattle.flop_base.specs.Bays.{in_bay};
 ghost use Rattle.flop_base.specs.Counters.{DriveCounts, GoesOn};
-ghost use Rattle.single_commands.specs.Rigs.{IsSound, track_under};
+ghost use Rattle.floppy_driver.specs.Rigs.{IsSound, track_under};
 ghost use Rattle.floppy_driver.specs.Writings.{CanWrite};
 ghost use Rattle.floppy_driver.specs.Formattings.{format_of, IsValidFormat, FormatsIn, HasOnlyMedium};
 ghost use Rattle.floppy_driver.specs.Formattings.{IsFilled, IsBlankUnder, HoldsRecord, HoldsRecords, ReadsRecords};
 
+use crate::Commands;
 use crate::driver::Driver;
 use crate::retry_plan::Prepare;
 use flop_base::standard::SIZE_CODE;
 use flop_base::{Chrn, Code, Rate, sector_size};
 use sector_model::{is_place, most_format_gap};
-use single_commands::Commands;
 
 /// The least gap 3.
 const LEAST_GAP: u8 = 16;

@@ -1,5 +1,5 @@
 //! The driver of two diskette bays: a read, a write, a format and an acknowledgement, each in a few attempts, over a machine
-//! that runs one command at a time.
+//! that runs one command at a time (the trait `Commands`).
 //!
 //! Each call is a step of the sector model, whatever faults the drives have and however long requests wait. No call takes
 //! memory, and the machine's user memory changes through its commands alone. How often it tries and how it prepares an attempt, and
@@ -8,6 +8,7 @@
 
 mod acknowledging;
 mod change_line;
+mod commands;
 mod driver;
 mod formatting;
 mod preparing;
@@ -16,5 +17,6 @@ mod retry_plan;
 mod writing;
 
 pub use change_line::Gate;
+pub use commands::Commands;
 pub use driver::Driver;
 pub use retry_plan::{Prepare, START_TRIES, preparation};

@@ -1,12 +1,12 @@
 // Preparing an attempt: the heads go to the cylinder of the command.
 ghost use Rattle.std.specs.Prelude.{◌≡◌, ◌≤◌, true, IsSome};
 ghost use Rattle.flop_base.specs.Bays.{in_bay};
-ghost use Rattle.single_commands.specs.Rigs.{IsSound};
+ghost use Rattle.floppy_driver.specs.Rigs.{IsSound};
 ghost use Rattle.floppy_driver.specs.Prepared.{GoesToTrack0};
 
+use crate::Commands;
 use crate::driver::{Driver, Notes};
 use crate::retry_plan::Prepare;
-use single_commands::Commands;
 
 /// Steps outward to track 0, once more where the first time doesn't reach it; false where neither does.
 pub(crate) fn go_to_track_0<C: Commands>(machine: &mut C, bay: u8) -> bool

@@ -3,11 +3,11 @@ ghost use Rattle.std.specs.Prelude.{◌≡◌, ◌≤◌, ◌+◌, ◌-◌, ◌/
 ghost use Rattle.track_model.specs.Fields.{content_size};
 ghost use Rattle.flop_base.specs.Counters.{DriveCounts, GoesOn};
 
+use crate::Commands;
 use crate::driver::Driver;
 use crate::retry_plan::preparation;
 use flop_base::{Chrn, Code, sector_size};
 use sector_model::{crosses_page, is_sector_request};
-use single_commands::Commands;
 
 impl Driver {
     ghost use Rattle.floppy_driver.specs.Shown.{shown, HasAsked};

@@ -5,15 +5,15 @@ ghost use Rattle.flop_base.specs.Bays.{in_bay};
 ghost use Rattle.flop_base.specs.Counters.{DriveCounts, GoesOn};
 ghost use Rattle.flop_base.specs.Memory.{user_bytes, bytes_from};
 ghost use Rattle.track_model.specs.Fields.{content_size};
-ghost use Rattle.single_commands.specs.Rigs.{IsSound};
+ghost use Rattle.floppy_driver.specs.Rigs.{IsSound};
 ghost use Rattle.sector_model.specs.Asked.{IsAsked};
 ghost use Rattle.floppy_driver.specs.Writings.{AreBytesAlike, WritesChecked};
 
+use crate::Commands;
 use crate::driver::Driver;
 use crate::retry_plan::preparation;
 use flop_base::{Chrn, Code, Rate, sector_size};
 use sector_model::{crosses_page, is_sector_request};
-use single_commands::Commands;
 
 impl Driver {
     ghost use Rattle.floppy_driver.specs.Shown.{shown, HasAsked};

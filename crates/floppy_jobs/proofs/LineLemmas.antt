@@ -2,7 +2,7 @@
 use Rattle.std.proofs.Common.{◌≡◌, ℕ, suc, ◌+◌, ◌<◌, ◌≤◌, Bool, true, false, eqb, cond, nat_lt, Some, None, List, [], ◌∷◌, ◌++◌, length, take, drop, Result, Ok, Err, refl, ap, arith}
 use Rattle.std.proofs.lemmas.Bool.Decides.{nat_tests}
 use Rattle.std.specs.List.{position_or_len, onto_first}
-use Rattle.floppy_requests.specs.Lines.{lines_of}
+use Rattle.floppy_jobs.specs.Lines.{lines_of}
 
 -- items in front of what further lines say
 abbrev pub in_front : {T : Type 0} → List T → Result (List T) ℕ → Result (List T) ℕ

@@ -7,7 +7,7 @@ use Rattle.std.specs.Option.{option_copied}
 use Rattle.std.specs.Result.{result_ok}
 use Rattle.std.specs.Str.{IsUtf8}
 use denote.Ref.{Bor}
-use Rattle.floppy_requests.specs.Names.{is_name_byte, is_name_text, name_of}
+use Rattle.floppy_jobs.specs.Names.{is_name_byte, is_name_text, name_of}
 
 name_byte_ascii : (c : ℕ) → is_name_byte c ≡ true → c < 128
 name_byte_ascii c h = grind (arith, nat_tests)

@@ -4,7 +4,7 @@ use Rattle.std.proofs.Math.Nat.{mul-le-mul_left}
 use Rattle.std.proofs.lemmas.Bool.Decides.{nat_tests}
 use Rattle.std.specs.Char.{digit_value}
 use Rattle.std.specs.Str.Parse.{digits_value_after}
-use Rattle.floppy_requests.specs.Numbers.{all_digits, number_of}
+use Rattle.floppy_jobs.specs.Numbers.{all_digits, number_of}
 
 -- what is read where the digits so far spell n
 abbrev pub read_on : ℕ → ℕ → ℕ → ℕ → List ℕ → Option ℕ

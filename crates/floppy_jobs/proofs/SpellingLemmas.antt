@@ -4,13 +4,13 @@ use Rattle.std.specs.Fmt.{decimal}
 use Rattle.std.specs.List.{join_with_byte}
 use Rattle.flop_base.specs.declared.key.Chrn.{Chrn}
 use Rattle.flop_base.specs.declared.answers.Rate.TheVariants.{R500, R250}
-use Rattle.floppy_requests.specs.declared.request.Request.{Request}
-use Rattle.floppy_requests.specs.declared.request.Request.TheVariants.{Insert, Blank, BlankDd, Eject, Ack, Read, Write, WriteDeleted, Format, Fill, Dump, Unit, SetRate, Tries}
-use Rattle.floppy_requests.specs.Lines.{line_of}
-use Rattle.floppy_requests.specs.Requests.{insert_of, blank_of, blankdd_of, eject_of, ack_of, sector_of, read_of, write_of, writedel_of, format_of, fill_of, dump_of, unit_of, rate_word_of, rate_of, tries_line_of, plain_of, request_of}
-use Rattle.floppy_requests.specs.Spelling.{verb_text, sector_texts, field_texts, spelling}
-use Rattle.floppy_requests.specs.Texts.{job_of}
-use Rattle.floppy_requests.specs.Valid.{IsRequest, IsSector}
+use Rattle.floppy_jobs.specs.declared.request.Request.{Request}
+use Rattle.floppy_jobs.specs.declared.request.Request.TheVariants.{Insert, Blank, BlankDd, Eject, Ack, Read, Write, WriteDeleted, Format, Fill, Dump, Unit, SetRate, Tries}
+use Rattle.floppy_jobs.specs.Lines.{line_of}
+use Rattle.floppy_jobs.specs.Requests.{insert_of, blank_of, blankdd_of, eject_of, ack_of, sector_of, read_of, write_of, writedel_of, format_of, fill_of, dump_of, unit_of, rate_word_of, rate_of, tries_line_of, plain_of, request_of}
+use Rattle.floppy_jobs.specs.Spelling.{verb_text, sector_texts, field_texts, spelling}
+use Rattle.floppy_jobs.specs.Texts.{job_of}
+use Rattle.floppy_jobs.specs.Valid.{IsRequest, IsSector}
 use Rattle.floppy_jobs.proofs.WordLemmas.{is_word, AreWords, byte-decimal, length-decimal, tries-decimal, decimal-word, hex_byte-hex2, address-hex5, hex2-word, hex5-word, length-byte, length-length, length-hex2, length-hex5, name-reads, name-word, name-length, words_of-join, joined, first_ink, no_shorter, line_of-words, text_of-words}
 
 -- the words of a sector read back

@@ -8,14 +8,14 @@ use Rattle.std.specs.Str.Parse.{digits_value}
 use Rattle.std.proofs.lemmas.List.Elements.{All-from_recursion}
 use Rattle.flop_base.specs.declared.key.Chrn.{Chrn}
 use Rattle.floppy_jobs.specs.declared.lines.JobError.{JobError}
-use Rattle.floppy_requests.specs.declared.request.Request.{Request}
-use Rattle.floppy_requests.specs.declared.request.Request.TheVariants as request
-use Rattle.floppy_requests.specs.Lines.{lines_of, line_of, lines_say, with_line, words_of, is_passed_over, text_of}
-use Rattle.floppy_jobs.specs.Lines.{ReadsText}
-use Rattle.floppy_requests.specs.Names.{name_of, is_name_text, IsName}
-use Rattle.floppy_requests.specs.Numbers.{all_digits, number_of, byte_of, address_of, length_of, hex_byte_of, tries_of}
-use Rattle.floppy_requests.specs.Requests.{insert_of, blank_of, blankdd_of, eject_of, ack_of, sector_of, read_of, write_of, writedel_of, format_of, fill_of, dump_of, unit_of, rate_word_of, rate_of, tries_line_of, plain_of, request_of}
-use Rattle.floppy_requests.specs.Valid.{IsByte, IsSector, IsLength, IsRequest}
+use Rattle.floppy_jobs.specs.declared.request.Request.{Request}
+use Rattle.floppy_jobs.specs.declared.request.Request.TheVariants as request
+use Rattle.floppy_jobs.specs.Lines.{lines_of, line_of, lines_say, with_line, words_of, is_passed_over, text_of}
+use Rattle.floppy_jobs.specs.LinesRead.{ReadsText}
+use Rattle.floppy_jobs.specs.Names.{name_of, is_name_text, IsName}
+use Rattle.floppy_jobs.specs.Numbers.{all_digits, number_of, byte_of, address_of, length_of, hex_byte_of, tries_of}
+use Rattle.floppy_jobs.specs.Requests.{insert_of, blank_of, blankdd_of, eject_of, ack_of, sector_of, read_of, write_of, writedel_of, format_of, fill_of, dump_of, unit_of, rate_word_of, rate_of, tries_line_of, plain_of, request_of}
+use Rattle.floppy_jobs.specs.Valid.{IsByte, IsSector, IsLength, IsRequest}
 use Rattle.floppy_jobs.proofs.NameLemmas.{and_left, and_right}
 
 -- what a choice or a chain of readings gave

@@ -12,10 +12,10 @@ use Rattle.std.specs.List.{list_all, slice_split, join_with_byte, AllByRecursion
 use Rattle.std.specs.Str.Lines.{strip_carriage_return}
 use Rattle.std.specs.Str.Parse.{AllDigits, IsNumeral, digits_value}
 use Rattle.floppy_jobs.proofs.NameLemmas.{and_left, and_right}
-use Rattle.floppy_requests.specs.Lines.{lines_of, words_of, line_of, text_of}
-use Rattle.floppy_requests.specs.Names.{is_name_byte, is_name_text, name_of}
-use Rattle.floppy_requests.specs.Numbers.{all_digits, number_of, byte_of, address_of, length_of, hex_byte_of, tries_of}
-use Rattle.floppy_requests.specs.Spelling.{hex_digit, hex2, hex5}
+use Rattle.floppy_jobs.specs.Lines.{lines_of, words_of, line_of, text_of}
+use Rattle.floppy_jobs.specs.Names.{is_name_byte, is_name_text, name_of}
+use Rattle.floppy_jobs.specs.Numbers.{all_digits, number_of, byte_of, address_of, length_of, hex_byte_of, tries_of}
+use Rattle.floppy_jobs.specs.Spelling.{hex_digit, hex2, hex5}
 
 and_from : (a b : Bool) → a ≡ true → b ≡ true → (a && b) ≡ true
 and_from true b h k = k

@@ -2,7 +2,7 @@
 use Rattle.std.specs.Prelude.{ℕ, Bool, ◌||◌, List, [], ◌∷◌, Option, Some, None, codes, option_map, if◌then◌else◌}
 use Rattle.std.specs.Str.{bytes_eq}
 use Rattle.floppy_jobs.specs.Numbers.{register_of}
-use Rattle.floppy_requests.specs.Requests.{◌>>=◌, request_of}
+use Rattle.floppy_jobs.specs.Requests.{◌>>=◌, request_of}
 use Rattle.floppy_jobs.specs.declared.calls.CallLine.{CallLine}
 use Rattle.floppy_jobs.specs.declared.calls.CallLine.TheVariants as call
 

@@ -1,5 +1,10 @@
 pub mod Calls
-pub mod Lines
+pub mod LinesRead
 pub mod Numbers
 pub mod Ports
 pub mod Texts
+pub mod Lines
+pub mod Names
+pub mod Requests
+pub mod Spelling
+pub mod Valid

@@ -1,10 +1,10 @@
 -- What the lines of a ports text spell.
 use Rattle.std.specs.Prelude.{ℕ, List, [], ◌∷◌, Option, Some, None, codes, if◌then◌else◌}
 use Rattle.std.specs.Str.{bytes_eq}
-use Rattle.floppy_requests.specs.Names.{name_of}
-use Rattle.floppy_requests.specs.Numbers.{byte_of, hex_byte_of}
+use Rattle.floppy_jobs.specs.Names.{name_of}
+use Rattle.floppy_jobs.specs.Numbers.{byte_of, hex_byte_of}
 use Rattle.floppy_jobs.specs.Numbers.{port_of, steps_of}
-use Rattle.floppy_requests.specs.Requests.{◌>>=◌}
+use Rattle.floppy_jobs.specs.Requests.{◌>>=◌}
 use Rattle.floppy_jobs.specs.declared.ports.PortLine.{PortLine}
 use Rattle.floppy_jobs.specs.declared.ports.PortLine.TheVariants as port
 

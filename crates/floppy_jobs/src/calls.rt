@@ -1,6 +1,6 @@
 // The text of calls of INT 13h.
 ghost use Rattle.std.specs.Prelude.{◌≡◌, map};
-ghost use Rattle.floppy_jobs.specs.Lines.{Reads, ReadsText};
+ghost use Rattle.floppy_jobs.specs.LinesRead.{Reads, ReadsText};
 ghost use Rattle.floppy_jobs.specs.Calls.{call_of, is_shared_verb as shared_verb, call_line_of};
 ghost use Rattle.floppy_jobs.specs.Texts.{calls_of};
 

@@ -1,9 +1,9 @@
 // The text of a job: one request a line.
 ghost use Rattle.std.specs.Prelude.{◌≡◌, map, All, IfOk};
-ghost use Rattle.floppy_jobs.specs.Lines.{Reads, ReadsText};
-ghost use Rattle.floppy_requests.specs.Texts.{job_of};
-ghost use Rattle.floppy_requests.specs.Valid.{IsRequest};
-ghost use Rattle.floppy_requests.specs.Requests.{insert_of, blank_of, blankdd_of, eject_of, ack_of, sector_of, read_of, write_of, writedel_of, format_of, fill_of, dump_of, unit_of, rate_word_of, rate_of, tries_line_of, plain_of, request_of};
+ghost use Rattle.floppy_jobs.specs.LinesRead.{Reads, ReadsText};
+ghost use Rattle.floppy_jobs.specs.Texts.{job_of};
+ghost use Rattle.floppy_jobs.specs.Valid.{IsRequest};
+ghost use Rattle.floppy_jobs.specs.Requests.{insert_of, blank_of, blankdd_of, eject_of, ack_of, sector_of, read_of, write_of, writedel_of, format_of, fill_of, dump_of, unit_of, rate_word_of, rate_of, tries_line_of, plain_of, request_of};
 
 use crate::Request;
 use crate::lines::{JobError, Line, LineError, MOST_LINES, read_lines};
@@ -15,7 +15,7 @@ use std::alloc::Global;
 
 /// Reads a job. A text with a bad line is refused as a whole. Whether a bay or a place exists is no question of the
 /// text.
-#[tactic(auto, unfolding(floppy_requests::specs::Texts::job_of))]
+#[tactic(auto, unfolding(crate::specs::Texts::job_of))]
 pub fn parse_job(alloc: Global, bytes: &[u8]) -> Result<Vec<Request>, JobError>
     ensures read { ReadsText (λ requests. requests.items) result (job_of bytes.now) }
     ensures valid { IfOk result (λ requests. All IsRequest requests.items) }
@@ -32,7 +32,7 @@ impl Line for Request {
 }
 
 /// The request that a line's words spell.
-#[tactic(auto, unfolding(floppy_requests::specs::Requests::request_of))]
+#[tactic(auto, unfolding(crate::specs::Requests::request_of))]
 pub fn request(alloc: Global, words: &[&[u8]]) -> Result<Request, LineError>
     ensures { Reads result (request_of (map (λ word. word.now) words.now)) }
 {
@@ -49,7 +49,7 @@ pub fn request(alloc: Global, words: &[&[u8]]) -> Result<Request, LineError>
 }
 
 /// The requests without a name.
-#[tactic(auto, unfolding(floppy_requests::specs::Requests::plain_of))]
+#[tactic(auto, unfolding(crate::specs::Requests::plain_of))]
 fn plain(verb: &[u8], fields: &[&[u8]]) -> Option<Request>
     ensures { result ≡ plain_of verb.now (map (λ word. word.now) fields.now) }
 {
@@ -80,7 +80,7 @@ fn plain(verb: &[u8], fields: &[&[u8]]) -> Option<Request>
     }
 }
 
-#[tactic(auto, unfolding(floppy_requests::specs::Requests::insert_of))]
+#[tactic(auto, unfolding(crate::specs::Requests::insert_of))]
 fn insert(alloc: Global, fields: &[&[u8]]) -> Result<Request, LineError>
     ensures { Reads result (insert_of (map (λ word. word.now) fields.now)) }
 {
@@ -92,7 +92,7 @@ fn insert(alloc: Global, fields: &[&[u8]]) -> Result<Request, LineError>
     Ok(Request::Insert { bay, name })
 }
 
-#[tactic(auto, unfolding(floppy_requests::specs::Requests::blank_of))]
+#[tactic(auto, unfolding(crate::specs::Requests::blank_of))]
 fn blank(alloc: Global, fields: &[&[u8]]) -> Result<Request, LineError>
     ensures { Reads result (blank_of (map (λ word. word.now) fields.now)) }
 {
@@ -109,7 +109,7 @@ fn blank(alloc: Global, fields: &[&[u8]]) -> Result<Request, LineError>
     })
 }
 
-#[tactic(auto, unfolding(floppy_requests::specs::Requests::blankdd_of))]
+#[tactic(auto, unfolding(crate::specs::Requests::blankdd_of))]
 fn blankdd(alloc: Global, fields: &[&[u8]]) -> Result<Request, LineError>
     ensures { Reads result (blankdd_of (map (λ word. word.now) fields.now)) }
 {
@@ -126,7 +126,7 @@ fn blankdd(alloc: Global, fields: &[&[u8]]) -> Result<Request, LineError>
     })
 }
 
-#[tactic(auto, unfolding(floppy_requests::specs::Requests::eject_of))]
+#[tactic(auto, unfolding(crate::specs::Requests::eject_of))]
 fn eject(fields: &[&[u8]]) -> Option<Request>
     ensures { result ≡ eject_of (map (λ word. word.now) fields.now) }
 {
@@ -135,7 +135,7 @@ fn eject(fields: &[&[u8]]) -> Option<Request>
     Some(Request::Eject { bay })
 }
 
-#[tactic(auto, unfolding(floppy_requests::specs::Requests::ack_of))]
+#[tactic(auto, unfolding(crate::specs::Requests::ack_of))]
 fn ack(fields: &[&[u8]]) -> Option<Request>
     ensures { result ≡ ack_of (map (λ word. word.now) fields.now) }
 {
@@ -145,7 +145,7 @@ fn ack(fields: &[&[u8]]) -> Option<Request>
 }
 
 /// The bay, the key and the address of a read or a write.
-#[tactic(auto, unfolding(floppy_requests::specs::Requests::sector_of))]
+#[tactic(auto, unfolding(crate::specs::Requests::sector_of))]
 fn sector(fields: &[&[u8]]) -> Option<(u8, Chrn, u32)>
     ensures { result ≡ sector_of (map (λ word. word.now) fields.now) }
 {
@@ -161,7 +161,7 @@ fn sector(fields: &[&[u8]]) -> Option<(u8, Chrn, u32)>
     Some((bay, Chrn { c, h, r, n }, address))
 }
 
-#[tactic(auto, unfolding(floppy_requests::specs::Requests::read_of))]
+#[tactic(auto, unfolding(crate::specs::Requests::read_of))]
 fn read(fields: &[&[u8]]) -> Option<Request>
     ensures { result ≡ read_of (map (λ word. word.now) fields.now) }
 {
@@ -169,7 +169,7 @@ fn read(fields: &[&[u8]]) -> Option<Request>
     Some(Request::Read { bay, key, address })
 }
 
-#[tactic(auto, unfolding(floppy_requests::specs::Requests::write_of))]
+#[tactic(auto, unfolding(crate::specs::Requests::write_of))]
 fn write(fields: &[&[u8]]) -> Option<Request>
     ensures { result ≡ write_of (map (λ word. word.now) fields.now) }
 {
@@ -177,7 +177,7 @@ fn write(fields: &[&[u8]]) -> Option<Request>
     Some(Request::Write { bay, key, address })
 }
 
-#[tactic(auto, unfolding(floppy_requests::specs::Requests::writedel_of))]
+#[tactic(auto, unfolding(crate::specs::Requests::writedel_of))]
 fn writedel(fields: &[&[u8]]) -> Option<Request>
     ensures { result ≡ writedel_of (map (λ word. word.now) fields.now) }
 {
@@ -185,7 +185,7 @@ fn writedel(fields: &[&[u8]]) -> Option<Request>
     Some(Request::WriteDeleted { bay, key, address })
 }
 
-#[tactic(auto, unfolding(floppy_requests::specs::Requests::format_of))]
+#[tactic(auto, unfolding(crate::specs::Requests::format_of))]
 fn format(fields: &[&[u8]]) -> Option<Request>
     ensures { result ≡ format_of (map (λ word. word.now) fields.now) }
 {
@@ -196,7 +196,7 @@ fn format(fields: &[&[u8]]) -> Option<Request>
     Some(Request::Format { bay, c, h })
 }
 
-#[tactic(auto, unfolding(floppy_requests::specs::Requests::fill_of))]
+#[tactic(auto, unfolding(crate::specs::Requests::fill_of))]
 fn fill(fields: &[&[u8]]) -> Option<Request>
     ensures { result ≡ fill_of (map (λ word. word.now) fields.now) }
 {
@@ -213,7 +213,7 @@ fn fill(fields: &[&[u8]]) -> Option<Request>
     })
 }
 
-#[tactic(auto, unfolding(floppy_requests::specs::Requests::dump_of))]
+#[tactic(auto, unfolding(crate::specs::Requests::dump_of))]
 fn dump(fields: &[&[u8]]) -> Option<Request>
     ensures { result ≡ dump_of (map (λ word. word.now) fields.now) }
 {
@@ -223,7 +223,7 @@ fn dump(fields: &[&[u8]]) -> Option<Request>
     Some(Request::Dump { address, length })
 }
 
-#[tactic(auto, unfolding(floppy_requests::specs::Requests::unit_of))]
+#[tactic(auto, unfolding(crate::specs::Requests::unit_of))]
 fn unit(fields: &[&[u8]]) -> Option<Request>
     ensures { result ≡ unit_of (map (λ word. word.now) fields.now) }
 {
@@ -233,7 +233,7 @@ fn unit(fields: &[&[u8]]) -> Option<Request>
 }
 
 /// The rate that a word names, in kbit/s.
-#[tactic(auto, unfolding(floppy_requests::specs::Requests::rate_word_of))]
+#[tactic(auto, unfolding(crate::specs::Requests::rate_word_of))]
 fn rate_word(word: &[u8]) -> Option<Rate>
     ensures { result ≡ rate_word_of word.now }
 {
@@ -244,7 +244,7 @@ fn rate_word(word: &[u8]) -> Option<Rate>
     }
 }
 
-#[tactic(auto, unfolding(floppy_requests::specs::Requests::rate_of))]
+#[tactic(auto, unfolding(crate::specs::Requests::rate_of))]
 fn rate(fields: &[&[u8]]) -> Option<Request>
     ensures { result ≡ rate_of (map (λ word. word.now) fields.now) }
 {
@@ -254,7 +254,7 @@ fn rate(fields: &[&[u8]]) -> Option<Request>
     Some(Request::SetRate { bay, rate })
 }
 
-#[tactic(auto, unfolding(floppy_requests::specs::Requests::tries_line_of))]
+#[tactic(auto, unfolding(crate::specs::Requests::tries_line_of))]
 fn tries_line(fields: &[&[u8]]) -> Option<Request>
     ensures { result ≡ tries_line_of (map (λ word. word.now) fields.now) }
 {

@@ -1,9 +1,9 @@
 // What follows of the spelling of a request. The bodies are empty.
 ghost use Rattle.std.specs.Prelude.{◌≡◌, Ok, [], ◌∷◌};
-ghost use Rattle.floppy_requests.specs.Spelling.{spelling};
-ghost use Rattle.floppy_requests.specs.Texts.{job_of};
-ghost use Rattle.floppy_requests.specs.Valid.{IsRequest};
-ghost use Rattle.floppy_requests.specs.declared.request.Request.{Request};
+ghost use Rattle.floppy_jobs.specs.Spelling.{spelling};
+ghost use Rattle.floppy_jobs.specs.Texts.{job_of};
+ghost use Rattle.floppy_jobs.specs.Valid.{IsRequest};
+ghost use Rattle.floppy_jobs.specs.declared.request.Request.{Request};
 
 /// The plain spelling of a request that a job may have is a job of that request alone.
 pub fn spelling_reads_back()

@@ -1,5 +1,5 @@
 //! The texts that the program reads (jobs, port accesses, calls of INT 13h), over one reader of lines,
-//! words and numbers.
+//! words and numbers; and what a job may ask, with the plain spelling of a request.
 #![tactic(auto)]
 
 mod calls;
@@ -9,12 +9,15 @@ pub mod lines;
 mod name;
 pub mod numbers;
 mod ports;
+mod request;
+mod spelling;
 mod verb;
 
 pub use calls::{CallLine, parse_calls};
-pub use floppy_requests::{Address, MemoryByte, Request};
 pub use job::parse_job;
 pub use lines::JobError;
 pub use name::{is_name, name_text};
 pub use ports::{PortLine, parse_ports};
+pub use request::Request;
+pub use spelling::{Address, MemoryByte};
 pub use verb::is_verb;

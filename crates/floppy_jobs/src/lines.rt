@@ -2,8 +2,8 @@
 ghost use Rattle.std.specs.Prelude.{◌≡◌, ◌==◌, ◌<◌, List, ℕ, Option, [], ◌∷◌, length, map, MatchOption, IfOk, position};
 ghost use Rattle.std.specs.Str.Lines.{strip_carriage_return};
 ghost use Rattle.floppy_jobs.specs.declared.lines.LineError.TheVariants.{NoMemory};
-ghost use Rattle.floppy_requests.specs.Lines.{words_of, lines_of, line_of, text_of};
-ghost use Rattle.floppy_jobs.specs.Lines.{Reads, ReadsText};
+ghost use Rattle.floppy_jobs.specs.Lines.{words_of, lines_of, line_of, text_of};
+ghost use Rattle.floppy_jobs.specs.LinesRead.{Reads, ReadsText};
 
 use flop_base::NoMemory;
 use std::alloc::{AllocError, Global};
@@ -110,7 +110,7 @@ fn words(alloc: Global, line: &[u8]) -> Result<Vec<&[u8]>, AllocError>
 }
 
 /// What a line says; nothing where it is blank or a comment.
-#[tactic(auto, unfolding(floppy_requests::specs::Lines::line_of))]
+#[tactic(auto, unfolding(crate::specs::Lines::line_of))]
 fn read_line<L: Line>(alloc: Global, line: &[u8]) -> Result<Option<L>, LineError>
     ensures { Reads result (line_of L.spelled (strip_carriage_return line.now)) }
 {
@@ -130,7 +130,7 @@ fn read_line<L: Line>(alloc: Global, line: &[u8]) -> Result<Option<L>, LineError
 
 /// Reads a text line by line, up to its first bad line: one that isn't understood, or the first past 200 bytes or
 /// `most_lines` lines. A text of more than `MOST_BYTES` is refused as line 0.
-#[tactic(auto, unfolding(floppy_requests::specs::Lines::text_of))]
+#[tactic(auto, unfolding(crate::specs::Lines::text_of))]
 pub fn read_lines<L: Line>(
     alloc: Global,
     text: &[u8],

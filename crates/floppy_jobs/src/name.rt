@@ -2,8 +2,8 @@
 ghost use Rattle.std.specs.Prelude.{◌≡◌};
 ghost use Rattle.std.specs.List.{list_all};
 ghost use Rattle.std.specs.Option.{option_copied};
-ghost use Rattle.floppy_jobs.specs.Lines.{Reads};
-ghost use Rattle.floppy_requests.specs.Names.{is_name_byte as name_byte, is_name_text, name_of};
+ghost use Rattle.floppy_jobs.specs.LinesRead.{Reads};
+ghost use Rattle.floppy_jobs.specs.Names.{is_name_byte as name_byte, is_name_text, name_of};
 
 use crate::lines::LineError;
 use flop_base::Name;
@@ -23,7 +23,7 @@ fn are_name_bytes(bytes: &[u8]) -> bool
 }
 
 /// Whether the bytes are a name: 1 to 64 letters, digits, `.`, `_` and `-`, not beginning with `.` or `-`.
-#[tactic(auto, unfolding(floppy_requests::specs::Names::is_name_text))]
+#[tactic(auto, unfolding(crate::specs::Names::is_name_text))]
 pub fn is_name(bytes: &[u8]) -> bool
     ensures { result ≡ is_name_text bytes.now }
 {
@@ -45,7 +45,7 @@ pub fn name_text(bytes: &[u8]) -> Option<&str>
 }
 
 /// A name to be kept.
-#[tactic(auto, unfolding(floppy_requests::specs::Names::name_of))]
+#[tactic(auto, unfolding(crate::specs::Names::name_of))]
 pub fn named(alloc: Global, bytes: &[u8]) -> Result<Name, LineError>
     ensures { Reads result (name_of bytes.now) }
 {

@@ -1,6 +1,6 @@
 // Numbers in texts: digits without a sign.
 ghost use Rattle.std.specs.Prelude.{◌≡◌, ◌≤◌, IfSome};
-ghost use Rattle.floppy_requests.specs.Numbers.{number_of, byte_of, address_of, length_of, hex_byte_of, tries_of};
+ghost use Rattle.floppy_jobs.specs.Numbers.{number_of, byte_of, address_of, length_of, hex_byte_of, tries_of};
 ghost use Rattle.floppy_jobs.specs.Numbers.{port_of, steps_of, register_of};
 
 /// The number that a word spells: `fewest` to `most` digits of the base, its value from `least` to `greatest`.
@@ -37,7 +37,7 @@ pub fn number(
 }
 
 /// A bay, cylinder, head, record, size code or count of cylinders: one to three decimal digits, at most 255.
-#[tactic(auto, unfolding(floppy_requests::specs::Numbers::byte_of))]
+#[tactic(auto, unfolding(crate::specs::Numbers::byte_of))]
 pub fn byte(word: &[u8]) -> Option<u8>
     ensures { result ≡ byte_of word.now }
 {
@@ -45,7 +45,7 @@ pub fn byte(word: &[u8]) -> Option<u8>
 }
 
 /// An address in memory: one to five hexadecimal digits, so at most FFFFF.
-#[tactic(auto, unfolding(floppy_requests::specs::Numbers::address_of))]
+#[tactic(auto, unfolding(crate::specs::Numbers::address_of))]
 pub fn address(word: &[u8]) -> Option<u32>
     ensures { result ≡ address_of word.now }
 {
@@ -53,7 +53,7 @@ pub fn address(word: &[u8]) -> Option<u32>
 }
 
 /// A length in memory: one to five decimal digits, 1 to 65,536.
-#[tactic(auto, unfolding(floppy_requests::specs::Numbers::length_of))]
+#[tactic(auto, unfolding(crate::specs::Numbers::length_of))]
 pub fn length(word: &[u8]) -> Option<u32>
     ensures { result ≡ length_of word.now }
 {
@@ -61,7 +61,7 @@ pub fn length(word: &[u8]) -> Option<u32>
 }
 
 /// A byte of memory or of a port: two hexadecimal digits.
-#[tactic(auto, unfolding(floppy_requests::specs::Numbers::hex_byte_of))]
+#[tactic(auto, unfolding(crate::specs::Numbers::hex_byte_of))]
 pub fn hex_byte(word: &[u8]) -> Option<u8>
     ensures { result ≡ hex_byte_of word.now }
 {
@@ -69,7 +69,7 @@ pub fn hex_byte(word: &[u8]) -> Option<u8>
 }
 
 /// A number of attempts: one or two decimal digits, 1 to 10.
-#[tactic(auto, unfolding(floppy_requests::specs::Numbers::tries_of))]
+#[tactic(auto, unfolding(crate::specs::Numbers::tries_of))]
 pub fn tries(word: &[u8]) -> Option<u8>
     ensures { result ≡ tries_of word.now }
 {

@@ -1,6 +1,6 @@
 // The text of port accesses.
 ghost use Rattle.std.specs.Prelude.{◌≡◌, map};
-ghost use Rattle.floppy_jobs.specs.Lines.{Reads, ReadsText};
+ghost use Rattle.floppy_jobs.specs.LinesRead.{Reads, ReadsText};
 ghost use Rattle.floppy_jobs.specs.Ports.{in_of, out_of, wait_of, irq_of, port_insert_of, port_eject_of, port_line_of};
 ghost use Rattle.floppy_jobs.specs.Texts.{ports_of};
 

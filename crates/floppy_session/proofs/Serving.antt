@@ -14,8 +14,8 @@ use Rattle.flop_base.specs.declared.answers.Code.{Code}
 use Rattle.raw_image.specs.Disk.{track_of}
 use Rattle.flop_base.specs.Lists.{with_items}
 use Rattle.flop_base.specs.Memory.{bytes_from, SameOutside}
-use Rattle.floppy_requests.specs.declared.request.Request.{Request}
-use Rattle.floppy_requests.specs.declared.request.Request.TheVariants as request
+use Rattle.floppy_jobs.specs.declared.request.Request.{Request}
+use Rattle.floppy_jobs.specs.declared.request.Request.TheVariants as request
 use Rattle.sector_model.specs.declared.reply.Reply.{Reply}
 use Rattle.sector_model.specs.declared.reply.Reply.TheVariants as reply
 use Rattle.sector_model.specs.Stations.{StationState}
@@ -27,10 +27,10 @@ use Rattle.sector_model.specs.Texts.{is_refusal}
 use Rattle.sector_model.specs.Runs.{Taken, has_refusal}
 use Rattle.sector_model.proofs.Runs.{run_more, requests_more, refusal_more}
 use Rattle.flop_base.specs.declared.answers.Code.TheVariants.{NotReady}
-use Rattle.int13.specs.declared.work.Kind.{Kind}
-use Rattle.int13.specs.declared.work.Kind.TheVariants.{Read, Write, Verify}
-use Rattle.int13.specs.declared.work.Work.{Work}
-use Rattle.int13.specs.declared.work.Work.TheVariants.{Changed, Move}
+use Rattle.floppy_session.specs.declared.work.Kind.{Kind}
+use Rattle.floppy_session.specs.declared.work.Kind.TheVariants.{Read, Write, Verify}
+use Rattle.floppy_session.specs.declared.work.Work.{Work}
+use Rattle.floppy_session.specs.declared.work.Work.TheVariants.{Changed, Move}
 use Rattle.floppy_session.specs.Services.{MovesRecord, MovesIn, VerifiesRecords, DoesWork, AcksAlone, Transfers, look_at, ack_code, AreDone, MovesRecords, record_request, record_behind, place_of_record, record_requests, put_requests, put_request}
 use Rattle.floppy_session.proofs.Named.{by_refusal}
 

@@ -4,3 +4,5 @@ pub mod Services
 pub mod Session
 pub mod Shapes
 pub mod Tries
+pub mod Registers
+pub mod Table

@@ -6,8 +6,8 @@ use Rattle.flop_base.specs.Shelf.{Files}
 use Rattle.flop_base.specs.declared.key.Chrn.{Chrn}
 use Rattle.flop_base.specs.declared.answers.Code.{Code}
 use Rattle.flop_base.specs.Memory.{bytes_from}
-use Rattle.floppy_requests.specs.declared.request.Request.{Request}
-use Rattle.floppy_requests.specs.declared.request.Request.TheVariants as request
+use Rattle.floppy_jobs.specs.declared.request.Request.{Request}
+use Rattle.floppy_jobs.specs.declared.request.Request.TheVariants as request
 use Rattle.sector_model.specs.declared.reply.Reply.{Reply}
 use Rattle.sector_model.specs.declared.reply.Reply.TheVariants as reply
 use Rattle.sector_model.specs.declared.reply.Reason.TheVariants as reason
@@ -16,13 +16,13 @@ use Rattle.sector_model.specs.States.{State, IsSame}
 use Rattle.sector_model.specs.Steps.{Step, reply_of}
 use Rattle.sector_model.specs.Texts.{is_refusal}
 use Rattle.sector_model.specs.Runs.{Taken, Run, requests_of, has_refusal}
-use Rattle.int13.specs.Registers.{ah, al, gives_parameters}
-use Rattle.int13.specs.Table.{work_of, ah_after, al_after, carry_after}
-use Rattle.int13.specs.declared.regs.Regs.{Regs}
-use Rattle.int13.specs.declared.work.Kind.{Kind}
-use Rattle.int13.specs.declared.work.Kind.TheVariants.{Write, Verify}
-use Rattle.int13.specs.declared.work.Work.{Work}
-use Rattle.int13.specs.declared.work.Work.TheVariants.{Answer, Changed, Move}
+use Rattle.floppy_session.specs.Registers.{ah, al, gives_parameters}
+use Rattle.floppy_session.specs.Table.{work_of, ah_after, al_after, carry_after}
+use Rattle.floppy_session.specs.declared.regs.Regs.{Regs}
+use Rattle.floppy_session.specs.declared.work.Kind.{Kind}
+use Rattle.floppy_session.specs.declared.work.Kind.TheVariants.{Write, Verify}
+use Rattle.floppy_session.specs.declared.work.Work.{Work}
+use Rattle.floppy_session.specs.declared.work.Work.TheVariants.{Answer, Changed, Move}
 
 -- ---- What is asked.
 

@@ -7,7 +7,7 @@ ghost use Rattle.sector_model.specs.Steps.{Step, reply_of, read_reply};
 use crate::session::{Session, bad_request};
 use flop_base::standard::FILL;
 use flop_base::{Chrn, Code, Rate};
-use floppy_requests::Request;
+use floppy_jobs::Request;
 use sector_model::{Reason, Reply, Station};
 
 impl<D: Station> Session<D> {

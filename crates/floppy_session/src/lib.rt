@@ -1,15 +1,24 @@
 //! A session over a station: it runs the requests of a job, which move media between the bays and a shelf of images.
+//!
+//! The front of INT 13h (PC/AT) is part of it: what a call of the BIOS's diskette service asks for, and the registers after it. It
+//! touches no drive: a session does the work between `plan` and `finish`.
 #![tactic(auto)]
 
 mod driver;
+mod front;
 mod labels;
 mod loading;
 mod media;
 mod memory;
+mod regs;
 mod service;
 mod session;
 mod shape;
+mod work;
 
+pub use front::Int13;
 pub use loading::{load_medium, store_medium};
+pub use regs::Regs;
 pub use session::Session;
 pub use shape::Shape;
+pub use work::{Kind, Work};

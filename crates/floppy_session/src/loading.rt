@@ -8,7 +8,7 @@ ghost use Rattle.sector_model.specs.Faults.{Blames};
 ghost use Rattle.floppy_session.specs.Loads.{StopsFor, StopsForStore};
 
 use flop_base::{LoadError, Name, NoMemory, Shelf, StoreError};
-use floppy_requests::Request;
+use floppy_jobs::Request;
 use raw_image::{ImageError, Medium, read_image, write_image};
 use sector_model::Stop;
 use std::alloc::Global;

@@ -12,7 +12,7 @@ use crate::loading::{load_medium, store_medium};
 use crate::session::{Session, bad_request};
 use crate::shape::Shape;
 use flop_base::{Name, NoMemory, Rate, Shelf};
-use floppy_requests::Request;
+use floppy_jobs::Request;
 use raw_image::Medium;
 use sector_model::{Reason, Reply, Station, Stop};
 use std::alloc::Global;

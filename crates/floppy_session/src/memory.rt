@@ -6,7 +6,7 @@ ghost use Rattle.sector_model.specs.Steps.{Step, StopsAt, Fills};
 
 use crate::session::{Session, bad_request};
 use flop_base::{Bytes, NoMemory, USER_BYTES};
-use floppy_requests::Request;
+use floppy_jobs::Request;
 use sector_model::{Reply, Station, Stop};
 
 impl<D: Station> Session<D> {

@@ -6,14 +6,14 @@ ghost use Rattle.flop_base.specs.Memory.{user_bytes, bytes_from, SameOutside};
 ghost use Rattle.sector_model.specs.Runs.{Taken};
 ghost use Rattle.sector_model.specs.Orders.{is_acknowledged};
 ghost use Rattle.sector_model.specs.States.{IsSame};
-ghost use Rattle.int13.specs.Table.{IsDoable, IsTransfer, IsAnswerTo};
+ghost use Rattle.floppy_session.specs.Table.{IsDoable, IsTransfer, IsAnswerTo};
 ghost use Rattle.floppy_session.specs.Services.{Serves, DoesWork, Transfers, MovesRecords, MovesRecord, VerifiesRecords, AcksAlone, AreDone, ack_code, record_request, record_requests, place_of_record, put_requests};
 
 use crate::session::Session;
+use crate::{Int13, Kind, Regs, Work};
 use flop_base::standard::SIZE_CODE;
 use flop_base::{Chrn, Code};
-use floppy_requests::Request;
-use int13::{Int13, Kind, Regs, Work};
+use floppy_jobs::Request;
 use sector_model::Station;
 
 /// The bytes of a record.

@@ -11,7 +11,7 @@ ghost use Rattle.floppy_session.specs.Shapes.{shape_in};
 use crate::labels::Labels;
 use crate::shape::Shape;
 use flop_base::{Code, Name, Rate, Shelf};
-use floppy_requests::Request;
+use floppy_jobs::Request;
 use sector_model::{Reason, Reply, Station, Stop};
 use std::alloc::Global;
 use std::marker::Model;

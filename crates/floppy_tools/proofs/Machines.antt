@@ -4,8 +4,8 @@ use Rattle.flop_base.specs.Counters.{DriveCounts}
 use Rattle.pc_bus.specs.Boards.{Board}
 use Rattle.sector_model.specs.Stations.{StationState, IsFresh}
 use Rattle.sector_model.specs.States.{State, start_of}
-use Rattle.machine_station.specs.Shown.{ShowsStation}
-use Rattle.machine_station.specs.Started.{Starts}
+use Rattle.machine_commands.specs.StationShown.{ShowsStation}
+use Rattle.machine_commands.specs.Started.{Starts}
 use Rattle.floppy_tools.specs.Machines.{IsSetUp}
 
 pub set_up_shown : (board : Board) (spares : List DriveCounts) (state : State) (station : StationState) → state ≡ start_of station → IsFresh station → Starts board spares station → IsSetUp board spares state

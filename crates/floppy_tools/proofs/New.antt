@@ -8,7 +8,7 @@ use Rattle.drive_model.specs.ScriptDrive.{script_state}
 use Rattle.drive_model.specs.declared.script.ScriptDrive.{ScriptDrive}
 use Rattle.fault_plan.specs.Plan.{Plan, plan_spelled}
 use Rattle.pc_bus.specs.declared.machine.MachineOf.{MachineOf}
-use Rattle.machine_station.specs.Shown.{all_counts}
+use Rattle.machine_commands.specs.StationShown.{all_counts}
 use Rattle.archive_commands.specs.Files.{Outside}
 use Rattle.floppy_tools.specs.Runs.{parts_of, RunsNew, RunsPlanned}
 

@@ -3,7 +3,7 @@ use Rattle.std.proofs.Common.{◌≡◌, ◌∙◌, ℕ, List, Option, Some, Non
 use Rattle.std.specs.Prelude.{IsSome}
 use Rattle.drive_model.specs.Drive.{DriveState, Becomes, with_motor}
 use Rattle.pc_bus.specs.Boards.{Board, IsEmpty}
-use Rattle.machine_station.specs.Started.{IsFreshBoard}
+use Rattle.machine_commands.specs.Started.{IsFreshBoard}
 use Rattle.text_commands.specs.Benches.{IsBare}
 
 -- a drive that was put into a new machine empty is empty

@@ -6,8 +6,8 @@ use Rattle.flop_base.specs.Counters.{DriveCounts}
 use Rattle.pc_bus.specs.Boards.{Board}
 use Rattle.sector_model.specs.Stations.{IsFresh}
 use Rattle.sector_model.specs.States.{State}
-use Rattle.machine_station.specs.Shown.{ShowsStation}
-use Rattle.machine_station.specs.Started.{Starts}
+use Rattle.machine_commands.specs.StationShown.{ShowsStation}
+use Rattle.machine_commands.specs.Started.{Starts}
 use Rattle.floppy_words.specs.declared.form.Form.{Form}
 use Rattle.commands.specs.Leading.{Runs}
 use Rattle.archive_commands.specs.Files.{Outside}

@@ -13,7 +13,7 @@ use Rattle.fault_plan.specs.Plan.{Plan, plan_spelled}
 use Rattle.irq_events.specs.declared.pace.Pace.{Pace}
 use Rattle.pc_bus.specs.Boards.{Board, board, IsNew}
 use Rattle.pc_bus.specs.declared.machine.MachineOf.{MachineOf}
-use Rattle.machine_station.specs.Shown.{all_counts}
+use Rattle.machine_commands.specs.StationShown.{all_counts}
 use Rattle.sector_model.specs.Faults.{Blames}
 use Rattle.archive_commands.specs.Files.{Outside, FaultyOutside}
 use Rattle.floppy_tools.specs.Performed.{DoesWords}

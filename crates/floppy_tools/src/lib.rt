@@ -6,16 +6,16 @@
 mod drives;
 mod forms;
 mod laws;
+mod machines;
 mod plan;
 mod plan_variable;
 mod program;
 mod run;
-mod session;
 
 pub use forms::{run_asked, run_words};
 pub use laws::{accesses_of_a_job, counts_of_a_run};
+pub use machines::{into_machine, set_up};
 pub use plan_variable::{PLAN_VARIABLE, ProgramEnded, run_program};
 pub use program::floppy;
 pub use run::{Ended, run_plain, run_planned};
 pub use sector_model::{Reason, Reply, Stop};
-pub use session::Session;

@@ -1,15 +1,15 @@
 // The top call.
 ghost use Rattle.std.specs.Prelude.{All, None, Some, map, string_bytes};
 ghost use Rattle.pc_bus.specs.Boards.{board, IsEmpty};
-ghost use Rattle.machine_station.specs.Shown.{all_counts};
-ghost use Rattle.machine_station.specs.Started.{IsFreshBoard};
+ghost use Rattle.machine_commands.specs.StationShown.{all_counts};
+ghost use Rattle.machine_commands.specs.Started.{IsFreshBoard};
 ghost use Rattle.text_commands.specs.Benches.{no_names};
 ghost use Rattle.text_commands.specs.PortFaults.{Ran, faulty_of};
 ghost use Rattle.text_commands.specs.PortGuards.{RunsBare};
 ghost use Rattle.floppy_tools.specs.Performed.{Performed, stand_of};
 
 use crate::forms::run_asked;
-use crate::session::Session;
+use crate::machines::{into_machine, set_up};
 use drive_model::Drive;
 use flop_base::{NoMemory, Shelf, Sink, Status};
 use floppy_words::{form_named, ports_file};
@@ -44,9 +44,9 @@ pub fn floppy<S: Shelf, K: Sink, D: Drive>(
         Ok(Some(file)) => at_ports(alloc, file.as_str(), shelf, out, machine),
         Ok(None) => {
             let asked = form_named(alloc, words);
-            let mut session = Session::new(alloc, machine, spare);
-            let status = run_asked(alloc, &mut session.over, asked, shelf, out);
-            (status, session.into_machine())
+            let mut session = set_up(alloc, machine, spare);
+            let status = run_asked(alloc, &mut session, asked, shelf, out);
+            (status, into_machine(session))
         }
         Err(NoMemory) => (Status::NoMemory, machine),
     }

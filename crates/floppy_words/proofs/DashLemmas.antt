@@ -4,8 +4,8 @@ use Rattle.std.specs.Prelude.{◌⊎◌}
 use Rattle.std.specs.List.{list_any}
 use Rattle.std.proofs.lemmas.Bool.{eqb-true}
 use Rattle.flop_base.specs.declared.answers.NoMemory.{NoMemory}
-use Rattle.floppy_requests.specs.Names.{is_name_text, name_of}
-use Rattle.floppy_requests.specs.Numbers.{number_of}
+use Rattle.floppy_jobs.specs.Names.{is_name_text, name_of}
+use Rattle.floppy_jobs.specs.Numbers.{number_of}
 use Rattle.floppy_words.specs.declared.form.Form.{Form}
 use Rattle.floppy_words.specs.Forms.{Reads, begins_with_dash, cylinders_of, disk_of, play_of, format_of, formatdd_of, copy_of, verify_of, names_of, fromimd_of, toimd_of, survey_of, remaster_of, form_of, import_of, export_of, seed_of, count_of, workload_of, exercise_of, int13_of, rescue_of}
 

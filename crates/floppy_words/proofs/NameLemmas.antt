@@ -1,7 +1,7 @@
 -- The form that has two names and no more.
 use Rattle.std.proofs.Common.{◌≡◌, ℕ, List, [], ◌∷◌, Option, Some, None, refl}
-use Rattle.floppy_requests.specs.Names.{name_of}
-use Rattle.floppy_requests.specs.Requests.{◌>>=◌}
+use Rattle.floppy_jobs.specs.Names.{name_of}
+use Rattle.floppy_jobs.specs.Requests.{◌>>=◌}
 use Rattle.floppy_words.specs.Forms.{copy_of, names_of}
 use Rattle.floppy_words.specs.declared.form.Form.TheVariants as form
 

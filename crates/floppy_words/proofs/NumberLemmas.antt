@@ -1,7 +1,7 @@
 -- Numbers of cylinders.
 use Rattle.std.proofs.Common.{◌≡◌, ◌≤◌, ℕ, Bool, true, false, List, Option, Some, None, refl, arith, if◌then◌else◌}
 use Rattle.std.proofs.lemmas.Bool.Decides.{nat_tests}
-use Rattle.floppy_requests.specs.Numbers.{number_of}
+use Rattle.floppy_jobs.specs.Numbers.{number_of}
 
 abbrev kept : Bool → ℕ → Option ℕ
 kept b v = if b then Some v else None

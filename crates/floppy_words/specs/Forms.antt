@@ -2,9 +2,9 @@
 use Rattle.std.specs.Prelude.{◌≡◌, ◌==◌, ℕ, Bool, slice_index, List, [], ◌∷◌, Option, Some, None, IsSome, Result, Ok, Err, codes, if◌then◌else◌}
 use Rattle.flop_base.specs.declared.answers.NoMemory.{NoMemory}
 use Rattle.std.specs.Str.{bytes_eq}
-use Rattle.floppy_requests.specs.Names.{name_of}
-use Rattle.floppy_requests.specs.Numbers.{number_of}
-use Rattle.floppy_requests.specs.Requests.{◌>>=◌}
+use Rattle.floppy_jobs.specs.Names.{name_of}
+use Rattle.floppy_jobs.specs.Numbers.{number_of}
+use Rattle.floppy_jobs.specs.Requests.{◌>>=◌}
 use Rattle.floppy_words.specs.declared.form.Form.{Form}
 use Rattle.floppy_words.specs.declared.form.Form.TheVariants as form
 

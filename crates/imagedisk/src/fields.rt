@@ -10,8 +10,8 @@ ghost use Rattle.imagedisk.specs.Taken.{intact_kind, damaged_kind, Holds, IsSect
 
 use crate::{ImdKind, ImdSector, ImdSectors};
 use flop_base::{Bytes, NoMemory, sector_size};
+use sector_map::{Field, Look, content_byte, data_at, look_at};
 use std::alloc::Global;
-use track_fields::{Field, Look, content_byte, data_at, look_at};
 
 /// The size code that all address fields have, if it is one from 1 to 6 and they aren't too many for a track.
 pub(crate) fn size_code_of(fields: &[Field]) -> Option<u8>

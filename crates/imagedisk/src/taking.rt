@@ -11,8 +11,8 @@ use crate::fields::{sectors_of, size_code_of};
 use crate::{ImdImage, ImdTrack, ImdTracks};
 use flop_base::Rate;
 use raw_image::Medium;
+use sector_map::list_fields;
 use std::alloc::Global;
-use track_fields::list_fields;
 
 /// The track of an image that the words of a track hold, if they have an address field.
 fn take_track(alloc: Global, words: &[u16], c: u8, h: u8) -> Result<Option<ImdTrack>, ImdError>

@@ -7,8 +7,8 @@ ghost use Rattle.imagedisk.specs.Made.{sector_window};
 
 use crate::{ImdKind, ImdSector};
 use flop_base::{NoMemory, sector_size};
+use sector_map::{field_crc, field_words};
 use std::alloc::Global;
-use track_fields::{field_crc, field_words};
 use track_model::encode_byte;
 
 /// The words of a window besides its content.

@@ -1,7 +1,7 @@
 -- What is executed behind, through the channel, the terminal count, ports and media.
 use Rattle.std.proofs.Common.{◌≡◌, ◌⊎◌, inl, inr, ℕ, ◌-◌, Bool, true, false, ◌==◌, if◌then◌else◌, Option, Some, None, [], refl, sym, ◌∙◌, ap, subst}
 use Rattle.std.proofs.lemmas.Bool.{eqb-true, false≢true}
-use Rattle.fdc_seek.specs.Seeking.{seek_bits}
+use Rattle.fdc_commands.specs.Seeking.{seek_bits}
 use Rattle.fdc_phases.specs.Dma.{phase_told}
 use Rattle.fdc_phases.specs.Rates.{rate_chosen}
 use Rattle.fdc_phases.specs.declared.phases.Phase.{Phase}

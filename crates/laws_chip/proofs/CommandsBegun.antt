@@ -3,7 +3,7 @@ use Rattle.std.proofs.Common.{◌≡◌, ℕ, ◌<◌, Bool, true, false, not, �
 use Rattle.std.proofs.lemmas.Bool.{agree_below_at}
 use Rattle.fdc_commands.specs.declared.results.Results.{Results}
 use Rattle.fdc_commands.specs.declared.command.Command.TheVariants.{Configure}
-use Rattle.fdc_seek.specs.Seeking.{seek_bits}
+use Rattle.fdc_commands.specs.Seeking.{seek_bits}
 use Rattle.fdc_core.specs.Commands.{configured}
 use Rattle.fdc_core.specs.State.{is_held}
 use Rattle.fdc_core.specs.declared.controller.Fdc.{Fdc}

@@ -1,11 +1,11 @@
 -- A controller that does nothing, through device steps, and once the results of seeks and polls were taken over.
 use Rattle.std.proofs.Common.{◌≡◌, inl, inr, ℕ, zero, suc, ◌-◌, ◌<◌, ◌^◌, Bool, true, false, not, ◌&&◌, ◌||◌, ◌==◌, if◌then◌else◌, Option, Some, None, [], refl, sym, ◌∙◌, ap, subst, arith, pow_pos}
 use Rattle.std.specs.Option.{option_map_or}
-use Rattle.fdc_seek.specs.Seeking.{Seeking, ended, first_pending, has_ended, is_seeking, neighbour, recalibrated, released, seek_bits, sought, stepped, stepped_seek, with_motion, with_polls, after_sense}
-use Rattle.fdc_seek.specs.Seeking as seek_words
-use Rattle.fdc_seek.specs.declared.motion.Motion.{Motion}
-use Rattle.fdc_seek.specs.declared.motion.Motion.TheVariants as motion
-use Rattle.fdc_seek.specs.declared.motion.Seek.{Seek}
+use Rattle.fdc_commands.specs.Seeking.{Seeking, ended, first_pending, has_ended, is_seeking, neighbour, recalibrated, released, seek_bits, sought, stepped, stepped_seek, with_motion, with_polls, after_sense}
+use Rattle.fdc_commands.specs.Seeking as seek_words
+use Rattle.fdc_commands.specs.declared.motion.Motion.{Motion}
+use Rattle.fdc_commands.specs.declared.motion.Motion.TheVariants as motion
+use Rattle.fdc_commands.specs.declared.motion.Seek.{Seek}
 use Rattle.fdc_phases.specs.declared.phases.Phase.TheVariants.{Command as Taking}
 use Rattle.fdc_core.specs.State.{is_held}
 use Rattle.fdc_core.specs.Steps.{Rests, RestsIn, Stays, polled, seek_stepped}

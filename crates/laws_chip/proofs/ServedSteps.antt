@@ -2,7 +2,7 @@
 use Rattle.std.proofs.Common.{◌≡◌, ◌⊎◌, inl, inr, Bool, true, false, if◌then◌else◌, Option, Some, None, [], refl, sym, ◌∙◌, ap, subst}
 use Rattle.std.proofs.lemmas.Bool.{false≢true}
 use Rattle.track_model.specs.Fields.{IsSizeCode}
-use Rattle.fdc_seek.specs.Seeking.{has_ended_seek, seek_bits, without_ended}
+use Rattle.fdc_commands.specs.Seeking.{has_ended_seek, seek_bits, without_ended}
 use Rattle.fdc_stages.specs.declared.ending.Ending.{Ending}
 use Rattle.fdc_stages.specs.declared.ending.Ending.TheVariants.{Done, NoMark, NoSector, NoField, BadCheck, Overrun, NoCount, Protected, Late}
 use Rattle.fdc_commands.specs.declared.results.Results.{Results}

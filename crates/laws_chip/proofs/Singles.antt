@@ -3,8 +3,8 @@ use Rattle.std.proofs.Common.{◌≡◌, ◌⊎◌, inl, inr, ℕ, ◌+◌, ◌<
 use Rattle.std.proofs.lemmas.Bool.{false≢true}
 use Rattle.flop_base.specs.declared.key.Chrn.{Chrn}
 use Rattle.drive_model.specs.Drive.{DriveState, at_index}
-use Rattle.fdc_fifo.specs.Fifo.{Fifo, emptied}
-use Rattle.fdc_seek.specs.Seeking.{seek_bits, with_polls}
+use Rattle.fdc_registers.specs.Fifo.{Fifo, emptied}
+use Rattle.fdc_commands.specs.Seeking.{seek_bits, with_polls}
 use Rattle.fdc_commands.specs.Table.{is_begun}
 use Rattle.fdc_commands.specs.declared.command.Command.TheVariants.{FormatTrack, ReadId}
 use Rattle.fdc_commands.specs.declared.results.Results.{Results}

@@ -2,7 +2,7 @@
 use Rattle.std.proofs.Common.{◌≡◌, inl, inr, ℕ, ◌+◌, ◌<◌, nat_le, Bool, true, false, not, ◌&&◌, ◌==◌, if◌then◌else◌, Option, List, [], ◌∷◌, length, refl, sym, ◌∙◌, ap, subst, arith}
 use Rattle.std.proofs.lemmas.Bool.{and_parts, eqb-true, false≢true, not-true, or_cases}
 use Rattle.drive_model.specs.Drive.{DriveState}
-use Rattle.fdc_seek.specs.Seeking.{Seeking, at_rest}
+use Rattle.fdc_commands.specs.Seeking.{Seeking, at_rest}
 use Rattle.fdc_phases.specs.Rates.{rate_chosen}
 use Rattle.fdc_phases.specs.declared.phases.Phase.TheVariants.{Command as Taking}
 use Rattle.fdc_core.specs.Ports.{Writes, dor_resets, dsr_resets, resets}

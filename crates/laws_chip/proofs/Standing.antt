@@ -2,8 +2,8 @@
 use Rattle.std.proofs.Common.{◌≡◌, ℕ, zero, suc, ◌<◌, ◌^◌, Bool, true, false, not, ◌==◌, if◌then◌else◌, List, [], ◌∷◌, Option, Some, None, bit_and, bit_or, refl, sym, ◌∙◌, ap, arith}
 use Rattle.std.specs.Option.{option_map_or}
 use Rattle.std.proofs.lemmas.Bool.{and_parts, and_from, false≢true, not-false, not-true}
-use Rattle.fdc_seek.specs.Seeking.{seek_bits}
-use Rattle.fdc_seek.specs.declared.motion.Seek.{Seek}
+use Rattle.fdc_commands.specs.Seeking.{seek_bits}
+use Rattle.fdc_commands.specs.declared.motion.Seek.{Seek}
 use Rattle.fdc_commands.specs.Table.{is_begun}
 use Rattle.fdc_phases.specs.declared.phases.Phase.{Phase}
 use Rattle.fdc_phases.specs.declared.phases.Phase.TheVariants.{Command as Taking, Execute, Result}

@@ -1,6 +1,6 @@
 -- A chip whose parts agree.
 use Rattle.std.specs.Prelude.{◌≡◌, ◌<◌, ◌⊎◌, Bool, true, false, ◌==◌, []}
-use Rattle.fdc_seek.specs.Seeking.{seek_bits}
+use Rattle.fdc_commands.specs.Seeking.{seek_bits}
 use Rattle.fdc_phases.specs.declared.phases.Phase.{Phase}
 use Rattle.fdc_phases.specs.declared.phases.Phase.TheVariants.{Command as Taking, Execute}
 use Rattle.fdc_phases.specs.declared.phases.Task.{Task}

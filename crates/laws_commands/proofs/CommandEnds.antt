@@ -30,7 +30,7 @@ use Rattle.laws_commands.proofs.VerifyRun.{Tally, verify_tells}
 use Rattle.laws_commands.specs.EndsComplete.{BeginsSound, EndsWellOrOutside, IsReadable, HaveSameSector, StoresSameSectors}
 use Rattle.laws_commands.proofs.SectorRequests.{readable_unmistaken, none_failing, ReadsAlone, read_done, IsMaking, AnyDisk, HasRecords, MakesAlone, any_made, blank_made, made_still, format_done, write_done}
 use Rattle.flop_base.specs.Standard.{sectors_at}
-use Rattle.floppy_requests.specs.declared.request.Request.TheVariants as request
+use Rattle.floppy_jobs.specs.declared.request.Request.TheVariants as request
 use Rattle.floppy_session.specs.Blanks.{blank_request}
 use Rattle.commands.specs.Parts.{formats}
 use Rattle.laws_commands.proofs.Prepared.{IsBlank}

@@ -10,7 +10,7 @@ use Rattle.flop_base.specs.declared.answers.Rate.{Rate}
 use Rattle.raw_image.specs.Disk.{Disk, HasTrack, track_of}
 use Rattle.flop_base.specs.Counters.{IsFaultless}
 use Rattle.track_model.specs.Laid.{IsLaid}
-use Rattle.floppy_requests.specs.declared.request.Request.{Request}
+use Rattle.floppy_jobs.specs.declared.request.Request.{Request}
 use Rattle.sector_map.specs.KeptDisks.{AreAlike, KeepsTracks}
 use Rattle.sector_map.specs.Standard.{key_of}
 use Rattle.sector_map.proofs.KeptTracks.{alike_itself, alike_both, alike_tracks, elsewhere_on_map}

@@ -11,8 +11,8 @@ use Rattle.flop_base.specs.Bays.{Two, in_bay}
 use Rattle.flop_base.specs.Memory.{user_bytes}
 use Rattle.flop_base.specs.Counters.{IsFaultless}
 use Rattle.sector_map.specs.Standard.{key_of}
-use Rattle.floppy_requests.specs.declared.request.Request.{Request}
-use Rattle.floppy_requests.specs.declared.request.Request.TheVariants as request
+use Rattle.floppy_jobs.specs.declared.request.Request.{Request}
+use Rattle.floppy_jobs.specs.declared.request.Request.TheVariants as request
 use Rattle.sector_model.specs.Stations.{StationState, Bay, bay_of}
 use Rattle.sector_model.specs.States.{State}
 use Rattle.sector_model.specs.Steps.{IsImageOf, blank_of}

@@ -12,7 +12,7 @@ use Rattle.flop_base.specs.Counters.{Counters, IsFaultless}
 use Rattle.flop_base.specs.Bays.{Two, in_bay}
 use Rattle.track_model.specs.Laid.{IsLaid}
 use Rattle.track_model.specs.Regular.{IsRegular}
-use Rattle.floppy_requests.specs.declared.request.Request.TheVariants as request
+use Rattle.floppy_jobs.specs.declared.request.Request.TheVariants as request
 use Rattle.sector_map.specs.Layings.{formatted}
 use Rattle.sector_map.specs.LaidDisks.{format_at}
 use Rattle.sector_map.specs.Disks.{IsRegularDisk}

@@ -11,8 +11,8 @@ use Rattle.raw_image.specs.Disk.{Disk}
 use Rattle.flop_base.specs.Counters.{IsFaultless}
 use Rattle.flop_base.specs.Memory.{user_bytes}
 use Rattle.track_format.proofs.Laid.{laid_tidy}
-use Rattle.floppy_requests.specs.declared.request.Request.{Request}
-use Rattle.floppy_requests.specs.declared.request.Request.TheVariants as request
+use Rattle.floppy_jobs.specs.declared.request.Request.{Request}
+use Rattle.floppy_jobs.specs.declared.request.Request.TheVariants as request
 use Rattle.sector_map.specs.Standard.{track_keys}
 use Rattle.sector_model.specs.Steps.{IsImageOf}
 use Rattle.sector_model.specs.Runs.{Taken}

@@ -6,7 +6,7 @@ use Rattle.flop_base.specs.declared.answers.Rate.TheVariants.{R250}
 use Rattle.flop_base.specs.declared.answers.Status.{Status}
 use Rattle.raw_image.specs.Disk.{Disk}
 use Rattle.flop_base.specs.Counters.{IsUndisturbed}
-use Rattle.floppy_requests.specs.declared.request.Request.TheVariants as request
+use Rattle.floppy_jobs.specs.declared.request.Request.TheVariants as request
 use Rattle.sector_model.specs.declared.reply.Reply.{Reply}
 use Rattle.sector_model.specs.Stations.{StationState, bay_of}
 use Rattle.sector_model.specs.Orders.{rate_refusal}

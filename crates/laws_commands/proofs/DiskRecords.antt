@@ -14,8 +14,8 @@ use Rattle.sector_map.proofs.RegularTracks.{key_cylinder}
 use Rattle.flop_base.specs.Lists.{with_items}
 use Rattle.flop_base.specs.Memory.{user_bytes, bytes_from}
 use Rattle.track_model.specs.Bytes.{byte_at, bytes_at}
-use Rattle.floppy_requests.specs.declared.request.Request.{Request}
-use Rattle.floppy_requests.specs.declared.request.Request.TheVariants as request
+use Rattle.floppy_jobs.specs.declared.request.Request.{Request}
+use Rattle.floppy_jobs.specs.declared.request.Request.TheVariants as request
 use Rattle.sector_map.specs.Standard.{key_of}
 use Rattle.sector_model.specs.declared.reply.Reply.{Reply}
 use Rattle.sector_model.specs.Orders.{read_refusal}

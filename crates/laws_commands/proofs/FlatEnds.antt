@@ -9,7 +9,7 @@ use Rattle.flop_base.specs.declared.answers.Status.{Status}
 use Rattle.raw_image.specs.declared.error.ImageError.{ImageError}
 use Rattle.flop_base.specs.Memory.{user_bytes, bytes_from}
 use Rattle.sector_map.specs.Flat.{sector_place, sectors_told}
-use Rattle.floppy_requests.specs.declared.request.Request.TheVariants as request
+use Rattle.floppy_jobs.specs.declared.request.Request.TheVariants as request
 use Rattle.sector_map.specs.Standard.{key_of}
 use Rattle.sector_model.specs.declared.reply.Stop.{Stop}
 use Rattle.sector_model.specs.declared.reply.Stop.TheVariants as stop

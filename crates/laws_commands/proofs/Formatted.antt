@@ -7,7 +7,7 @@ use Rattle.raw_image.specs.Disk.{Disk}
 use Rattle.raw_image.specs.Image.{file_of}
 use Rattle.flop_base.specs.Bays.{Two, in_bay}
 use Rattle.flop_base.specs.Counters.{IsFaultless}
-use Rattle.floppy_requests.specs.declared.request.Request.TheVariants as request
+use Rattle.floppy_jobs.specs.declared.request.Request.TheVariants as request
 use Rattle.sector_map.proofs.KeptTracks.{alike_tracks}
 use Rattle.sector_model.specs.Stations.{bay_of}
 use Rattle.sector_model.specs.States.{State}

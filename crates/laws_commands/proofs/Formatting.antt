@@ -9,7 +9,7 @@ use Rattle.flop_base.specs.declared.answers.Rate.{Rate}
 use Rattle.flop_base.specs.declared.answers.Code.{Code}
 use Rattle.raw_image.specs.Disk.{Disk, IsDisk, HasTrack, track_of}
 use Rattle.flop_base.specs.Counters.{IsFaultless}
-use Rattle.floppy_requests.specs.declared.request.Request.TheVariants as request
+use Rattle.floppy_jobs.specs.declared.request.Request.TheVariants as request
 use Rattle.sector_map.specs.Layings.{Format, Laying, formatted}
 use Rattle.sector_map.specs.LaidDisks.{format_at}
 use Rattle.sector_map.specs.KeptDisks.{AreAlike, KeepsTracks}

@@ -6,7 +6,7 @@ use Rattle.flop_base.specs.Sink.{grown}
 use Rattle.flop_base.specs.declared.answers.Status.{Status}
 use Rattle.flop_base.specs.declared.answers.Status.TheVariants as status
 use Rattle.flop_base.specs.Counters.{Counters, IsFaultless, IsUndisturbed}
-use Rattle.floppy_requests.specs.declared.request.Request.{Request}
+use Rattle.floppy_jobs.specs.declared.request.Request.{Request}
 use Rattle.sector_model.specs.declared.reply.Reply.{Reply}
 use Rattle.sector_model.specs.declared.reply.Reply.TheVariants as reply
 use Rattle.sector_model.specs.declared.reply.Stop.{Stop}
@@ -24,7 +24,7 @@ use Rattle.commands.specs.Leading.{with_report}
 use Rattle.laws_commands.proofs.Steps.{keeps_drives, step_never_fell}
 use Rattle.laws_commands.specs.EndsComplete.{BeginsSound, EndsWellOrOutside}
 use Rattle.sector_model.specs.declared.reply.Stop.TheVariants as stop
-use Rattle.floppy_requests.specs.declared.request.Request.TheVariants as request
+use Rattle.floppy_jobs.specs.declared.request.Request.TheVariants as request
 
 -- ---- Steps that nothing disturbs.
 

@@ -11,8 +11,8 @@ use Rattle.raw_image.specs.Disk.{track_of}
 use Rattle.flop_base.specs.Memory.{user_bytes, bytes_from}
 use Rattle.track_model.specs.Fields.{content_size}
 use Rattle.track_model.proofs.Splices.{length-with_items}
-use Rattle.floppy_requests.specs.declared.request.Request.{Request}
-use Rattle.floppy_requests.specs.declared.request.Request.TheVariants as request
+use Rattle.floppy_jobs.specs.declared.request.Request.{Request}
+use Rattle.floppy_jobs.specs.declared.request.Request.TheVariants as request
 use Rattle.sector_model.specs.declared.reply.Reply.{Reply}
 use Rattle.sector_model.specs.declared.reply.Reason.TheVariants as reason
 use Rattle.sector_model.specs.States.{State}

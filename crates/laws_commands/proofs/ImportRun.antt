@@ -8,7 +8,7 @@ use Rattle.flop_base.specs.Shelf.{Files, stored}
 use Rattle.flop_base.specs.declared.answers.Status.TheVariants as status
 use Rattle.flop_base.specs.Bays.{Two, in_bay}
 use Rattle.flop_base.specs.Memory.{user_bytes, bytes_from}
-use Rattle.floppy_requests.specs.declared.request.Request.TheVariants as request
+use Rattle.floppy_jobs.specs.declared.request.Request.TheVariants as request
 use Rattle.sector_map.specs.Flat.{sector_place, IsSector, flat_length, sectors_told}
 use Rattle.sector_model.specs.Stations.{StationState, Bay, bay_of}
 use Rattle.sector_model.specs.Runs.{Taken}
@@ -29,7 +29,7 @@ use Rattle.flop_base.specs.Counters.{Counters, IsFaultless}
 use Rattle.track_model.specs.Laid.{IsLaid}
 use Rattle.track_model.specs.Regular.{IsRegular}
 use Rattle.track_format.proofs.Laid.{laid_tidy}
-use Rattle.floppy_requests.specs.declared.request.Request.{Request}
+use Rattle.floppy_jobs.specs.declared.request.Request.{Request}
 use Rattle.sector_map.specs.Layings.{formatted}
 use Rattle.sector_map.specs.LaidDisks.{format_at}
 use Rattle.sector_map.specs.Disks.{IsOnMap, IsRegularDisk}

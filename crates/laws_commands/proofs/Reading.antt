@@ -18,8 +18,8 @@ use Rattle.flop_base.specs.Counters.{Counters, IsUndisturbed, faults_of}
 use Rattle.sector_map.specs.Failing.{unless_found, AreFailing}
 use Rattle.sector_map.specs.Standard.{key_of}
 use Rattle.sector_map.proofs.MetTracks.{met_track}
-use Rattle.floppy_requests.specs.declared.request.Request.{Request}
-use Rattle.floppy_requests.specs.declared.request.Request.TheVariants as request
+use Rattle.floppy_jobs.specs.declared.request.Request.{Request}
+use Rattle.floppy_jobs.specs.declared.request.Request.TheVariants as request
 use Rattle.sector_model.specs.declared.reply.Reply.{Reply}
 use Rattle.sector_model.specs.Stations.{StationState, Bay, bay_of}
 use Rattle.sector_model.specs.Orders.{read_refusal}

@@ -10,7 +10,7 @@ use Rattle.flop_base.specs.declared.answers.Rate.{Rate}
 use Rattle.flop_base.specs.declared.answers.Status.{Status}
 use Rattle.flop_base.specs.declared.answers.Status.TheVariants as status
 use Rattle.raw_image.specs.Disk.{Disk}
-use Rattle.floppy_requests.specs.declared.request.Request.TheVariants as request
+use Rattle.floppy_jobs.specs.declared.request.Request.TheVariants as request
 use Rattle.sector_map.specs.Disks.{Entry, IsOnMap, IsRegularDisk}
 use Rattle.sector_map.proofs.RegularTracks.{key_cylinder}
 use Rattle.sector_model.specs.Stations.{Bay}

@@ -12,7 +12,7 @@ use Rattle.flop_base.specs.Standard.{sectors_at}
 use Rattle.flop_base.specs.Numbers.{code_number}
 use Rattle.flop_base.specs.declared.key.Chrn.{Chrn}
 use Rattle.raw_image.specs.Disk.{Disk}
-use Rattle.floppy_requests.specs.Spelling.{hex2}
+use Rattle.floppy_jobs.specs.Spelling.{hex2}
 use Rattle.sector_map.specs.Standard.{standard_keys as disk_keys}
 use Rattle.sector_model.specs.Texts.{is_refusal}
 use Rattle.sector_model.specs.Runs.{Taken}

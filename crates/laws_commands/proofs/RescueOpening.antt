@@ -11,8 +11,8 @@ use Rattle.flop_base.specs.Bays.{Two, in_bay}
 use Rattle.flop_base.specs.Counters.{faults_of, IsFaultless, IsUndisturbed}
 use Rattle.flop_base.specs.Memory.{user_bytes}
 use Rattle.track_model.specs.Laid.{IsLaid}
-use Rattle.floppy_requests.specs.declared.request.Request.{Request}
-use Rattle.floppy_requests.specs.declared.request.Request.TheVariants as request
+use Rattle.floppy_jobs.specs.declared.request.Request.{Request}
+use Rattle.floppy_jobs.specs.declared.request.Request.TheVariants as request
 use Rattle.sector_map.specs.KeptDisks.{AreAlike}
 use Rattle.sector_map.proofs.KeptTracks.{alike_itself, alike_both, alike_tracks}
 use Rattle.sector_map.specs.Disks.{IsRegularDisk}

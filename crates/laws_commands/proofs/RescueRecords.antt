@@ -15,8 +15,8 @@ use Rattle.track_model.specs.Fields.{IsAddressAt, content_size}
 use Rattle.track_model.specs.Laid.{IsLaid}
 use Rattle.track_model.specs.Windows.{HasFieldFor, IsTidy}
 use Rattle.track_model.proofs.Laid.{written_laid}
-use Rattle.floppy_requests.specs.declared.request.Request.{Request}
-use Rattle.floppy_requests.specs.declared.request.Request.TheVariants as request
+use Rattle.floppy_jobs.specs.declared.request.Request.{Request}
+use Rattle.floppy_jobs.specs.declared.request.Request.TheVariants as request
 use Rattle.sector_map.specs.Standard.{standard_keys as disk_keys}
 use Rattle.sector_map.specs.Changes.{Change, Written, IsChange}
 use Rattle.sector_map.specs.Disks.{Entry, IsOnMap, IsRegularDisk}

@@ -1,8 +1,8 @@
 -- How often a script accesses the station past the driver.
 use Rattle.std.proofs.Common.{arith, ℕ, ◌+◌, ◌≤◌, [], ◌∷◌, refl, ◌≡◌, zero, suc, Bool, true, false, List, ap, inl, inr, get_or, ◌-◌}
 use Rattle.std.proofs.lemmas.List.Sums.{sum_by-cons}
-use Rattle.floppy_requests.specs.declared.request.Request.{Request}
-use Rattle.floppy_requests.specs.declared.request.Request.TheVariants as request
+use Rattle.floppy_jobs.specs.declared.request.Request.{Request}
+use Rattle.floppy_jobs.specs.declared.request.Request.TheVariants as request
 use Rattle.sector_model.specs.declared.reply.Reply.{Reply}
 use Rattle.sector_model.specs.States.{State}
 use Rattle.sector_model.specs.Steps.{AfterStop}

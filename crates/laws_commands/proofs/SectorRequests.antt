@@ -12,7 +12,7 @@ use Rattle.flop_base.specs.Memory.{user_bytes}
 use Rattle.track_model.specs.Fields.{IsAddressAt, content_size}
 use Rattle.track_model.specs.Looks.{LookAt}
 use Rattle.track_model.specs.declared.Look.TheVariants as look
-use Rattle.floppy_requests.specs.declared.request.Request.TheVariants as request
+use Rattle.floppy_jobs.specs.declared.request.Request.TheVariants as request
 use Rattle.sector_map.specs.Disks.{Entry, IsOnMap, IsRegularDisk, LookOn}
 use Rattle.sector_map.specs.Met.{HasClearAddress, AllFound}
 use Rattle.sector_map.specs.Standard.{key_of, standard_keys}
@@ -35,7 +35,7 @@ use Rattle.laws_commands.proofs.Sectors.{formatted_regular, formatted_sector, fe
 use Rattle.std.proofs.lemmas.Bool.{cases_eq}
 use Rattle.flop_base.specs.Shelf.{Files}
 use Rattle.track_model.specs.Regular.{IsRegular}
-use Rattle.floppy_requests.specs.declared.request.Request.{Request}
+use Rattle.floppy_jobs.specs.declared.request.Request.{Request}
 use Rattle.sector_map.specs.Changes.{Written}
 use Rattle.sector_map.proofs.KeptTracks.{with_track_keeps, alike_both, alike_itself, stays_regular}
 use Rattle.sector_model.specs.declared.reply.Reply.{Reply}

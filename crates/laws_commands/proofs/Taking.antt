@@ -8,7 +8,7 @@ use Rattle.std.specs.List.{list_all}
 use Rattle.flop_base.specs.Shelf.{Files}
 use Rattle.flop_base.specs.declared.answers.Status.TheVariants as status
 use Rattle.flop_base.specs.Counters.{Counters, IsFaultless}
-use Rattle.floppy_requests.specs.declared.request.Request.{Request}
+use Rattle.floppy_jobs.specs.declared.request.Request.{Request}
 use Rattle.sector_model.specs.declared.reply.Reply.{Reply}
 use Rattle.sector_model.specs.States.{State}
 use Rattle.sector_model.specs.Steps.{Step, Does}
@@ -22,7 +22,7 @@ use Rattle.laws_commands.proofs.CopiedTrack.{both_fell}
 use Rattle.laws_commands.proofs.Steps.{NeverFell, begins, ends_there, done_does, never_fell, keeps_drives}
 use Rattle.laws_commands.proofs.TrackParts.{did_all}
 use Rattle.raw_image.specs.Disk.{Disk}
-use Rattle.floppy_requests.specs.declared.request.Request.TheVariants as request
+use Rattle.floppy_jobs.specs.declared.request.Request.TheVariants as request
 use Rattle.sector_model.specs.Stations.{bay_of}
 use Rattle.laws_commands.specs.Done.{DoesAll}
 use Rattle.laws_commands.proofs.Prepared.{readies}

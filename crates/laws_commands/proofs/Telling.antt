@@ -12,7 +12,7 @@ use Rattle.flop_base.specs.Counters.{IsUndisturbed, faults_of}
 use Rattle.track_model.specs.declared.Look.{Look}
 use Rattle.track_model.specs.declared.Look.TheVariants.{Found, NoMark}
 use Rattle.track_model.proofs.Unique.{one_look_for}
-use Rattle.floppy_requests.specs.declared.request.Request.TheVariants as request
+use Rattle.floppy_jobs.specs.declared.request.Request.TheVariants as request
 use Rattle.sector_map.specs.Disks.{LookOn}
 use Rattle.sector_map.specs.MetTracks.{HasNothing}
 use Rattle.sector_map.proofs.MetTracks.{by_met, in_is_on, nothing_unrecorded}

@@ -19,8 +19,8 @@ use Rattle.flop_base.specs.Counters.{Counters, IsUndisturbed, faults_of}
 use Rattle.sector_map.specs.Failing.{AreFailing}
 use Rattle.sector_map.specs.Standard.{standard_keys, cylinder_keys, track_keys}
 use Rattle.sector_map.proofs.Laid.{all_track_keys}
-use Rattle.floppy_requests.specs.declared.request.Request.{Request}
-use Rattle.floppy_requests.specs.declared.request.Request.TheVariants as request
+use Rattle.floppy_jobs.specs.declared.request.Request.{Request}
+use Rattle.floppy_jobs.specs.declared.request.Request.TheVariants as request
 use Rattle.sector_model.specs.Stations.{StationState, bay_of}
 use Rattle.sector_model.specs.States.{State}
 use Rattle.sector_model.specs.Steps.{IsImageOf, most_image_bytes}

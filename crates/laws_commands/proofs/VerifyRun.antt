@@ -19,8 +19,8 @@ use Rattle.track_model.specs.declared.Look.{Look}
 use Rattle.sector_map.specs.Standard.{track_keys, cylinder_keys, standard_keys}
 use Rattle.sector_map.specs.Failing.{AreFailing}
 use Rattle.sector_map.proofs.Laid.{length-track_keys}
-use Rattle.floppy_requests.specs.declared.request.Request.{Request}
-use Rattle.floppy_requests.specs.declared.request.Request.TheVariants as request
+use Rattle.floppy_jobs.specs.declared.request.Request.{Request}
+use Rattle.floppy_jobs.specs.declared.request.Request.TheVariants as request
 use Rattle.sector_model.specs.declared.reply.Reply.{Reply}
 use Rattle.sector_model.specs.Steps.{Step, read_reply, IsImageOf}
 use Rattle.sector_model.specs.Texts.{is_refusal, stop_status}

@@ -15,8 +15,8 @@ use Rattle.flop_base.specs.Bays.{Two, in_bay}
 use Rattle.flop_base.specs.Counters.{IsFaultless, IsUndisturbed}
 use Rattle.flop_base.specs.Memory.{user_bytes}
 use Rattle.track_format.proofs.Laid.{laid_tidy}
-use Rattle.floppy_requests.specs.declared.request.Request.{Request}
-use Rattle.floppy_requests.specs.declared.request.Request.TheVariants as request
+use Rattle.floppy_jobs.specs.declared.request.Request.{Request}
+use Rattle.floppy_jobs.specs.declared.request.Request.TheVariants as request
 use Rattle.sector_map.specs.Disks.{IsRegularDisk, Entry, IsOnMap}
 use Rattle.sector_model.specs.Steps.{IsImageOf}
 use Rattle.sector_model.specs.Runs.{Taken, requests_of, has_refusal, Run}

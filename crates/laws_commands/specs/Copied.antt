@@ -10,7 +10,7 @@ use Rattle.track_model.specs.Sectors.{IsSector, IsUnder, IsLone}
 use Rattle.flop_base.specs.Counters.{Counters, IsFaultless}
 use Rattle.track_model.specs.Laid.{IsLaid}
 use Rattle.flop_base.specs.Memory.{bytes_from}
-use Rattle.floppy_requests.specs.declared.request.Request.TheVariants as request
+use Rattle.floppy_jobs.specs.declared.request.Request.TheVariants as request
 use Rattle.sector_map.specs.Disks.{Entry, IsOnMap, IsRegularDisk}
 use Rattle.sector_map.specs.Standard.{key_of}
 use Rattle.sector_model.specs.Runs.{Taken}

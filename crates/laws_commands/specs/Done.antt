@@ -1,7 +1,7 @@
 -- Runs in which each request was done.
 use Rattle.std.specs.Prelude.{◌≡◌, List, Option, false}
 use Rattle.flop_base.specs.Shelf.{Files}
-use Rattle.floppy_requests.specs.declared.request.Request.{Request}
+use Rattle.floppy_jobs.specs.declared.request.Request.{Request}
 use Rattle.sector_model.specs.States.{State}
 use Rattle.sector_model.specs.Runs.{Taken, Run, requests_of, has_refusal}
 

@@ -23,7 +23,7 @@ pub use Rattle.fdc_core.specs.Writes.{WritesIn, WritesTask}
 pub use Rattle.fdc_core.specs.Writing.{WriteDoes, after_next, without_byte}
 pub use Rattle.fdc_core.specs.declared.controller.Fdc.{Fdc}
 pub use Rattle.fdc_core.specs.declared.controller.Lines.{Lines}
-pub use Rattle.fdc_fifo.specs.Fifo.{Fifo, emptied, room_of, worth_fetching}
+pub use Rattle.fdc_registers.specs.Fifo.{Fifo, emptied, room_of, worth_fetching}
 pub use Rattle.fdc_phases.specs.Answers.{after_byte}
 pub use Rattle.fdc_phases.specs.Commands.{IsReadingData, WaitsAtFirst}
 pub use Rattle.fdc_phases.specs.Dma.{phase_asks, phase_told, task_asks, task_told}
@@ -46,8 +46,8 @@ pub use Rattle.fdc_phases.specs.declared.transfers.Reading.{Reading}
 pub use Rattle.fdc_phases.specs.declared.transfers.Writing.{Writing}
 pub use Rattle.fdc_registers.specs.Dor.{gate}
 pub use Rattle.fdc_registers.specs.declared.drive_lines.Dor.{Dor}
-pub use Rattle.fdc_seek.specs.Seeking.{Seeking, is_seeking, pulse_due, seek_bits, sensed, with_polls}
-pub use Rattle.fdc_seek.specs.declared.motion.Seek.{Seek}
+pub use Rattle.fdc_commands.specs.Seeking.{Seeking, is_seeking, pulse_due, seek_bits, sensed, with_polls}
+pub use Rattle.fdc_commands.specs.declared.motion.Seek.{Seek}
 pub use Rattle.fdc_stages.specs.Findings.{FindsNoSector, FindsSector, HasAddress, IsFoundAt}
 pub use Rattle.fdc_stages.specs.History.{IsAmong, IsTurnIn, Past, heard, turns_after, words_heard, words_in, wrote}
 pub use Rattle.fdc_stages.specs.Readings.{ReadOutcome}

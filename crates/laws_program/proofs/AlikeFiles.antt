@@ -13,8 +13,8 @@ use Rattle.raw_image.specs.Image.{image_of, file_of}
 use Rattle.raw_image.specs.declared.error.ImageError.{ImageError}
 use Rattle.raw_image.proofs.Pairs.{IsBytes, length-bytes_of}
 use Rattle.raw_image.proofs.Images.{image_found, image_again}
-use Rattle.floppy_requests.specs.declared.request.Request.{Request}
-use Rattle.floppy_requests.specs.declared.request.Request.TheVariants as request
+use Rattle.floppy_jobs.specs.declared.request.Request.{Request}
+use Rattle.floppy_jobs.specs.declared.request.Request.TheVariants as request
 use Rattle.sector_model.specs.declared.reply.Stop.{Stop}
 use Rattle.sector_model.specs.declared.reply.Stop.TheVariants as stop
 use Rattle.sector_model.specs.Steps.{IsImageOf, StopCause, most_image_bytes}

@@ -11,12 +11,12 @@ use Rattle.flop_base.specs.Counters.{DriveCounts}
 use Rattle.floppy_jobs.specs.Texts.{calls_of}
 use Rattle.floppy_jobs.specs.declared.calls.CallLine.{CallLine}
 use Rattle.floppy_jobs.specs.declared.calls.CallLine.TheVariants as call
-use Rattle.floppy_requests.specs.declared.request.Request.{Request}
-use Rattle.floppy_requests.specs.declared.request.Request.TheVariants as request
-use Rattle.int13.specs.declared.work.Kind.{Kind}
-use Rattle.int13.specs.declared.work.Kind.TheVariants.{Read, Write, Verify}
-use Rattle.int13.specs.declared.work.Work.{Work}
-use Rattle.int13.specs.declared.work.Work.TheVariants.{Answer, Changed, Move}
+use Rattle.floppy_jobs.specs.declared.request.Request.{Request}
+use Rattle.floppy_jobs.specs.declared.request.Request.TheVariants as request
+use Rattle.floppy_session.specs.declared.work.Kind.{Kind}
+use Rattle.floppy_session.specs.declared.work.Kind.TheVariants.{Read, Write, Verify}
+use Rattle.floppy_session.specs.declared.work.Work.{Work}
+use Rattle.floppy_session.specs.declared.work.Work.TheVariants.{Answer, Changed, Move}
 use Rattle.sector_model.specs.declared.reply.Stop.{Stop}
 use Rattle.sector_model.specs.Faults.{Blames}
 use Rattle.sector_model.specs.States.{State}

@@ -10,8 +10,8 @@ use Rattle.sector_model.specs.Runs.{Taken}
 use Rattle.sector_model.specs.Steps.{IsImageOf}
 use Rattle.sector_model.specs.Stations.{StationState}
 use Rattle.pc_bus.specs.Boards.{Board}
-use Rattle.machine_station.specs.Shown.{ShowsStation}
-use Rattle.machine_station.specs.Started.{Starts}
+use Rattle.machine_commands.specs.StationShown.{ShowsStation}
+use Rattle.machine_commands.specs.Started.{Starts}
 use Rattle.archive_commands.specs.Files.{Outside}
 use Rattle.floppy_words.specs.declared.form.Form.TheVariants as form
 use Rattle.text_commands.specs.JobRounds.{world}

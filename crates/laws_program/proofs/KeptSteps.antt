@@ -12,8 +12,8 @@ use Rattle.flop_base.specs.declared.key.Chrn.{Chrn}
 use Rattle.raw_image.specs.Disk.{Disk, IsDisk}
 use Rattle.raw_image.specs.Image.{file_of}
 use Rattle.flop_base.specs.Bays.{Two, in_bay, with_bay}
-use Rattle.floppy_requests.specs.declared.request.Request.{Request}
-use Rattle.floppy_requests.specs.declared.request.Request.TheVariants as request
+use Rattle.floppy_jobs.specs.declared.request.Request.{Request}
+use Rattle.floppy_jobs.specs.declared.request.Request.TheVariants as request
 use Rattle.sector_model.specs.declared.reply.Reply.{Reply}
 use Rattle.sector_model.specs.Stations.{StationState, Bay, Becomes, Stays, bay_of, set_bay, fresh_bay}
 use Rattle.sector_model.specs.States.{State, IsSame}

@@ -9,8 +9,8 @@ use Rattle.pc_bus.specs.Boards.{Board, holds_of}
 use Rattle.sector_model.specs.Stations.{StationState, IsFresh}
 use Rattle.sector_model.specs.Ties.{IsSpent, HasNothingLeft}
 use Rattle.machine_commands.specs.Shown.{counters_of, stalls_left}
-use Rattle.machine_station.specs.Shown.{ShowsStation}
-use Rattle.machine_station.specs.Started.{Starts}
+use Rattle.machine_commands.specs.StationShown.{ShowsStation}
+use Rattle.machine_commands.specs.Started.{Starts}
 use Rattle.laws_program.specs.Disturbed.{HadNoFault, HadNoStall, IsSound}
 
 module _ (old new : Board) (spares : List DriveCounts) (start last : StationState) (starts : Starts old spares start) (shows : ShowsStation new last) where

@@ -1,7 +1,7 @@
 -- What a run over a machine counts.
 use Rattle.std.proofs.Common.{arith, ◌+◌, ◌≤◌, ℕ, List, Option, Some, ap}
 use Rattle.flop_base.specs.declared.answers.Status.{Status}
-use Rattle.floppy_requests.specs.declared.request.Request.{Request}
+use Rattle.floppy_jobs.specs.declared.request.Request.{Request}
 use Rattle.flop_base.specs.Counters.{Counters, DriveCounts}
 use Rattle.pc_bus.specs.Boards.{Board}
 use Rattle.sector_model.specs.Ties.{TiesCounts, IsJob, accesses_of_job}

@@ -7,13 +7,13 @@ use Rattle.raw_image.specs.Disk.{Disk}
 use Rattle.raw_image.specs.Image.{image_of}
 use Rattle.raw_image.specs.declared.error.ImageError.{ImageError}
 use Rattle.flop_base.specs.Bays.{both}
-use Rattle.floppy_requests.specs.Texts.{job_of}
-use Rattle.floppy_requests.specs.declared.request.Request.{Request}
+use Rattle.floppy_jobs.specs.Texts.{job_of}
+use Rattle.floppy_jobs.specs.declared.request.Request.{Request}
 use Rattle.sector_model.specs.declared.reply.Stop.{Stop}
 use Rattle.sector_model.specs.declared.reply.Stop.TheVariants as stop
 use Rattle.sector_model.specs.Stations.{IsFresh}
 use Rattle.sector_model.specs.States.{State}
-use Rattle.floppy_requests.specs.declared.request.Request.TheVariants as request
+use Rattle.floppy_jobs.specs.declared.request.Request.TheVariants as request
 use Rattle.sector_model.specs.Orders.{is_bay}
 use Rattle.sector_model.specs.Steps.{StopsAt, StopCause, IsImageOf, IsBadImage, IsLonger, IsAbsent, refusal_of, is_loaded, most_image_bytes}
 use Rattle.sector_model.specs.Runs.{Taken, Run, requests_of, has_refusal, IsEndStop}

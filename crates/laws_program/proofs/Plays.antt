@@ -9,8 +9,8 @@ use Rattle.flop_base.specs.declared.answers.Status.{Status}
 use Rattle.flop_base.specs.declared.answers.Status.TheVariants as status
 use Rattle.flop_base.specs.Counters.{DriveCounts}
 use Rattle.pc_bus.specs.Boards.{Board}
-use Rattle.floppy_requests.specs.Texts.{job_of}
-use Rattle.floppy_requests.specs.declared.request.Request.{Request}
+use Rattle.floppy_jobs.specs.Texts.{job_of}
+use Rattle.floppy_jobs.specs.declared.request.Request.{Request}
 use Rattle.sector_model.specs.declared.reply.Stop.{Stop}
 use Rattle.sector_model.specs.Texts.{reply_lines, is_refusal, stop_status}
 use Rattle.sector_model.specs.Runs.{Taken, requests_of, course_lines, has_refusal}

@@ -14,8 +14,8 @@ use Rattle.raw_image.proofs.Images.{image_again}
 use Rattle.flop_base.specs.Bays.{Two, both, in_bay, with_bay}
 use Rattle.flop_base.specs.Counters.{DriveCounts}
 use Rattle.pc_bus.specs.Boards.{Board}
-use Rattle.floppy_requests.specs.declared.request.Request.{Request}
-use Rattle.floppy_requests.specs.declared.request.Request.TheVariants as request
+use Rattle.floppy_jobs.specs.declared.request.Request.{Request}
+use Rattle.floppy_jobs.specs.declared.request.Request.TheVariants as request
 use Rattle.sector_model.specs.declared.reply.Reply.{Reply}
 use Rattle.sector_model.specs.Stations.{Bay, bay_of, set_bay, fresh_bay}
 use Rattle.sector_model.specs.States.{State, IsSame, ChangesMedium}

@@ -28,8 +28,8 @@ use Rattle.disk_commands.specs.Logs.{IsLogFound}
 use Rattle.laws_program.proofs.PlayStatus.{play_by, begins_kept}
 use Rattle.laws_program.specs.Inserted.{IsDiskFile, InsertsDisks}
 use Rattle.flop_base.specs.Bays.{both}
-use Rattle.floppy_requests.specs.Texts.{job_of}
-use Rattle.floppy_requests.specs.declared.request.Request.{Request}
+use Rattle.floppy_jobs.specs.Texts.{job_of}
+use Rattle.floppy_jobs.specs.declared.request.Request.{Request}
 use Rattle.sector_model.specs.Plays.{IsText}
 use Rattle.std.proofs.Common.{Ok}
 

@@ -6,8 +6,8 @@ use Rattle.fdc_commands.specs.declared.bytes.Accepted.{Accepted}
 use Rattle.fdc_commands.specs.declared.bytes.Accepted.TheVariants.{Invalid, More, Ready}
 use Rattle.fdc_commands.specs.declared.command.Command.{Command}
 use Rattle.fdc_commands.specs.declared.command.Command.TheVariants as command
-use Rattle.fdc_seek.specs.Seeking.{Seeking, is_seeking, seek_bits, sensed}
-use Rattle.fdc_seek.specs.declared.motion.Seek.{Seek}
+use Rattle.fdc_commands.specs.Seeking.{Seeking, is_seeking, seek_bits, sensed}
+use Rattle.fdc_commands.specs.declared.motion.Seek.{Seek}
 use Rattle.fdc_stages.specs.declared.formatting.FormatNext.{FormatNext}
 use Rattle.fdc_stages.specs.declared.formatting.FormatNext.TheVariants as format_next
 use Rattle.fdc_stages.specs.declared.writing.WriteNext.{WriteNext}

@@ -13,8 +13,8 @@ use Rattle.flop_base.specs.Bays.{Two, in_bay, with_bay}
 use Rattle.flop_base.specs.Counters.{Counters, IsUndisturbed}
 use Rattle.flop_base.specs.Lists.{with_items}
 use Rattle.flop_base.specs.Memory.{user_bytes, bytes_from}
-use Rattle.floppy_requests.specs.declared.request.Request.{Request}
-use Rattle.floppy_requests.specs.declared.request.Request.TheVariants as request
+use Rattle.floppy_jobs.specs.declared.request.Request.{Request}
+use Rattle.floppy_jobs.specs.declared.request.Request.TheVariants as request
 use Rattle.sector_model.specs.declared.reply.Reply.{Reply}
 use Rattle.sector_model.specs.declared.reply.Reply.TheVariants as reply
 use Rattle.sector_model.specs.declared.reply.Reason.{Reason}

@@ -7,10 +7,10 @@ use Rattle.flop_base.specs.declared.answers.Status.{Status}
 use Rattle.floppy_jobs.specs.Texts.{ports_of}
 use Rattle.floppy_jobs.specs.declared.ports.PortLine.{PortLine}
 use Rattle.floppy_jobs.specs.declared.ports.PortLine.TheVariants as port
-use Rattle.fdc_seek.specs.Seeking.{Seeking, has_ended, is_seeking}
-use Rattle.fdc_seek.specs.declared.motion.Motion.{Motion}
-use Rattle.fdc_seek.specs.declared.motion.Motion.TheVariants.{Outward}
-use Rattle.fdc_seek.specs.declared.motion.Seek.{Seek}
+use Rattle.fdc_commands.specs.Seeking.{Seeking, has_ended, is_seeking}
+use Rattle.fdc_commands.specs.declared.motion.Motion.{Motion}
+use Rattle.fdc_commands.specs.declared.motion.Motion.TheVariants.{Outward}
+use Rattle.fdc_commands.specs.declared.motion.Seek.{Seek}
 use Rattle.fdc_core.specs.Listening.{is_executing}
 use Rattle.pc_bus.specs.Boards.{Board, IsInRange, controller_of}
 use Rattle.pc_bus.specs.Calls.{AreCalled, IsCalled, ByEject, ByExchange, ByInb, ByInsert, ByOutb, ByRamSet, ByRefusal, ByTakeIrq, ByWait, ByWaitIrq}
@@ -22,7 +22,7 @@ use Rattle.laws_machine.proofs.OnSteps.Moves.{input_goes, meets_within, output_g
 use Rattle.laws_machine.proofs.OnSteps.SeekEnds.{recalibrate_left, seek_ends, seek_ends_in_time}
 use Rattle.machine_commands.specs.Ready.{IsIdle}
 use Rattle.machine_commands.specs.declared.motors.Motors.{Motors}
-use Rattle.machine_station.specs.Started.{IsFreshBoard}
+use Rattle.machine_commands.specs.Started.{IsFreshBoard}
 use Rattle.sector_model.specs.declared.reply.Reason.{Reason}
 use Rattle.floppy_words.specs.Forms.{ports_file_of}
 use Rattle.floppy_tools.specs.Performed.{Stand, Performed, ports_world}

@@ -4,7 +4,7 @@ use Rattle.std.specs.List.{list_any}
 use Rattle.flop_base.specs.Shelf.{Files}
 use Rattle.flop_base.specs.Sink.{grown}
 use Rattle.flop_base.specs.declared.answers.Status.{Status}
-use Rattle.floppy_requests.specs.declared.request.Request.{Request}
+use Rattle.floppy_jobs.specs.declared.request.Request.{Request}
 use Rattle.sector_model.specs.declared.reply.Reply.{Reply}
 use Rattle.sector_model.specs.Texts.{reply_lines, is_refusal}
 use Rattle.sector_model.specs.States.{State}

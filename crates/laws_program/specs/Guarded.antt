@@ -1,7 +1,7 @@
 -- Which requests put a blank medium in, and under which name.
 use Rattle.std.specs.Prelude.{◌≡◌, ℕ, List, [], ◌∷◌}
-use Rattle.floppy_requests.specs.declared.request.Request.{Request}
-use Rattle.floppy_requests.specs.declared.request.Request.TheVariants as request
+use Rattle.floppy_jobs.specs.declared.request.Request.{Request}
+use Rattle.floppy_jobs.specs.declared.request.Request.TheVariants as request
 
 -- the request puts in a blank medium under this name
 abbrev pub BlanksUnder : List ℕ → Request → Type 0

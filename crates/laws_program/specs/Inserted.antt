@@ -4,8 +4,8 @@ use Rattle.flop_base.specs.Shelf.{Files, file_at}
 use Rattle.raw_image.specs.Disk.{Disk}
 use Rattle.raw_image.specs.Image.{Spells}
 use Rattle.flop_base.specs.Bays.{Two, in_bay, with_bay}
-use Rattle.floppy_requests.specs.declared.request.Request.{Request}
-use Rattle.floppy_requests.specs.declared.request.Request.TheVariants as request
+use Rattle.floppy_jobs.specs.declared.request.Request.{Request}
+use Rattle.floppy_jobs.specs.declared.request.Request.TheVariants as request
 use Rattle.floppy_jobs.specs.declared.calls.CallLine.{CallLine}
 use Rattle.floppy_jobs.specs.declared.calls.CallLine.TheVariants as call
 use Rattle.floppy_jobs.specs.declared.ports.PortLine.{PortLine}

@@ -2,9 +2,9 @@
 use Rattle.std.specs.Prelude.{◌≡◌, ◌≤◌, ◌⊎◌, ℕ, false, List, [], ◌∷◌}
 use Rattle.fdc_core.specs.Listening.{is_executing}
 use Rattle.fdc_core.specs.declared.controller.Fdc.{Fdc}
-use Rattle.fdc_seek.specs.Seeking.{is_seeking}
+use Rattle.fdc_commands.specs.Seeking.{is_seeking}
 use Rattle.laws_machine.specs.OnSteps.Ends.{HasNoSeek, seeks}
-use Rattle.machine_station.specs.Started.{IsFreshBoard}
+use Rattle.machine_commands.specs.Started.{IsFreshBoard}
 use Rattle.pc_bus.specs.Boards.{Board}
 use Rattle.pc_bus.specs.Calls.{AreCalled}
 use Rattle.text_commands.specs.PortCourses.{Taken, waits_of}

@@ -6,8 +6,8 @@ use Rattle.flop_base.specs.Standard.{gap_at, standard_fill, sectors_at}
 use Rattle.flop_base.specs.declared.answers.Code.{Code}
 use Rattle.flop_base.specs.declared.answers.Code.TheVariants.{BadRequest}
 use Rattle.flop_base.specs.declared.key.Chrn.{Chrn}
-use Rattle.floppy_requests.specs.declared.request.Request.{Request}
-use Rattle.floppy_requests.specs.declared.request.Request.TheVariants as request
+use Rattle.floppy_jobs.specs.declared.request.Request.{Request}
+use Rattle.floppy_jobs.specs.declared.request.Request.TheVariants as request
 use Rattle.flop_base.specs.Counters.{Counters, IsDriven, IsFaultless}
 use Rattle.raw_image.specs.Disk.{Disk}
 use Rattle.sector_map.specs.Changes.{Change}

@@ -5,7 +5,7 @@ use Rattle.flop_base.specs.declared.answers.Code.{Code}
 use Rattle.flop_base.specs.declared.answers.Status.{Status}
 use Rattle.flop_base.specs.declared.key.Chrn.{Chrn}
 use Rattle.raw_image.specs.Disk.{Disk}
-use Rattle.floppy_requests.specs.declared.request.Request.{Request}
+use Rattle.floppy_jobs.specs.declared.request.Request.{Request}
 use Rattle.sector_model.specs.declared.reply.Reason.{Reason}
 use Rattle.sector_model.specs.Plays.{whole_status}
 use Rattle.commands.specs.LastLines.{stopped_text}

@@ -1,7 +1,7 @@
 // What a run counts.
 ghost use Rattle.std.specs.Prelude.{◌≤◌, ◌+◌, List, Option, Some};
 ghost use Rattle.flop_base.specs.declared.answers.Status.{Status};
-ghost use Rattle.floppy_requests.specs.declared.request.Request.{Request};
+ghost use Rattle.floppy_jobs.specs.declared.request.Request.{Request};
 ghost use Rattle.flop_base.specs.Counters.{DriveCounts};
 ghost use Rattle.pc_bus.specs.Boards.{Board};
 ghost use Rattle.sector_model.specs.Ties.{TiesCounts, IsJob, accesses_of_job};

@@ -5,7 +5,7 @@ ghost use Rattle.flop_base.specs.declared.answers.Status.{Status};
 ghost use Rattle.raw_image.specs.Disk.{Disk, IsDisk};
 ghost use Rattle.flop_base.specs.Counters.{DriveCounts};
 ghost use Rattle.pc_bus.specs.Boards.{Board};
-ghost use Rattle.floppy_requests.specs.declared.request.Request.{Request};
+ghost use Rattle.floppy_jobs.specs.declared.request.Request.{Request};
 ghost use Rattle.sector_model.specs.Ties.{IsJob};
 ghost use Rattle.sector_model.specs.Steps.{IsImageOf};
 ghost use Rattle.sector_model.specs.Runs.{requests_of};

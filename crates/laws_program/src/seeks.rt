@@ -8,7 +8,7 @@ ghost use Rattle.machine_commands.specs.Ready.{IsIdle};
 ghost use Rattle.machine_commands.specs.declared.motors.Motors.{Motors};
 ghost use Rattle.laws_machine.specs.OnSteps.Ends.{HasNoSeek, Meets, Recalibrates, pulses_left, seeks};
 ghost use Rattle.laws_machine.specs.OnSteps.Moves.{Goes};
-ghost use Rattle.machine_station.specs.Started.{IsFreshBoard};
+ghost use Rattle.machine_commands.specs.Started.{IsFreshBoard};
 ghost use Rattle.pc_bus.specs.Boards.{Board, IsInRange, controller_of};
 ghost use Rattle.laws_program.specs.Seeks.{IsUsed, NotBoth, SeeksEnd};
 

@@ -5,9 +5,9 @@ use Rattle.std.proofs.lemmas.Bool.{and_from, false≢true, le-leb}
 use Rattle.flop_base.specs.declared.key.Chrn.{Chrn}
 use Rattle.track_model.specs.Fields.{IsSizeCode}
 use Rattle.drive_model.specs.Drive.{DriveState, at_index}
-use Rattle.fdc_fifo.specs.Fifo.{Fifo}
-use Rattle.fdc_seek.specs.Seeking.{Seeking, has_ended_seek, seek_bits, with_polls, without_ended}
-use Rattle.fdc_seek.specs.declared.motion.Seek.{Seek}
+use Rattle.fdc_registers.specs.Fifo.{Fifo}
+use Rattle.fdc_commands.specs.Seeking.{Seeking, has_ended_seek, seek_bits, with_polls, without_ended}
+use Rattle.fdc_commands.specs.declared.motion.Seek.{Seek}
 use Rattle.fdc_commands.specs.Table.{Row, answer, answer_by, is_sized, row_of, whole}
 use Rattle.fdc_commands.specs.declared.bytes.Accepted.TheVariants.{More, Ready, Invalid}
 use Rattle.fdc_commands.specs.declared.command.Command.{Command}

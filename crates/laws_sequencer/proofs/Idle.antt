@@ -1,7 +1,7 @@
 -- While the bytes of a command come, the controller takes commands.
 use Rattle.std.proofs.Common.{◌≡◌, inl, inr, ℕ, ◌+◌, nat_le, Bool, true, false, not, ◌&&◌, ◌||◌, ◌==◌, if◌then◌else◌, Option, Some, None, [], ◌∷◌, ◌++◌, refl, sym, ◌∙◌, ap, subst}
 use Rattle.std.proofs.lemmas.Bool.{and_from, and_parts, eqb-true, false≢true}
-use Rattle.fdc_seek.specs.Seeking.{has_ended_seek, with_polls}
+use Rattle.fdc_commands.specs.Seeking.{has_ended_seek, with_polls}
 use Rattle.fdc_stages.specs.declared.ending.Ending.{Ending}
 use Rattle.fdc_stages.specs.declared.ending.Ending.TheVariants.{Done, NoMark, NoSector, NoField, BadCheck, Overrun, NoCount, Protected, Late}
 use Rattle.fdc_commands.specs.Table.{answer, is_begun, kept}

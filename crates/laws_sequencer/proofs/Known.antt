@@ -4,8 +4,8 @@ use Rattle.std.proofs.Common.{◌≡◌, ◌⊎◌, inl, inr, ℕ, zero, suc, �
 use Rattle.std.proofs.lemmas.Bool.{false≢true, and_parts, eqb-true}
 use Rattle.drive_model.specs.Drive.{DriveState, at_index}
 use Rattle.flop_base.specs.declared.key.Chrn.{Chrn}
-use Rattle.fdc_fifo.specs.Fifo.{Fifo}
-use Rattle.fdc_seek.specs.Seeking.{with_polls}
+use Rattle.fdc_registers.specs.Fifo.{Fifo}
+use Rattle.fdc_commands.specs.Seeking.{with_polls}
 use Rattle.fdc_stages.specs.History.{Past}
 use Rattle.fdc_stages.specs.declared.ending.Ending.TheVariants.{Late}
 use Rattle.fdc_stages.specs.Writings.{is_due, is_open, opens}

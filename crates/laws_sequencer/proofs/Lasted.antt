@@ -1,7 +1,7 @@
 -- A command of several sectors ends: each device step leaves one fewer, of those that an implied seek and its sectors take.
 use Rattle.std.proofs.Common.{◌≡◌, inl, inr, ℕ, ◌+◌, ◌-◌, ◌*◌, ◌<◌, ◌≤◌, nat_le, Bool, true, false, not, ◌||◌, ◌==◌, if◌then◌else◌, Option, Some, None, List, [], ◌∷◌, ◌++◌, refl, sym, ◌∙◌, ap, subst, arith}
 use Rattle.std.proofs.lemmas.Bool.{eqb-true, false≢true, not-true, and_parts}
-use Rattle.fdc_seek.specs.Seeking.{Seeking as Seeks, has_ended_seek, is_seeking, seek_bits}
+use Rattle.fdc_commands.specs.Seeking.{Seeking as Seeks, has_ended_seek, is_seeking, seek_bits}
 use Rattle.fdc_commands.specs.Table.{is_begun, kept}
 use Rattle.fdc_commands.specs.declared.results.Results.{Results}
 use Rattle.fdc_commands.specs.declared.bytes.Accepted.TheVariants.{Ready}

@@ -24,7 +24,7 @@ use Rattle.fdc_core.specs.Ports.{resets}
 use Rattle.fdc_core.specs.Times.{Closes, WordTime, Saw, KeptOut, Wrote, Stopped, IsTime, after_time}
 use Rattle.fdc_core.specs.Whole.{ending_told, given_up, mark_of, without_seek}
 use Rattle.fdc_core.specs.declared.controller.Fdc.{Fdc}
-use Rattle.fdc_seek.specs.Seeking.{has_ended_seek}
+use Rattle.fdc_commands.specs.Seeking.{has_ended_seek}
 use Rattle.fdc_adapter.specs.Adapters.{AdapterState, WritesAdapter, drive_at, selected_at}
 use Rattle.fdc_core.specs.Drives.Following.{FollowsDor, FollowsWrite}
 use Rattle.fdc_core.specs.Drives.Heard.{IsHeardFrom, IsWholeFrom}

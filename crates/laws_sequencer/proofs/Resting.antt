@@ -1,7 +1,7 @@
 -- Device steps of a controller that executes nothing: no medium changes.
 use Rattle.std.proofs.Common.{◌≡◌, inl, inr, ◌&&◌, Bool, true, false, not, Option, Some, None, if◌then◌else◌, refl, sym, ◌∙◌, ap, subst}
 use Rattle.std.proofs.lemmas.Bool.{false≢true}
-use Rattle.fdc_seek.specs.Seeking.{with_polls}
+use Rattle.fdc_commands.specs.Seeking.{with_polls}
 use Rattle.drive_model.specs.Drive.{DriveState}
 use Rattle.fdc_phases.specs.declared.phases.Phase.{Phase}
 use Rattle.fdc_phases.specs.declared.phases.Phase.TheVariants.{Command, Execute, Result}

@@ -2,13 +2,13 @@
 use Rattle.std.proofs.Common.{◌≡◌, inl, inr, ℕ, ◌+◌, ◌-◌, ◌==◌, nat_le, nat_lt, Bool, true, false, not, ◌&&◌, ◌||◌, Option, Some, None, List, [], ◌∷◌, ◌++◌, length, if◌then◌else◌, refl, sym, ◌∙◌, ap, subst}
 use Rattle.std.proofs.lemmas.Bool.{and_parts, eqb-true, false≢true}
 use Rattle.drive_model.specs.Drive.{DriveState, at_index}
-use Rattle.fdc_fifo.specs.Fifo.{Fifo, wants}
+use Rattle.fdc_registers.specs.Fifo.{Fifo, wants}
 use Rattle.fdc_stages.specs.History.{Past}
 use Rattle.fdc_stages.specs.Readings.{ReadOutcome}
 use Rattle.fdc_stages.specs.Readings as heard
 use Rattle.fdc_stages.specs.declared.ending.Ending.{Ending}
 use Rattle.fdc_stages.specs.declared.ending.Ending.TheVariants.{Done, NoMark, NoSector, NoField, BadCheck, Overrun, NoCount, Protected, Late}
-use Rattle.fdc_seek.specs.Seeking.{has_ended_seek, with_polls}
+use Rattle.fdc_commands.specs.Seeking.{has_ended_seek, with_polls}
 use Rattle.fdc_stages.specs.declared.writing.WriteNext.{WriteNext}
 use Rattle.fdc_stages.specs.declared.writing.WriteNext.TheVariants.{On, Ended}
 use Rattle.fdc_stages.specs.Writings.{needs_byte}

@@ -3,8 +3,8 @@ use Rattle.std.proofs.Common.{◌≡◌, ◌⊎◌, inl, inr, ℕ, zero, suc, �
 use Rattle.std.proofs.lemmas.Bool.{false≢true, and_from, and_parts, eqb-true, leb-true}
 use Rattle.flop_base.specs.declared.key.Chrn.{Chrn}
 use Rattle.track_model.specs.Fields.{IsSizeCode, content_size}
-use Rattle.fdc_fifo.specs.Fifo.{emptied}
-use Rattle.fdc_seek.specs.Seeking.{seek_bits}
+use Rattle.fdc_registers.specs.Fifo.{emptied}
+use Rattle.fdc_commands.specs.Seeking.{seek_bits}
 use Rattle.fdc_commands.specs.Table.{is_begun}
 use Rattle.fdc_commands.specs.declared.bytes.Accepted.TheVariants.{Ready, Invalid}
 use Rattle.fdc_commands.specs.declared.command.Command.{Command}

@@ -3,7 +3,7 @@ use Rattle.std.proofs.Common.{◌≡◌, ◌⊎◌, inl, inr, ℕ, zero, suc, �
 use Rattle.std.proofs.lemmas.Bool.{false≢true}
 use Rattle.flop_base.specs.declared.key.Chrn.{Chrn}
 use Rattle.track_model.specs.Fields.{IsAddressAt}
-use Rattle.fdc_fifo.specs.Fifo.{Fifo}
+use Rattle.fdc_registers.specs.Fifo.{Fifo}
 use Rattle.fdc_stages.specs.History.{Past, wrote}
 use Rattle.fdc_stages.specs.Searches.{HasTurned}
 use Rattle.fdc_stages.specs.Writings.{IsAtStage, IsWriting, is_due, opens}

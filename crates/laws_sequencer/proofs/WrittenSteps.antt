@@ -3,7 +3,7 @@ use Rattle.std.proofs.Common.{◌≡◌, inl, inr, ℕ, zero, suc, ◌≤◌, �
 use Rattle.std.proofs.lemmas.Bool.{and_parts, false≢true}
 use Rattle.raw_image.specs.Disk.{Disk}
 use Rattle.track_model.specs.Fields.{IsSizeCode}
-use Rattle.fdc_seek.specs.Seeking.{has_ended_seek}
+use Rattle.fdc_commands.specs.Seeking.{has_ended_seek}
 use Rattle.fdc_commands.specs.Table.{is_begun}
 use Rattle.fdc_commands.specs.declared.results.Results.{Results}
 use Rattle.fdc_stages.specs.History.{Past, begun as new_past}

@@ -13,7 +13,7 @@ use Rattle.track_model.specs.Windows.{IsCuttable, cut_of, window_word}
 use Rattle.track_model.specs.Writing.{window}
 use Rattle.track_model.proofs.Written.{length-window}
 use Rattle.drive_model.specs.Drive.{DriveState}
-use Rattle.fdc_fifo.specs.Fifo.{Fifo}
+use Rattle.fdc_registers.specs.Fifo.{Fifo}
 use Rattle.fdc_stages.specs.History.{Past, begun as new_past}
 use Rattle.fdc_stages.specs.Writings.{HasBegun, IsFirstOf, WritesWhole}
 use Rattle.fdc_stages.specs.declared.ending.Ending.{Ending}

@@ -19,7 +19,7 @@ use Rattle.fdc_phases.specs.Heard.{Sent, gave, results_sent, told_in}
 use Rattle.fdc_phases.specs.Phases.{head_of}
 use Rattle.fdc_phases.specs.Written.{took}
 use Rattle.fdc_core.specs.Times.{WordTime, Saw, KeptOut, Wrote, Stopped, IsTime, after_time}
-use Rattle.fdc_seek.specs.Seeking.{has_ended_seek, seek_bits}
+use Rattle.fdc_commands.specs.Seeking.{has_ended_seek, seek_bits}
 use Rattle.fdc_adapter.specs.Adapters.{AdapterState, selected_at}
 use Rattle.fdc_core.specs.Listening.{is_executing}
 use Rattle.fdc_core.specs.Meaning.{AreOfField, ReadMeans}

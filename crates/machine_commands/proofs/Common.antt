@@ -23,9 +23,9 @@ pub use Rattle.fdc_phases.specs.Rates.{rate_fits}
 pub use Rattle.fdc_phases.specs.declared.answers.Answer.TheVariants.{Long}
 pub use Rattle.fdc_phases.specs.declared.phases.Phase.{Phase}
 pub use Rattle.fdc_phases.specs.declared.phases.Phase.TheVariants.{Command, Execute, Result}
-pub use Rattle.fdc_seek.specs.Seeking.{Seeking, after_sense, ended, has_ended, is_seeking, pulse_due, pulse_of, recalibrated, seek_bits, sensed, sought, stepped_seek, with_motion}
-pub use Rattle.fdc_seek.specs.declared.motion.Motion.{Motion}
-pub use Rattle.fdc_seek.specs.declared.motion.Motion.TheVariants.{Ended, Outward, Toward}
+pub use Rattle.fdc_commands.specs.Seeking.{Seeking, after_sense, ended, has_ended, is_seeking, pulse_due, pulse_of, recalibrated, seek_bits, sensed, sought, stepped_seek, with_motion}
+pub use Rattle.fdc_commands.specs.declared.motion.Motion.{Motion}
+pub use Rattle.fdc_commands.specs.declared.motion.Motion.TheVariants.{Ended, Outward, Toward}
 pub use Rattle.fdc_stages.specs.declared.ending.Ending.{Ending}
 pub use Rattle.fdc_stages.specs.declared.ending.Ending.TheVariants.{BadCheck, Late, NoCount, NoField, NoMark, NoSector, Overrun, Protected}
 pub use Rattle.fdc_stages.specs.Formats.{Numbers}
@@ -76,7 +76,7 @@ pub use Rattle.raw_image.specs.Disk.{Disk, HasTrack, track_of}
 pub use Rattle.sector_map.specs.Changes.{Change}
 pub use Rattle.sector_map.specs.Layings.{Format, Laying, format_keys}
 pub use Rattle.sector_map.specs.Met.{HasClearAddress, met_in}
-pub use Rattle.single_commands.specs.Rigs.{IsReset, OnlyAsks, track_under}
-pub use Rattle.single_commands.specs.Writing.{FormatsTrack, HasTrackUnder, IsFormatMiss, LaysMedium, WritesData}
+pub use Rattle.floppy_driver.specs.Rigs.{IsReset, OnlyAsks, track_under}
+pub use Rattle.floppy_driver.specs.Writing.{FormatsTrack, HasTrackUnder, IsFormatMiss, LaysMedium, WritesData}
 pub use Rattle.track_format.specs.Keys.{key_bytes}
 pub use Rattle.track_model.specs.Fields.{IsAddressAt, IsSizeCode, content_size}

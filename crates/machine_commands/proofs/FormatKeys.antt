@@ -9,7 +9,7 @@ use Rattle.std.proofs.lemmas.List.FromFn.{length-map-range_with_len}
 use Rattle.sector_map.specs.Standard.{key_of, track_keys}
 use Rattle.machine_commands.specs.WriteSent.{IsKeyAt, OnlyMemory, PutsByte, PutsKey, PutsKeys}
 use Rattle.std.specs.Option.{option_map_or}
-use Rattle.single_commands.specs.Rigs.{Rig}
+use Rattle.floppy_driver.specs.Rigs.{Rig}
 use Rattle.machine_commands.specs.Shown.{page_part, user_part}
 use Rattle.machine_commands.proofs.Landing.{user_same}
 use Rattle.machine_commands.proofs.PastDriver.{still_idle}

@@ -8,7 +8,7 @@ use Rattle.fdc_phases.specs.Heard.{key_met}
 use Rattle.laws_machine.specs.OnOrders.Orders.{Identify}
 use Rattle.laws_machine.specs.OnReads.Ids.{IdEndedIn, IdEndsAs, sent_id}
 use Rattle.laws_machine.proofs.OnOrders.Ends.{id_ended, id_memory}
-use Rattle.single_commands.specs.Reading.{ReadsId}
+use Rattle.floppy_driver.specs.Reading.{ReadsId}
 use Rattle.machine_commands.specs.Awaited.{SendsReadId, key_told}
 use Rattle.machine_commands.specs.Shown.{user_part, page_part}
 use Rattle.machine_commands.proofs.Beginning.{IsRun, head_of_sent, is_run, small_drive}

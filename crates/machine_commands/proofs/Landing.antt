@@ -5,7 +5,7 @@ use Rattle.std.proofs.lemmas.List.{ext_get_or, get_or_past, get_or-take, get_or-
 use Rattle.machine_commands.proofs.Common.{with_items, user_bytes, HasBytes, InRange, Board, memory_of, rig_of}
 use Rattle.flop_base.specs.Memory.{SameOutside}
 use Rattle.track_model.proofs.Splices.{length-with_items, with_items_before, with_items_at, with_items_behind}
-use Rattle.single_commands.specs.Rigs.{IsSound}
+use Rattle.floppy_driver.specs.Rigs.{IsSound}
 use Rattle.machine_commands.specs.Shown.{user_part, page_part}
 
 -- ---- both parts

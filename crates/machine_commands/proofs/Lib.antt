@@ -33,3 +33,11 @@ pub mod Statuses
 pub mod Steps
 pub mod WriteDone
 pub mod WriteRigs
+mod Bays
+mod Keeping
+mod Rating
+mod Handling
+mod Attaching
+mod Replacing
+mod Starting
+mod Standing

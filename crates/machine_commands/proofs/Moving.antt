@@ -5,7 +5,7 @@ use Rattle.std.proofs.lemmas.Bool.Decides.{nat_tests}
 use Rattle.machine_commands.proofs.Common.{RoseBy, Spends, spends_twice, DriveState, Becomes, ended, with_motion, has_ended, sought, recalibrated, Motion, Outward, Toward, Ended, Moves}
 use Rattle.flop_base.specs.Counts.{RoseLess, Rose}
 use Rattle.drive_model.specs.Drive.{moved}
-use Rattle.fdc_seek.specs.Seeking.{neighbour}
+use Rattle.fdc_commands.specs.Seeking.{neighbour}
 use Rattle.machine_commands.proofs.Idling.{KeepsDrive, KeepsSpeed}
 use Rattle.machine_commands.proofs.Seeking.{EndsNow, GivesPulse, IsRule}
 use Rattle.machine_commands.proofs.Steps.{gate_turns}

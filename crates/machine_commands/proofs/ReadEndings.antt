@@ -18,7 +18,7 @@ use Rattle.laws_machine.specs.OnReads.Results as heard
 use Rattle.laws_machine.specs.OnReads.Scenes.{IsRecorded}
 use Rattle.laws_machine.proofs.OnOrders.Ends.{read_ended, read_outside}
 use Rattle.laws_machine.proofs.OnReads.TrackMet.{rate_is, recorded}
-use Rattle.single_commands.specs.Reading.{FindsField, IsReadReason, IsReadCode, IsReadMiss, ReadsData, ReadsBack}
+use Rattle.floppy_driver.specs.Reading.{FindsField, IsReadReason, IsReadCode, IsReadMiss, ReadsData, ReadsBack}
 use Rattle.machine_commands.specs.Awaited.{SendsRead, mark_told}
 use Rattle.machine_commands.specs.Shown.{user_part, page_part}
 use Rattle.machine_commands.proofs.Beginning.{IsRun, head_of_sent, is_run, set_to_memory, small_drive}

@@ -3,7 +3,7 @@ use Rattle.std.proofs.Common.{◌≡◌, ◌⊎◌, true, false, [], ◌∷◌, 
 use Rattle.machine_commands.proofs.Common.{InRange, Ready, dor_written, ccr_written, Writes, dor_of, data_commands_of, polled, Fdc, Board, controller_of, lines_of, IsReset, IsReady, IsIdle, is_up, rig_of}
 use Rattle.fdc_commands.specs.Table.{answer}
 use Rattle.fdc_commands.specs.declared.command.Command.TheVariants.{Specify, Configure}
-use Rattle.fdc_seek.specs.Seeking.{at_rest, with_polls}
+use Rattle.fdc_commands.specs.Seeking.{at_rest, with_polls}
 use Rattle.fdc_core.specs.Commands.{specified, configured}
 use Rattle.fdc_core.specs.State.{reset}
 use Rattle.machine_commands.specs.Asked.{Resets, none_on}

@@ -5,9 +5,9 @@ use Rattle.machine_commands.proofs.Common.{last_count, RoseBy, Spends, Code, Rat
 use Rattle.laws_machine.specs.OnAwaits.Awaits.{TurnsOn}
 use Rattle.pc_bus.specs.Counts.{long_holds}
 use Rattle.laws_machine.specs.OnQuiet.Quiet.{HaveTurned}
-use Rattle.single_commands.specs.Reading.{SendsRead}
-use Rattle.single_commands.specs.Rigs.{HeadsStay}
-use Rattle.single_commands.specs.Writing.{SendsWrite}
+use Rattle.floppy_driver.specs.Reading.{SendsRead}
+use Rattle.floppy_driver.specs.Rigs.{HeadsStay}
+use Rattle.floppy_driver.specs.Writing.{SendsWrite}
 use Rattle.machine_commands.specs.Shown.{page_part, user_part}
 use Rattle.machine_commands.proofs.Beginning.{HasRun}
 use Rattle.machine_commands.proofs.Endings.{finished_idle}

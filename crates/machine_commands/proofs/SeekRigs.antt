@@ -9,7 +9,7 @@ use Rattle.std.proofs.lemmas.Bool.Decides.{eqb_tells, nat_tests}
 use Rattle.machine_commands.proofs.Common.{RoseBy, DriveGoesOn, DriveState, InRange, Ready, Seeking, seek_bits, ended, after_sense, sought, recalibrated, Motion, Outward, Toward, Ended, dor_of, data_commands_of, Fdc, Board, controller_of, drive_in, dor_with, IsReady, IsIdle, AreSeeksOver, is_spun, number_of, rig_of, Motors, counts_of}
 use Rattle.fdc_commands.specs.Table.{answer}
 use Rattle.fdc_commands.specs.declared.command.Command.TheVariants.{Recalibrate, Seek}
-use Rattle.single_commands.specs.Heads.{MovesHeads, Recalibrates, Seeks}
+use Rattle.floppy_driver.specs.Heads.{MovesHeads, Recalibrates, Seeks}
 use Rattle.machine_commands.specs.Asked.{SendsRecalibrate, SendsSeek}
 use Rattle.machine_commands.proofs.Idling.{KeepsSpeed}
 use Rattle.machine_commands.specs.Shown.{user_part, page_part}

@@ -5,7 +5,7 @@ use Rattle.std.specs.Option.{option_map_or}
 use Rattle.std.proofs.lemmas.Bool.Decides.{nat_tests}
 use Rattle.machine_commands.proofs.Common.{spends_twice, DriveState, Becomes, turns, track_words, Seeking, stepped_seek, is_seeking, has_ended, pulse_due, pulse_of, Motion, Outward, Toward, Ended, is_executing, asks, interrupts, is_held, polled, seek_stepped, RestsIn, MovesIn, Moves, Fdc, Phase, Command, Execute, Result, Low, Board, controller_of, channel_of, holds_of, regapped, Marching, Steady, march_wait, controller, Step, stirred, Chips, is_up}
 use Rattle.flop_base.proofs.Counted.{spends_itself}
-use Rattle.fdc_seek.specs.declared.motion.Seek.{Seek}
+use Rattle.fdc_commands.specs.declared.motion.Seek.{Seek}
 use Rattle.fdc_core.specs.State.{is_gated}
 use Rattle.fdc_core.specs.Steps.{let_pass}
 use Rattle.laws_machine.proofs.OnQuiet.Turning.{turned_let}

@@ -17,7 +17,7 @@ use Rattle.laws_machine.specs.OnOrders.Orders.{Laid}
 use Rattle.laws_machine.specs.OnWrites.Results.{EndsAs, HasChanged, IsInsideTrack, IsWholeWindow, written_in}
 use Rattle.laws_machine.specs.OnWrites.Results as write
 use Rattle.laws_machine.proofs.OnWrites.Results.{changes_disk}
-use Rattle.single_commands.specs.Writing.{ChangesMedium, HasWindowOut, IsWriteMiss}
+use Rattle.floppy_driver.specs.Writing.{ChangesMedium, HasWindowOut, IsWriteMiss}
 use Rattle.machine_commands.specs.Shown.{user_part}
 use Rattle.machine_commands.proofs.Showing.{two_same}
 use Rattle.machine_commands.proofs.Beginning.{HasRun}

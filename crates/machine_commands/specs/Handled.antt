@@ -3,7 +3,7 @@ use Rattle.std.specs.Prelude.{◌≡◌, ◌≤◌, ◌-◌, ℕ, true, slice_se
 use Rattle.raw_image.specs.Disk.{Disk}
 use Rattle.flop_base.specs.Bays.{in_bay, with_bay}
 use Rattle.flop_base.specs.Counters.{Counters, DriveCounts, DriveGoesOn, GoesOn, IsPastDriver}
-use Rattle.single_commands.specs.Rigs.{Rig}
+use Rattle.floppy_driver.specs.Rigs.{Rig}
 
 -- nothing but counts was changed
 pub record Untouched (old new : Rig) : Type 0 where

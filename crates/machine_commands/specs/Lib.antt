@@ -8,3 +8,7 @@ pub mod Awaited
 pub mod Channels
 pub mod WriteSent
 pub mod Handled
+pub mod Flagged
+pub mod StationShown
+pub mod StationReady
+pub mod Started

@@ -5,7 +5,7 @@ use Rattle.flop_base.specs.Memory.{user_bytes}
 use Rattle.drive_model.specs.Drive.{DriveState, at_speed}
 use Rattle.fdc_core.specs.State.{data_commands_of}
 use Rattle.pc_bus.specs.Boards.{Board, board, controller_of, memory_of, holds_of}
-use Rattle.single_commands.specs.Rigs.{Rig}
+use Rattle.floppy_driver.specs.Rigs.{Rig}
 use Rattle.pc_bus.specs.Counts.{counts_of}
 use Rattle.machine_commands.specs.Ready.{IsIdle}
 use Rattle.machine_commands.specs.declared.machine.CommandedMachine.{CommandedMachine}

@@ -8,7 +8,7 @@ use crate::results::{key_of, mark_of};
 use crate::writing::told;
 use drive_model::Drive;
 use flop_base::{Chrn, Code, Rate};
-use single_commands::Commands;
+use floppy_driver::Commands;
 
 impl<D: Drive> Commands for CommandedMachine<D> {
     ghost rig = { rig_shown D.state };

@@ -8,10 +8,10 @@ use Rattle.drive_model.specs.PlainDrive.{plain_state}
 use Rattle.drive_model.specs.declared.plain.PlainDrive.{PlainDrive}
 use Rattle.irq_events.specs.declared.pace.Pace.{Pace}
 use Rattle.machine_commands.specs.Shown.{stalls_left}
-use Rattle.machine_station.specs.Ready.{IsStationReady}
-use Rattle.machine_station.specs.Shown.{station_shown}
-use Rattle.machine_station.specs.Started.{Starts}
-use Rattle.machine_station.specs.declared.station.MachineStation.{MachineStation}
+use Rattle.machine_commands.specs.StationReady.{IsStationReady}
+use Rattle.machine_commands.specs.StationShown.{station_shown}
+use Rattle.machine_commands.specs.Started.{Starts}
+use Rattle.machine_commands.specs.declared.station.MachineStation.{MachineStation}
 use Rattle.pc_bus.specs.Boards.{Board, IsNew, holds_of}
 use Rattle.pc_bus.specs.declared.bus.Bus.{Bus}
 use Rattle.sector_model.specs.Orders.{is_acknowledged}

@@ -10,12 +10,12 @@ use Rattle.fdc_core.specs.State.{dor_of}
 use Rattle.fdc_core.specs.declared.controller.Fdc.{Fdc}
 use Rattle.fdc_phases.specs.declared.phases.Phase.{Phase}
 use Rattle.fdc_phases.specs.declared.phases.Phase.TheVariants.{Command, Execute, Result}
-use Rattle.fdc_seek.specs.Seeking.{Seeking}
+use Rattle.fdc_commands.specs.Seeking.{Seeking}
 use Rattle.pc_bus.specs.Boards.{Board, controller_of}
 use Rattle.machine_commands.specs.Ready.{AreSeeksOver, HasMotors, IsIdle, IsReady, dor_with}
 use Rattle.machine_commands.specs.declared.motors.Motors.{Motors}
-use Rattle.machine_station.specs.Ready.{IsStationReady}
-use Rattle.machine_station.specs.declared.station.MachineStation.{MachineStation}
+use Rattle.machine_commands.specs.StationReady.{IsStationReady}
+use Rattle.machine_commands.specs.declared.station.MachineStation.{MachineStation}
 
 none_again : {A : Type 0} (o : Option A) → ∥ o ≡ None ∥₁ → o ≡ None
 none_again None told = refl

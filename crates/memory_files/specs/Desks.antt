@@ -2,7 +2,7 @@
 use Rattle.std.specs.Prelude.{ℕ}
 use Rattle.drive_model.specs.PlainDrive.{plain_state}
 use Rattle.sector_model.specs.Stations.{StationState}
-use Rattle.machine_station.specs.Shown.{station_shown}
+use Rattle.machine_commands.specs.StationShown.{station_shown}
 use Rattle.memory_files.specs.declared.desk.SectorDesk.{SectorDesk}
 
 -- its station, as the sector model sees it

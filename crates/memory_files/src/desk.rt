@@ -1,14 +1,14 @@
 // A desk, and the media in its bays.
 ghost use Rattle.std.specs.Prelude.{◌≡◌, []};
 ghost use Rattle.drive_model.specs.PlainDrive.{plain_state};
-ghost use Rattle.machine_station.specs.Ready.{is_station_ready};
-ghost use Rattle.machine_station.specs.Shown.{station_shown};
+ghost use Rattle.machine_commands.specs.StationReady.{is_station_ready};
+ghost use Rattle.machine_commands.specs.StationShown.{station_shown};
 ghost use Rattle.memory_files.specs.Quiet.{stalls_due};
 
 use drive_model::PlainDrive;
 use flop_base::{Code, NoMemory, Rate};
 use irq_events::Pace;
-use machine_station::MachineStation;
+use machine_commands::MachineStation;
 use pc_bus::MachineOf;
 use raw_image::Medium;
 use sector_model::Station;

@@ -1,4 +1,5 @@
-//! Files and printed lines in memory, which tell what they hold, with the program on them; and a desk for single sectors.
+//! Files and printed lines in memory, which tell what they hold, with the program on them; a session over a machine, request by
+//! request; and a desk for single sectors.
 //!
 //! A desk is a station with two drives that have no faults. Media go into its bays, and each call reads, writes or formats there: a
 //! step of the sector model, which nothing disturbs.
@@ -8,10 +9,12 @@ mod desk;
 mod lines;
 mod memory;
 mod sectors;
+mod session;
 mod shelf;
 mod words;
 
 pub use desk::SectorDesk;
 pub use memory::{MemShelf, MemSink};
+pub use session::Session;
 pub use shelf::RunShelf;
 pub use words::{WordsError, split_words};

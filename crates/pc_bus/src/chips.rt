@@ -12,7 +12,7 @@ ghost use Rattle.pc_bus.specs.Transfers.{can_move, moved, moved_to_memory, moved
 use crate::memory::Memory;
 use dma_8237::Dma;
 use fdc_core::{Fdc, Lines};
-use fdc_fifo::DEPTH;
+use fdc_registers::DEPTH;
 use flop_base::NoMemory;
 use irq_events::Holding;
 use std::alloc::Global;

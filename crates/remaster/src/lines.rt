@@ -9,9 +9,9 @@ ghost use Rattle.remaster.specs.Survey.{track_number, cylinder_tracks, line_on, 
 use crate::looked::{LookedField, is_size_code, list_looked};
 use flop_base::{Chrn, NoMemory};
 use raw_image::Medium;
+use sector_map::{Field, Look};
 use std::alloc::Global;
 use std::fmt;
-use track_fields::{Field, Look};
 
 /// An address field of a medium, shown as `CYLINDER HEAD PLACE C H R N WORD`: decimal numbers, the place by the first
 /// cell of the field's marks, and what was found behind it.

@@ -6,8 +6,8 @@ ghost use Rattle.track_model.specs.Looks.{LookAt};
 ghost use Rattle.remaster.specs.Looked.{AreLooked};
 
 use flop_base::NoMemory;
+use sector_map::{Field, Look, list_fields, look_at};
 use std::alloc::Global;
-use track_fields::{Field, Look, list_fields, look_at};
 
 /// An intact address field, and the look at it.
 #[derive(Clone, Copy, Debug, PartialEq, Eq)]

@@ -15,9 +15,8 @@ use crate::sectors::Sector;
 use flop_base::standard::FILL;
 use flop_base::{Chrn, NoMemory, Rate, sector_size};
 use sector_map::laws::cut_keeps;
-use sector_map::place_window;
+use sector_map::{field_words, place_window};
 use std::alloc::Global;
-use track_fields::field_words;
 use track_format::laws::lay_reads;
 use track_format::{LayoutError, layout};
 

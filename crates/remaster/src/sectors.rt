@@ -8,8 +8,8 @@ ghost use Rattle.remaster.specs.Fit.{HasSize};
 
 use crate::looked::{LookedField, list_looked};
 use flop_base::{Bytes, Chrn, NoMemory, sector_size};
+use sector_map::{Look, content_byte};
 use std::alloc::Global;
-use track_fields::{Look, content_byte};
 
 /// A sector that was found on a track: its key, whether it is marked as deleted, and its content.
 #[derive(Drop)]

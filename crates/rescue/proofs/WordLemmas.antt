@@ -7,12 +7,12 @@ use Rattle.std.proofs.lemmas.Str.Parse.{numerals_by_value, tells_digits}
 use Rattle.std.specs.Char.{digit_value}
 use Rattle.std.specs.Fmt.{decimal, digit_glyph}
 use Rattle.std.specs.Prelude.{codes}
-use Rattle.floppy_requests.specs.Spelling.{hex2}
+use Rattle.floppy_jobs.specs.Spelling.{hex2}
 use Rattle.std.specs.Str.{bytes_eq}
 use Rattle.std.specs.Str.Parse.{AllDigits, IsNumeral, digits_value}
 use Rattle.flop_base.specs.declared.answers.Code.{Code}
 use Rattle.flop_base.specs.declared.answers.Code.TheVariants.{BadRequest, NoMark, Protected, NotFound, Changed, Overrun, Page, BadCrc, Seek, NotReady}
-use Rattle.floppy_requests.specs.Numbers.{all_digits, number_of}
+use Rattle.floppy_jobs.specs.Numbers.{all_digits, number_of}
 use Rattle.sector_model.specs.Orders.{IsDeviceRefusal}
 use Rattle.rescue.specs.Fields.{plain_of, code_of, line_of}
 use Rattle.rescue.specs.Log.{code_text, line_words, IsLogLine}

@@ -9,8 +9,8 @@ use Rattle.flop_base.specs.declared.answers.Code.TheVariants.{NoMark, NotFound, 
 use Rattle.flop_base.specs.declared.answers.Rate.{Rate}
 use Rattle.flop_base.specs.declared.answers.Status.{Status}
 use Rattle.flop_base.specs.declared.answers.Status.TheVariants.{AllOk, SomeRefused}
-use Rattle.floppy_requests.specs.declared.request.Request.{Request}
-use Rattle.floppy_requests.specs.declared.request.Request.TheVariants.{Read, Write, WriteDeleted}
+use Rattle.floppy_jobs.specs.declared.request.Request.{Request}
+use Rattle.floppy_jobs.specs.declared.request.Request.TheVariants.{Read, Write, WriteDeleted}
 use Rattle.sector_map.specs.Standard.{cylinder_keys}
 use Rattle.rescue.specs.declared.line.LogLine.{LogLine}
 use Rattle.rescue.specs.declared.course.AfterRead.{AfterRead}

@@ -4,8 +4,8 @@ use Rattle.std.specs.List.{slice_split}
 use Rattle.std.specs.Str.{bytes_eq}
 use Rattle.flop_base.specs.declared.answers.Code.{Code}
 use Rattle.flop_base.specs.declared.answers.Code.TheVariants.{NoMark, NotFound, Overrun, BadCrc, Seek}
-use Rattle.floppy_requests.specs.Numbers.{number_of}
-use Rattle.floppy_requests.specs.Requests.{◌>>=◌}
+use Rattle.floppy_jobs.specs.Numbers.{number_of}
+use Rattle.floppy_jobs.specs.Requests.{◌>>=◌}
 use Rattle.rescue.specs.Log.{line_text, IsLogLine}
 use Rattle.rescue.specs.declared.line.LogLine.{LogLine}
 

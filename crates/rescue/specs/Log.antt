@@ -5,7 +5,7 @@ use Rattle.std.specs.List.{AllPairs, flat_map, join_with_byte}
 use Rattle.flop_base.specs.Numbers.{code_number}
 use Rattle.flop_base.specs.declared.key.Chrn.{Chrn}
 use Rattle.flop_base.specs.declared.answers.Code.{Code}
-use Rattle.floppy_requests.specs.Spelling.{hex2}
+use Rattle.floppy_jobs.specs.Spelling.{hex2}
 use Rattle.sector_model.specs.Orders.{IsDeviceRefusal}
 use Rattle.rescue.specs.declared.line.LogLine.{LogLine}
 use Rattle.rescue.specs.declared.read.LogError.{LogError}

@@ -13,3 +13,10 @@ pub mod Rewritten
 pub mod SameDisks
 mod Tracks
 pub mod WholeWindows
+mod Intact
+mod Looked
+mod Pushed
+mod RegularPlaces
+mod Turned
+mod ReadTurn
+mod TurnOver

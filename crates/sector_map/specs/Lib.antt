@@ -9,3 +9,6 @@ pub mod Layings
 pub mod Met
 pub mod MetTracks
 pub mod Standard
+pub mod Absences
+pub mod Places
+pub mod Turned

@@ -5,9 +5,9 @@ ghost use Rattle.track_model.specs.Fields.{IsSizeCode};
 ghost use Rattle.track_model.specs.Regular.{IsRegular};
 ghost use Rattle.sector_map.specs.Disks.{LookOn, IsRegularDisk};
 
+use crate::{Look, find_sector, is_regular};
 use flop_base::Chrn;
 use raw_image::Medium;
-use track_fields::{Look, find_sector, is_regular};
 
 /// The look for the key on the track of its cylinder and head, `NoMark` where the medium has no such track.
 pub fn look(medium: &Medium, key: Chrn) -> Look

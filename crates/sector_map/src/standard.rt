@@ -6,12 +6,12 @@ ghost use Rattle.flop_base.specs.Standard.{sectors_at};
 ghost use Rattle.sector_map.specs.Standard.{track_keys, cylinder_keys, standard_keys};
 ghost use Rattle.sector_map.specs.Failing.{unless_found, AreFailing};
 
+use crate::Look;
 use crate::disks::look;
 use flop_base::standard::SIZE_CODE;
 use flop_base::{Chrn, NoMemory};
 use raw_image::Medium;
 use std::alloc::Global;
-use track_fields::Look;
 
 /// The keys of a track in a standard format of 512 bytes a sector, by record: all 18 at 500 kbit/s, the first 9 at
 /// 250 kbit/s.

@@ -3,7 +3,7 @@ ghost use Rattle.std.specs.Prelude.{◌≡◌, ◌+◌, ◌≤◌, length};
 ghost use Rattle.track_model.specs.Cells.{IsTrackSized};
 ghost use Rattle.track_model.specs.Windows.{window_word, cut_of};
 
-use track_fields::window_word;
+use crate::window_word;
 
 /// Replaces the first `cut` words of the window of the address field at cell `place`, as a write that stops there does.
 pub fn place_window(words: &mut [u16], place: usize, window: &[u16], cut: usize)

@@ -5,8 +5,8 @@ use Rattle.std.specs.Prelude.{◌==◌, if◌then◌else◌, MatchOption}
 use Rattle.flop_base.specs.Counts.{Spends}
 use Rattle.flop_base.specs.Shelf.{Files}
 use Rattle.flop_base.specs.Counters.{DriveCounts, Counters, faults_of, DriveGoesOn, GoesOn, IsUndisturbed}
-use Rattle.floppy_requests.specs.declared.request.Request.{Request}
-use Rattle.floppy_requests.specs.declared.request.Request.TheVariants as request
+use Rattle.floppy_jobs.specs.declared.request.Request.{Request}
+use Rattle.floppy_jobs.specs.declared.request.Request.TheVariants as request
 use Rattle.sector_model.specs.declared.reply.Reply.{Reply}
 use Rattle.sector_model.specs.declared.reply.Reply.TheVariants as reply
 use Rattle.flop_base.specs.declared.answers.Code.TheVariants.{BadRequest}

@@ -5,8 +5,8 @@ use Rattle.std.specs.Prelude.{sum_by, IsSomeAnd, IfSome}
 use Rattle.flop_base.specs.Shelf.{Files, file_at}
 use Rattle.flop_base.specs.declared.answers.Status.{Status}
 use Rattle.flop_base.specs.Counters.{Counters, GoesOn, faults_of}
-use Rattle.floppy_requests.specs.Texts.{job_of}
-use Rattle.floppy_requests.specs.declared.request.Request.{Request}
+use Rattle.floppy_jobs.specs.Texts.{job_of}
+use Rattle.floppy_jobs.specs.declared.request.Request.{Request}
 use Rattle.sector_model.specs.States.{State}
 use Rattle.sector_model.specs.declared.reply.Stop.{Stop}
 use Rattle.sector_model.specs.Steps.{StopsAt}

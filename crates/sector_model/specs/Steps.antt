@@ -9,8 +9,8 @@ use Rattle.flop_base.specs.declared.answers.Code.TheVariants.{BadRequest}
 use Rattle.raw_image.specs.Disk.{Disk, blank_disk}
 use Rattle.raw_image.specs.Image.{image_of, file_of}
 use Rattle.raw_image.specs.declared.error.ImageError.{ImageError}
-use Rattle.floppy_requests.specs.declared.request.Request.{Request}
-use Rattle.floppy_requests.specs.declared.request.Request.TheVariants as request
+use Rattle.floppy_jobs.specs.declared.request.Request.{Request}
+use Rattle.floppy_jobs.specs.declared.request.Request.TheVariants as request
 use Rattle.sector_model.specs.declared.reply.Reply.{Reply}
 use Rattle.sector_model.specs.declared.reply.Reply.TheVariants as reply
 use Rattle.sector_model.specs.declared.reply.Reason.{Reason}

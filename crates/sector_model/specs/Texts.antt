@@ -7,8 +7,8 @@ use Rattle.flop_base.specs.declared.answers.Status.{Status}
 use Rattle.flop_base.specs.declared.answers.Status.TheVariants as status
 use Rattle.raw_image.specs.declared.error.ImageError.{ImageError}
 use Rattle.raw_image.specs.declared.error.ImageError.TheVariants.{TooShort, BadMagic, BadField, Trailing, NoMemory}
-use Rattle.floppy_requests.specs.declared.request.Request.{Request}
-use Rattle.floppy_requests.specs.Spelling.{verb_text, hex2, hex5}
+use Rattle.floppy_jobs.specs.declared.request.Request.{Request}
+use Rattle.floppy_jobs.specs.Spelling.{verb_text, hex2, hex5}
 use Rattle.sector_model.specs.declared.reply.Reply.{Reply}
 use Rattle.sector_model.specs.declared.reply.Reply.TheVariants as reply
 use Rattle.sector_model.specs.declared.reply.Reason.{Reason}

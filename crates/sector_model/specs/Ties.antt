@@ -5,9 +5,9 @@ use Rattle.flop_base.specs.Counts.{last_count, RoseBy}
 use Rattle.flop_base.specs.Shelf.{Files, file_at}
 use Rattle.flop_base.specs.Bays.{with_bay}
 use Rattle.flop_base.specs.Counters.{DriveCounts, Counters, faults_of, IsUndisturbed}
-use Rattle.floppy_requests.specs.Texts.{job_of}
-use Rattle.floppy_requests.specs.declared.request.Request.{Request}
-use Rattle.floppy_requests.specs.declared.request.Request.TheVariants as request
+use Rattle.floppy_jobs.specs.Texts.{job_of}
+use Rattle.floppy_jobs.specs.declared.request.Request.{Request}
+use Rattle.floppy_jobs.specs.declared.request.Request.TheVariants as request
 use Rattle.sector_model.specs.declared.reply.Reply.{Reply}
 use Rattle.sector_model.specs.declared.reply.Reply.TheVariants as reply
 use Rattle.sector_model.specs.Runs.{Taken, requests_of}

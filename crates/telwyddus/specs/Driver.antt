@@ -1,9 +1,9 @@
 -- A station: what it shows, how it starts, and what its calls are; single sectors.
 pub use Rattle.flop_base.specs.Counters
 pub use Rattle.flop_base.specs.Memory
-pub use Rattle.machine_station.specs.Ready
-pub use Rattle.machine_station.specs.Shown
-pub use Rattle.machine_station.specs.Started
+pub use Rattle.machine_commands.specs.StationReady
+pub use Rattle.machine_commands.specs.StationShown
+pub use Rattle.machine_commands.specs.Started
 pub use Rattle.sector_model.specs.Stations
 pub use Rattle.sector_model.specs.Orders
 pub use Rattle.sector_model.specs.Calls

@@ -1,5 +1,5 @@
 // Tracks: cells, fields as their words pass, and the layout of a formatted track.
-pub use track_fields::{
+pub use sector_map::{
     Field, address_words, field_words, fill_field_words, is_regular, window_word,
 };
 pub use track_format::{FormatStream, LayoutError, choose_gap, fill_layout, layout};

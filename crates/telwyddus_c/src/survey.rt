@@ -10,8 +10,8 @@ use c_slots::TraySlot;
 use flop_base::{Chrn, NoMemory};
 use raw_image::Medium;
 use remaster::{SurveyLine, survey};
+use sector_map::Look;
 use std::alloc::Global;
-use track_fields::Look;
 
 /// Writes what stands on the medium in a tray to a buffer, 11 bytes for each address field, and tells their number.
 #[unsafe(no_mangle)]

@@ -15,8 +15,8 @@ use Rattle.sector_map.specs.LaidDisks.{laying_at}
 use Rattle.sector_map.specs.MetTracks.{MeetsTrack}
 use Rattle.sector_map.proofs.Laid.{format_fits, length-formatted}
 use Rattle.sector_map.proofs.MetTracks.{one_met}
-use Rattle.single_commands.specs.Rigs.{Rig}
-use Rattle.single_commands.specs.Writing.{SendsWrite, FormatsTrack, LaysMedium, HasTrackUnder, IsFormatMiss}
+use Rattle.floppy_driver.specs.Rigs.{Rig}
+use Rattle.floppy_driver.specs.Writing.{SendsWrite, FormatsTrack, LaysMedium, HasTrackUnder, IsFormatMiss}
 use Rattle.test_driver.specs.declared.counts.Counts.{Counts}
 use Rattle.test_driver.specs.declared.drive.Drive.{Drive}
 use Rattle.test_driver.specs.Counted.{HasSent}

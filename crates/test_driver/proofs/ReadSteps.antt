@@ -21,8 +21,8 @@ use Rattle.flop_base.specs.Memory.{SameOutside}
 use Rattle.flop_base.proofs.Counted.{drive_same}
 use Rattle.sector_map.specs.Met.{met_in}
 use Rattle.sector_map.proofs.MetTracks.{nothing_from}
-use Rattle.single_commands.specs.Rigs.{Rig, track_under}
-use Rattle.single_commands.specs.Reading.{SendsRead, FindsField, IsReadCode, IsReadReason, IsReadMiss, ReadsData, ReadsBack, ReadsId}
+use Rattle.floppy_driver.specs.Rigs.{Rig, track_under}
+use Rattle.floppy_driver.specs.Reading.{SendsRead, FindsField, IsReadCode, IsReadReason, IsReadMiss, ReadsData, ReadsBack, ReadsId}
 use Rattle.test_driver.specs.declared.counts.Counts.{Counts}
 use Rattle.test_driver.specs.declared.drive.Drive.{Drive}
 use Rattle.test_driver.specs.Counted.{HasSent}

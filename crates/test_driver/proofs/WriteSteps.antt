@@ -22,8 +22,8 @@ use Rattle.sector_map.proofs.MetTracks.{nothing_from, met_track, one_met}
 use Rattle.sector_map.proofs.KeptTracks.{still_meets, length-alike}
 use Rattle.sector_map.proofs.RegularTracks.{length-track_of}
 use Rattle.sector_map.proofs.Changed.{length-window_of, change_keeps_tracks, change_keeps_address}
-use Rattle.single_commands.specs.Rigs.{Rig, track_under}
-use Rattle.single_commands.specs.Writing.{SendsWrite, WritesData, ChangesMedium, IsWriteMiss, HasWindowOut}
+use Rattle.floppy_driver.specs.Rigs.{Rig, track_under}
+use Rattle.floppy_driver.specs.Writing.{SendsWrite, WritesData, ChangesMedium, IsWriteMiss, HasWindowOut}
 use Rattle.test_driver.specs.declared.counts.Counts.{Counts}
 use Rattle.test_driver.specs.declared.drive.Drive.{Drive}
 use Rattle.test_driver.specs.Counted.{HasSent}

@@ -10,7 +10,7 @@ use Rattle.track_model.specs.Looks.{HasAddressMark}
 use Rattle.track_model.specs.Windows.{window_word, window_words, cut_of, IsCuttable}
 use Rattle.sector_map.specs.Met.{met_in}
 use Rattle.sector_map.specs.Changes.{Change, Written, window_of, IsChange}
-use Rattle.single_commands.specs.Writing.{IsWriteCode, IsWriteReason}
+use Rattle.floppy_driver.specs.Writing.{IsWriteCode, IsWriteReason}
 use Rattle.test_driver.specs.Found.{IsUnderHead}
 
 -- the medium has the first k of these words at the window's place of the address field at p

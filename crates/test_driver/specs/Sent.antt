@@ -4,8 +4,8 @@ use Rattle.flop_base.specs.Counts.{RoseBy}
 use Rattle.flop_base.specs.declared.answers.Code.{Code}
 use Rattle.flop_base.specs.declared.answers.Code.TheVariants.{Overrun}
 use Rattle.flop_base.specs.Counters.{IsFaultless, IsUndisturbed, FaultsRoseBy}
-use Rattle.single_commands.specs.Rigs.{Rig}
-use Rattle.single_commands.specs.Reading.{SendsRead}
+use Rattle.floppy_driver.specs.Rigs.{Rig}
+use Rattle.floppy_driver.specs.Reading.{SendsRead}
 
 -- a data command changed no memory, and nothing else but counters
 pub record Fails (old new : Rig) : Type 0 where

@@ -3,7 +3,7 @@ use Rattle.std.specs.Prelude.{ℕ, ◌-◌, [], List, None}
 use Rattle.flop_base.specs.Bays.{Two}
 use Rattle.flop_base.specs.Counts.{last_count}
 use Rattle.flop_base.specs.Counters.{DriveCounts, Counters}
-use Rattle.single_commands.specs.Rigs.{Rig}
+use Rattle.floppy_driver.specs.Rigs.{Rig}
 use Rattle.test_driver.specs.declared.counts.Counts.{Counts}
 use Rattle.test_driver.specs.declared.drive.Drive.{Drive}
 use Rattle.test_driver.specs.declared.bench.Bench.{Bench}

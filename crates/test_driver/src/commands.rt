@@ -6,7 +6,7 @@ use crate::bench::Bench;
 use crate::drives::take;
 use crate::script::Call;
 use flop_base::{Chrn, Code, Rate};
-use single_commands::Commands;
+use floppy_driver::Commands;
 
 impl Commands for Bench {
     ghost rig = { λ bench. rig_shown bench };

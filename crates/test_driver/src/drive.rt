@@ -9,8 +9,8 @@ ghost use Rattle.sector_map.specs.MetTracks.{HasNothing};
 
 use flop_base::{Chrn, Code, NoMemory, Rate};
 use raw_image::Medium;
+use sector_map::{content_byte, find_sector, list_fields};
 use std::alloc::Global;
-use track_fields::{content_byte, find_sector, list_fields};
 use track_model::Look;
 
 /// The innermost cylinder.

@@ -7,9 +7,8 @@ ghost use Rattle.test_driver.specs.Shown.{rig_shown};
 use crate::bench::Bench;
 use crate::script::{Call, Trouble};
 use flop_base::{Chrn, Code, NoMemory, Rate};
-use floppy_driver::Driver;
+use floppy_driver::{Commands, Driver};
 use raw_image::Medium;
-use single_commands::Commands;
 use std::alloc::{AllocError, Global};
 
 /// A bench, and a driver that is set up on it.

@@ -3,7 +3,7 @@ ghost use Rattle.std.specs.Prelude.{◌≡◌, ◌+◌, ◌*◌, ◌≤◌, ◌�
 ghost use Rattle.track_model.specs.Layouts.{lay, laid_words};
 ghost use Rattle.sector_map.specs.Standard.{track_keys};
 ghost use Rattle.sector_map.specs.Layings.{Laying};
-ghost use Rattle.single_commands.specs.Writing.{FormatsTrack};
+ghost use Rattle.floppy_driver.specs.Writing.{FormatsTrack};
 ghost use Rattle.test_driver.specs.Laid.{HasTrackOn, FormatsOn};
 
 use crate::bench::Bench;

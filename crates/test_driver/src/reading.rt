@@ -2,7 +2,7 @@
 ghost use Rattle.std.specs.Prelude.{◌≡◌, ◌≤◌, ◌+◌};
 ghost use Rattle.flop_base.specs.Memory.{user_bytes};
 ghost use Rattle.track_model.specs.Fields.{IsSizeCode, content_size};
-ghost use Rattle.single_commands.specs.Reading.{ReadsId, ReadsData, ReadsBack};
+ghost use Rattle.floppy_driver.specs.Reading.{ReadsId, ReadsData, ReadsBack};
 
 use crate::bench::Bench;
 use crate::script::Trouble;

@@ -5,7 +5,7 @@ ghost use Rattle.track_model.specs.Fields.{IsAddressAt, IsSizeCode, content_size
 ghost use Rattle.flop_base.specs.Memory.{user_bytes, bytes_from};
 ghost use Rattle.sector_map.specs.Met.{met_in};
 ghost use Rattle.sector_map.specs.Changes.{Change};
-ghost use Rattle.single_commands.specs.Writing.{WritesData};
+ghost use Rattle.floppy_driver.specs.Writing.{WritesData};
 ghost use Rattle.test_driver.specs.Put.{PutsWindow, HasFieldOn, IsAbsent, WritesOn};
 
 use crate::bench::Bench;
@@ -14,7 +14,7 @@ use crate::drives::take;
 use crate::script::Trouble;
 use flop_base::{Chrn, Code, Rate, sector_size};
 use raw_image::Medium;
-use track_fields::{Absent, fill_field_words, find_address, window_word};
+use sector_map::{Absent, fill_field_words, find_address, window_word};
 
 /// The words of a window beside those of its content.
 const WINDOW_WORDS: usize = 18;

@@ -5,8 +5,8 @@ use crate::wrong::Wrong;
 use flop_base::Chrn;
 use floppy_jobs::is_verb;
 use floppy_jobs::numbers::hex_byte;
+use sector_map::field_words;
 use std::alloc::Global;
-use track_fields::field_words;
 use track_format::layout;
 
 /// The bytes before the words of an image.

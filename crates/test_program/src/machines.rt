@@ -2,7 +2,7 @@
 ghost use Rattle.std.specs.Prelude.{◌≡◌, All, IfOk};
 ghost use Rattle.drive_model.specs.PlainDrive.{plain_state};
 ghost use Rattle.pc_bus.specs.Boards.{board, IsEmpty};
-ghost use Rattle.machine_station.specs.Started.{IsFreshBoard};
+ghost use Rattle.machine_commands.specs.Started.{IsFreshBoard};
 
 use drive_model::{Drive, PlainDrive};
 use flop_base::NoMemory;

@@ -6,9 +6,9 @@ ghost use Rattle.machine_commands.specs.Shown.{is_idle};
 use crate::machines::machine;
 use drive_model::PlainDrive;
 use flop_base::Rate;
+use floppy_driver::Commands;
 use machine_commands::CommandedMachine;
 use raw_image::Medium;
-use single_commands::Commands;
 use std::alloc::Global;
 use std::test::Fail;
 

@@ -6,8 +6,8 @@ use Rattle.std.specs.List.{range_with_len}
 use Rattle.flop_base.specs.Shelf.{Files}
 use Rattle.flop_base.specs.declared.key.Chrn.{Chrn}
 use Rattle.flop_base.specs.declared.answers.Code.{Code}
-use Rattle.floppy_requests.specs.declared.request.Request.{Request}
-use Rattle.floppy_requests.specs.declared.request.Request.TheVariants as request
+use Rattle.floppy_jobs.specs.declared.request.Request.{Request}
+use Rattle.floppy_jobs.specs.declared.request.Request.TheVariants as request
 use Rattle.sector_model.specs.declared.reply.Reply.{Reply}
 use Rattle.sector_model.specs.Stations.{StationState}
 use Rattle.sector_model.specs.Orders.{is_bay, is_acknowledged, read_refusal, write_refusal, IsRefusedAtOnce}
@@ -17,10 +17,10 @@ use Rattle.sector_model.specs.States.{State, IsSame}
 use Rattle.sector_model.specs.Steps.{Step, Does, refusal_of}
 use Rattle.sector_model.specs.Runs.{Taken, Run, requests_of}
 use Rattle.sector_model.proofs.Runs.{run_more, requests_more}
-use Rattle.int13.specs.declared.work.Kind.{Kind}
-use Rattle.int13.specs.declared.work.Kind.TheVariants.{Read, Write, Verify}
-use Rattle.int13.specs.declared.work.Work.{Work}
-use Rattle.int13.specs.declared.work.Work.TheVariants.{Answer, Changed, Move}
+use Rattle.floppy_session.specs.declared.work.Kind.{Kind}
+use Rattle.floppy_session.specs.declared.work.Kind.TheVariants.{Read, Write, Verify}
+use Rattle.floppy_session.specs.declared.work.Work.{Work}
+use Rattle.floppy_session.specs.declared.work.Work.TheVariants.{Answer, Changed, Move}
 use Rattle.floppy_session.specs.Services.{MovesRecords, All, UpToOne, MovesIn, AcksAlone, DoesWork, record_request, record_requests, put_requests, put_request}
 use Rattle.text_commands.specs.CallCounts.{commands_of, bytes_put, CountsCourse}
 

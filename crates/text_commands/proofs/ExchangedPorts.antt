@@ -1,7 +1,7 @@
 -- How a line that exchanges media, or the end of a run, stops.
 use Rattle.std.proofs.Common.{rules, ◌≡◌, ℕ, ◌≤◌, List, Option, None, Result, Ok, Err, false, ap, sym, arith}
 use Rattle.flop_base.specs.Shelf.{Files}
-use Rattle.floppy_requests.specs.declared.request.Request.TheVariants as request
+use Rattle.floppy_jobs.specs.declared.request.Request.TheVariants as request
 use Rattle.floppy_jobs.specs.declared.ports.PortLine.TheVariants as line
 use Rattle.pc_bus.specs.Boards.{Board}
 use Rattle.sector_model.specs.Steps.{StopCause}

@@ -11,13 +11,13 @@ use Rattle.std.specs.declared.alloc.Global.{Global}
 use Rattle.flop_base.specs.Shelf.{Loads}
 use Rattle.flop_base.specs.declared.answers.LoadError.{LoadError}
 use Rattle.flop_base.specs.declared.answers.LoadError.TheVariants as load
-use Rattle.floppy_jobs.specs.Lines.{ReadsText}
-use Rattle.floppy_requests.specs.Texts.{job_of as parsed_of}
+use Rattle.floppy_jobs.specs.LinesRead.{ReadsText}
+use Rattle.floppy_jobs.specs.Texts.{job_of as parsed_of}
 use Rattle.floppy_jobs.specs.declared.lines.JobError.{JobError}
 use Rattle.floppy_jobs.specs.declared.lines.JobError.TheVariants as lines
-use Rattle.floppy_requests.specs.declared.request.Request.{Request}
-use Rattle.floppy_requests.specs.declared.request.Request.TheVariants as request
-use Rattle.floppy_requests.specs.Valid.{IsRequest}
+use Rattle.floppy_jobs.specs.declared.request.Request.{Request}
+use Rattle.floppy_jobs.specs.declared.request.Request.TheVariants as request
+use Rattle.floppy_jobs.specs.Valid.{IsRequest}
 use Rattle.floppy_session.specs.Tries.{HasTries}
 use Rattle.sector_model.specs.declared.reply.Reply.{Reply}
 use Rattle.sector_model.specs.States.{State}

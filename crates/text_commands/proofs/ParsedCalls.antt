@@ -3,14 +3,14 @@ use Rattle.std.proofs.Common.{◌≡◌, ℕ, Bool, true, false, List, [], ◌�
 use Rattle.std.specs.Prelude.{All, option_map, option_and_then, if◌then◌else◌}
 use Rattle.std.specs.Str.{bytes_eq}
 use Rattle.floppy_jobs.specs.Numbers.{register_of}
-use Rattle.floppy_requests.specs.Requests.{request_of}
+use Rattle.floppy_jobs.specs.Requests.{request_of}
 use Rattle.floppy_jobs.specs.Calls.{call_of, is_shared_verb, call_line_of}
 use Rattle.floppy_jobs.specs.Texts.{calls_of}
-use Rattle.floppy_requests.specs.Valid.{IsRequest}
+use Rattle.floppy_jobs.specs.Valid.{IsRequest}
 use Rattle.floppy_jobs.specs.declared.calls.CallLine.{CallLine}
 use Rattle.floppy_jobs.specs.declared.calls.CallLine.TheVariants as call
-use Rattle.floppy_requests.specs.declared.request.Request.{Request}
-use Rattle.floppy_requests.specs.declared.request.Request.TheVariants as request
+use Rattle.floppy_jobs.specs.declared.request.Request.{Request}
+use Rattle.floppy_jobs.specs.declared.request.Request.TheVariants as request
 use Rattle.floppy_jobs.proofs.ValidLemmas.{request-valid, text-valid}
 use Rattle.floppy_session.specs.Tries.{HasTries}
 use Rattle.text_commands.specs.CallLines.{LineHasTries}

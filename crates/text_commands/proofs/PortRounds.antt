@@ -9,7 +9,7 @@ use Rattle.flop_base.specs.declared.answers.LoadError.{LoadError}
 use Rattle.flop_base.specs.declared.answers.LoadError.TheVariants as load
 use Rattle.flop_base.specs.declared.answers.Status.{Status}
 use Rattle.flop_base.specs.declared.answers.Status.TheVariants as status
-use Rattle.floppy_jobs.specs.Lines.{ReadsText}
+use Rattle.floppy_jobs.specs.LinesRead.{ReadsText}
 use Rattle.floppy_jobs.specs.Texts.{ports_of}
 use Rattle.floppy_jobs.specs.declared.lines.JobError.{JobError}
 use Rattle.floppy_jobs.specs.declared.lines.JobError.TheVariants as lines

@@ -6,7 +6,7 @@ use Rattle.flop_base.specs.declared.answers.Status.{Status}
 use Rattle.floppy_jobs.specs.Texts.{calls_of}
 use Rattle.floppy_jobs.specs.declared.calls.CallLine.{CallLine}
 use Rattle.floppy_jobs.specs.declared.calls.CallLine.TheVariants as call
-use Rattle.floppy_requests.specs.declared.request.Request.{Request}
+use Rattle.floppy_jobs.specs.declared.request.Request.{Request}
 use Rattle.sector_model.specs.States.{State}
 use Rattle.sector_model.specs.Orders.{is_acknowledged}
 use Rattle.sector_model.specs.Runs.{Taken, Run, requests_of, has_refusal}
@@ -15,10 +15,10 @@ use Rattle.sector_model.specs.Texts.{stop_status}
 use Rattle.sector_model.specs.Ties.{TiesCounts}
 use Rattle.sector_model.proofs.Runs.{run_more}
 use Rattle.sector_model.proofs.PlayTies.{requests_tied, ran_ties, stopped_ties, alone_ties}
-use Rattle.int13.specs.declared.work.Kind.{Kind}
-use Rattle.int13.specs.declared.work.Kind.TheVariants.{Read, Write, Verify}
-use Rattle.int13.specs.declared.work.Work.{Work}
-use Rattle.int13.specs.declared.work.Work.TheVariants.{Answer, Changed, Move}
+use Rattle.floppy_session.specs.declared.work.Kind.{Kind}
+use Rattle.floppy_session.specs.declared.work.Kind.TheVariants.{Read, Write, Verify}
+use Rattle.floppy_session.specs.declared.work.Work.{Work}
+use Rattle.floppy_session.specs.declared.work.Work.TheVariants.{Answer, Changed, Move}
 use Rattle.floppy_session.specs.Services.{MovesRecords, All, UpToOne, MovesIn, AcksAlone, DoesWork}
 use Rattle.commands.specs.Leading.{Runs}
 use Rattle.text_commands.specs.CallRounds.{Round, DoesLine, AreRounds, course_of, Breaks, AtStop, AtPut}

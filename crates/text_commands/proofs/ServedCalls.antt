@@ -9,13 +9,13 @@ use Rattle.flop_base.specs.declared.answers.Status.{Status}
 use Rattle.flop_base.specs.declared.answers.Status.TheVariants as status
 use Rattle.flop_base.specs.declared.answers.LoadError.{LoadError}
 use Rattle.flop_base.specs.declared.answers.LoadError.TheVariants as load
-use Rattle.floppy_jobs.specs.Lines.{ReadsText}
+use Rattle.floppy_jobs.specs.LinesRead.{ReadsText}
 use Rattle.floppy_jobs.specs.Texts.{calls_of}
 use Rattle.floppy_jobs.specs.declared.lines.JobError.{JobError}
 use Rattle.floppy_jobs.specs.declared.lines.JobError.TheVariants as error
 use Rattle.floppy_jobs.specs.declared.calls.CallLine.{CallLine}
 use Rattle.floppy_jobs.specs.declared.calls.CallLine.TheVariants as call
-use Rattle.floppy_requests.specs.declared.request.Request.{Request}
+use Rattle.floppy_jobs.specs.declared.request.Request.{Request}
 use Rattle.sector_model.specs.declared.reply.Reply.{Reply}
 use Rattle.sector_model.specs.declared.reply.Stop.{Stop}
 use Rattle.sector_model.specs.States.{State}
@@ -24,7 +24,7 @@ use Rattle.sector_model.specs.Texts.{reply_lines, stop_lines, stop_status, is_re
 use Rattle.sector_model.specs.Runs.{Taken}
 use Rattle.sector_model.specs.Plays.{World, Prints, Tells, IsText, IsPutFault, whole_status}
 use Rattle.commands.proofs.DumpLines.{grown-twice, grown-nothing}
-use Rattle.int13.specs.declared.regs.Regs.{Regs}
+use Rattle.floppy_session.specs.declared.regs.Regs.{Regs}
 use Rattle.floppy_session.specs.Services.{Serves}
 use Rattle.commands.specs.Texts.{MissesText}
 use Rattle.commands.specs.Leading.{PutsLines, LoadsText}

@@ -5,7 +5,7 @@ use Rattle.flop_base.specs.Sink.{grown, GrowsByPart}
 use Rattle.flop_base.specs.declared.answers.Status.{Status}
 use Rattle.floppy_jobs.specs.declared.calls.CallLine.{CallLine}
 use Rattle.floppy_jobs.specs.declared.calls.CallLine.TheVariants as call
-use Rattle.floppy_requests.specs.declared.request.Request.{Request}
+use Rattle.floppy_jobs.specs.declared.request.Request.{Request}
 use Rattle.sector_model.specs.declared.reply.Reply.{Reply}
 use Rattle.sector_model.specs.declared.reply.Stop.{Stop}
 use Rattle.sector_model.specs.States.{State}
@@ -13,7 +13,7 @@ use Rattle.sector_model.specs.Steps.{Step, StopsAt}
 use Rattle.sector_model.specs.Texts.{reply_lines, stop_lines, stop_status, is_refusal}
 use Rattle.sector_model.specs.Runs.{Taken}
 use Rattle.sector_model.specs.Plays.{World, Prints, IsPutFault}
-use Rattle.int13.specs.declared.regs.Regs.{Regs}
+use Rattle.floppy_session.specs.declared.regs.Regs.{Regs}
 use Rattle.floppy_session.specs.Services.{Serves}
 use Rattle.text_commands.specs.CallTexts.{registers, call_text}
 

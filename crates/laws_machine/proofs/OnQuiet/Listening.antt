@@ -2,7 +2,7 @@
 use Rattle.std.proofs.Common.{◌≡◌, inl, inr, ℕ, ◌+◌, ◌==◌, Bool, true, false, Option, Some, None, length, if◌then◌else◌, refl, sym, ◌∙◌, ap, subst}
 use Rattle.std.proofs.lemmas.Bool.{false≢true}
 use Rattle.laws_machine.proofs.Common.{Seeking, pulse_due, ReadOutcome, SearchOutcome, Ending, Overrun, is_executing, StepsOn, ExecutesIn, ExecutesTask, is_listening, ending_of, after_searched, after_heard, over_or_on, gone_on_reading, at_stage, pushed, is_full, finished, RestsIn, Fdc, Phase, Command, Execute, Result, Reading, Task, ReadId, Format, only_listens}
-use Rattle.fdc_seek.specs.Seeking.{stepped}
+use Rattle.fdc_commands.specs.Seeking.{stepped}
 use Rattle.fdc_stages.specs.Readings as given
 use Rattle.fdc_stages.specs.Searches as searched
 use Rattle.fdc_core.specs.Listening.{Hears}

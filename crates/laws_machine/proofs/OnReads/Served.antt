@@ -4,7 +4,7 @@ use Rattle.std.proofs.lemmas.Bool.{and_parts, false≢true}
 use Rattle.laws_machine.proofs.Common.{Fifo, room_of, worth_fetching, taken_out, taken_in, with_byte, fifo_told, asking_told, task_asks, phase_asks, task_told, phase_told, is_reading, is_read, is_moving, is_over, asks, is_gated, Fdc, Phase, Command, Execute, Result, Task, ReadId, Format, can_move, moved_to_memory, moved_from_memory, byte_read, told_if, Chips, IsRuled}
 use Rattle.laws_machine.proofs.Facts.{different}
 use Rattle.dma_8237.specs.Channel.{grants}
-use Rattle.fdc_fifo.specs.Fifo.{low_level}
+use Rattle.fdc_registers.specs.Fifo.{low_level}
 use Rattle.fdc_phases.specs.declared.phases.Task.TheVariants.{Read, Write}
 use Rattle.pc_bus.specs.Transfers.{moved, moved_up_to}
 use Rattle.laws_machine.specs.OnReads.Served.{GoesByRule, moves_left}

@@ -4,9 +4,9 @@ use Rattle.std.specs.Option.{ForSome, option_map_or}
 use Rattle.std.proofs.lemmas.Bool.{false≢true}
 use Rattle.std.proofs.lemmas.Bool.Decides.{nat_tests}
 use Rattle.laws_machine.proofs.Common.{Seeking, with_polls, is_seeking, sensed, seek_bits, Seek, answer, kept, Accepted, More, Ready, Invalid, Obeys, TakesAs, sensing_by, answered, taken_out, taken_in, to_memory_of, phase_told, is_executing, dsr_resets, phase_after, is_taking, rate_chosen, reset, polled, RestsIn, seek_stepped, Fdc, Lines, Phase, Board, controller_of, Step, moved_to_memory, moved_from_memory, byte_read, told_if, Chips, Meets, Acts, Goes}
-use Rattle.fdc_seek.specs.Seeking.{IsMotion, with_motion, ended, recalibrated, sought, neighbour, stepped, stepped_seek, has_ended, first_pending, without_result, released}
-use Rattle.fdc_seek.specs.declared.motion.Motion.{Motion}
-use Rattle.fdc_seek.specs.declared.motion.Motion.TheVariants.{Outward, Toward, Ended}
+use Rattle.fdc_commands.specs.Seeking.{IsMotion, with_motion, ended, recalibrated, sought, neighbour, stepped, stepped_seek, has_ended, first_pending, without_result, released}
+use Rattle.fdc_commands.specs.declared.motion.Motion.{Motion}
+use Rattle.fdc_commands.specs.declared.motion.Motion.TheVariants.{Outward, Toward, Ended}
 use Rattle.fdc_commands.specs.declared.command.Command.{Command}
 use Rattle.fdc_commands.specs.declared.command.Command.TheVariants as command
 use Rattle.fdc_core.specs.Ports.{Writes}

@@ -2,7 +2,7 @@
 use Rattle.std.specs.Prelude.{◌≡◌, ℕ, ◌+◌, ◌==◌, Bool, true, false, List}
 use Rattle.drive_model.specs.Drive.{DriveState}
 use Rattle.dma_8237.specs.Channel.{Channel, after_write}
-use Rattle.fdc_fifo.specs.Fifo.{Fifo}
+use Rattle.fdc_registers.specs.Fifo.{Fifo}
 use Rattle.fdc_stages.specs.History.{Past}
 use Rattle.fdc_stages.specs.Formats.{Numbers}
 use Rattle.fdc_phases.specs.Heard.{MayReadIn, MayReadIdIn}

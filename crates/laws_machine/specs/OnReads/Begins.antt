@@ -5,7 +5,7 @@ use Rattle.drive_model.specs.Drive.{DriveState}
 use Rattle.fdc_commands.specs.Table.{answer}
 use Rattle.fdc_commands.specs.declared.bytes.Accepted.TheVariants.{Ready}
 use Rattle.fdc_commands.specs.declared.command.Command.TheVariants.{ReadData}
-use Rattle.fdc_seek.specs.Seeking.{seek_bits}
+use Rattle.fdc_commands.specs.Seeking.{seek_bits}
 use Rattle.fdc_phases.specs.Heard.{Sent}
 use Rattle.fdc_core.specs.Ports.{is_taking}
 use Rattle.fdc_core.specs.State.{dor_of, is_held}

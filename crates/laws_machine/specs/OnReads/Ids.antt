@@ -7,7 +7,7 @@ use Rattle.track_model.specs.Looks.{HasAddressMark}
 use Rattle.fdc_commands.specs.Table.{answer}
 use Rattle.fdc_commands.specs.declared.bytes.Accepted.TheVariants.{Ready}
 use Rattle.fdc_commands.specs.declared.command.Command.TheVariants.{ReadId}
-use Rattle.fdc_seek.specs.Seeking.{seek_bits}
+use Rattle.fdc_commands.specs.Seeking.{seek_bits}
 use Rattle.fdc_stages.specs.Searches.{HasNoClear}
 use Rattle.fdc_stages.specs.declared.ending.Ending.{Ending}
 use Rattle.fdc_stages.specs.declared.ending.Ending.TheVariants.{Done, NoMark, NoSector}

@@ -1,10 +1,10 @@
 -- How long a command lasts, whatever is done meanwhile.
 use Rattle.std.specs.Prelude.{◌≡◌, ◌⊎◌, ◌≤◌, ◌+◌, ◌-◌, ℕ, min, false, true, Option, Some, None, IsSomeAnd}
 use Rattle.flop_base.specs.Counts.{last_count, Rose, RoseBy}
-use Rattle.fdc_seek.specs.Seeking.{is_seeking}
-use Rattle.fdc_seek.specs.declared.motion.Motion.{Motion}
-use Rattle.fdc_seek.specs.declared.motion.Motion.TheVariants.{Outward, Toward, Ended}
-use Rattle.fdc_seek.specs.declared.motion.Seek.{Seek}
+use Rattle.fdc_commands.specs.Seeking.{is_seeking}
+use Rattle.fdc_commands.specs.declared.motion.Motion.{Motion}
+use Rattle.fdc_commands.specs.declared.motion.Motion.TheVariants.{Outward, Toward, Ended}
+use Rattle.fdc_commands.specs.declared.motion.Seek.{Seek}
 use Rattle.fdc_core.specs.Listening.{is_executing}
 use Rattle.fdc_core.specs.State.{data_commands_of}
 use Rattle.fdc_core.specs.Steps.{steps_left, IsCounted}

@@ -3,16 +3,16 @@ use Rattle.std.proofs.Common.{◌+◌, ◌≤◌, ℕ, Bool, true, false, List, 
 use Rattle.fdc_commands.specs.Saving.{spelled_results}
 use Rattle.fdc_core.specs.Saving.{FdcFits, spelled_fdc, spelled_flags}
 use Rattle.fdc_core.specs.declared.controller.Fdc.{Fdc}
-use Rattle.fdc_fifo.specs.Fifo.{Fifo, room_of}
-use Rattle.fdc_fifo.specs.Saving.{IsFifo, spelled_fifo}
+use Rattle.fdc_registers.specs.Fifo.{Fifo, room_of}
+use Rattle.fdc_registers.specs.Saving.{IsFifo, spelled_fifo}
 use Rattle.fdc_phases.specs.Saving.{spelled_answer, spelled_execution, spelled_formatting, spelled_phase, spelled_rate, spelled_reading, spelled_sized_key, spelled_task, spelled_writing}
 use Rattle.fdc_phases.specs.declared.answers.Answer.TheVariants as answers
 use Rattle.fdc_phases.specs.declared.phases.Phase.TheVariants as phases
 use Rattle.fdc_phases.specs.declared.phases.Task.TheVariants as tasks
 use Rattle.fdc_phases.specs.declared.rates.DataRate.TheVariants as rates
-use Rattle.fdc_seek.specs.Saving.{spelled_motion, spelled_seek, spelled_seeking}
-use Rattle.fdc_seek.specs.Seeking.{InRange, Seeking}
-use Rattle.fdc_seek.specs.declared.motion.Motion.TheVariants as motions
+use Rattle.fdc_commands.specs.Saving.{spelled_motion, spelled_seek, spelled_seeking}
+use Rattle.fdc_commands.specs.Seeking.{InRange, Seeking}
+use Rattle.fdc_commands.specs.declared.motion.Motion.TheVariants as motions
 use Rattle.saved_state.specs.Saved.{spelled_byte, spelled_bytes, spelled_count, spelled_each, spelled_option}
 use Rattle.telwyddus_c.proofs.Lengths.Bytes.{HasMost, length-byte, length-bytes, length-count, length-each, length-flag, length-key, length-word, most-byte, most-each, most-option}
 use Rattle.telwyddus_c.proofs.Lengths.Stages.{most-ending, most-format, most-read, most-search, most-write}

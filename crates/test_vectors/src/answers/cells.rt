@@ -2,8 +2,8 @@
 use super::print::{Runs, put_words};
 use super::{Asked, key, tracks, words_of};
 use floppy_jobs::is_verb;
+use sector_map::{address_words, field_crc, field_words};
 use test_files::{Draft, Line, Wrong};
-use track_fields::{address_words, field_crc, field_words};
 use track_model::{cells16, decode_word, encode_byte};
 
 pub(crate) fn answer(

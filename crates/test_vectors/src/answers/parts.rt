@@ -1,6 +1,6 @@
 // Parts of the machine alone, call by call: the FIFO, the interrupt latch and the gate of a changed diskette.
 use super::{Asked, services};
-use fdc_fifo::Fifo;
+use fdc_registers::Fifo;
 use floppy_driver::Gate;
 use floppy_jobs::is_verb;
 use irq_events::IrqLatch;

@@ -7,9 +7,11 @@ use super::print::{Runs, put_key, put_words};
 use super::{Asked, key, medium_of, turns};
 use flop_base::Chrn;
 use floppy_jobs::is_verb;
-use sector_map::{failing, is_regular_disk, place_window};
+use sector_map::{
+    Look, content_byte, failing, field_words, find_sector, is_regular, is_regular_disk,
+    list_fields, place_window,
+};
 use test_files::{Draft, Line, Wrong};
-use track_fields::{Look, content_byte, field_words, find_sector, is_regular, list_fields};
 
 pub(crate) fn answer(
     verb: &[u8],

@@ -4,9 +4,9 @@ use super::tracks::{first_track, sized_key};
 use super::{Asked, layouts};
 use flop_base::sector_size;
 use floppy_jobs::is_verb;
+use sector_map::{Seen, Separator, TurnRead, read_turn};
 use std::alloc::Global;
 use test_files::{Draft, Line, Wrong};
-use track_fields::{Seen, Separator, TurnRead, read_turn};
 
 pub(crate) fn answer(
     verb: &[u8],

@@ -3,7 +3,7 @@ ghost use Rattle.std.specs.Prelude.{ℕ, List, Option};
 ghost use Rattle.flop_base.specs.Shelf.{Files};
 ghost use Rattle.sector_model.specs.States.{State};
 ghost use Rattle.sector_model.specs.Runs.{Taken};
-ghost use Rattle.int13.specs.declared.regs.Regs.{Regs};
+ghost use Rattle.floppy_session.specs.declared.regs.Regs.{Regs};
 ghost use Rattle.floppy_session.specs.Services.{Serves};
 ghost use Rattle.text_commands.specs.CallCounts.{CountsCourse};
 

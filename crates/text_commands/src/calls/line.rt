@@ -9,7 +9,7 @@ use crate::jobs::run_one;
 use commands::AnyRun;
 use flop_base::Status;
 use floppy_jobs::CallLine;
-use int13::{Int13, Regs};
+use floppy_session::{Int13, Regs};
 
 /// Serves a call of INT 13h and tells the registers after it; true where its carry is set.
 fn call<R: AnyRun>(run: &mut R, front: &mut Int13, regs: Regs) -> Result<bool, Status>

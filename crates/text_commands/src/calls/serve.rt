@@ -9,7 +9,7 @@ use crate::ending::{either, finish};
 use commands::{AnyRun, bad_line};
 use flop_base::{Name, Status};
 use floppy_jobs::{CallLine, JobError, parse_calls};
-use int13::Int13;
+use floppy_session::Int13;
 
 /// The longest text of calls, in bytes.
 const MOST_CALLS_BYTES: usize = 4_194_304;

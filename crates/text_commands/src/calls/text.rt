@@ -2,7 +2,7 @@
 ghost use Rattle.std.specs.Prelude.{◌≡◌, Some, IfOk, string_bytes};
 ghost use Rattle.text_commands.specs.CallTexts.{hex4, carry_text, call_text};
 
-use int13::Regs;
+use floppy_session::Regs;
 use std::alloc::{AllocError, Global};
 use std::fmt;
 

@@ -1,6 +1,6 @@
 // The line that tells an answer.
 ghost use Rattle.std.specs.Prelude.{◌≡◌, ◌≢◌, ◌++◌, codes, Some, IfOk, OnErr, string_bytes};
-ghost use Rattle.floppy_requests.specs.Spelling.{hex2};
+ghost use Rattle.floppy_jobs.specs.Spelling.{hex2};
 ghost use Rattle.commands.specs.Puts.{Puts, printed_of};
 ghost use Rattle.sector_model.specs.Texts.{reason_text, line_end};
 ghost use Rattle.text_commands.specs.PortTexts.{answer_lines, latch_text, port_text, verb_text};

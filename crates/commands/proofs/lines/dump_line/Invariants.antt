@@ -1,7 +1,7 @@
 use Rattle.std.proofs.Common.{◌≡◌, ◌++◌, take}
 use Rattle.std.specs.List.{flat_map}
 use Rattle.std.specs.Prelude.{string_bytes}
-use Rattle.floppy_requests.specs.Spelling.{hex5}
+use Rattle.floppy_jobs.specs.Spelling.{hex5}
 use Rattle.sector_model.specs.Texts.{dump_byte}
 use Rattle.commands.proofs.lines.dump_line.Given as goal
 

@@ -1,7 +1,7 @@
 use Rattle.std.proofs.Common.{arith, ◌-◌}
 use Rattle.std.proofs.lemmas.Result.{err_from_is_err_and}
 use Rattle.flop_base.specs.Standard.{sectors_at}
-use Rattle.single_commands.specs.Rigs.{track_under}
+use Rattle.floppy_driver.specs.Rigs.{track_under}
 use Rattle.sector_map.specs.Standard.{key_of}
 use Rattle.floppy_driver.specs.Formattings.{IsBlankUnder, HoldsRecord, HoldsRecords}
 use Rattle.floppy_driver.proofs.ReadBacks.{reads_failed, held_next, blank_next}

@@ -1,7 +1,7 @@
 use Rattle.std.proofs.Common.{◌≡◌, ◌-◌, true, Ok}
 use Rattle.flop_base.specs.Standard.{sectors_at}
 use Rattle.flop_base.specs.Bays.{in_bay}
-use Rattle.single_commands.specs.Rigs.{IsSound, track_under}
+use Rattle.floppy_driver.specs.Rigs.{IsSound, track_under}
 use Rattle.floppy_driver.specs.Formattings.{IsBlankUnder, HoldsRecords, ReadsRecords}
 use Rattle.floppy_driver.proofs.formatting.read_back_all.Given as goal
 

@@ -1,5 +1,5 @@
-use Rattle.floppy_requests.specs.Requests.{request_of}
-use Rattle.floppy_requests.specs.Valid.{IsRequest}
+use Rattle.floppy_jobs.specs.Requests.{request_of}
+use Rattle.floppy_jobs.specs.Valid.{IsRequest}
 use Rattle.floppy_jobs.proofs.ValidLemmas.{kept-valid, request-valid, text-valid}
 use Rattle.floppy_jobs.proofs.job.parse_job.Goals as goal
 

@@ -1,5 +1,5 @@
 use Rattle.std.proofs.Common.{◌≡◌, ◌+◌, ◌≤◌, length}
-use Rattle.floppy_requests.specs.Lines.{lines_of, lines_say}
+use Rattle.floppy_jobs.specs.Lines.{lines_of, lines_say}
 use Rattle.floppy_jobs.proofs.LineLemmas.{in_front}
 use Rattle.floppy_jobs.proofs.lines.read_lines.Given as goal
 

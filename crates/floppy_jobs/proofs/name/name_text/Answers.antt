@@ -1,7 +1,7 @@
 use Rattle.std.proofs.Common.{ap, ◌∙◌, rules, tests}
 use Rattle.std.specs.Option.{option_copied}
 use Rattle.floppy_jobs.proofs.NameLemmas.{name_read}
-use Rattle.floppy_requests.specs.Names.{name_of}
+use Rattle.floppy_jobs.specs.Names.{name_of}
 use Rattle.floppy_jobs.proofs.name.name_text.Goals as goal
 
 pub returns-then-is_name : goal.returns-then-is_name

@@ -3,7 +3,7 @@ use Rattle.std.specs.Prelude.{IsSome, map, string_bytes}
 use Rattle.pc_bus.specs.Boards.{board}
 use Rattle.floppy_words.specs.Forms.{form_of, ports_file_of}
 use Rattle.archive_commands.specs.Files.{outside_of}
-use Rattle.machine_station.specs.Shown.{all_counts}
+use Rattle.machine_commands.specs.StationShown.{all_counts}
 use Rattle.text_commands.specs.Benches.{Names, no_names}
 use Rattle.text_commands.specs.PortGuards.{RunsPorts}
 use Rattle.text_commands.specs.PortPlays.{world_of}
@@ -41,11 +41,11 @@ returns-in-Ok-None g c =
     let old = board g.D.Drive.state c.args.machine in
     let new = board g.D.Drive.state c.into_machine.result in
     let ran : RunsOver asked old spares before new after c.run_asked-status.result = record {
-      start = c.new-session.result;
+      start = c.set_up-session.result;
       last = c.run_asked-status.new.session;
-      set_up = c.new-session.ensures;
+      set_up = c.set_up-session.ensures;
       shows = c.into_machine.ensures;
-      runs = rw (← c.session.view_is) (c.run_asked-status.ensures.runs asked c.form_named-asked.ensures.form);
+      runs = c.run_asked-status.ensures.runs asked c.form_named-asked.ensures.form;
     } in
     record {
       does = record {

@@ -1,6 +1,6 @@
 // What device steps leave of heads, and of an idle machine. The bodies are empty.
 ghost use Rattle.std.specs.Prelude.{◌≡◌, ℕ, None};
-ghost use Rattle.fdc_seek.specs.Seeking.{Seeking, seek_bits};
+ghost use Rattle.fdc_commands.specs.Seeking.{Seeking, seek_bits};
 ghost use Rattle.laws_machine.specs.OnWrites.Guards.{LeavesOthers};
 ghost use Rattle.laws_machine.specs.OnWrites.Heads.{HasNoSeek, IsIdle, RestsIdle, StaysIdle, StaysStill};
 ghost use Rattle.pc_bus.specs.Ports.{Inputs, Outputs};

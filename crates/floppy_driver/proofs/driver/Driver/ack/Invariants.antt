@@ -1,5 +1,5 @@
 use Rattle.std.proofs.Common.{◌≡◌}
-use Rattle.single_commands.specs.Rigs.{IsSound}
+use Rattle.floppy_driver.specs.Rigs.{IsSound}
 use Rattle.floppy_driver.proofs.Rounds.{HasStayedSet}
 use Rattle.floppy_driver.proofs.driver.Driver.ack.Given as goal
 

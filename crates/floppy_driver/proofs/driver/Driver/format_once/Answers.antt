@@ -2,7 +2,7 @@ use Rattle.std.proofs.Common.{true, Ok, Err}
 use Rattle.std.proofs.lemmas.Result.{err_from_is_err_and}
 use Rattle.flop_base.specs.Standard.{sectors_at}
 use Rattle.floppy_driver.specs.declared.retry_plan.Prepare.TheVariants as prepare
-use Rattle.single_commands.specs.Rigs.{track_under}
+use Rattle.floppy_driver.specs.Rigs.{track_under}
 use Rattle.floppy_driver.specs.Formattings.{format_of, IsBlankUnder, HoldsRecords}
 use Rattle.flop_base.proofs.Counted.{goes_on_after}
 use Rattle.floppy_driver.specs.Shown.{notes_of}

@@ -1,5 +1,5 @@
 use Rattle.std.proofs.Common.{subst}
-use Rattle.int13.specs.declared.work.Work.{Work}
+use Rattle.floppy_session.specs.declared.work.Work.{Work}
 use Rattle.floppy_session.specs.Services.{DoesWork}
 use Rattle.floppy_session.proofs.session.Session.int13.Goals as goal
 

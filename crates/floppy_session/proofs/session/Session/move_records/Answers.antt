@@ -1,9 +1,9 @@
 use Rattle.std.proofs.Common.{◌≡◌, ◌+◌, ◌∷◌, ◌++◌, [], ℕ, refl, sym, ap, ◌∙◌, subst, arith, suc, drop, List, Ok, Err}
-use Rattle.floppy_requests.specs.declared.request.Request.{Request}
+use Rattle.floppy_jobs.specs.declared.request.Request.{Request}
 use Rattle.sector_model.specs.declared.reply.Reply.TheVariants as reply
 use Rattle.sector_model.specs.declared.reply.Reason.TheVariants as reason
 use Rattle.flop_base.specs.Memory.{SameOutside}
-use Rattle.int13.specs.declared.work.Kind.{Kind}
+use Rattle.floppy_session.specs.declared.work.Kind.{Kind}
 use Rattle.floppy_session.specs.Services.{AreDone, All, UpToOne, MovesRecord, record_request, record_behind, place_of_record, record_requests}
 use Rattle.floppy_session.proofs.Serving.{done_none, done_more, no_records, records_more, records_long, records_parted, outside_itself, outside_after}
 use Rattle.floppy_session.proofs.session.Session.move_records.Goals as goal

@@ -2,7 +2,7 @@ use Rattle.std.proofs.Common.{◌≡◌, ◌+◌, ◌≤◌, List, length, Optio
 use Rattle.flop_base.specs.Shelf.{Files}
 use Rattle.flop_base.specs.Memory.{SameOutside}
 use Rattle.sector_model.specs.Runs.{Taken}
-use Rattle.int13.specs.declared.work.Kind.TheVariants.{Verify}
+use Rattle.floppy_session.specs.declared.work.Kind.TheVariants.{Verify}
 use Rattle.floppy_session.specs.Services.{AreDone, record_requests}
 use Rattle.floppy_session.proofs.session.Session.move_records.Given as goal
 

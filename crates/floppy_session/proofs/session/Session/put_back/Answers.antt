@@ -1,6 +1,6 @@
 use Rattle.std.proofs.Common.{◌∷◌, ◌++◌, [], List, None, sym, ap, ◌∙◌, subst, arith}
 use Rattle.std.proofs.lemmas.List.{take_all}
-use Rattle.floppy_requests.specs.declared.request.Request.{Request}
+use Rattle.floppy_jobs.specs.declared.request.Request.{Request}
 use Rattle.flop_base.specs.Lists.{with_items}
 use Rattle.floppy_session.specs.Services.{AreDone, put_request}
 use Rattle.floppy_session.proofs.Memories.{with_items-nil}

@@ -1,7 +1,7 @@
 use Rattle.std.proofs.Common.{ℕ, List, subst, arith}
 use Rattle.std.proofs.lemmas.List.{take_all}
 use Rattle.drive_model.specs.PlainDrive.{plain_state}
-use Rattle.machine_station.specs.Shown.{station_shown}
+use Rattle.machine_commands.specs.StationShown.{station_shown}
 use Rattle.memory_files.specs.Desks.{station_of}
 use Rattle.memory_files.specs.Sectors.{Places}
 use Rattle.memory_files.proofs.Placing.{places_none, places_more, placed_stands}

@@ -1,7 +1,7 @@
 use Rattle.std.proofs.Common.{refl, sym, ◌∙◌}
 use mathlib.Core.Bool.{false≢true}
 use Rattle.drive_model.specs.PlainDrive.{plain_state}
-use Rattle.machine_station.specs.Shown.{station_shown}
+use Rattle.machine_commands.specs.StationShown.{station_shown}
 use Rattle.memory_files.specs.Desks.{station_of}
 use Rattle.memory_files.proofs.Calming.{calm, quiet_still}
 use Rattle.memory_files.proofs.Fetching.{content_had, none_had}

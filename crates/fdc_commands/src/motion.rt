@@ -1,0 +1,46 @@
+// What a seek does, device step by device step.
+ghost use Rattle.std.specs.Prelude.{◌≡◌, ◌↔◌, IsTrue};
+ghost use Rattle.fdc_commands.specs.Seeking.{IsMotion, has_ended};
+
+mod saving;
+
+/// The most pulses of a RECALIBRATE.
+pub(crate) const RECALIBRATE_PULSES: u8 = 79;
+
+/// A drive's seek, whose bit is set in the main status register.
+#[derive(Clone, Copy, PartialEq, Eq, Debug)]
+pub struct Seek {
+    /// The drive, 0 to 3.
+    pub drive: u8,
+    pub motion: Motion,
+}
+
+/// What a seek still does.
+#[derive(Clone, Copy, PartialEq, Eq, Debug)]
+pub enum Motion {
+    /// It steps outward until track 0, with at most so many pulses.
+    Outward { pulses: u8 },
+    /// It has counted to the cylinder and steps to the target.
+    Toward { cylinder: u8, target: u8 },
+    /// It has ended, and its bit is still set.
+    Ended,
+}
+
+impl Motion {
+    /// Whether the seek has ended.
+    pub(crate) fn has_ended(self) -> bool
+        ensures { result ≡ has_ended self }
+    {
+        matches!(self, Motion::Ended)
+    }
+
+    /// Whether a seek gives so many pulses.
+    pub(crate) fn is_limited(self) -> bool
+        ensures { IsTrue result ↔ IsMotion self }
+    {
+        match self {
+            Motion::Outward { pulses } => pulses <= RECALIBRATE_PULSES,
+            _ => true,
+        }
+    }
+}

@@ -1,2 +1,0 @@
-pub mod Fifo
-pub mod Saving

@@ -1,5 +1,0 @@
-use Rattle.fdc_seek.proofs.SeekRuns.{recalibrate_law}
-use Rattle.fdc_seek.proofs.laws.recalibrate_gives_its_pulses.Goals as goal
-
-pub returns : goal.returns
-returns c = recalibrate_law

@@ -1,5 +1,0 @@
-use Rattle.fdc_seek.proofs.SeekRuns.{seek_law}
-use Rattle.fdc_seek.proofs.laws.seek_gives_its_pulses.Goals as goal
-
-pub returns : goal.returns
-returns c = seek_law

@@ -1,0 +1,8 @@
+use Rattle.std.proofs.Common.{length, sym, ap, ◌∙◌}
+use Rattle.pc_bus.specs.Boards.{Board, memory_of}
+use Rattle.machine_commands.specs.Shown.{board_of}
+use Rattle.machine_commands.proofs.Starting.{user_size}
+use Rattle.machine_commands.proofs.station.MachineStation.hold_size.Goals as goal
+
+pub returns : goal.returns
+returns g c = user_size (memory_of (board_of g.D.Drive.state c.args.self.now.machine)) (ap (λ (b : Board). length (memory_of b)) (sym c.machine.ensures) ∙ c.ram-byte.ensures.length)

@@ -1,0 +1,6 @@
+use Rattle.pc_bus.specs.Boards.{board}
+use Rattle.machine_commands.proofs.Standing.{shows_station}
+use Rattle.machine_commands.proofs.station.MachineStation.machine.Goals as goal
+
+pub returns : goal.returns
+returns g c = record { shows = shows_station g.D.Drive.state c.args.self.now (board g.D.Drive.state c.machine.result.now) c.machine.ensures }

@@ -1,8 +1,0 @@
-mod Bays
-mod Keeping
-mod Rating
-mod Handling
-mod Attaching
-mod Replacing
-mod Starting
-mod Standing

@@ -1,4 +1,0 @@
-use Rattle.machine_station.proofs.calls.MachineStationStation.memory.Goals as goal
-
-pub returns-clause-size : goal.returns-clause-size
-returns-clause-size g c = c.hold_size.ensures

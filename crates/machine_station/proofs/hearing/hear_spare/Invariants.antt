@@ -1,8 +1,0 @@
-use Rattle.std.proofs.Common.{take, All}
-use Rattle.flop_base.specs.Counters.{DriveTells}
-use Rattle.pc_bus.specs.Counts.{counts_of}
-use Rattle.machine_station.proofs.hearing.hear_spare.Given as goal
-
--- so do the drives so far
-abbrev pub invariant-loop-drive : goal.invariant-loop-drive
-invariant-loop-drive g l = All (λ drive. DriveTells (counts_of (g.D.Drive.state drive))) (take l.drive-index l.drives)

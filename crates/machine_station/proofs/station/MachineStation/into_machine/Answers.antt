@@ -1,6 +1,0 @@
-use Rattle.pc_bus.specs.Boards.{board}
-use Rattle.machine_station.proofs.Standing.{shows_station}
-use Rattle.machine_station.proofs.station.MachineStation.into_machine.Goals as goal
-
-pub returns : goal.returns
-returns g c = record { shows = shows_station g.D.Drive.state c.args.self (board g.D.Drive.state c.into_machine.result) c.into_machine.ensures }

@@ -1,4 +1,0 @@
-pub mod Flagged
-pub mod Shown
-pub mod Ready
-pub mod Started

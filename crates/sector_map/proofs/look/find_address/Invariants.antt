@@ -1,0 +1,11 @@
+use Rattle.std.proofs.Common.{ℕ, ◌<◌, MatchBool}
+use Rattle.track_model.specs.Marks.{IsAddressMark}
+use Rattle.track_model.specs.Fields.{IsAddressAt}
+use Rattle.track_model.specs.Looks.{HasAddressMark}
+use Rattle.sector_map.proofs.look.find_address.Given as goal
+
+abbrev pub invariant-loop-p : goal.invariant-loop-p
+invariant-loop-p l = record {
+  none_before : (k : ℕ) → k < l.p → IsAddressAt l.words k l.key → ⊥;
+  seen : MatchBool l.has_mark (HasAddressMark l.words) ((k : ℕ) → k < l.p → IsAddressMark l.words k → ⊥);
+}

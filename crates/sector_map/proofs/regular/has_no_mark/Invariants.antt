@@ -1,0 +1,5 @@
+use Rattle.sector_map.specs.Places.{HasNoMark}
+use Rattle.sector_map.proofs.regular.has_no_mark.Given as goal
+
+abbrev pub invariant-loop-q : goal.invariant-loop-q
+invariant-loop-q l = HasNoMark l.words l.from l.q

@@ -1,0 +1,11 @@
+use Rattle.std.proofs.Common.{◌≡◌, ◌∷◌, ◌^◌, ◌<◌, drop}
+use Rattle.track_model.specs.Crc.{crc, crc_from}
+use Rattle.track_model.specs.Fields.{after_marks}
+use Rattle.sector_map.proofs.writing.data_check.Given as goal
+
+-- the check so far, going on over the bytes that are left, is the whole one
+abbrev pub invariant-loop-byte : goal.invariant-loop-byte
+invariant-loop-byte l = record {
+  goes_on : crc_from l.check (drop l.byte-index l.content) ≡ crc (after_marks (l.mark ∷ l.content));
+  fits : l.check < 2 ^ 16;
+}

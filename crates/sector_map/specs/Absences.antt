@@ -1,0 +1,17 @@
+-- Tracks without an address field of a key.
+use Rattle.std.specs.Prelude.{ℕ, List}
+use Rattle.flop_base.specs.declared.key.Chrn.{Chrn}
+use Rattle.track_model.specs.Fields.{IsAddressAt}
+use Rattle.track_model.specs.Looks.{HasAddressMark}
+use Rattle.sector_map.specs.declared.look.Absent.{Absent}
+use Rattle.sector_map.specs.declared.look.Absent.TheVariants.{NoMark, NoSector}
+
+-- whether the track has an address mark
+abbrev pub TellsOfMarks : List ℕ → Absent → Type 0
+TellsOfMarks track NoMark = HasAddressMark track → ⊥
+TellsOfMarks track NoSector = HasAddressMark track
+
+-- no address field of the key is there
+pub record IsWithout (track : List ℕ) (key : Chrn) (absent : Absent) : Type 0 where
+  pub none : (p : ℕ) → IsAddressAt track p key → ⊥
+  pub marks : TellsOfMarks track absent

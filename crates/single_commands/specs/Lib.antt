@@ -1,4 +1,0 @@
-pub mod Rigs
-pub mod Heads
-pub mod Reading
-pub mod Writing

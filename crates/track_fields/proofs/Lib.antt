@@ -1,8 +1,0 @@
-mod Intact
-mod Listed
-mod Looked
-mod Pushed
-mod RegularPlaces
-mod Turned
-mod ReadTurn
-mod TurnOver

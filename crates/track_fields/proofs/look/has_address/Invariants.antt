@@ -1,7 +1,0 @@
-use Rattle.std.proofs.Common.{ℕ, ◌<◌}
-use Rattle.track_model.specs.Fields.{IsAddress}
-use Rattle.track_fields.proofs.look.has_address.Given as goal
-
--- no address field was passed
-abbrev pub invariant-loop-p : goal.invariant-loop-p
-invariant-loop-p l = (k : ℕ) → k < l.p → IsAddress l.words k → ⊥

@@ -1,5 +1,0 @@
-use Rattle.track_fields.specs.Places.{HasNoRun}
-use Rattle.track_fields.proofs.regular.has_no_run.Given as goal
-
-abbrev pub invariant-loop-q : goal.invariant-loop-q
-invariant-loop-q l = HasNoRun l.words l.from l.q

@@ -1,7 +1,0 @@
-use Rattle.std.proofs.Common.{ℕ, ◌<◌}
-use Rattle.track_fields.specs.Places.{IsPlaceRegular}
-use Rattle.track_fields.proofs.regular.is_regular.Given as goal
-
--- the places passed are regular
-abbrev pub invariant-loop-place : goal.invariant-loop-place
-invariant-loop-place l = (k : ℕ) → k < l.place → IsPlaceRegular l.words l.c l.h k

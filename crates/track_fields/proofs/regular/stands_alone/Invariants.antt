@@ -1,9 +1,0 @@
-use Rattle.std.proofs.Common.{ℕ, ◌<◌}
-use Rattle.flop_base.specs.declared.key.Chrn.{Chrn}
-use Rattle.track_model.specs.Fields.{IsAddressAt}
-use Rattle.track_fields.specs.Places.{IsApart}
-use Rattle.track_fields.proofs.regular.stands_alone.Given as goal
-
--- the address fields passed are apart from this one
-abbrev pub invariant-loop-q : goal.invariant-loop-q
-invariant-loop-q l = (k : ℕ) (other : Chrn) → l.place < k → k < l.q → IsAddressAt l.words k other → IsApart l.place l.key k other

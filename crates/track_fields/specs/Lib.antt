@@ -1,3 +1,0 @@
-pub mod Absences
-pub mod Places
-pub mod Turned
