@@ -33,7 +33,7 @@ pub mod Statuses
 pub mod Steps
 pub mod WriteDone
 pub mod WriteRigs
-mod Bays
+mod StationBays
 mod Keeping
 mod Rating
 mod Handling

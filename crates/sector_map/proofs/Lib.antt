@@ -6,6 +6,7 @@ pub mod KeptTracks
 pub mod Laid
 mod Lawful
 mod Listed
+mod ListedFields
 pub mod MetTracks
 mod Placed
 pub mod RegularTracks

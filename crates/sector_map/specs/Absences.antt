@@ -3,8 +3,8 @@ use Rattle.std.specs.Prelude.{ℕ, List}
 use Rattle.flop_base.specs.declared.key.Chrn.{Chrn}
 use Rattle.track_model.specs.Fields.{IsAddressAt}
 use Rattle.track_model.specs.Looks.{HasAddressMark}
-use Rattle.sector_map.specs.declared.look.Absent.{Absent}
-use Rattle.sector_map.specs.declared.look.Absent.TheVariants.{NoMark, NoSector}
+use Rattle.sector_map.specs.declared.looking.Absent.{Absent}
+use Rattle.sector_map.specs.declared.looking.Absent.TheVariants.{NoMark, NoSector}
 
 -- whether the track has an address mark
 abbrev pub TellsOfMarks : List ℕ → Absent → Type 0

@@ -1,6 +1,6 @@
 use Rattle.std.proofs.Common.{ℕ, Bool, ◌<◌}
 use Rattle.track_model.specs.Fields.{IsDataMark}
-use Rattle.sector_map.proofs.look.first_data_mark.Given as goal
+use Rattle.sector_map.proofs.looking.first_data_mark.Given as goal
 
 -- no data mark was passed
 abbrev pub invariant-loop-q : goal.invariant-loop-q

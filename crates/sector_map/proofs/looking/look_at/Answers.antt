@@ -1,6 +1,6 @@
 use Rattle.std.proofs.Common.{arith}
 use Rattle.sector_map.proofs.Looked.{field_outside}
-use Rattle.sector_map.proofs.look.look_at.Goals as goal
+use Rattle.sector_map.proofs.looking.look_at.Goals as goal
 
 pub returns-in_default : goal.returns-in_default
 returns-in_default c = λ q deleted field. c.in_default.ensures q deleted field.first.mark

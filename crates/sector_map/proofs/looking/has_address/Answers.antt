@@ -2,7 +2,7 @@ use Rattle.std.proofs.Common.{arith, sym, ◌∙◌}
 use Rattle.std.proofs.lemmas.Bool.{false≢true}
 use Rattle.track_model.specs.Fields.{IsAddress, IsAddressAt}
 use Rattle.sector_map.proofs.Looked.{none_more, none_given}
-use Rattle.sector_map.proofs.look.has_address.Goals as goal
+use Rattle.sector_map.proofs.looking.has_address.Goals as goal
 
 pub loop-p-preserved : goal.loop-p-preserved
 loop-p-preserved c =

@@ -1,5 +1,5 @@
 use Rattle.sector_map.proofs.Intact.{intact_by_check}
-use Rattle.sector_map.proofs.look.is_intact.Goals as goal
+use Rattle.sector_map.proofs.looking.is_intact.Goals as goal
 
 pub returns-then-touches_no_zero : goal.returns-then-touches_no_zero
 returns-then-touches_no_zero c =

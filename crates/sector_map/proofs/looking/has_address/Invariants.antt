@@ -1,6 +1,6 @@
 use Rattle.std.proofs.Common.{ℕ, ◌<◌}
 use Rattle.track_model.specs.Fields.{IsAddress}
-use Rattle.sector_map.proofs.look.has_address.Given as goal
+use Rattle.sector_map.proofs.looking.has_address.Given as goal
 
 -- no address field was passed
 abbrev pub invariant-loop-p : goal.invariant-loop-p
