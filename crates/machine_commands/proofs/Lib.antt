@@ -36,7 +36,7 @@ pub mod WriteRigs
 mod StationBays
 mod Keeping
 mod Rating
-mod Handling
+mod StationHandling
 mod Attaching
 mod Replacing
 mod Starting

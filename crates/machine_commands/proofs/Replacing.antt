@@ -13,7 +13,7 @@ use Rattle.floppy_driver.specs.Shown.{shown}
 use Rattle.machine_commands.specs.Flagged.{flags_shown, flags_of}
 use Rattle.machine_commands.specs.StationShown.{all_counts}
 use Rattle.machine_commands.proofs.StationBays.{flags_put}
-use Rattle.machine_commands.proofs.Handling.{becomes_exchanged, past_driver}
+use Rattle.machine_commands.proofs.StationHandling.{becomes_exchanged, past_driver}
 
 -- the first of the waiting drives is put in, and the others wait
 pub unit_taken : {D : Type 0} (state : D → DriveState) (driver : Driver) (old new : Rig) (bay : ℕ) (drive : D) (spare rest : List D) → spare ≡ drive ∷ rest → ExchangesDrive bay (counts_of (state drive)) old new → IsExchanged bay (shown driver old (length spare) (all_counts state spare)) (shown driver new (length rest) (all_counts state rest))

@@ -6,7 +6,7 @@ use Rattle.floppy_driver.specs.Shown.{notes_of, shown}
 use Rattle.machine_commands.specs.Flagged.{flags_shown}
 use Rattle.machine_commands.specs.StationShown.{all_counts, station_shown}
 use Rattle.machine_commands.proofs.StationBays.{rate_set}
-use Rattle.machine_commands.proofs.Handling.{goes_on}
+use Rattle.machine_commands.proofs.StationHandling.{goes_on}
 use Rattle.machine_commands.proofs.Rating.{flags_acked, flags_no_bay}
 use Rattle.machine_commands.proofs.calls.MachineStationStation.ack.Goals as goal
 

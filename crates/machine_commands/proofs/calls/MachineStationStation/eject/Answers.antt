@@ -6,7 +6,7 @@ use Rattle.floppy_driver.specs.Shown.{shown}
 use Rattle.machine_commands.specs.Flagged.{flags_of, flags_shown}
 use Rattle.machine_commands.specs.StationShown.{all_counts}
 use Rattle.machine_commands.proofs.StationBays.{flags_set}
-use Rattle.machine_commands.proofs.Handling.{is_nothing, is_something, goes_on, ejects, flags_ejected, flags_none_ejected}
+use Rattle.machine_commands.proofs.StationHandling.{is_nothing, is_something, goes_on, ejects, flags_ejected, flags_none_ejected}
 use Rattle.machine_commands.proofs.Attaching.{attached_ejected, ejected_goes_on}
 use Rattle.machine_commands.proofs.calls.MachineStationStation.eject.Goals as goal
 

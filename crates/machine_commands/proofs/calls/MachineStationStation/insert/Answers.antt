@@ -6,7 +6,7 @@ use Rattle.floppy_driver.specs.Shown.{shown}
 use Rattle.machine_commands.specs.Flagged.{flags_of, flags_shown}
 use Rattle.machine_commands.specs.StationShown.{all_counts}
 use Rattle.machine_commands.proofs.StationBays.{flags_set}
-use Rattle.machine_commands.proofs.Handling.{goes_on, inserts, flags_inserted, flags_given_back}
+use Rattle.machine_commands.proofs.StationHandling.{goes_on, inserts, flags_inserted, flags_given_back}
 use Rattle.machine_commands.proofs.Attaching.{attached_inserted, inserted_goes_on}
 use Rattle.machine_commands.proofs.calls.MachineStationStation.insert.Goals as goal
 

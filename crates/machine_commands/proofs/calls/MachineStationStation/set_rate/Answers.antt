@@ -4,7 +4,7 @@ use Rattle.floppy_driver.specs.Shown.{shown}
 use Rattle.machine_commands.specs.Flagged.{flags_shown}
 use Rattle.machine_commands.specs.StationShown.{all_counts, station_shown}
 use Rattle.machine_commands.proofs.StationBays.{rate_set}
-use Rattle.machine_commands.proofs.Handling.{goes_on}
+use Rattle.machine_commands.proofs.StationHandling.{goes_on}
 use Rattle.machine_commands.proofs.Rating.{flags_rate_set, flags_rate_refused}
 use Rattle.machine_commands.proofs.calls.MachineStationStation.set_rate.Goals as goal
 
