@@ -1,7 +1,7 @@
 pub mod OnFiles
 pub mod FormRuns
 pub mod Tied
-pub mod Machines
+pub mod OnMachines
 mod Ports
 mod New
 mod Unplanned
