@@ -1,32 +1,30 @@
 -- The bytes of the drive of a bay that is saved.
-use Rattle.std.specs.Prelude.{ℕ, List, ◌∷◌, ⊤}
+use Rattle.std.specs.Prelude.{◌≡◌, ℕ, Bool, List, Option, Some, None, not, is_some}
 use Rattle.saved_state.specs.Saved.{spelled_bytes, spelled_count, spelled_flag}
 use Rattle.drive_model.specs.Saving.{spelled_script_drive}
 use Rattle.c_bay_drive.specs.Maps.{IsMap}
 use Rattle.c_bay_drive.specs.declared.bay.BayDrive.{BayDrive}
-use Rattle.c_bay_drive.specs.declared.bay.BayDrive.TheVariants.{Attached, Detached}
-use Rattle.c_bay_drive.specs.declared.loose.LooseDrive.{LooseDrive}
-use Rattle.c_bay_drive.specs.declared.tracked.TrackedDrive.{TrackedDrive}
+use Rattle.c_bay_drive.specs.declared.cable.Pulled.{Pulled}
 
--- the drive within, whether a word of the medium was replaced, and the tracks that were written
-abbrev pub spelled_tracked : TrackedDrive → List ℕ → List ℕ
-spelled_tracked drive rest = spelled_script_drive drive.inside (spelled_flag drive.replaced (spelled_bytes drive.tracks rest))
+-- by a pulled cable: the change line, and the pulses that were lost
+abbrev pub spelled_pulled : Pulled → List ℕ → List ℕ
+spelled_pulled pulled rest = spelled_flag pulled.change (spelled_count pulled.lost rest)
 
-abbrev pub TrackedFits : TrackedDrive → Type 0
-TrackedFits drive = IsMap drive.tracks
+abbrev pub spelled_cable : Option Pulled → List ℕ → List ℕ
+spelled_cable None rest = rest
+spelled_cable (Some pulled) rest = spelled_pulled pulled rest
 
--- the drive within, the change line, and the pulses that were lost
-abbrev pub spelled_loose : LooseDrive → List ℕ → List ℕ
-spelled_loose drive rest = spelled_tracked drive.inside (spelled_flag drive.change (spelled_count drive.lost rest))
+-- so is read what is told by a cable, which is in or not
+abbrev pub GivesCable : Bool → List ℕ → Option Pulled → List ℕ → Type 0
+GivesCable attached old result new =
+    (pulled : Option Pulled) (rest : List ℕ) → attached ≡ not (is_some pulled) → old ≡ spelled_cable pulled rest → (result ≡ pulled) × (new ≡ rest)
 
-abbrev pub LooseFits : LooseDrive → Type 0
-LooseFits drive = TrackedFits drive.inside
-
--- 1 and the drive, where it is attached; else 0 and the drive
+-- 1 where the cable is in, else 0; the drive within, whether a word of the medium was replaced, the tracks that were written, and what is
+-- told by a pulled cable
 abbrev pub spelled_bay : BayDrive → List ℕ → List ℕ
-spelled_bay (Attached drive) rest = 1 ∷ spelled_tracked drive rest
-spelled_bay (Detached drive) rest = 0 ∷ spelled_loose drive rest
+spelled_bay bay rest =
+    spelled_flag (not (is_some bay.pulled)) (spelled_script_drive bay.inside (spelled_flag bay.replaced (spelled_bytes bay.tracks
+    (spelled_cable bay.pulled rest))))
 
 abbrev pub BayFits : BayDrive → Type 0
-BayFits (Attached drive) = TrackedFits drive
-BayFits (Detached drive) = LooseFits drive
+BayFits bay = IsMap bay.tracks

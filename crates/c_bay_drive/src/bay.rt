@@ -1,21 +1,32 @@
 // The drive of a bay.
-ghost use Rattle.std.specs.Prelude.{◌≡◌};
+ghost use Rattle.std.specs.Prelude.{◌≡◌, ◌||◌};
 ghost use Rattle.c_bay_drive.specs.Maps.{no_tracks};
 
 mod driving;
 mod inspecting;
 mod saving;
 
-use crate::loose::LooseDrive;
+use crate::cable::Pulled;
 use crate::map::TrackMap;
-use crate::tracked::TrackedDrive;
-use drive_model::Fault;
+use drive_model::{Fault, ScriptDrive};
 
-/// A drive whose cable is in, or pulled.
+/// A drive with planned faults that keeps a map of the tracks that were written. While its cable is pulled no pulse reaches its heads, no
+/// word of a track is heard or written, and its change line is down until a medium is put in or taken out.
 #[derive(Drop)]
-pub enum BayDrive {
-    Attached(TrackedDrive),
-    Detached(LooseDrive),
+pub struct BayDrive {
+    inside: ScriptDrive,
+    /// A word of the medium was replaced since it was put in, or since that was last forgotten. The drive within forgets it at each write.
+    replaced: bool,
+    tracks: TrackMap,
+    /// None where the cable is in.
+    pulled: Option<Pulled>,
+}
+
+/// Whether one of both is so.
+fn either(first: bool, second: bool) -> bool
+    ensures { result ≡ (first || second) }
+{
+    first || second
 }
 
 impl BayDrive {
@@ -23,21 +34,25 @@ impl BayDrive {
     ghost use Rattle.drive_model.specs.Mechanics.{at_rest};
     ghost use Rattle.drive_model.specs.ScriptDrive.{told};
     ghost use Rattle.c_bay_drive.specs.Bays.{bay_state, is_attached, drive_in_bay, faults_in_bay, tracks_in_bay, state_with_cable};
-    ghost use Rattle.c_bay_drive.specs.Tracked.{tracked_state};
 
     /// A drive with these faults, attached, with no medium, at cylinder 0, its motor off, its change line set.
     pub fn new(faults: Vec<Fault>) -> BayDrive
         ensures state { bay_state result ≡ at_rest (told 0 (total_left faults.items)) }
         ensures tracks { tracks_in_bay result ≡ no_tracks }
     {
-        BayDrive::Attached(TrackedDrive::new(faults))
+        BayDrive {
+            inside: ScriptDrive::new(faults),
+            replaced: false,
+            tracks: TrackMap::new(),
+            pulled: None,
+        }
     }
 
     /// Whether its cable is in.
     pub fn is_attached(&self) -> bool
         ensures { result ≡ is_attached self.now }
     {
-        matches!(self, BayDrive::Attached(_))
+        self.pulled.is_none()
     }
 
     /// With its cable put in, or pulled. What is so already stays.
@@ -46,37 +61,28 @@ impl BayDrive {
         ensures drive { drive_in_bay result ≡ drive_in_bay self }
         ensures state { bay_state result ≡ state_with_cable on self }
     {
-        match self {
-            BayDrive::Attached(drive) => {
-                if on {
-                    BayDrive::Attached(drive)
-                } else {
-                    BayDrive::Detached(LooseDrive::of(drive))
-                }
-            }
-            BayDrive::Detached(drive) => {
-                if on {
-                    BayDrive::Attached(drive.into_drive())
-                } else {
-                    BayDrive::Detached(drive)
-                }
-            }
-        }
+        let now = Pulled {
+            change: false,
+            lost: 0,
+        };
+        let pulled = if on {
+            None
+        } else {
+            Some(self.pulled.unwrap_or(now))
+        };
+        BayDrive { pulled, ..self }
     }
 
     /// Plans these faults in place of those that can still come. All else stays, the count of faults too.
     pub fn replan(&mut self, faults: Vec<Fault>)
         ensures faults { faults_in_bay self.new ≡ faults.items }
-        ensures plans { tracked_state (drive_in_bay self.new) ≡ record (tracked_state (drive_in_bay self.old)) {
-          left = told (tracked_state (drive_in_bay self.old)).faults (total_left faults.items);
+        ensures plans { bay_state (drive_in_bay self.new) ≡ record (bay_state (drive_in_bay self.old)) {
+          left = told (bay_state (drive_in_bay self.old)).faults (total_left faults.items);
         } }
         ensures cable { is_attached self.new ≡ is_attached self.old }
         ensures tracks { tracks_in_bay self.new ≡ tracks_in_bay self.old }
     {
-        match self {
-            BayDrive::Attached(drive) => drive.replan(faults),
-            BayDrive::Detached(drive) => drive.replan(faults),
-        }
+        self.inside.replan(faults);
     }
 
     /// The tracks that were written since this was last asked. They are forgotten.
@@ -87,9 +93,6 @@ impl BayDrive {
         ensures faults { faults_in_bay self.new ≡ faults_in_bay self.old }
         ensures cable { is_attached self.new ≡ is_attached self.old }
     {
-        match self {
-            BayDrive::Attached(drive) => drive.take_tracks(),
-            BayDrive::Detached(drive) => drive.take_tracks(),
-        }
+        std::mem::replace(&mut self.tracks, TrackMap::new())
     }
 }

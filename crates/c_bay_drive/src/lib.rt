@@ -3,11 +3,8 @@
 #![tactic(auto)]
 
 mod bay;
-mod loose;
+mod cable;
 mod map;
-mod tracked;
 
 pub use bay::BayDrive;
-pub use loose::LooseDrive;
 pub use map::TrackMap;
-pub use tracked::TrackedDrive;

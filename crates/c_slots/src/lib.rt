@@ -35,27 +35,17 @@ pub struct MediumTray {
 /// A slot may go to another thread with what it holds.
 fn crosses<T: Send + Drop>(_slot: T) {}
 
-/// That of a machine does.
-pub fn machine_crosses(slot: MachineSlot) {
-    crosses(slot);
-}
-
-/// That of a controller does.
-pub fn controller_crosses(slot: ControllerSlot) {
-    crosses(slot);
-}
-
-/// That of a desk does.
-pub fn disk_crosses(slot: DiskSlot) {
-    crosses(slot);
-}
-
-/// That of a tray does.
-pub fn tray_crosses(slot: TraySlot) {
-    crosses(slot);
-}
-
-/// That of a shelf does.
-pub fn shelf_crosses(slot: ShelfSlot) {
-    crosses(slot);
+/// Each of them does.
+pub fn slots_cross(
+    machine: MachineSlot,
+    controller: ControllerSlot,
+    disk: DiskSlot,
+    tray: TraySlot,
+    shelf: ShelfSlot,
+) {
+    crosses(machine);
+    crosses(controller);
+    crosses(disk);
+    crosses(tray);
+    crosses(shelf);
 }

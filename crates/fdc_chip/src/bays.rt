@@ -48,7 +48,7 @@ impl<D: Inspect> Chip<D> {
         requires { bay ≤ 1 }
         ensures { option_copied result ≡ (drive_at (chip_state D.state self.now).front.adapter bay).medium }
     {
-        self.behind.medium(bay)
+        self.behind.adapter().medium(bay)
     }
 
     /// Whether a word of the medium in a bay was replaced since it was put in, or since that was last forgotten. Of a medium
@@ -57,7 +57,7 @@ impl<D: Inspect> Chip<D> {
         requires { bay ≤ 1 }
         ensures { result ≡ (drive_at (chip_state D.state self.now).front.adapter bay).replaced }
     {
-        self.behind.is_written(bay)
+        self.behind.adapter().is_written(bay)
     }
 
     /// Forgets that a word of the medium in a bay was replaced, as a front end does once it has stored the medium.
@@ -84,7 +84,7 @@ impl<D: Inspect> Chip<D> {
         requires { bay ≤ 1 }
         ensures { result ≡ (drive_at (chip_state D.state self.now).front.adapter bay).cylinder }
     {
-        self.behind.cylinder(bay)
+        self.behind.adapter().cylinder(bay)
     }
 
     /// Whether the write gate of the drive in a bay is open.
@@ -92,7 +92,7 @@ impl<D: Inspect> Chip<D> {
         requires { bay ≤ 1 }
         ensures { result ≡ (drive_at (chip_state D.state self.now).front.adapter bay).gate }
     {
-        self.behind.is_gate_open(bay)
+        self.behind.adapter().is_gate_open(bay)
     }
 
     /// Whether DOR turns the motor of the drive in a bay on.
@@ -100,14 +100,14 @@ impl<D: Inspect> Chip<D> {
         requires { bay ≤ 1 }
         ensures { IsTrue result ↔ IsBitSet (dor_of (controller_of (adapter_of (behind_of self.now)))) (4 + bay) }
     {
-        self.behind.is_motor_on(bay)
+        self.behind.adapter().is_motor_on(bay)
     }
 
     /// The drive that DOR selects: those of bays 2 and 3 are absent.
     pub fn selected(&self) -> u8
         ensures { result ≡ dor_of (controller_of (adapter_of (behind_of self.now))) % 4 }
     {
-        self.behind.selected()
+        self.behind.adapter().selected()
     }
 
     /// The rate of the medium in a bay, R500 where none is in.
@@ -126,7 +126,7 @@ impl<D: Inspect> Chip<D> {
         requires { bay ≤ 1 }
         ensures { result ≡ indexes (drive_at (chip_state D.state self.now).front.adapter bay) }
     {
-        match self.behind.place(bay) {
+        match self.behind.adapter().place(bay) {
             Some(place) => place < index_words(self.rate(bay)),
             None => false,
         }
@@ -145,6 +145,6 @@ impl<D: Inspect> Chip<D> {
     pub fn word_time(&self) -> u32
         ensures { result ≡ nanoseconds (data_rate (controller_of (adapter_of (behind_of self.now)))) }
     {
-        self.behind.word_time()
+        self.behind.adapter().word_time()
     }
 }

@@ -47,6 +47,6 @@ impl<D: Inspect> Chip<D> {
         requires { bay ≤ 1 }
         ensures { result.now ≡ drive_held (adapter_of (behind_of self.now)) bay }
     {
-        self.behind.drive(bay)
+        self.behind.adapter().drive(bay)
     }
 }

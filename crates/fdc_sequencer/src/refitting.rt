@@ -40,12 +40,4 @@ impl<D: Inspect> Sequencer<D> {
     {
         self.adapter.swap_drive(bay, drive);
     }
-
-    /// The drive in a bay.
-    pub fn drive(&self, bay: u8) -> &D
-        requires { bay ≤ 1 }
-        ensures { result.now ≡ drive_held (adapter_of self.now) bay }
-    {
-        self.adapter.drive(bay)
-    }
 }

@@ -3,7 +3,6 @@ use Rattle.std.specs.Prelude.{◌≡◌, ◌-◌, ◌==◌, ◌&&◌, ℕ, Bool,
 use Rattle.c_bay_drive.specs.Bays.{bay_state, drive_in_bay, faults_in_bay, is_attached, state_with_cable, tracks_in_bay}
 use Rattle.c_bay_drive.specs.Maps.{no_tracks}
 use Rattle.c_bay_drive.specs.declared.bay.BayDrive.{BayDrive}
-use Rattle.c_bay_drive.specs.Tracked.{tracked_state}
 use Rattle.c_slots.specs.Controllers.{ControllerValue}
 use Rattle.drive_model.specs.Drive.{DriveState}
 use Rattle.drive_model.specs.Fault.{total_left}
@@ -54,7 +53,7 @@ replanned faults drive = record drive { left = told drive.faults (total_left fau
 -- a drive has these faults to come, in place of those that it had; what it is besides stays
 pub record Replans (bay : ℕ) (faults : List Fault) (old new : ControllerValue) : Type 0 where
   pub faults_are : faults_in_bay (held new bay) ≡ faults
-  pub drive : tracked_state (drive_in_bay (held new bay)) ≡ replanned faults (tracked_state (drive_in_bay (held old bay)))
+  pub drive : bay_state (drive_in_bay (held new bay)) ≡ replanned faults (bay_state (drive_in_bay (held old bay)))
   pub cable : is_attached (held new bay) ≡ is_attached (held old bay)
   pub tracks : tracks_in_bay (held new bay) ≡ tracks_in_bay (held old bay)
   pub beside : KeepsOther bay old new

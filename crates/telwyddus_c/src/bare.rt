@@ -22,13 +22,11 @@ use std::mem;
 fn stand_in_for(alloc: Global, medium: Option<&Medium>) -> Result<Option<Medium>, NoMemory>
     ensures { IfOk result (λ it. it ≡ stand_in_of (option_copied medium.entry)) }
 {
-    match medium {
-        None => Ok(None),
-        Some(medium) => {
-            let blank = Medium::blank_at(alloc, 1, 1, medium.words(), medium.rate())?;
-            Ok(Some(blank))
-        }
-    }
+    let Some(medium) = medium else {
+        return Ok(None);
+    };
+    let blank = Medium::blank_at(alloc, 1, 1, medium.words(), medium.rate())?;
+    Ok(Some(blank))
 }
 
 /// Whether both rates are the same.

@@ -52,11 +52,9 @@ pub(crate) fn fill(alloc: Global, slot: &mut TraySlot, medium: Medium) -> u32
     let tray = MediumTray {
         medium: Some(medium),
     };
-    match Box::new(alloc, tray) {
-        Ok(tray) => {
-            slot.put(tray);
-            DONE
-        }
-        Err(_) => NO_MEMORY,
-    }
+    let Ok(tray) = Box::new(alloc, tray) else {
+        return NO_MEMORY;
+    };
+    slot.put(tray);
+    DONE
 }

@@ -46,14 +46,12 @@ pub extern "C" fn telwyddus_tray_write_flat(
         ((out.new ≡ out.old) × (length.new ≡ length.old) × (cylinder.new ≡ cylinder.old) × (head.new ≡ head.old))
         result slot.old.held.tray slot.new.held.tray }
 {
-    match slot.take(alloc) {
-        None => EMPTY,
-        Some(tray) => {
-            let code = write_file(alloc, tray.medium.as_ref(), out, length, cylinder, head);
-            slot.put(tray);
-            code
-        }
-    }
+    let Some(tray) = slot.take(alloc) else {
+        return EMPTY;
+    };
+    let code = write_file(alloc, tray.medium.as_ref(), out, length, cylinder, head);
+    slot.put(tray);
+    code
 }
 
 /// The same of a medium, where there is one.
@@ -94,14 +92,12 @@ fn write_sectors(
 pub(crate) fn tell_fault(fault: FlatFault, cylinder: &mut u8, head: &mut u8) -> u32
     ensures { TellsFault fault result cylinder.old cylinder.new head.old head.new }
 {
-    match place_of(fault) {
-        None => NO_MEMORY,
-        Some((c, h)) => {
-            *cylinder = c;
-            *head = h;
-            UNFIT
-        }
-    }
+    let Some((c, h)) = place_of(fault) else {
+        return NO_MEMORY;
+    };
+    *cylinder = c;
+    *head = h;
+    UNFIT
 }
 
 /// The cylinder and head of the track at which a medium isn't as a flat file has it; that memory is out says nothing of a medium.

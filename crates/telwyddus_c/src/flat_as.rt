@@ -87,16 +87,14 @@ pub extern "C" fn telwyddus_tray_write_flat_as(
         ((out.new ≡ out.old) × (length.new ≡ length.old) × (cylinder.new ≡ cylinder.old) × (head.new ≡ head.old))
         result slot.old.held.tray slot.new.held.tray }
 {
-    match slot.take(alloc) {
-        None => EMPTY,
-        Some(tray) => {
-            let form = form_named(cylinders, heads, sectors, n, kilobits);
-            let medium = tray.medium.as_ref();
-            let code = write_file(alloc, medium, form, out, length, cylinder, head);
-            slot.put(tray);
-            code
-        }
-    }
+    let Some(tray) = slot.take(alloc) else {
+        return EMPTY;
+    };
+    let form = form_named(cylinders, heads, sectors, n, kilobits);
+    let medium = tray.medium.as_ref();
+    let code = write_file(alloc, medium, form, out, length, cylinder, head);
+    slot.put(tray);
+    code
 }
 
 /// The same of a medium and a form, where there are both.

@@ -73,14 +73,12 @@ pub extern "C" fn telwyddus_tray_write_imd(
         ((out.new ≡ out.old) × (length.new ≡ length.old) × (cylinder.new ≡ cylinder.old) × (head.new ≡ head.old))
         result slot.old.held.tray slot.new.held.tray }
 {
-    match slot.take(alloc) {
-        None => EMPTY,
-        Some(tray) => {
-            let code = write_file(alloc, tray.medium.as_ref(), out, length, cylinder, head);
-            slot.put(tray);
-            code
-        }
-    }
+    let Some(tray) = slot.take(alloc) else {
+        return EMPTY;
+    };
+    let code = write_file(alloc, tray.medium.as_ref(), out, length, cylinder, head);
+    slot.put(tray);
+    code
 }
 
 /// The same of a medium.

@@ -33,14 +33,12 @@ pub extern "C" fn telwyddus_tray_shape(
     ensures { Serves (λ code old new. (new ≡ old) × TellsShape old.medium code shape.old shape.new) (shape.new ≡ shape.old)
         result slot.old.held.tray slot.new.held.tray }
 {
-    match slot.take(alloc) {
-        None => EMPTY,
-        Some(tray) => {
-            let code = tell_shape(tray.medium.as_ref(), shape);
-            slot.put(tray);
-            code
-        }
-    }
+    let Some(tray) = slot.take(alloc) else {
+        return EMPTY;
+    };
+    let code = tell_shape(tray.medium.as_ref(), shape);
+    slot.put(tray);
+    code
 }
 
 /// Tells the shape of a medium, where there is one.

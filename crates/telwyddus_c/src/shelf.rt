@@ -19,13 +19,11 @@ pub extern "C" fn telwyddus_shelf_new(alloc: Global, slot: &mut ShelfSlot) -> u3
     if slot.is_full() {
         return FULL;
     }
-    match Box::new(alloc, RunShelf::new(alloc)) {
-        Ok(shelf) => {
-            slot.put(shelf);
-            DONE
-        }
-        Err(_) => NO_MEMORY,
-    }
+    let Ok(shelf) = Box::new(alloc, RunShelf::new(alloc)) else {
+        return NO_MEMORY;
+    };
+    slot.put(shelf);
+    DONE
 }
 
 /// Frees a shelf with its files.
@@ -50,14 +48,12 @@ pub extern "C" fn telwyddus_shelf_put(
     ensures { Serves (λ code old new. Puts name.now bytes.now code (outside_in old) (outside_in new)) ⊤
         result slot.old.held.shelf slot.new.held.shelf }
 {
-    match slot.take(alloc) {
-        None => EMPTY,
-        Some(mut shelf) => {
-            let code = put(&mut shelf, name, bytes);
-            slot.put(shelf);
-            code
-        }
-    }
+    let Some(mut shelf) = slot.take(alloc) else {
+        return EMPTY;
+    };
+    let code = put(&mut shelf, name, bytes);
+    slot.put(shelf);
+    code
 }
 
 /// The same of a shelf.
@@ -85,14 +81,12 @@ pub extern "C" fn telwyddus_shelf_get(
     ensures { Serves (λ code old new. (new ≡ old) × Gets name.now (file_at (files_in old) name.now) code out.old out.new length.old length.new)
         ((out.new ≡ out.old) × (length.new ≡ length.old)) result slot.old.held.shelf slot.new.held.shelf }
 {
-    match slot.take(alloc) {
-        None => EMPTY,
-        Some(shelf) => {
-            let code = get(&shelf, name, out, length);
-            slot.put(shelf);
-            code
-        }
-    }
+    let Some(shelf) = slot.take(alloc) else {
+        return EMPTY;
+    };
+    let code = get(&shelf, name, out, length);
+    slot.put(shelf);
+    code
 }
 
 /// The same of a shelf.
@@ -120,14 +114,12 @@ pub extern "C" fn telwyddus_shelf_run(
     ensures { Serves (λ code old new. RunsWords text.now code status.old status.new (outside_in old) (outside_in new)) (status.new ≡ status.old)
         result slot.old.held.shelf slot.new.held.shelf }
 {
-    match slot.take(alloc) {
-        None => EMPTY,
-        Some(mut shelf) => {
-            let code = run(alloc, &mut shelf, text, status);
-            slot.put(shelf);
-            code
-        }
-    }
+    let Some(mut shelf) = slot.take(alloc) else {
+        return EMPTY;
+    };
+    let code = run(alloc, &mut shelf, text, status);
+    slot.put(shelf);
+    code
 }
 
 /// The same of a shelf.
@@ -139,13 +131,11 @@ fn run(alloc: Global, shelf: &mut RunShelf, text: &[u8], status: &mut u32) -> u3
         Err(WordsError::NotText) => return NOT_TEXT,
         Err(WordsError::NoMemory) => return NO_MEMORY,
     };
-    match shelf.run(alloc, words.as_slice()) {
-        None => NO_MEMORY,
-        Some(ended) => {
-            *status = u32::from(ended.number());
-            DONE
-        }
-    }
+    let Some(ended) = shelf.run(alloc, words.as_slice()) else {
+        return NO_MEMORY;
+    };
+    *status = u32::from(ended.number());
+    DONE
 }
 
 /// Writes what runs printed since it was asked last to the beginning of a buffer, and tells the number of bytes. What fitted
@@ -160,14 +150,12 @@ pub extern "C" fn telwyddus_shelf_report(
     ensures { Serves (λ code old new. HandsOut code out.old out.new length.new old new) ((out.new ≡ out.old) × (length.new ≡ length.old))
         result slot.old.held.shelf slot.new.held.shelf }
 {
-    match slot.take(alloc) {
-        None => EMPTY,
-        Some(mut shelf) => {
-            let code = hand_out(alloc, &mut shelf, out, length);
-            slot.put(shelf);
-            code
-        }
-    }
+    let Some(mut shelf) = slot.take(alloc) else {
+        return EMPTY;
+    };
+    let code = hand_out(alloc, &mut shelf, out, length);
+    slot.put(shelf);
+    code
 }
 
 /// The same of a shelf.

@@ -24,14 +24,12 @@ pub extern "C" fn telwyddus_tray_survey(
     ensures { Serves (λ code old new. (new ≡ old) × WritesSurvey old.medium code out.old out.new length.old length.new)
         ((out.new ≡ out.old) × (length.new ≡ length.old)) result slot.old.held.tray slot.new.held.tray }
 {
-    match slot.take(alloc) {
-        None => EMPTY,
-        Some(tray) => {
-            let code = write_survey(alloc, tray.medium.as_ref(), out, length);
-            slot.put(tray);
-            code
-        }
-    }
+    let Some(tray) = slot.take(alloc) else {
+        return EMPTY;
+    };
+    let code = write_survey(alloc, tray.medium.as_ref(), out, length);
+    slot.put(tray);
+    code
 }
 
 /// The same of a medium.

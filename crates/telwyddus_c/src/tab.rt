@@ -12,25 +12,21 @@ use std::alloc::Global;
 pub extern "C" fn telwyddus_tray_protect(alloc: Global, slot: &mut TraySlot, on: u8) -> u32
     ensures { Serves (MovesTab (not (on == 0))) ⊤ result slot.old.held.tray slot.new.held.tray }
 {
-    match slot.take(alloc) {
-        None => EMPTY,
-        Some(mut tray) => {
-            let code = move_tab(&mut tray, on != 0);
-            slot.put(tray);
-            code
-        }
-    }
+    let Some(mut tray) = slot.take(alloc) else {
+        return EMPTY;
+    };
+    let code = move_tab(&mut tray, on != 0);
+    slot.put(tray);
+    code
 }
 
 /// The same of a tray.
 fn move_tab(tray: &mut MediumTray, on: bool) -> u32
     ensures { MovesTab on result tray.old tray.new }
 {
-    match &mut tray.medium {
-        None => NO_MEDIUM,
-        Some(medium) => {
-            medium.set_protected(on);
-            DONE
-        }
-    }
+    let Some(medium) = &mut tray.medium else {
+        return NO_MEDIUM;
+    };
+    medium.set_protected(on);
+    DONE
 }

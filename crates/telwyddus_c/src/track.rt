@@ -23,14 +23,12 @@ pub extern "C" fn telwyddus_tray_track(
     ensures { Serves (λ code old new. (new ≡ old) × WritesTrack old.medium cylinder head code out.old out.new length.old length.new)
         ((out.new ≡ out.old) × (length.new ≡ length.old)) result slot.old.held.tray slot.new.held.tray }
 {
-    match slot.take(alloc) {
-        None => EMPTY,
-        Some(tray) => {
-            let code = write_track(tray.medium.as_ref(), cylinder, head, out, length);
-            slot.put(tray);
-            code
-        }
-    }
+    let Some(tray) = slot.take(alloc) else {
+        return EMPTY;
+    };
+    let code = write_track(tray.medium.as_ref(), cylinder, head, out, length);
+    slot.put(tray);
+    code
 }
 
 /// The same of a medium, where there is one.
@@ -76,14 +74,12 @@ pub extern "C" fn telwyddus_tray_set_track(
 ) -> u32
     ensures { Serves (SetsTrack cylinder head words.now) ⊤ result slot.old.held.tray slot.new.held.tray }
 {
-    match slot.take(alloc) {
-        None => EMPTY,
-        Some(mut tray) => {
-            let code = set_track(&mut tray, cylinder, head, words);
-            slot.put(tray);
-            code
-        }
-    }
+    let Some(mut tray) = slot.take(alloc) else {
+        return EMPTY;
+    };
+    let code = set_track(&mut tray, cylinder, head, words);
+    slot.put(tray);
+    code
 }
 
 /// The same of a tray.

@@ -3,9 +3,10 @@ ghost use Rattle.std.specs.Prelude.{◌≡◌};
 ghost use Rattle.telwyddus_c.specs.Slots.{Frees, Serves};
 ghost use Rattle.telwyddus_c.specs.Images.{ReadsImage, WritesImage};
 
+use crate::blank::fill;
 use crate::code::{BAD_IMAGE, DONE, EMPTY, FULL, NO_MEMORY};
 use crate::image::write_medium;
-use c_slots::{MediumTray, TraySlot};
+use c_slots::TraySlot;
 use raw_image::{ImageError, read_image};
 use std::alloc::Global;
 
@@ -18,18 +19,7 @@ pub extern "C" fn telwyddus_tray_read(alloc: Global, slot: &mut TraySlot, bytes:
         return FULL;
     }
     match read_image(alloc, bytes) {
-        Ok(medium) => match Box::new(
-            alloc,
-            MediumTray {
-                medium: Some(medium),
-            },
-        ) {
-            Ok(tray) => {
-                slot.put(tray);
-                DONE
-            }
-            Err(_) => NO_MEMORY,
-        },
+        Ok(medium) => fill(alloc, slot, medium),
         Err(ImageError::NoMemory) => NO_MEMORY,
         Err(_) => BAD_IMAGE,
     }
@@ -46,14 +36,12 @@ pub extern "C" fn telwyddus_tray_write(
     ensures { Serves (λ code old new. (new ≡ old) × WritesImage old.medium code out.old out.new length.old length.new) ((out.new ≡ out.old) × (length.new ≡ length.old))
         result slot.old.held.tray slot.new.held.tray }
 {
-    match slot.take(alloc) {
-        None => EMPTY,
-        Some(tray) => {
-            let code = write_medium(alloc, tray.medium.as_ref(), out, length);
-            slot.put(tray);
-            code
-        }
-    }
+    let Some(tray) = slot.take(alloc) else {
+        return EMPTY;
+    };
+    let code = write_medium(alloc, tray.medium.as_ref(), out, length);
+    slot.put(tray);
+    code
 }
 
 /// Frees a tray and its medium.

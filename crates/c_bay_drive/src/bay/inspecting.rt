@@ -1,4 +1,4 @@
-// What can be looked at.
+// What can be looked at: as in the drive within. Where the heads stand isn't known by a pulled cable.
 ghost use Rattle.std.specs.Prelude.{◌≡◌, ◌↔◌, Some, IsErr, OnOk, IfOk, IfErr, false};
 ghost use Rattle.drive_model.specs.Drive.{same_length, exchanged};
 
@@ -6,57 +6,43 @@ use super::BayDrive;
 use drive_model::{Drive, Inspect};
 use raw_image::Medium;
 
+/// A cylinder that no medium has.
+const BEYOND: u8 = 82;
+
 impl Inspect for BayDrive {
     ghost use Rattle.c_bay_drive.specs.Bays.{bay_state};
     ghost use Rattle.c_bay_drive.specs.WithMedium.{BayWithMedium};
 
     fn medium(&self) -> Option<&Medium> {
-        match self {
-            BayDrive::Attached(drive) => drive.medium(),
-            BayDrive::Detached(drive) => drive.medium(),
-        }
+        self.inside.medium()
     }
 
     fn cylinder(&self) -> u8 {
-        match self {
-            BayDrive::Attached(drive) => drive.cylinder(),
-            BayDrive::Detached(drive) => drive.cylinder(),
+        if self.is_attached() {
+            self.inside.cylinder()
+        } else {
+            BEYOND
         }
     }
 
     fn place(&self) -> Option<u16> {
-        match self {
-            BayDrive::Attached(drive) => drive.place(),
-            BayDrive::Detached(drive) => drive.place(),
-        }
+        self.inside.place()
     }
 
     fn is_gate_open(&self) -> bool {
-        match self {
-            BayDrive::Attached(drive) => drive.is_gate_open(),
-            BayDrive::Detached(drive) => drive.is_gate_open(),
-        }
+        self.inside.is_gate_open()
     }
 
     fn is_written(&self) -> bool {
-        match self {
-            BayDrive::Attached(drive) => drive.is_written(),
-            BayDrive::Detached(drive) => drive.is_written(),
-        }
+        self.replaced
     }
 
     fn forget_written(&mut self) {
-        match self {
-            BayDrive::Attached(drive) => drive.forget_written(),
-            BayDrive::Detached(drive) => drive.forget_written(),
-        }
+        self.replaced = false;
     }
 
     fn set_protected(&mut self, on: bool) {
-        match self {
-            BayDrive::Attached(drive) => drive.set_protected(on),
-            BayDrive::Detached(drive) => drive.set_protected(on),
-        }
+        self.inside.set_protected(on);
     }
 
     fn exchange(&mut self, medium: Medium) -> Result<Medium, Medium>
@@ -66,9 +52,6 @@ impl Inspect for BayDrive {
         ensures before { IfOk result (λ before. Some before ≡ (bay_state self.old).medium) }
         ensures err { IfErr result (λ back. (back ≡ medium) × (bay_state self.new ≡ bay_state self.old)) }
     {
-        match self {
-            BayDrive::Attached(drive) => drive.exchange(medium),
-            BayDrive::Detached(drive) => drive.exchange(medium),
-        }
+        self.inside.exchange(medium)
     }
 }

@@ -1,9 +1,10 @@
 // The drive of a bay as bytes.
 use super::BayDrive;
-use crate::loose::LooseDrive;
-use crate::tracked::TrackedDrive;
+use crate::cable::load_cable;
+use crate::map::TrackMap;
+use drive_model::ScriptDrive;
 use flop_base::NoMemory;
-use saved_state::{SavedWhole, Sink, Source};
+use saved_state::{Saved, SavedWhole, Sink, Source};
 use std::alloc::Global;
 
 impl SavedWhole for BayDrive {
@@ -14,28 +15,26 @@ impl SavedWhole for BayDrive {
     ghost Fits = { BayFits };
 
     fn save(&self, alloc: Global, to: &mut Sink) {
-        match self {
-            BayDrive::Attached(drive) => {
-                to.byte(1);
-                drive.save(alloc, to);
-            }
-            BayDrive::Detached(drive) => {
-                to.byte(0);
-                drive.save(alloc, to);
-            }
+        self.is_attached().save(to);
+        self.inside.save(alloc, to);
+        self.replaced.save(to);
+        self.tracks.save(to);
+        if let Some(pulled) = self.pulled {
+            pulled.save(to);
         }
     }
 
     fn load(alloc: Global, from: &mut Source<'_>) -> Result<BayDrive, NoMemory> {
-        match from.byte() {
-            1 => {
-                let drive = TrackedDrive::load(alloc, from)?;
-                Ok(BayDrive::Attached(drive))
-            }
-            _ => {
-                let drive = LooseDrive::load(alloc, from)?;
-                Ok(BayDrive::Detached(drive))
-            }
-        }
+        let attached = bool::load(from);
+        let inside = ScriptDrive::load(alloc, from)?;
+        let replaced = bool::load(from);
+        let tracks = TrackMap::load(from);
+        let pulled = load_cable(attached, from);
+        Ok(BayDrive {
+            inside,
+            replaced,
+            tracks,
+            pulled,
+        })
     }
 }

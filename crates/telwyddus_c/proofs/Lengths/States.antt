@@ -5,11 +5,9 @@ use Rattle.std.specs.Option.{ForSome}
 use Rattle.std.proofs.lemmas.List.{length-take}
 use Rattle.std.proofs.lemmas.Nat.{mul-le}
 use Rattle.c_bay_drive.specs.Bays.{faults_in_bay}
-use Rattle.c_bay_drive.specs.Saving.{BayFits, TrackedFits, spelled_bay, spelled_tracked}
-use Rattle.c_bay_drive.specs.Tracked.{faults_of}
+use Rattle.c_bay_drive.specs.Saving.{BayFits, spelled_bay, spelled_cable}
 use Rattle.c_bay_drive.specs.declared.bay.BayDrive.{BayDrive}
-use Rattle.c_bay_drive.specs.declared.bay.BayDrive.TheVariants.{Attached, Detached}
-use Rattle.c_bay_drive.specs.declared.tracked.TrackedDrive.{TrackedDrive}
+use Rattle.c_bay_drive.specs.declared.cable.Pulled.{Pulled}
 use Rattle.c_slots.specs.Controllers.{ControllerValue}
 use Rattle.drive_model.specs.Saving.{spelled_fault, spelled_medium, spelled_script_drive}
 use Rattle.drive_model.specs.ScriptDrive.{script_of}
@@ -73,15 +71,13 @@ most-script drive rest =
       length-count,
     )
 
-most-tracked : (drive : TrackedDrive) (rest : List ℕ) → TrackedFits drive
-    → length (spelled_tracked drive rest) ≤ 57 + medium_most + 10 * length (faults_of drive) + length rest
-most-tracked drive rest fits = omega (arith, most-script, length-flag, length-bytes, fits)
+most-cable : (pulled : Option Pulled) (rest : List ℕ) → length (spelled_cable pulled rest) ≤ 9 + length rest
+most-cable None rest = omega arith
+most-cable (Some pulled) rest = omega (arith, length-flag, length-count)
 
 most-bay : (drive : BayDrive) (rest : List ℕ) → BayFits drive
     → length (spelled_bay drive rest) ≤ 67 + medium_most + 10 * length (faults_in_bay drive) + length rest
-most-bay (Attached drive) rest fits = omega (arith, most-tracked drive rest fits)
-most-bay (Detached drive) rest fits =
-    omega (arith, most-tracked drive.inside (spelled_flag drive.change (spelled_count drive.lost rest)) fits, length-flag, length-count)
+most-bay drive rest fits = omega (arith, length-flag, most-script, length-bytes, fits, most-cable drive.pulled rest)
 
 -- ---- the controller
 

@@ -23,14 +23,12 @@ pub extern "C" fn telwyddus_controller_save_bare(
     ensures { Serves (λ code old new. (new ≡ old) × WritesBare old code out.old out.new length.old length.new)
         ((out.new ≡ out.old) × (length.new ≡ length.old)) result slot.old.held.controller slot.new.held.controller }
 {
-    match slot.take(alloc) {
-        None => EMPTY,
-        Some(mut controller) => {
-            let code = save_bare(alloc, &mut controller, out, length);
-            slot.put(controller);
-            code
-        }
-    }
+    let Some(mut controller) = slot.take(alloc) else {
+        return EMPTY;
+    };
+    let code = save_bare(alloc, &mut controller, out, length);
+    slot.put(controller);
+    code
 }
 
 /// The same of a controller, which has its media again behind it.
@@ -58,14 +56,12 @@ pub extern "C" fn telwyddus_controller_restore_bare(
 ) -> u32
     ensures { Serves (RestoresBare bytes.now) ⊤ result slot.old.held.controller slot.new.held.controller }
 {
-    match slot.take(alloc) {
-        None => EMPTY,
-        Some(mut controller) => {
-            let code = restore_bare(alloc, &mut controller, bytes);
-            slot.put(controller);
-            code
-        }
-    }
+    let Some(mut controller) = slot.take(alloc) else {
+        return EMPTY;
+    };
+    let code = restore_bare(alloc, &mut controller, bytes);
+    slot.put(controller);
+    code
 }
 
 /// The same of a controller.

@@ -37,14 +37,12 @@ pub extern "C" fn telwyddus_controller_insert(
         (InsertsAt bay code tray.old.held.tray tray.new.held.tray old new))) (tray.new.held.tray ≡ tray.old.held.tray)
         result slot.old.held.controller slot.new.held.controller }
 {
-    match slot.take(alloc) {
-        None => EMPTY,
-        Some(mut controller) => {
-            let code = insert_from(alloc, &mut controller, bay, tray);
-            slot.put(controller);
-            code
-        }
-    }
+    let Some(mut controller) = slot.take(alloc) else {
+        return EMPTY;
+    };
+    let code = insert_from(alloc, &mut controller, bay, tray);
+    slot.put(controller);
+    code
 }
 
 /// The same of a controller.
@@ -92,14 +90,12 @@ fn insert_from_tray(
     requires { bay ≤ 1 }
     ensures { InsertsAt bay result tray.old.held.tray tray.new.held.tray controller.old controller.new }
 {
-    match tray.take(alloc) {
-        None => NO_MEDIUM,
-        Some(mut inside) => {
-            let code = insert(controller, bay, &mut inside);
-            tray.put(inside);
-            code
-        }
-    }
+    let Some(mut inside) = tray.take(alloc) else {
+        return NO_MEDIUM;
+    };
+    let code = insert(controller, bay, &mut inside);
+    tray.put(inside);
+    code
 }
 
 /// The same of a controller and a tray.
@@ -132,14 +128,12 @@ pub extern "C" fn telwyddus_controller_eject(
         (EjectsAt bay code tray.old.held.tray tray.new.held.tray old new)) (tray.new.held.tray ≡ tray.old.held.tray)
         result slot.old.held.controller slot.new.held.controller }
 {
-    match slot.take(alloc) {
-        None => EMPTY,
-        Some(mut controller) => {
-            let code = eject_into(alloc, &mut controller, bay, tray);
-            slot.put(controller);
-            code
-        }
-    }
+    let Some(mut controller) = slot.take(alloc) else {
+        return EMPTY;
+    };
+    let code = eject_into(alloc, &mut controller, bay, tray);
+    slot.put(controller);
+    code
 }
 
 /// The same of a controller.
@@ -156,14 +150,12 @@ fn eject_into(alloc: Global, controller: &mut WholeController, bay: u32, tray: &
     let Ok(mut inside) = Box::new(alloc, MediumTray { medium: None }) else {
         return NO_MEMORY;
     };
-    match controller.eject(bay as u8) {
-        None => NO_MEDIUM,
-        Some(medium) => {
-            inside.medium = Some(medium);
-            tray.put(inside);
-            DONE
-        }
-    }
+    let Some(medium) = controller.eject(bay as u8) else {
+        return NO_MEDIUM;
+    };
+    inside.medium = Some(medium);
+    tray.put(inside);
+    DONE
 }
 
 /// Writes the image file of the medium in a bay to a buffer, and tells its length. The medium stays in.
@@ -179,14 +171,12 @@ pub extern "C" fn telwyddus_controller_image(
         (WritesImage (drive_of old bay).medium code out.old out.new length.old length.new)) ((out.new ≡ out.old) × (length.new ≡ length.old))
         result slot.old.held.controller slot.new.held.controller }
 {
-    match slot.take(alloc) {
-        None => EMPTY,
-        Some(controller) => {
-            let code = image_of(alloc, &controller, bay, out, length);
-            slot.put(controller);
-            code
-        }
-    }
+    let Some(controller) = slot.take(alloc) else {
+        return EMPTY;
+    };
+    let code = image_of(alloc, &controller, bay, out, length);
+    slot.put(controller);
+    code
 }
 
 /// The same of a controller.
@@ -219,14 +209,12 @@ pub extern "C" fn telwyddus_controller_is_written(
         ((code ≡ 0) × ShowsWritten bay old written.new)) (written.new ≡ written.old)
         result slot.old.held.controller slot.new.held.controller }
 {
-    match slot.take(alloc) {
-        None => EMPTY,
-        Some(controller) => {
-            let code = show_written(&controller, bay, written);
-            slot.put(controller);
-            code
-        }
-    }
+    let Some(controller) = slot.take(alloc) else {
+        return EMPTY;
+    };
+    let code = show_written(&controller, bay, written);
+    slot.put(controller);
+    code
 }
 
 /// The same of a controller.
@@ -252,14 +240,12 @@ pub extern "C" fn telwyddus_controller_written(
         ((code ≡ 0) × TellsWritten bay old written.new new)) (written.new ≡ written.old)
         result slot.old.held.controller slot.new.held.controller }
 {
-    match slot.take(alloc) {
-        None => EMPTY,
-        Some(mut controller) => {
-            let code = tell_written(&mut controller, bay, written);
-            slot.put(controller);
-            code
-        }
-    }
+    let Some(mut controller) = slot.take(alloc) else {
+        return EMPTY;
+    };
+    let code = tell_written(&mut controller, bay, written);
+    slot.put(controller);
+    code
 }
 
 /// The same of a controller.
@@ -288,14 +274,12 @@ pub extern "C" fn telwyddus_controller_bay(
         ((code ≡ 0) × Shows bay old cylinder.new signs.new)) ((cylinder.new ≡ cylinder.old) × (signs.new ≡ signs.old))
         result slot.old.held.controller slot.new.held.controller }
 {
-    match slot.take(alloc) {
-        None => EMPTY,
-        Some(controller) => {
-            let code = show(&controller, bay, cylinder, signs);
-            slot.put(controller);
-            code
-        }
-    }
+    let Some(controller) = slot.take(alloc) else {
+        return EMPTY;
+    };
+    let code = show(&controller, bay, cylinder, signs);
+    slot.put(controller);
+    code
 }
 
 /// The same of a controller.

@@ -22,14 +22,12 @@ pub extern "C" fn telwyddus_controller_dack_block_read(
     ensures { Serves (λ code old new. (code ≡ 0) × TakesBlock moved.new out.old out.new (state_of old) (state_of new) × KeepsDrives old new × (lines.new ≡ lines_byte (state_of new)))
         ((out.new ≡ out.old) × (moved.new ≡ moved.old) × (lines.new ≡ lines.old)) result slot.old.held.controller slot.new.held.controller }
 {
-    match slot.take(alloc) {
-        None => EMPTY,
-        Some(mut controller) => {
-            *moved = take_block(&mut controller, out, lines);
-            slot.put(controller);
-            DONE
-        }
-    }
+    let Some(mut controller) = slot.take(alloc) else {
+        return EMPTY;
+    };
+    *moved = take_block(&mut controller, out, lines);
+    slot.put(controller);
+    DONE
 }
 
 /// The same of a controller.
@@ -69,14 +67,12 @@ pub extern "C" fn telwyddus_controller_dack_block_write(
     ensures { Serves (λ code old new. (code ≡ 0) × GivesBlock moved.new bytes.now (state_of old) (state_of new) × KeepsDrives old new × (lines.new ≡ lines_byte (state_of new)))
         ((moved.new ≡ moved.old) × (lines.new ≡ lines.old)) result slot.old.held.controller slot.new.held.controller }
 {
-    match slot.take(alloc) {
-        None => EMPTY,
-        Some(mut controller) => {
-            *moved = give_block(&mut controller, bytes, lines);
-            slot.put(controller);
-            DONE
-        }
-    }
+    let Some(mut controller) = slot.take(alloc) else {
+        return EMPTY;
+    };
+    *moved = give_block(&mut controller, bytes, lines);
+    slot.put(controller);
+    DONE
 }
 
 /// The same of a controller.

@@ -20,14 +20,12 @@ pub extern "C" fn telwyddus_controller_dack_read(
     ensures { Serves (λ code old new. TakesByte code (state_of old) byte.old byte.new (state_of new) × KeepsDrives old new × (lines.new ≡ lines_byte (state_of new)))
         ((byte.new ≡ byte.old) × (lines.new ≡ lines.old)) result slot.old.held.controller slot.new.held.controller }
 {
-    match slot.take(alloc) {
-        None => EMPTY,
-        Some(mut controller) => {
-            let code = take_telling(&mut controller, byte, lines);
-            slot.put(controller);
-            code
-        }
-    }
+    let Some(mut controller) = slot.take(alloc) else {
+        return EMPTY;
+    };
+    let code = take_telling(&mut controller, byte, lines);
+    slot.put(controller);
+    code
 }
 
 /// The same of a controller.
@@ -46,13 +44,11 @@ fn take_byte(controller: &mut WholeController, byte: &mut u8) -> u32
     ensures takes { TakesByte result (state_of controller.old) byte.old byte.new (state_of controller.new) }
     ensures drives { KeepsDrives controller.old controller.new }
 {
-    match controller.dack_read() {
-        Some(taken) => {
-            *byte = taken;
-            DONE
-        }
-        None => NOT_ASKED,
-    }
+    let Some(taken) = controller.dack_read() else {
+        return NOT_ASKED;
+    };
+    *byte = taken;
+    DONE
 }
 
 /// The channel gives a byte, where one is asked for. The lines behind that are told, also where none is.
@@ -66,14 +62,12 @@ pub extern "C" fn telwyddus_controller_dack_write(
     ensures { Serves (λ code old new. GivesByte byte code (state_of old) (state_of new) × KeepsDrives old new × (lines.new ≡ lines_byte (state_of new)))
         (lines.new ≡ lines.old) result slot.old.held.controller slot.new.held.controller }
 {
-    match slot.take(alloc) {
-        None => EMPTY,
-        Some(mut controller) => {
-            let code = give_telling(&mut controller, byte, lines);
-            slot.put(controller);
-            code
-        }
-    }
+    let Some(mut controller) = slot.take(alloc) else {
+        return EMPTY;
+    };
+    let code = give_telling(&mut controller, byte, lines);
+    slot.put(controller);
+    code
 }
 
 /// The same of a controller.
@@ -109,14 +103,12 @@ pub extern "C" fn telwyddus_controller_tc(
     ensures { Serves (λ code old new. (code ≡ 0) × (state_of new ≡ told_chip (state_of old)) × KeepsDrives old new × (lines.new ≡ lines_byte (state_of new)))
         (lines.new ≡ lines.old) result slot.old.held.controller slot.new.held.controller }
 {
-    match slot.take(alloc) {
-        None => EMPTY,
-        Some(mut controller) => {
-            count_out(&mut controller, lines);
-            slot.put(controller);
-            DONE
-        }
-    }
+    let Some(mut controller) = slot.take(alloc) else {
+        return EMPTY;
+    };
+    count_out(&mut controller, lines);
+    slot.put(controller);
+    DONE
 }
 
 /// The same of a controller.

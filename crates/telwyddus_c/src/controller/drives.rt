@@ -28,14 +28,12 @@ pub extern "C" fn telwyddus_controller_attach(
     ensures { Serves (λ code old new. InBay bay code (new ≡ old) (AttachesAt bay (not (on == 0)) code old new)) ⊤
         result slot.old.held.controller slot.new.held.controller }
 {
-    match slot.take(alloc) {
-        None => EMPTY,
-        Some(mut controller) => {
-            let code = attach_at(alloc, &mut controller, bay, on != 0);
-            slot.put(controller);
-            code
-        }
-    }
+    let Some(mut controller) = slot.take(alloc) else {
+        return EMPTY;
+    };
+    let code = attach_at(alloc, &mut controller, bay, on != 0);
+    slot.put(controller);
+    code
 }
 
 /// The same of a controller.
@@ -92,14 +90,12 @@ pub extern "C" fn telwyddus_controller_plan(
     ensures { Serves (λ code old new. InBay bay code ((new ≡ old) × (line.new ≡ line.old)) (PlansAt bay plan.now code line.old line.new old new)) (line.new ≡ line.old)
         result slot.old.held.controller slot.new.held.controller }
 {
-    match slot.take(alloc) {
-        None => EMPTY,
-        Some(mut controller) => {
-            let code = plan_at(alloc, &mut controller, bay, plan, line);
-            slot.put(controller);
-            code
-        }
-    }
+    let Some(mut controller) = slot.take(alloc) else {
+        return EMPTY;
+    };
+    let code = plan_at(alloc, &mut controller, bay, plan, line);
+    slot.put(controller);
+    code
 }
 
 /// The same of a controller.
@@ -173,14 +169,12 @@ pub extern "C" fn telwyddus_controller_written_tracks(
     ensures { Serves (λ code old new. InBay bay code ((new ≡ old) × (map.new ≡ map.old)) ((code ≡ 0) × TellsTracks bay old map.new.bytes new)) (map.new ≡ map.old)
         result slot.old.held.controller slot.new.held.controller }
 {
-    match slot.take(alloc) {
-        None => EMPTY,
-        Some(mut controller) => {
-            let code = tell_tracks(alloc, &mut controller, bay, map);
-            slot.put(controller);
-            code
-        }
-    }
+    let Some(mut controller) = slot.take(alloc) else {
+        return EMPTY;
+    };
+    let code = tell_tracks(alloc, &mut controller, bay, map);
+    slot.put(controller);
+    code
 }
 
 /// The same of a controller.

@@ -29,14 +29,12 @@ pub extern "C" fn telwyddus_controller_lines(
     ensures { Serves (λ code old new. (code ≡ 0) × (new ≡ old) × (lines.new ≡ lines_byte (state_of old))) (lines.new ≡ lines.old)
         result slot.old.held.controller slot.new.held.controller }
 {
-    match slot.take(alloc) {
-        None => EMPTY,
-        Some(controller) => {
-            *lines = lines_of(&controller);
-            slot.put(controller);
-            DONE
-        }
-    }
+    let Some(controller) = slot.take(alloc) else {
+        return EMPTY;
+    };
+    *lines = lines_of(&controller);
+    slot.put(controller);
+    DONE
 }
 
 /// The same of a controller.

@@ -20,16 +20,14 @@ pub extern "C" fn telwyddus_controller_new(alloc: Global, slot: &mut ControllerS
     }
     let first = BayDrive::new(Vec::new(alloc));
     let second = BayDrive::new(Vec::new(alloc));
-    match Chip::new(alloc, first, second) {
-        Ok(controller) => match Box::new(alloc, controller) {
-            Ok(controller) => {
-                slot.put(controller);
-                DONE
-            }
-            Err(_) => NO_MEMORY,
-        },
-        Err(_) => NO_MEMORY,
-    }
+    let Ok(controller) = Chip::new(alloc, first, second) else {
+        return NO_MEMORY;
+    };
+    let Ok(controller) = Box::new(alloc, controller) else {
+        return NO_MEMORY;
+    };
+    slot.put(controller);
+    DONE
 }
 
 /// Makes a controller with two empty drives that have the faults of a plan's text; its gaps, holds and strays aren't used. Where
@@ -55,16 +53,14 @@ pub extern "C" fn telwyddus_controller_new_planned(
         Ok(plan) => {
             let first = BayDrive::new(plan.bay0);
             let second = BayDrive::new(plan.bay1);
-            match Chip::new(alloc, first, second) {
-                Ok(controller) => match Box::new(alloc, controller) {
-                    Ok(controller) => {
-                        slot.put(controller);
-                        DONE
-                    }
-                    Err(_) => NO_MEMORY,
-                },
-                Err(_) => NO_MEMORY,
-            }
+            let Ok(controller) = Chip::new(alloc, first, second) else {
+                return NO_MEMORY;
+            };
+            let Ok(controller) = Box::new(alloc, controller) else {
+                return NO_MEMORY;
+            };
+            slot.put(controller);
+            DONE
         }
     }
 }

@@ -25,14 +25,12 @@ pub extern "C" fn telwyddus_controller_shape(
         (TellsShape (drive_of old bay).medium code shape.old shape.new)) (shape.new ≡ shape.old)
         result slot.old.held.controller slot.new.held.controller }
 {
-    match slot.take(alloc) {
-        None => EMPTY,
-        Some(controller) => {
-            let code = shape_at(&controller, bay, shape);
-            slot.put(controller);
-            code
-        }
-    }
+    let Some(controller) = slot.take(alloc) else {
+        return EMPTY;
+    };
+    let code = shape_at(&controller, bay, shape);
+    slot.put(controller);
+    code
 }
 
 /// The same of a controller.
@@ -60,14 +58,12 @@ pub extern "C" fn telwyddus_controller_track(
         (WritesTrack (drive_of old bay).medium cylinder head code out.old out.new length.old length.new)) ((out.new ≡ out.old) × (length.new ≡ length.old))
         result slot.old.held.controller slot.new.held.controller }
 {
-    match slot.take(alloc) {
-        None => EMPTY,
-        Some(controller) => {
-            let code = track_at(&controller, bay, cylinder, head, out, length);
-            slot.put(controller);
-            code
-        }
-    }
+    let Some(controller) = slot.take(alloc) else {
+        return EMPTY;
+    };
+    let code = track_at(&controller, bay, cylinder, head, out, length);
+    slot.put(controller);
+    code
 }
 
 /// The same of a controller.
@@ -106,14 +102,12 @@ pub extern "C" fn telwyddus_controller_flat(
         ((out.new ≡ out.old) × (length.new ≡ length.old) × (cylinder.new ≡ cylinder.old) × (head.new ≡ head.old))
         result slot.old.held.controller slot.new.held.controller }
 {
-    match slot.take(alloc) {
-        None => EMPTY,
-        Some(controller) => {
-            let code = flat_at(alloc, &controller, bay, out, length, cylinder, head);
-            slot.put(controller);
-            code
-        }
-    }
+    let Some(controller) = slot.take(alloc) else {
+        return EMPTY;
+    };
+    let code = flat_at(alloc, &controller, bay, out, length, cylinder, head);
+    slot.put(controller);
+    code
 }
 
 /// The same of a controller.

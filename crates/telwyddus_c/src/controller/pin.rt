@@ -14,14 +14,12 @@ pub extern "C" fn telwyddus_controller_reset(alloc: Global, slot: &mut Controlle
     ensures { Serves (λ code old new. (code ≡ 0) × ResetsByPin (state_of old) (state_of new)) ⊤
         result slot.old.held.controller slot.new.held.controller }
 {
-    match slot.take(alloc) {
-        None => EMPTY,
-        Some(mut controller) => {
-            reset(&mut controller);
-            slot.put(controller);
-            DONE
-        }
-    }
+    let Some(mut controller) = slot.take(alloc) else {
+        return EMPTY;
+    };
+    reset(&mut controller);
+    slot.put(controller);
+    DONE
 }
 
 /// The same of a controller.

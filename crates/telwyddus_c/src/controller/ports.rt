@@ -23,14 +23,12 @@ pub extern "C" fn telwyddus_controller_strap_seeks(
     ensures { Serves (λ code old new. (code ≡ 0) × StrapsSeeks (not (on == 0)) old new) ⊤
         result slot.old.held.controller slot.new.held.controller }
 {
-    match slot.take(alloc) {
-        None => EMPTY,
-        Some(mut controller) => {
-            controller.strap_seeks(on != 0);
-            slot.put(controller);
-            DONE
-        }
-    }
+    let Some(mut controller) = slot.take(alloc) else {
+        return EMPTY;
+    };
+    controller.strap_seeks(on != 0);
+    slot.put(controller);
+    DONE
 }
 
 /// Lets the pulses of SEEK, RELATIVE SEEK and RECALIBRATE come in the time that SPECIFY sets; or, where `on` is 0, one in each word
@@ -44,14 +42,12 @@ pub extern "C" fn telwyddus_controller_strap_steps(
     ensures { Serves (λ code old new. (code ≡ 0) × StrapsSteps (not (on == 0)) old new) ⊤
         result slot.old.held.controller slot.new.held.controller }
 {
-    match slot.take(alloc) {
-        None => EMPTY,
-        Some(mut controller) => {
-            controller.strap_steps(on != 0);
-            slot.put(controller);
-            DONE
-        }
-    }
+    let Some(mut controller) = slot.take(alloc) else {
+        return EMPTY;
+    };
+    controller.strap_steps(on != 0);
+    slot.put(controller);
+    DONE
 }
 
 /// Reads a port, 3F0 to 3F7, and tells the lines behind that.
@@ -66,14 +62,12 @@ pub extern "C" fn telwyddus_controller_read(
     ensures { Serves (λ code old new. (code ≡ 0) × ReadsChip port (state_of old) value.new (state_of new) × KeepsDrives old new × (lines.new ≡ lines_byte (state_of new)))
         ((value.new ≡ value.old) × (lines.new ≡ lines.old)) result slot.old.held.controller slot.new.held.controller }
 {
-    match slot.take(alloc) {
-        None => EMPTY,
-        Some(mut controller) => {
-            *value = read_port(&mut controller, port, lines);
-            slot.put(controller);
-            DONE
-        }
-    }
+    let Some(mut controller) = slot.take(alloc) else {
+        return EMPTY;
+    };
+    *value = read_port(&mut controller, port, lines);
+    slot.put(controller);
+    DONE
 }
 
 /// The same of a controller.
@@ -99,14 +93,12 @@ pub extern "C" fn telwyddus_controller_write(
     ensures { Serves (λ code old new. (code ≡ 0) × WritesChip port value (state_of old) (state_of new) × (lines.new ≡ lines_byte (state_of new)))
         (lines.new ≡ lines.old) result slot.old.held.controller slot.new.held.controller }
 {
-    match slot.take(alloc) {
-        None => EMPTY,
-        Some(mut controller) => {
-            write_port(&mut controller, port, value, lines);
-            slot.put(controller);
-            DONE
-        }
-    }
+    let Some(mut controller) = slot.take(alloc) else {
+        return EMPTY;
+    };
+    write_port(&mut controller, port, value, lines);
+    slot.put(controller);
+    DONE
 }
 
 /// The same of a controller.
@@ -128,14 +120,12 @@ pub extern "C" fn telwyddus_controller_selected(
     ensures { Serves (λ code old new. (code ≡ 0) × (new ≡ old) × (bay.new ≡ selected_at (state_of old).front.adapter)) (bay.new ≡ bay.old)
         result slot.old.held.controller slot.new.held.controller }
 {
-    match slot.take(alloc) {
-        None => EMPTY,
-        Some(controller) => {
-            *bay = controller.selected();
-            slot.put(controller);
-            DONE
-        }
-    }
+    let Some(controller) = slot.take(alloc) else {
+        return EMPTY;
+    };
+    *bay = controller.selected();
+    slot.put(controller);
+    DONE
 }
 
 /// The nanoseconds of a device step at the rate that was chosen last.
@@ -148,12 +138,10 @@ pub extern "C" fn telwyddus_controller_word_time(
     ensures { Serves (λ code old new. (code ≡ 0) × (new ≡ old) × (word_time.new ≡ nanoseconds (data_rate (state_of old).front.adapter.controller))) (word_time.new ≡ word_time.old)
         result slot.old.held.controller slot.new.held.controller }
 {
-    match slot.take(alloc) {
-        None => EMPTY,
-        Some(controller) => {
-            *word_time = controller.word_time();
-            slot.put(controller);
-            DONE
-        }
-    }
+    let Some(controller) = slot.take(alloc) else {
+        return EMPTY;
+    };
+    *word_time = controller.word_time();
+    slot.put(controller);
+    DONE
 }

@@ -23,14 +23,12 @@ pub extern "C" fn telwyddus_controller_save(
         ((out.new ≡ out.old) × (length.new ≡ length.old)) result slot.old.held.controller slot.new.held.controller }
     ensures most { TellsAtMost slot.old.held.controller result length.new }
 {
-    match slot.take(alloc) {
-        None => EMPTY,
-        Some(controller) => {
-            let code = save(alloc, &controller, out, length);
-            slot.put(controller);
-            code
-        }
-    }
+    let Some(controller) = slot.take(alloc) else {
+        return EMPTY;
+    };
+    let code = save(alloc, &controller, out, length);
+    slot.put(controller);
+    code
 }
 
 /// The same of a controller.

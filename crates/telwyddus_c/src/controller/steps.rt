@@ -20,14 +20,12 @@ pub extern "C" fn telwyddus_controller_step(
     ensures { Serves (λ code old new. (code ≡ 0) × StepsChip (state_of old) (state_of new) × (lines.new ≡ lines_byte (state_of new))) (lines.new ≡ lines.old)
         result slot.old.held.controller slot.new.held.controller }
 {
-    match slot.take(alloc) {
-        None => EMPTY,
-        Some(mut controller) => {
-            make_step(&mut controller, lines);
-            slot.put(controller);
-            DONE
-        }
-    }
+    let Some(mut controller) = slot.take(alloc) else {
+        return EMPTY;
+    };
+    make_step(&mut controller, lines);
+    slot.put(controller);
+    DONE
 }
 
 /// The same of a controller.
@@ -52,14 +50,12 @@ pub extern "C" fn telwyddus_controller_run(
     ensures { Serves (λ code old new. (code ≡ 0) × RunsChip most (state_of old) made.new (state_of new) × (lines.new ≡ lines_byte (state_of new)))
         ((made.new ≡ made.old) × (lines.new ≡ lines.old)) result slot.old.held.controller slot.new.held.controller }
 {
-    match slot.take(alloc) {
-        None => EMPTY,
-        Some(mut controller) => {
-            *made = run_steps(&mut controller, most, lines);
-            slot.put(controller);
-            DONE
-        }
-    }
+    let Some(mut controller) = slot.take(alloc) else {
+        return EMPTY;
+    };
+    *made = run_steps(&mut controller, most, lines);
+    slot.put(controller);
+    DONE
 }
 
 /// The same of a controller.
@@ -84,12 +80,10 @@ pub extern "C" fn telwyddus_controller_quiet(
         × IsQuietFor steps.new (state_of old)) (steps.new ≡ steps.old)
         result slot.old.held.controller slot.new.held.controller }
 {
-    match slot.take(alloc) {
-        None => EMPTY,
-        Some(controller) => {
-            *steps = controller.quiet(most);
-            slot.put(controller);
-            DONE
-        }
-    }
+    let Some(controller) = slot.take(alloc) else {
+        return EMPTY;
+    };
+    *steps = controller.quiet(most);
+    slot.put(controller);
+    DONE
 }

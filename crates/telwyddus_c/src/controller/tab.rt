@@ -19,14 +19,12 @@ pub extern "C" fn telwyddus_controller_protect(
     ensures { Serves (λ code old new. InBay bay code (new ≡ old) (MovesTabAt bay (not (on == 0)) code old new)) ⊤
         result slot.old.held.controller slot.new.held.controller }
 {
-    match slot.take(alloc) {
-        None => EMPTY,
-        Some(mut controller) => {
-            let code = move_tab_at(&mut controller, bay, on != 0);
-            slot.put(controller);
-            code
-        }
-    }
+    let Some(mut controller) = slot.take(alloc) else {
+        return EMPTY;
+    };
+    let code = move_tab_at(&mut controller, bay, on != 0);
+    slot.put(controller);
+    code
 }
 
 /// The same of a controller.

@@ -22,14 +22,12 @@ pub extern "C" fn telwyddus_disk_insert(
         (InsertsFrom bay code tray.old.held.tray tray.new.held.tray old new)) (tray.new.held.tray ≡ tray.old.held.tray)
         result slot.old.held.desk slot.new.held.desk }
 {
-    match slot.take(alloc) {
-        None => EMPTY,
-        Some(mut desk) => {
-            let code = insert_from(alloc, &mut desk, bay, tray);
-            slot.put(desk);
-            code
-        }
-    }
+    let Some(mut desk) = slot.take(alloc) else {
+        return EMPTY;
+    };
+    let code = insert_from(alloc, &mut desk, bay, tray);
+    slot.put(desk);
+    code
 }
 
 /// The same of a desk.
@@ -40,14 +38,12 @@ fn insert_from(alloc: Global, desk: &mut SectorDesk, bay: u32, tray: &mut TraySl
     if bay > 1 {
         return OUT_OF_RANGE;
     }
-    match tray.take(alloc) {
-        None => NO_MEDIUM,
-        Some(mut inside) => {
-            let code = insert(desk, bay as u8, &mut inside);
-            tray.put(inside);
-            code
-        }
-    }
+    let Some(mut inside) = tray.take(alloc) else {
+        return NO_MEDIUM;
+    };
+    let code = insert(desk, bay as u8, &mut inside);
+    tray.put(inside);
+    code
 }
 
 /// The same of a desk and a tray.
@@ -79,14 +75,12 @@ pub extern "C" fn telwyddus_disk_eject(
         (EjectsInto bay code tray.old.held.tray tray.new.held.tray old new)) (tray.new.held.tray ≡ tray.old.held.tray)
         result slot.old.held.desk slot.new.held.desk }
 {
-    match slot.take(alloc) {
-        None => EMPTY,
-        Some(mut desk) => {
-            let code = eject_into(alloc, &mut desk, bay, tray);
-            slot.put(desk);
-            code
-        }
-    }
+    let Some(mut desk) = slot.take(alloc) else {
+        return EMPTY;
+    };
+    let code = eject_into(alloc, &mut desk, bay, tray);
+    slot.put(desk);
+    code
 }
 
 /// The same of a desk.
@@ -103,14 +97,12 @@ fn eject_into(alloc: Global, desk: &mut SectorDesk, bay: u32, tray: &mut TraySlo
     let Ok(mut inside) = Box::new(alloc, MediumTray { medium: None }) else {
         return NO_MEMORY;
     };
-    match desk.eject(bay as u8) {
-        None => NO_MEDIUM,
-        Some(medium) => {
-            inside.medium = Some(medium);
-            tray.put(inside);
-            DONE
-        }
-    }
+    let Some(medium) = desk.eject(bay as u8) else {
+        return NO_MEDIUM;
+    };
+    inside.medium = Some(medium);
+    tray.put(inside);
+    DONE
 }
 
 /// Acknowledges the medium in a bay, and finds its rate.
@@ -119,14 +111,12 @@ pub extern "C" fn telwyddus_disk_acknowledge(alloc: Global, slot: &mut DiskSlot,
     ensures { Serves (λ code old new. InBay bay code (new ≡ old) (Acknowledges bay code old new)) ⊤
         result slot.old.held.desk slot.new.held.desk }
 {
-    match slot.take(alloc) {
-        None => EMPTY,
-        Some(mut desk) => {
-            let code = acknowledge(&mut desk, bay);
-            slot.put(desk);
-            code
-        }
-    }
+    let Some(mut desk) = slot.take(alloc) else {
+        return EMPTY;
+    };
+    let code = acknowledge(&mut desk, bay);
+    slot.put(desk);
+    code
 }
 
 /// The same of a desk.
@@ -150,14 +140,12 @@ pub extern "C" fn telwyddus_disk_set_rate(
     ensures { Serves (λ code old new. InBay bay code (new ≡ old) (SetsRate bay kilobits code old new)) ⊤
         result slot.old.held.desk slot.new.held.desk }
 {
-    match slot.take(alloc) {
-        None => EMPTY,
-        Some(mut desk) => {
-            let code = set_rate(&mut desk, bay, kilobits);
-            slot.put(desk);
-            code
-        }
-    }
+    let Some(mut desk) = slot.take(alloc) else {
+        return EMPTY;
+    };
+    let code = set_rate(&mut desk, bay, kilobits);
+    slot.put(desk);
+    code
 }
 
 /// The same of a desk.

@@ -15,16 +15,14 @@ pub extern "C" fn telwyddus_disk_new(alloc: Global, slot: &mut DiskSlot) -> u32
     if slot.is_full() {
         return FULL;
     }
-    match SectorDesk::new(alloc) {
-        Ok(desk) => match Box::new(alloc, desk) {
-            Ok(desk) => {
-                slot.put(desk);
-                DONE
-            }
-            Err(_) => NO_MEMORY,
-        },
-        Err(_) => NO_MEMORY,
-    }
+    let Ok(desk) = SectorDesk::new(alloc) else {
+        return NO_MEMORY;
+    };
+    let Ok(desk) = Box::new(alloc, desk) else {
+        return NO_MEMORY;
+    };
+    slot.put(desk);
+    DONE
 }
 
 /// Frees the desk with its media.

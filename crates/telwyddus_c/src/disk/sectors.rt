@@ -30,15 +30,13 @@ pub extern "C" fn telwyddus_disk_read(
         (ReadsAt bay (record { c = c; h = h; r = r; n = n }) code out.old out.new deleted.old deleted.new old new))
         ((out.new ≡ out.old) × (deleted.new ≡ deleted.old)) result slot.old.held.desk slot.new.held.desk }
 {
-    match slot.take(alloc) {
-        None => EMPTY,
-        Some(mut desk) => {
-            let key = Chrn { c, h, r, n };
-            let code = read_in(&mut desk, bay, key, out, deleted);
-            slot.put(desk);
-            code
-        }
-    }
+    let Some(mut desk) = slot.take(alloc) else {
+        return EMPTY;
+    };
+    let key = Chrn { c, h, r, n };
+    let code = read_in(&mut desk, bay, key, out, deleted);
+    slot.put(desk);
+    code
 }
 
 /// The same of a desk.
@@ -114,15 +112,13 @@ pub extern "C" fn telwyddus_disk_write(
         (WritesAt bay (record { c = c; h = h; r = r; n = n }) bytes.now (not (deleted == 0)) code old new)) ⊤
         result slot.old.held.desk slot.new.held.desk }
 {
-    match slot.take(alloc) {
-        None => EMPTY,
-        Some(mut desk) => {
-            let key = Chrn { c, h, r, n };
-            let code = write_in(&mut desk, bay, key, bytes, deleted);
-            slot.put(desk);
-            code
-        }
-    }
+    let Some(mut desk) = slot.take(alloc) else {
+        return EMPTY;
+    };
+    let key = Chrn { c, h, r, n };
+    let code = write_in(&mut desk, bay, key, bytes, deleted);
+    slot.put(desk);
+    code
 }
 
 /// The same of a desk.
@@ -161,14 +157,12 @@ pub extern "C" fn telwyddus_disk_format(
     ensures { Serves (λ code old new. InBay bay code (new ≡ old) (FormatsTrack bay c h code old new)) ⊤
         result slot.old.held.desk slot.new.held.desk }
 {
-    match slot.take(alloc) {
-        None => EMPTY,
-        Some(mut desk) => {
-            let code = format(&mut desk, bay, c, h);
-            slot.put(desk);
-            code
-        }
-    }
+    let Some(mut desk) = slot.take(alloc) else {
+        return EMPTY;
+    };
+    let code = format(&mut desk, bay, c, h);
+    slot.put(desk);
+    code
 }
 
 /// The same of a desk.

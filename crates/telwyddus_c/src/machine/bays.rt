@@ -22,14 +22,12 @@ pub extern "C" fn telwyddus_machine_insert(
         (InsertsAt bay code tray.old.held.tray tray.new.held.tray old new)) (tray.new.held.tray ≡ tray.old.held.tray)
         result slot.old.held.machine slot.new.held.machine }
 {
-    match slot.take(alloc) {
-        None => EMPTY,
-        Some(mut machine) => {
-            let code = insert_from(alloc, &mut machine, bay, tray);
-            slot.put(machine);
-            code
-        }
-    }
+    let Some(mut machine) = slot.take(alloc) else {
+        return EMPTY;
+    };
+    let code = insert_from(alloc, &mut machine, bay, tray);
+    slot.put(machine);
+    code
 }
 
 /// The same of a machine.
@@ -40,14 +38,12 @@ fn insert_from(alloc: Global, machine: &mut BenchMachine, bay: u32, tray: &mut T
     if bay > 1 {
         return OUT_OF_RANGE;
     }
-    match tray.take(alloc) {
-        None => NO_MEDIUM,
-        Some(mut inside) => {
-            let code = insert(machine, bay as u8, &mut inside);
-            tray.put(inside);
-            code
-        }
-    }
+    let Some(mut inside) = tray.take(alloc) else {
+        return NO_MEDIUM;
+    };
+    let code = insert(machine, bay as u8, &mut inside);
+    tray.put(inside);
+    code
 }
 
 /// The same of a machine and a tray.
@@ -80,14 +76,12 @@ pub extern "C" fn telwyddus_machine_eject(
         (EjectsAt bay code tray.old.held.tray tray.new.held.tray old new)) (tray.new.held.tray ≡ tray.old.held.tray)
         result slot.old.held.machine slot.new.held.machine }
 {
-    match slot.take(alloc) {
-        None => EMPTY,
-        Some(mut machine) => {
-            let code = eject_into(alloc, &mut machine, bay, tray);
-            slot.put(machine);
-            code
-        }
-    }
+    let Some(mut machine) = slot.take(alloc) else {
+        return EMPTY;
+    };
+    let code = eject_into(alloc, &mut machine, bay, tray);
+    slot.put(machine);
+    code
 }
 
 /// The same of a machine.
@@ -104,12 +98,10 @@ fn eject_into(alloc: Global, machine: &mut BenchMachine, bay: u32, tray: &mut Tr
     let Ok(mut inside) = Box::new(alloc, MediumTray { medium: None }) else {
         return NO_MEMORY;
     };
-    match machine.eject(bay as u8) {
-        None => NO_MEDIUM,
-        Some(medium) => {
-            inside.medium = Some(medium);
-            tray.put(inside);
-            DONE
-        }
-    }
+    let Some(medium) = machine.eject(bay as u8) else {
+        return NO_MEDIUM;
+    };
+    inside.medium = Some(medium);
+    tray.put(inside);
+    DONE
 }

@@ -27,16 +27,14 @@ pub extern "C" fn telwyddus_machine_new(alloc: Global, slot: &mut MachineSlot) -
     };
     let first = ScriptDrive::new(Vec::new(alloc));
     let second = ScriptDrive::new(Vec::new(alloc));
-    match MachineOf::new(alloc, first, second, pace) {
-        Ok(machine) => match Box::new(alloc, machine) {
-            Ok(machine) => {
-                slot.put(machine);
-                DONE
-            }
-            Err(_) => NO_MEMORY,
-        },
-        Err(_) => NO_MEMORY,
-    }
+    let Ok(machine) = MachineOf::new(alloc, first, second, pace) else {
+        return NO_MEMORY;
+    };
+    let Ok(machine) = Box::new(alloc, machine) else {
+        return NO_MEMORY;
+    };
+    slot.put(machine);
+    DONE
 }
 
 /// Makes a machine with two empty drives that have the faults of a plan's text, at the plan's pace. Where a line isn't
@@ -62,16 +60,14 @@ pub extern "C" fn telwyddus_machine_new_planned(
         Ok(plan) => {
             let first = ScriptDrive::new(plan.bay0);
             let second = ScriptDrive::new(plan.bay1);
-            match MachineOf::new(alloc, first, second, plan.pace) {
-                Ok(machine) => match Box::new(alloc, machine) {
-                    Ok(machine) => {
-                        slot.put(machine);
-                        DONE
-                    }
-                    Err(_) => NO_MEMORY,
-                },
-                Err(_) => NO_MEMORY,
-            }
+            let Ok(machine) = MachineOf::new(alloc, first, second, plan.pace) else {
+                return NO_MEMORY;
+            };
+            let Ok(machine) = Box::new(alloc, machine) else {
+                return NO_MEMORY;
+            };
+            slot.put(machine);
+            DONE
         }
     }
 }

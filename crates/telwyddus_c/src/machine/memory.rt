@@ -22,14 +22,12 @@ pub extern "C" fn telwyddus_machine_memory_get(
     ensures { Serves (λ code old new. (new ≡ old) × CopiesOut address (memory_of (board_of old)) code out.old out.new) (out.new ≡ out.old)
         result slot.old.held.machine slot.new.held.machine }
 {
-    match slot.take(alloc) {
-        None => EMPTY,
-        Some(machine) => {
-            let code = get(&machine, address, out);
-            slot.put(machine);
-            code
-        }
-    }
+    let Some(machine) = slot.take(alloc) else {
+        return EMPTY;
+    };
+    let code = get(&machine, address, out);
+    slot.put(machine);
+    code
 }
 
 /// The same of a machine.
@@ -56,14 +54,12 @@ pub extern "C" fn telwyddus_machine_memory_set(
     ensures { Serves (λ code old new. CopiesIn address bytes.now code old new) ⊤
         result slot.old.held.machine slot.new.held.machine }
 {
-    match slot.take(alloc) {
-        None => EMPTY,
-        Some(mut machine) => {
-            let code = set(&mut machine, address, bytes);
-            slot.put(machine);
-            code
-        }
-    }
+    let Some(mut machine) = slot.take(alloc) else {
+        return EMPTY;
+    };
+    let code = set(&mut machine, address, bytes);
+    slot.put(machine);
+    code
 }
 
 /// The same of a machine.

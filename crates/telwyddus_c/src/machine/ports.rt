@@ -22,14 +22,12 @@ pub extern "C" fn telwyddus_machine_inb(
     ensures { Serves (λ code old new. (code ≡ 0) × Inputs port (board_of old) value.new (board_of new)) (value.new ≡ value.old)
         result slot.old.held.machine slot.new.held.machine }
 {
-    match slot.take(alloc) {
-        None => EMPTY,
-        Some(mut machine) => {
-            *value = machine.inb(port);
-            slot.put(machine);
-            DONE
-        }
-    }
+    let Some(mut machine) = slot.take(alloc) else {
+        return EMPTY;
+    };
+    *value = machine.inb(port);
+    slot.put(machine);
+    DONE
 }
 
 /// Writes a port.
@@ -43,14 +41,12 @@ pub extern "C" fn telwyddus_machine_outb(
     ensures { Serves (λ code old new. (code ≡ 0) × Outputs port value (board_of old) (board_of new)) ⊤
         result slot.old.held.machine slot.new.held.machine }
 {
-    match slot.take(alloc) {
-        None => EMPTY,
-        Some(mut machine) => {
-            machine.outb(port, value);
-            slot.put(machine);
-            DONE
-        }
-    }
+    let Some(mut machine) = slot.take(alloc) else {
+        return EMPTY;
+    };
+    machine.outb(port, value);
+    slot.put(machine);
+    DONE
 }
 
 /// Runs device steps.
@@ -59,14 +55,12 @@ pub extern "C" fn telwyddus_machine_wait(alloc: Global, slot: &mut MachineSlot, 
     ensures { Serves (λ code old new. (code ≡ 0) × Runs steps (stirred (board_of old)) (board_of new)) ⊤
         result slot.old.held.machine slot.new.held.machine }
 {
-    match slot.take(alloc) {
-        None => EMPTY,
-        Some(mut machine) => {
-            machine.wait(steps);
-            slot.put(machine);
-            DONE
-        }
-    }
+    let Some(mut machine) = slot.take(alloc) else {
+        return EMPTY;
+    };
+    machine.wait(steps);
+    slot.put(machine);
+    DONE
 }
 
 /// Runs device steps until the latch is set, at most so many, and tells how many were made, and whether it is set.
@@ -81,14 +75,12 @@ pub extern "C" fn telwyddus_machine_wait_irq(
     ensures { Serves (λ code old new. (code ≡ 0) × WaitsTelling most made.new is_set.new (board_of old) (board_of new))
         ((made.new ≡ made.old) × (is_set.new ≡ is_set.old)) result slot.old.held.machine slot.new.held.machine }
 {
-    match slot.take(alloc) {
-        None => EMPTY,
-        Some(mut machine) => {
-            wait_irq(&mut machine, most, made, is_set);
-            slot.put(machine);
-            DONE
-        }
-    }
+    let Some(mut machine) = slot.take(alloc) else {
+        return EMPTY;
+    };
+    wait_irq(&mut machine, most, made, is_set);
+    slot.put(machine);
+    DONE
 }
 
 /// The same of a machine.
@@ -110,14 +102,12 @@ pub extern "C" fn telwyddus_machine_take_irq(
         × (board_of new ≡ record (board_of old) { bus = irq_taken (board_of old).bus })) (was_set.new ≡ was_set.old)
         result slot.old.held.machine slot.new.held.machine }
 {
-    match slot.take(alloc) {
-        None => EMPTY,
-        Some(mut machine) => {
-            *was_set = byte_of(machine.take_irq());
-            slot.put(machine);
-            DONE
-        }
-    }
+    let Some(mut machine) = slot.take(alloc) else {
+        return EMPTY;
+    };
+    *was_set = byte_of(machine.take_irq());
+    slot.put(machine);
+    DONE
 }
 
 /// 1 for yes, 0 for no.

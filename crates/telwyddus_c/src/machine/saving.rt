@@ -21,14 +21,12 @@ pub extern "C" fn telwyddus_machine_save(
     ensures { Serves (λ code old new. (new ≡ old) × WritesState BenchFits spelled_bench old code out.old out.new length.old length.new)
         ((out.new ≡ out.old) × (length.new ≡ length.old)) result slot.old.held.machine slot.new.held.machine }
 {
-    match slot.take(alloc) {
-        None => EMPTY,
-        Some(machine) => {
-            let code = save(alloc, &machine, out, length);
-            slot.put(machine);
-            code
-        }
-    }
+    let Some(machine) = slot.take(alloc) else {
+        return EMPTY;
+    };
+    let code = save(alloc, &machine, out, length);
+    slot.put(machine);
+    code
 }
 
 /// The same of a machine.

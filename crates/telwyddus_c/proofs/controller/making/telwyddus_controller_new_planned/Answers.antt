@@ -15,5 +15,5 @@ returns-in-Ok-new-2 c =
       refl,
     )
 
-pub returns-in-Ok-new : goal.returns-in-Ok-new
-returns-in-Ok-new c = ((none_in c.args.slot.now.held.controller (sym c.is_full.ensures ∙ c.if-is_full.false), refl), refl)
+pub returns-in_default-new : goal.returns-in_default-new
+returns-in_default-new c = ((none_in c.args.slot.now.held.controller (sym c.is_full.ensures ∙ c.if-is_full.false), refl), refl)

@@ -1,5 +1,5 @@
 use Rattle.std.proofs.Common.{refl, sym}
 use Rattle.telwyddus_c.proofs.controller.steps.telwyddus_controller_quiet.Goals as goal
 
-pub returns-in-Some : goal.returns-in-Some
-returns-in-Some c = rw (sym c.in-Some.ensures.taken) (_, c.put.ensures, rw (sym c.deref.ensures) (refl, refl, c.quiet.ensures.value, c.quiet.ensures.few, c.quiet.ensures.lines))
+pub returns : goal.returns
+returns c = rw (sym c.in-Some.ensures.taken) (_, c.put.ensures, rw (sym c.deref.ensures) (refl, refl, c.quiet.ensures.value, c.quiet.ensures.few, c.quiet.ensures.lines))

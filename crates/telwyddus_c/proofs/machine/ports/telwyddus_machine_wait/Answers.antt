@@ -1,5 +1,5 @@
 use Rattle.std.proofs.Common.{refl, sym}
 use Rattle.telwyddus_c.proofs.machine.ports.telwyddus_machine_wait.Goals as goal
 
-pub returns-in-Some : goal.returns-in-Some
-returns-in-Some c = rw (sym c.in-Some.ensures.taken) (_, c.put.ensures, rw (sym c.deref_mut.ensures.value) (refl, c.wait.ensures.runs))
+pub returns : goal.returns
+returns c = rw (sym c.in-Some.ensures.taken) (_, c.put.ensures, rw (sym c.deref_mut.ensures.value) (refl, c.wait.ensures.runs))
