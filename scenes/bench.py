@@ -1,4 +1,4 @@
-"""Parts of the machine alone, and a driver on its bench, call by call: `of parts` and `of bench` in the crate `test_vectors`.
+"""Parts of the machine alone, and a driver on its bench, call by call: `of parts` and `of bench`.
 
 A small diskette has three cylinders and two heads, and two sectors of 256 bytes on each track of cylinders 0 and 1: bytes 11 under
 head 0 and 22 under head 1 of cylinder 0, 33 and 44 of cylinder 1. What is wanted is counted by hand: an acknowledgement at the rate

@@ -25,8 +25,8 @@ pub enum ProgramEnded {
 
 impl ProgramEnded {
     /// The exit status.
-    pub fn status(&self) -> Status
-        ensures { result ≡ status_of self.now }
+    pub fn status(self) -> Status
+        ensures { result ≡ status_of self }
     {
         match self {
             ProgramEnded::Planned(run) => run.status,

@@ -1,16 +1,25 @@
-//! Tests of the whole program where only calls can show something: the calls of a session and of a machine one by one, and drives
-//! behind a box, one of the tests' own among them.
+//! Tests where only calls can show something: the program's edge (shelves and sinks, those of the system and those in memory, and
+//! texts that the program doesn't print), the calls of a session and of a machine one by one, and drives behind a box, one of the
+//! tests' own among them.
 #![tactic(auto)]
 
+#[cfg(test)]
+mod calls;
 #[cfg(test)]
 mod exchange;
 #[cfg(test)]
 mod machines;
+#[cfg(test)]
+mod outside;
+#[cfg(test)]
+mod printed;
 #[cfg(test)]
 mod session;
 #[cfg(test)]
 mod shelves;
 #[cfg(test)]
 mod single;
+#[cfg(test)]
+mod stores;
 #[cfg(test)]
 mod stuck;

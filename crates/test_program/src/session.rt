@@ -50,16 +50,9 @@ fn end(session: &mut Session<PlainDrive>, shelf: &mut MemShelf) -> bool {
     session.end(shelf).is_ok()
 }
 
-/// Puts the disk of the shelf into bay 0.
-fn insert(
-    alloc: Global,
-    session: &mut Session<PlainDrive>,
-    shelf: &mut MemShelf,
-) -> Result<(), Fail> {
-    let name = Name::copy(alloc, "a.rt")?;
-    let inserted = ask(session, shelf, &Request::Insert { bay: 0, name });
-    inserted.ok_or("a.rt is an image")??;
-    Ok(())
+/// Puts the disk of the shelf, which has this name, into bay 0.
+fn insert(session: &mut Session<PlainDrive>, shelf: &mut MemShelf, name: Name) -> bool {
+    ask(session, shelf, &Request::Insert { bay: 0, name }) == Some(Ok(()))
 }
 
 /// Acknowledges the medium in bay 0.
@@ -96,26 +89,42 @@ fn acknowledges_and_reads(session: &mut Session<PlainDrive>, shelf: &mut MemShel
     is_refused && is_acknowledged && is_read
 }
 
-/// The data commands that the machine of a session began.
-fn data_commands(session: &Session<PlainDrive>) -> u64 {
-    session.machine().data_commands()
+/// What a session of requests came to. A session is large, so that it is there where nothing can fail.
+#[derive(Clone, Copy)]
+struct Ended {
+    inserted: bool,
+    read: bool,
+    data_commands: u64,
+    ended: bool,
+    bytes: (u8, u8),
 }
 
-/// The machine of a session has the sector in its memory.
-fn has_sector(session: Session<PlainDrive>) -> bool {
-    last_and_next(&session.into_machine()) == (0xF6, 0x00)
+/// Runs the requests and ends the session.
+fn run(session: Session<PlainDrive>, shelf: &mut MemShelf, name: Name) -> Ended {
+    let mut session = session;
+    let inserted = insert(&mut session, shelf, name);
+    let read = acknowledges_and_reads(&mut session, shelf);
+    let data_commands = session.machine().data_commands();
+    let ended = end(&mut session, shelf);
+    Ended {
+        inserted,
+        read,
+        data_commands,
+        ended,
+        bytes: last_and_next(&session.into_machine()),
+    }
 }
 
 #[test]
 fn a_session_runs_requests_and_ends(rt: HostRuntime) -> Result<(), Fail> {
     let alloc = rt.alloc();
     let mut shelf = shelf_with_disk(alloc, "")?;
-    let mut session = new_session(alloc)?;
-    insert(alloc, &mut session, &mut shelf)?;
-    assert!(rt; acknowledges_and_reads(&mut session, &mut shelf));
-    assert!(rt; data_commands(&session) == 3);
-    assert!(rt; end(&mut session, &mut shelf));
-    assert!(rt; has_sector(session));
+    let name = Name::copy(alloc, "a.rt")?;
+    let ended = run(new_session(alloc)?, &mut shelf, name);
+    assert!(rt; ended.inserted && ended.read);
+    assert!(rt; ended.data_commands == 3);
+    assert!(rt; ended.ended);
+    assert!(rt; ended.bytes == (0xF6, 0x00));
     Ok(())
 }
 
@@ -129,23 +138,40 @@ const READ: Regs = Regs {
     carry: false,
 };
 
-/// Two such calls behind one another.
-fn serve_twice(session: &mut Session<PlainDrive>) -> (Regs, Regs) {
+/// What two such calls behind one another came to.
+#[derive(Clone, Copy)]
+struct Served {
+    inserted: bool,
+    first: Regs,
+    second: Regs,
+    bytes: (u8, u8),
+}
+
+/// Serves both calls and ends the session.
+fn serve_twice(session: Session<PlainDrive>, shelf: &mut MemShelf, name: Name) -> Served {
+    let mut session = session;
+    let inserted = insert(&mut session, shelf, name);
     let mut front = Int13::new();
-    let first = serve(session, &mut front, READ);
-    (first, serve(session, &mut front, READ))
+    let first = serve(&mut session, &mut front, READ);
+    let second = serve(&mut session, &mut front, READ);
+    Served {
+        inserted,
+        first,
+        second,
+        bytes: last_and_next(&session.into_machine()),
+    }
 }
 
 #[test]
 fn a_session_serves_calls(rt: HostRuntime) -> Result<(), Fail> {
     let alloc = rt.alloc();
     let mut shelf = shelf_with_disk(alloc, "")?;
-    let mut session = new_session(alloc)?;
-    insert(alloc, &mut session, &mut shelf)?;
-    let (first, second) = serve_twice(&mut session);
+    let name = Name::copy(alloc, "a.rt")?;
+    let served = serve_twice(new_session(alloc)?, &mut shelf, name);
+    assert!(rt; served.inserted);
     // The bay isn't acknowledged yet, and a call that acknowledges it moves nothing.
-    assert!(rt; first.ax == 0x0600 && first.carry);
-    assert!(rt; second == Regs { ax: 0x0001, ..READ });
-    assert!(rt; has_sector(session));
+    assert!(rt; served.first.ax == 0x0600 && served.first.carry);
+    assert!(rt; served.second == Regs { ax: 0x0001, ..READ });
+    assert!(rt; served.bytes == (0xF6, 0x00));
     Ok(())
 }

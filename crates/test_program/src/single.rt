@@ -79,22 +79,74 @@ fn blank(alloc: Global) -> Result<Medium, Fail> {
     Ok(Medium::blank_at(alloc, 2, 1, 64, Rate::R250)?)
 }
 
+/// What the change line tells behind a seek to cylinder 1.
+#[derive(Clone, Copy)]
+struct Seen {
+    /// The heads were stepped there.
+    stepped: bool,
+    /// Behind an exchange of media, with the heads there.
+    stayed: bool,
+    /// Behind a reset besides, since which the controller takes their cylinder for 0.
+    reset: bool,
+}
+
+/// A diskette goes into bay 0, and the heads to cylinder 1.
+fn begin(machine: &mut CommandedMachine<PlainDrive>, medium: Medium) -> bool
+    requires idle { is_idle plain_state machine.old }
+    ensures { is_idle plain_state machine.new }
+{
+    let begun = puts_in(machine, 0, medium) & recalibrate(machine, 0);
+    seek(machine, 0, 1);
+    begun
+}
+
+/// Another diskette is put into bay 0.
+fn exchange(machine: &mut CommandedMachine<PlainDrive>, medium: Medium) -> bool
+    requires idle { is_idle plain_state machine.old }
+    ensures { is_idle plain_state machine.new }
+{
+    takes_out(machine, 0) & puts_in(machine, 0, medium)
+}
+
+/// What the change line tells behind one more seek.
+fn seeks(machine: &mut CommandedMachine<PlainDrive>) -> bool
+    requires idle { is_idle plain_state machine.old }
+    ensures { is_idle plain_state machine.new }
+{
+    seek(machine, 0, 1);
+    is_changed(machine, 0)
+}
+
+/// Goes through all of it; nothing where a diskette isn't taken.
+fn watch(machine: &mut CommandedMachine<PlainDrive>, first: Medium, second: Medium) -> Option<Seen>
+    requires idle { is_idle plain_state machine.old }
+{
+    let begun = begin(machine, first);
+    let stepped = is_changed(machine, 0);
+    let exchanged = exchange(machine, second);
+    let stayed = seeks(machine);
+    reset(machine);
+    let seen = Seen {
+        stepped,
+        stayed,
+        reset: seeks(machine),
+    };
+    if begun && exchanged { Some(seen) } else { None }
+}
+
+/// Makes a machine for it, which is large, so that it is there where nothing can fail.
+fn watch_new(alloc: Global) -> Result<Option<Seen>, Fail> {
+    let first = blank(alloc)?;
+    let second = blank(alloc)?;
+    let mut machine = idle(alloc)?;
+    Ok(watch(&mut machine, first, second))
+}
+
 #[test]
 fn a_reset_forgets_the_cylinder(rt: HostRuntime) -> Result<(), Fail> {
-    let mut machine = idle(rt.alloc())?;
-    assert!(rt; puts_in(&mut machine, 0, blank(rt.alloc())?));
-    assert!(rt; recalibrate(&mut machine, 0));
-    seek(&mut machine, 0, 1);
-    assert!(rt; !is_changed(&mut machine, 0));
-    assert!(rt; takes_out(&mut machine, 0));
-    assert!(rt; puts_in(&mut machine, 0, blank(rt.alloc())?));
-    seek(&mut machine, 0, 1);
-    assert!(rt; is_changed(&mut machine, 0), "the heads are there");
-    reset(&mut machine);
-    seek(&mut machine, 0, 1);
-    assert!(rt;
-        !is_changed(&mut machine, 0),
-        "the controller takes their cylinder for 0"
-    );
+    let seen = watch_new(rt.alloc())?.ok_or("diskettes are taken")?;
+    assert!(rt; !seen.stepped);
+    assert!(rt; seen.stayed, "the heads are there");
+    assert!(rt; !seen.reset, "the controller takes their cylinder for 0");
     Ok(())
 }

@@ -9,6 +9,7 @@ use drive_model::{Drive, PlainDrive, Turn};
 use flop_base::{NoMemory, Rate, Status};
 use floppy_tools::floppy;
 use memory_files::{MemShelf, MemSink};
+use pc_bus::MachineOf;
 use raw_image::Medium;
 use std::alloc::Global;
 use std::test::Fail;
@@ -110,16 +111,22 @@ fn play<D: Drive>(
     requires second { IsEmpty (D.state second) }
     requires spare { IsEmpty (D.state spare) }
 {
+    let words = words(alloc, "play job")?;
     let spare = one_spare(alloc, spare)?;
     let machine = machine_with(alloc, first, second)?;
-    let words = words(alloc, "play job")?;
     let mut sink = MemSink::new(alloc, Vec::new(alloc));
     let (status, machine) = floppy(alloc, &words, shelf, &mut sink, machine, spare);
+    let faults = count_faults(machine);
     Ok(Ran {
         report: sink.bytes().to_vec(alloc)?,
         status,
-        faults: [machine.faults(0), machine.faults(1)],
+        faults,
     })
+}
+
+/// The faults of a machine that isn't needed any more.
+fn count_faults<D: Drive>(machine: MachineOf<D>) -> [u64; 2] {
+    [machine.faults(0), machine.faults(1)]
 }
 
 #[test]

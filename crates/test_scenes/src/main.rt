@@ -1,6 +1,8 @@
-//! Tests as data: reads scenes from standard input, plays each on the program over a machine, and prints reports and sums.
+//! Tests as data: reads scenes from standard input, plays each on the program over a machine, and prints reports and sums; or asks
+//! pure functions about the bytes of a file, a part of the machine alone, or a driver on its bench, and prints the answers.
 #![tactic(auto)]
 
+mod answers;
 mod runs;
 mod scene;
 mod shown;

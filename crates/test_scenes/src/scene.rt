@@ -1,4 +1,5 @@
 // Scenes: files, a plan, calls that fail, and runs.
+use crate::answers::{Asked, answer};
 use crate::runs::{NO_COUNTS, Range, run};
 use crate::shown::{number_of, put_seen};
 use floppy_jobs::is_verb;
@@ -99,6 +100,9 @@ impl Scene {
         } else if is_verb(word, "run") {
             out.line(line);
             self.run(fields, out)
+        } else if is_verb(word, "of") {
+            out.line(line);
+            self.ask(fields, out)
         } else if is_verb(word, "sum") {
             self.sum(out)
         } else {
@@ -196,6 +200,20 @@ impl Scene {
             ) => Ok(bytes),
             _ => Err(Wrong::Line),
         }
+    }
+
+    /// Asks about the bytes of the last file.
+    fn ask(&mut self, fields: Line, out: &mut Draft) -> Result<(), Wrong> {
+        let alloc = self.alloc;
+        let made = self.last_made()?;
+        made.whole()?;
+        let asked = Asked {
+            alloc,
+            bytes: made.bytes(),
+        };
+        let mut fields = fields;
+        answer(asked, &mut fields, out)?;
+        fields.end()
     }
 
     /// Prints the sum of the last file.

@@ -1,7 +1,6 @@
-//! Runs the controller at its ports, with a drive that loses a word twice: out of reset, RECALIBRATE, READ ID, and READ ID
-//! again. Prints the bytes of its results.
-#![tactic(auto)]
-
+// Runs the controller at its ports, with a drive that loses a word twice: out of reset, RECALIBRATE, READ ID, and READ ID
+// again. Prints the bytes of its results.
+use crate::trouble::Trouble;
 use std::alloc::Global;
 use std::io;
 use telwyddus::controller::{DisketteAdapter, Fault, ScriptDrive};
@@ -35,11 +34,12 @@ fn adapter(alloc: Global) -> Result<Adapter, NoMemory> {
         word: 158,
         count: 2,
     };
+    let disk = disk(alloc)?;
     let first = ScriptDrive::new(vec![in alloc; lost]?);
     let second = ScriptDrive::new(Vec::new(alloc));
     let mut adapter = DisketteAdapter::new(alloc, first, second)?;
     // An empty bay takes it.
-    let _refused = adapter.insert(0, disk(alloc)?);
+    let _refused = adapter.insert(0, disk);
     Ok(adapter)
 }
 
@@ -67,33 +67,74 @@ fn read_id(adapter: &mut Adapter) -> [u8; 7] {
     results
 }
 
-fn main(rt: HostRuntime) -> io::Result<()> {
-    let Ok(mut adapter) = adapter(rt.alloc()) else {
-        return println!(rt; "no memory");
-    };
-    // Out of reset, with the motor of drive 0 on, at 500 kbit/s. INT rises in the first step (docs/FORMATS.md, "Commands").
+/// What the controller tells.
+#[derive(Clone, Copy)]
+struct Told {
+    reset: u32,
+    sensed: [[u8; 2]; 4],
+    recalibrated: u32,
+    ended: [u8; 2],
+    identified: [[u8; 7]; 2],
+}
+
+/// Out of reset, with the motor of drive 0 on, at 500 kbit/s, and through the commands.
+fn use_ports(adapter: &mut Adapter) -> Told {
     adapter.write(0x3F2, 0x1C);
     adapter.write(0x3F7, 0x00);
-    let steps = adapter.run(100);
+    let reset = adapter.run(100);
+    let sensed = [
+        sense(adapter),
+        sense(adapter),
+        sense(adapter),
+        sense(adapter),
+    ];
+    send(adapter, &[0x07, 0x00]);
+    let recalibrated = adapter.run(100);
+    Told {
+        reset,
+        sensed,
+        recalibrated,
+        ended: sense(adapter),
+        identified: [read_id(adapter), read_id(adapter)],
+    }
+}
+
+/// Makes the controller and runs it. It is large, so that it is there where nothing can go wrong and no line is printed.
+fn set_up_and_run(alloc: Global) -> Result<Told, NoMemory> {
+    let mut adapter = adapter(alloc)?;
+    Ok(use_ports(&mut adapter))
+}
+
+fn print_id(rt: &impl Print, results: &[u8]) -> io::Result<()> {
+    print!(rt; "read id")?;
+    for byte in results {
+        print!(rt; " {byte:02X}")?;
+    }
+    println!(rt; "")
+}
+
+fn print_told(rt: &impl Print, told: &Told) -> io::Result<()> {
+    // INT rises in the first step (docs/FORMATS.md, "Commands").
+    let steps = told.reset;
     println!(rt; "reset {steps}")?;
     // The polling tells of each drive: C0 and its number. A reset has set their cylinder numbers to 0.
-    for _drive in 0..4 {
-        let [st0, cylinder] = sense(&mut adapter);
+    for [st0, cylinder] in told.sensed {
         println!(rt; "sense {st0:02X} {cylinder:02X}")?;
     }
     // The heads are on cylinder 0, so that no pulse is made, and INT rises in the first step. 20: a seek ended, on drive 0.
-    send(&mut adapter, &[0x07, 0x00]);
-    let steps = adapter.run(100);
-    let [st0, cylinder] = sense(&mut adapter);
+    let steps = told.recalibrated;
+    let [st0, cylinder] = told.ended;
     println!(rt; "recalibrate {steps}, sense {st0:02X} {cylinder:02X}")?;
     // Once the disk is up to speed, the only address field passes twice without its mark: 40, and 01 in ST1, no address mark.
     // Then it passes as it stands: no error in ST0 to ST2, and the key of `disk`.
-    for _try in 0..2 {
-        print!(rt; "read id")?;
-        for byte in read_id(&mut adapter) {
-            print!(rt; " {byte:02X}")?;
-        }
-        println!(rt; "")?;
-    }
+    let [first, second] = told.identified;
+    print_id(rt, &first)?;
+    print_id(rt, &second)
+}
+
+/// Runs the controller.
+pub(crate) fn run(rt: &(impl Print + AllocGlobal)) -> Result<(), Trouble> {
+    let told = set_up_and_run(rt.alloc())?;
+    print_told(rt, &told)?;
     Ok(())
 }

@@ -1,13 +1,11 @@
-//! Drives a machine whose drive loses a pulse: the read is tried again, and comes out well.
-#![tactic(auto)]
-
+// Drives a machine whose drive loses a pulse: the read is tried again, and comes out well.
 ghost use Rattle.std.specs.Prelude.{IfOk};
 ghost use Rattle.telwyddus.specs.Machine.Boards.{board, IsEmpty};
 ghost use Rattle.telwyddus.specs.Machine.ScriptDrive.{script_state};
 ghost use Rattle.telwyddus.specs.Driver.Started.{IsFreshBoard};
 
+use crate::trouble::Trouble;
 use std::alloc::Global;
-use std::io;
 use telwyddus::disk::Medium;
 use telwyddus::driver::{MachineStation, Station};
 use telwyddus::machine::{Fault, MachineOf, Pace, ScriptDrive};
@@ -66,24 +64,48 @@ fn read<S: Station>(station: &mut S, disk: Medium) -> bool
     station.read(0, key(2), 0x10000).is_ok()
 }
 
-/// Prints what is in memory, and the counts.
-fn show<S: Station, R: Print>(rt: &R, station: &S) -> io::Result<()> {
-    // The first and the last of 256 bytes, which are the fill of `disk`.
-    let (first, last) = (station.memory(0x10000), station.memory(0x100FF));
+/// What came of it.
+#[derive(Clone, Copy)]
+struct Told {
+    done: bool,
+    /// The first and the last of the 256 bytes in memory.
+    bytes: [u8; 2],
+    faults: u64,
+    commands: u64,
+}
+
+/// Reads on this machine, which goes with the station: it is large, so that it is there where no line is printed.
+fn use_machine(alloc: Global, machine: MachineOf<ScriptDrive>, disk: Medium) -> Told
+    requires { IsFreshBoard (board script_state machine) }
+{
+    let mut station = MachineStation::set_up(machine, Vec::new(alloc));
+    let done = read(&mut station, disk);
+    Told {
+        done,
+        bytes: [station.memory(0x10000), station.memory(0x100FF)],
+        faults: station.faults(0),
+        commands: station.data_commands(),
+    }
+}
+
+/// Makes disk and machine, and reads.
+fn set_up_and_run(alloc: Global) -> Result<Told, NoMemory> {
+    let disk = disk(alloc)?;
+    let machine = machine(alloc)?;
+    Ok(use_machine(alloc, machine, disk))
+}
+
+/// Runs the machine.
+pub(crate) fn run(rt: &(impl Print + AllocGlobal)) -> Result<(), Trouble> {
+    let told = set_up_and_run(rt.alloc())?;
+    let done = told.done;
+    println!(rt; "read {done}")?;
+    // The fill of `disk`.
+    let [first, last] = told.bytes;
     println!(rt; "{first:02X} {last:02X}")?;
     // One pulse is lost: the heads stop on cylinder 1, where nothing is recorded. The acknowledgement steps from cylinder 0
     // alone, and finds the rate by one READ ID; then there is a READ DATA for each of two attempts, the second from track 0.
-    let (faults, commands) = (station.faults(0), station.data_commands());
-    println!(rt; "faults {faults}, data commands {commands}")
-}
-
-fn main(rt: HostRuntime) -> io::Result<()> {
-    let alloc = rt.alloc();
-    let (Ok(machine), Ok(disk)) = (machine(alloc), disk(alloc)) else {
-        return println!(rt; "no memory");
-    };
-    let mut station = MachineStation::set_up(machine, Vec::new(alloc));
-    let done = read(&mut station, disk);
-    println!(rt; "read {done}")?;
-    show(&rt, &station)
+    let (faults, commands) = (told.faults, told.commands);
+    println!(rt; "faults {faults}, data commands {commands}")?;
+    Ok(())
 }

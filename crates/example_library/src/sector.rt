@@ -1,11 +1,9 @@
-//! Reads one sector of an image, and prints its mark and its first bytes.
-#![tactic(auto)]
-
+// Reads one sector of an image, and prints its mark and its first bytes.
 ghost use Rattle.std.specs.Prelude.{◌≡◌, length};
 ghost use Rattle.telwyddus.specs.Disk.Fields.{content_size};
 
+use crate::trouble::Trouble;
 use std::alloc::Global;
-use std::io;
 use telwyddus::disk::{ImageError, Medium, TurnRead, read_image, read_turn, write_image};
 use telwyddus::track::{fill_field_words, fill_layout};
 use telwyddus::{Chrn, NoMemory};
@@ -44,18 +42,24 @@ fn read_sector(alloc: Global, bytes: &[u8], content: &mut [u8]) -> Result<TurnRe
     }
 }
 
-fn main(rt: HostRuntime) -> io::Result<()> {
-    let Ok(bytes) = image(rt.alloc()) else {
-        return println!(rt; "no memory");
-    };
+/// What the sector has.
+fn found(alloc: Global) -> Result<(bool, [u8; 256]), Trouble> {
+    let bytes = image(alloc)?;
     let mut content = [0; 256];
-    match read_sector(rt.alloc(), &bytes, &mut content) {
-        // F8 is the mark of what is deleted (IBM System 34), as `image` says of its field.
-        Ok(TurnRead::Found { deleted: true }) => println!(rt; "mark F8")?,
-        Ok(TurnRead::Found { deleted: false }) => println!(rt; "mark FB")?,
-        _ => return println!(rt; "not found"),
+    match read_sector(alloc, &bytes, &mut content)? {
+        TurnRead::Found { deleted } => Ok((deleted, content)),
+        _ => Err(Trouble::Differs),
     }
+}
+
+/// Makes the image, and reads the sector.
+pub(crate) fn run(rt: &(impl Print + AllocGlobal)) -> Result<(), Trouble> {
+    let (deleted, content) = found(rt.alloc())?;
+    // F8 is the mark of what is deleted (IBM System 34), as `image` says of its field.
+    let mark = if deleted { 0xF8 } else { 0xFB };
+    println!(rt; "mark {mark:02X}")?;
     // 00 01 02 03: `image` counts so.
     let [first, second, third, fourth, ..] = content;
-    println!(rt; "{first:02X} {second:02X} {third:02X} {fourth:02X}")
+    println!(rt; "{first:02X} {second:02X} {third:02X} {fourth:02X}")?;
+    Ok(())
 }
