@@ -9,68 +9,52 @@ use raw_image::Medium;
 use std::alloc::Global;
 use std::test::Fail;
 
-/// What media of bay 1 come to.
-#[derive(Clone, Copy)]
-struct Media {
-    inserted: bool,
-    rate: Rate,
-    ejected: bool,
-    /// There is none in bay 0.
-    other: bool,
-}
-
-/// A medium goes into bay 1 and out again.
-fn put_in_and_out<D: Drive>(machine: &mut MachineOf<D>, medium: Medium) -> Media {
-    Media {
-        inserted: machine.insert(1, medium).is_ok(),
-        rate: machine.rate(1),
-        ejected: machine.eject(1).is_some(),
-        other: machine.eject(0).is_some(),
-    }
-}
-
-/// Bay 1 gets another drive; whether the old one tells of a change.
-fn exchange<D: Drive>(machine: &mut MachineOf<D>, next: D) -> bool
-    requires { IsEmpty (D.state next) }
-{
-    machine.exchange(1, next).changed()
-}
-
-/// Whether a machine is fresh until a port is accessed.
-fn is_fresh_until_used<D: Drive>(machine: &mut MachineOf<D>) -> bool {
-    let fresh = machine.is_fresh();
-    machine.outb(0x3F2, 0x24);
-    fresh && !machine.is_fresh()
-}
-
-/// What is seen of a machine.
+/// What is seen of a machine while media and a drive of bay 1 are exchanged.
 #[derive(Clone, Copy)]
 struct Seen {
-    fresh: bool,
-    media: Media,
+    /// Whether it is fresh, before and behind an access to a port.
+    fresh: [bool; 2],
+    inserted: bool,
+    rate: Rate,
+    /// Whether a medium comes out of bay 1, and of bay 0.
+    ejected: [bool; 2],
     changed: bool,
     /// The accesses past the controller.
     direct: u64,
     faults: u64,
 }
 
-/// Uses a new machine with these drives, the last of which is put into bay 1 later.
-fn see<D: Drive>(alloc: Global, first: D, second: D, next: D, medium: Medium) -> Result<Seen, Fail>
+/// Uses a new machine, bay 1 of which gets this medium and then this drive.
+fn see<D: Drive>(machine: &mut MachineOf<D>, medium: Medium, next: D) -> Seen
+    requires { IsEmpty (D.state next) }
+{
+    let fresh = machine.is_fresh();
+    machine.outb(0x3F2, 0x24);
+    Seen {
+        fresh: [fresh, machine.is_fresh()],
+        inserted: machine.insert(1, medium).is_ok(),
+        rate: machine.rate(1),
+        ejected: [machine.eject(1).is_some(), machine.eject(0).is_some()],
+        changed: machine.exchange(1, next).changed(),
+        direct: machine.direct(),
+        faults: machine.faults(1),
+    }
+}
+
+/// The same of a new machine with these drives in its bays.
+fn see_new<D: Drive>(
+    alloc: Global,
+    first: D,
+    second: D,
+    next: D,
+    medium: Medium,
+) -> Result<Seen, Fail>
     requires first { IsEmpty (D.state first) }
     requires second { IsEmpty (D.state second) }
     requires next { IsEmpty (D.state next) }
 {
     let mut machine = machine_with(alloc, first, second)?;
-    let fresh = is_fresh_until_used(&mut machine);
-    let media = put_in_and_out(&mut machine, medium);
-    let changed = exchange(&mut machine, next);
-    Ok(Seen {
-        fresh,
-        media,
-        changed,
-        direct: machine.direct(),
-        faults: machine.faults(1),
-    })
+    Ok(see(&mut machine, medium, next))
 }
 
 #[test]
@@ -80,10 +64,10 @@ fn drives_and_media_are_exchanged(rt: HostRuntime) -> Result<(), Fail> {
     let first: Box<dyn Drive> = Box::new(alloc, PlainDrive::new())?;
     let second: Box<dyn Drive> = Box::new(alloc, PlainDrive::new())?;
     let next: Box<dyn Drive> = Box::new(alloc, PlainDrive::new())?;
-    let seen = see(alloc, first, second, next, medium)?;
-    assert!(rt; seen.fresh);
-    assert!(rt; seen.media.inserted && seen.media.rate == Rate::R250);
-    assert!(rt; seen.media.ejected && !seen.media.other);
+    let seen = see_new(alloc, first, second, next, medium)?;
+    assert!(rt; seen.fresh == [true, false]);
+    assert!(rt; seen.inserted && seen.rate == Rate::R250);
+    assert!(rt; seen.ejected == [true, false]);
     assert!(rt; seen.changed);
     assert!(rt; seen.direct == 4 && seen.faults == 0);
     Ok(())
