@@ -26,6 +26,8 @@ pub record Counters : Type 0 where
   pub taken : ℕ
   -- the accesses past the driver: a byte of user memory set, a medium put in or taken out, a drive exchanged
   pub direct : ℕ
+  -- the device steps so far, and those of the gaps that are still to come behind port accesses
+  pub clock : ℕ
 
 -- the faults of the drive in a bay
 abbrev pub faults_of : Counters → ℕ → ℕ
@@ -87,10 +89,15 @@ pub record IsDriven (most : ℕ) (old new : Counters) : Type 0 where
   pub interrupts : RoseBy (new.data_commands - old.data_commands) old.taken new.taken
   pub past_driver : new.direct ≡ old.direct
 
--- a call past the driver: at most so many accesses, and no data command
+-- a call lasts so many device steps at most, beside those of the gaps that it used up
+abbrev pub LastsUpTo : ℕ → Counters → Counters → Type 0
+LastsUpTo most old new = new.clock ≤ old.clock + most
+
+-- a call past the driver: at most so many accesses, no data command, and no device step
 pub record IsPastDriver (most : ℕ) (old new : Counters) : Type 0 where
   pub accesses : new.direct ≤ old.direct + most
   pub no_commands : new.data_commands ≡ old.data_commands
+  pub no_steps : LastsUpTo 0 old new
 
 -- how counters go on where the next spare drive takes the place of the one in a bay: it comes with its own counts
 pub record TakesSpare (bay : ℕ) (old new : Counters) : Type 0 where

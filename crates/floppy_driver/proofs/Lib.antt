@@ -2,6 +2,7 @@ pub mod TriedWrites
 pub mod TriedReads
 pub mod SureAttempts
 pub mod Rounds
+pub mod Lasting
 mod Acked
 mod Asking
 mod Attempts

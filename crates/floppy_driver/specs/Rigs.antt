@@ -1,11 +1,12 @@
 -- A machine as its driver sees it, between two commands.
-use Rattle.std.specs.Prelude.{◌≡◌, ℕ, ◌<◌, ◌≤◌, ◌^◌, Bool, true, List, length, slice_index, Option, IfSome}
+use Rattle.std.specs.Prelude.{◌≡◌, ℕ, ◌+◌, ◌*◌, ◌<◌, ◌≤◌, ◌^◌, Bool, true, List, length, slice_index, Option, IfSome}
 use Rattle.raw_image.specs.Disk.{Disk, IsDisk}
 use Rattle.flop_base.specs.declared.answers.Rate.{Rate}
 use Rattle.flop_base.specs.Bays.{Two, in_bay}
-use Rattle.flop_base.specs.Counters.{Counters, GoesOn, IsDriven}
+use Rattle.flop_base.specs.Counters.{Counters, GoesOn, IsDriven, LastsUpTo}
 use Rattle.flop_base.specs.Memory.{user_bytes}
 use Rattle.sector_map.specs.Met.{met_in}
+use Rattle.sector_model.specs.Lasting.{turn_of}
 
 pub record Rig : Type 0 where
   -- the medium in each bay
@@ -45,6 +46,15 @@ pub record IsSound (rig : Rig) : Type 0 where
 -- what a command at this rate meets of the track under a head
 abbrev pub track_under : Rig → ℕ → Rate → ℕ → List ℕ
 track_under rig bay rate head = met_in (in_bay rig.media bay) rate (in_bay rig.cylinders bay) head
+
+-- the device steps in which the medium in a bay turns once, 0 where there is none
+abbrev pub turn_in : Rig → ℕ → ℕ
+turn_in rig bay = turn_of (in_bay rig.media bay)
+
+-- a call lasts so many turns of the medium in a bay and so many device steps at most; the medium's turns stay as long
+pub record LastsFor (bay turns steps : ℕ) (old new : Rig) : Type 0 where
+  pub turn : turn_in new bay ≡ turn_in old bay
+  pub few : LastsUpTo (turns * turn_in old bay + steps) old.counters new.counters
 
 -- a drive that is at speed stays so
 pub record StaysSpun (old new : Two Bool) : Type 0 where

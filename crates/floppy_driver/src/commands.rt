@@ -7,7 +7,7 @@ ghost use Rattle.flop_base.specs.Memory.{user_bytes, bytes_from};
 ghost use Rattle.track_model.specs.Fields.{IsSizeCode, content_size};
 ghost use Rattle.sector_map.specs.Changes.{Change};
 ghost use Rattle.sector_map.specs.Layings.{Laying};
-ghost use Rattle.floppy_driver.specs.Rigs.{Rig, IsSound, IsReset, OnlyAsks};
+ghost use Rattle.floppy_driver.specs.Rigs.{Rig, IsSound, IsReset, LastsFor, OnlyAsks};
 ghost use Rattle.floppy_driver.specs.Heads.{Recalibrates, Seeks};
 ghost use Rattle.floppy_driver.specs.Reading.{ReadsData, ReadsBack, ReadsId};
 ghost use Rattle.floppy_driver.specs.Writing.{WritesData, FormatsTrack};
@@ -18,6 +18,7 @@ use flop_base::{Chrn, Code, Rate};
 /// or what behaves as they do.
 ///
 /// Each call ends with the controller idle. `bay` is 0 or 1. A data command needs a medium in the bay that turns at speed.
+/// How long a call lasts is counted in device steps, beside those of the gaps that its port accesses use up.
 pub trait Commands: Drop {
     /// All that the commands speak of.
     ghost rig: { Self → Rig };
@@ -28,6 +29,7 @@ pub trait Commands: Drop {
     /// Resets the controller and sets the machine up for the other calls.
     fn reset(&mut self)
         ensures resets { IsReset (rig self.old) (rig self.new) }
+        ensures lasts { LastsFor 0 0 2 (rig self.old) (rig self.new) }
         ensures idle { is_idle self.new };
 
     /// The change line of a drive (PC/AT): set from an exchange of the medium on, until a pulse with a medium in.
@@ -36,6 +38,7 @@ pub trait Commands: Drop {
         requires bay { bay ≤ 1 }
         ensures line { result ≡ in_bay (rig self.old).changes bay }
         ensures asks { OnlyAsks (rig self.old) (rig self.new) }
+        ensures lasts { LastsFor bay 0 0 (rig self.old) (rig self.new) }
         ensures sound { IsSound (rig self.new) }
         ensures idle { is_idle self.new };
 
@@ -45,6 +48,7 @@ pub trait Commands: Drop {
         requires bay { bay ≤ 1 }
         ensures line { result ≡ option_map_or (λ disk. disk.protected) (in_bay (rig self.old).media bay) false }
         ensures asks { OnlyAsks (rig self.old) (rig self.new) }
+        ensures lasts { LastsFor bay 0 0 (rig self.old) (rig self.new) }
         ensures sound { IsSound (rig self.new) }
         ensures idle { is_idle self.new };
 
@@ -53,6 +57,7 @@ pub trait Commands: Drop {
         requires idle { is_idle self.old }
         requires bay { bay ≤ 1 }
         ensures asks { OnlyAsks (rig self.old) (rig self.new) }
+        ensures lasts { LastsFor bay 0 6250 (rig self.old) (rig self.new) }
         ensures spun { IsSome (in_bay (rig self.old).media bay) → in_bay (rig self.new).spun bay ≡ true }
         ensures sound { IsSound (rig self.new) }
         ensures idle { is_idle self.new };
@@ -62,6 +67,7 @@ pub trait Commands: Drop {
         requires idle { is_idle self.old }
         requires bay { bay ≤ 1 }
         ensures step { Recalibrates bay (rig self.old) result (rig self.new) }
+        ensures lasts { LastsFor bay 0 81 (rig self.old) (rig self.new) }
         ensures sound { IsSound (rig self.new) }
         ensures idle { is_idle self.new };
 
@@ -72,6 +78,7 @@ pub trait Commands: Drop {
         requires bay { bay ≤ 1 }
         requires target { target ≤ 79 }
         ensures step { Seeks bay target (rig self.old) (rig self.new) }
+        ensures lasts { LastsFor bay 0 81 (rig self.old) (rig self.new) }
         ensures sound { IsSound (rig self.new) }
         ensures idle { is_idle self.new };
 
@@ -82,6 +89,7 @@ pub trait Commands: Drop {
         requires head { head ≤ 1 }
         requires spun { in_bay (rig self.old).spun bay ≡ true }
         ensures step { ReadsId bay head rate (rig self.old) result (rig self.new) }
+        ensures lasts { LastsFor bay 2 261 (rig self.old) (rig self.new) }
         ensures sound { IsSound (rig self.new) }
         ensures idle { is_idle self.new };
 
@@ -96,6 +104,7 @@ pub trait Commands: Drop {
         requires page { address / 65536 ≡ (address + content_size key.n - 1) / 65536 }
         requires spun { in_bay (rig self.old).spun bay ≡ true }
         ensures step { ReadsData bay key rate address (rig self.old) result (rig self.new) }
+        ensures lasts { LastsFor bay 2 261 (rig self.old) (rig self.new) }
         ensures sound { IsSound (rig self.new) }
         ensures idle { is_idle self.new };
 
@@ -107,6 +116,7 @@ pub trait Commands: Drop {
         requires coded { IsSizeCode key.n }
         requires spun { in_bay (rig self.old).spun bay ≡ true }
         ensures step { ReadsBack bay key rate (rig self.old) result (rig self.new) }
+        ensures lasts { LastsFor bay 2 261 (rig self.old) (rig self.new) }
         ensures sound { IsSound (rig self.new) }
         ensures idle { is_idle self.new };
 
@@ -131,6 +141,7 @@ pub trait Commands: Drop {
         ensures step { (change : Option Change) × WritesData bay rate (record { key = key; deleted = deleted; content = bytes_from (rig self.old).memory address (content_size key.n) })
             change
             (rig self.old) result (rig self.new) }
+        ensures lasts { LastsFor bay 2 261 (rig self.old) (rig self.new) }
         ensures sound { IsSound (rig self.new) }
         ensures idle { is_idle self.new };
 
@@ -145,6 +156,7 @@ pub trait Commands: Drop {
         requires unprotected { option_map_or (λ disk. disk.protected) (in_bay (rig self.old).media bay) false ≡ false }
         ensures step { (laying : Option Laying) × FormatsTrack bay (record { c = c; h = h; rate = rate; gap3 = gap3; fill = fill })
             laying (rig self.old) result (rig self.new) }
+        ensures lasts { LastsFor bay 2 261 (rig self.old) (rig self.new) }
         ensures sound { IsSound (rig self.new) }
         ensures idle { is_idle self.new };
 

@@ -27,7 +27,7 @@ pub same_still : (state : State) → IsSame state state
 same_still state = record {
   names = refl;
   stays = refl;
-  idle = record { accesses = omega arith; no_commands = refl };
+  idle = record { accesses = omega arith; no_commands = refl; no_steps = omega arith };
   counts = goes_on_itself state.station.counters;
 }
 
@@ -42,6 +42,7 @@ format_refused state told bay c h past = (
       refused = refl;
       stays = refl;
       idle = record { most_commands = omega arith; interrupts = omega arith; past_driver = refl };
+      no_steps = omega arith;
     }),
   ),
 )

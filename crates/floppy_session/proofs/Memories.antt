@@ -57,7 +57,7 @@ pub fills_none : (old : State) (address byte : ℕ) → Fills address 0 byte old
 fills_none old address byte = record {
   names = refl;
   becomes = ap (λ (memory : List ℕ). let station : StationState = record old.station { memory = memory } in station) (sym (with_items-nil old.station.memory address));
-  access = record { accesses = omega arith; no_commands = refl };
+  access = record { accesses = omega arith; no_commands = refl; no_steps = omega arith };
   counts = goes_on_itself old.station.counters;
 }
 
@@ -76,6 +76,7 @@ fills_more old mid new address i byte filled names sets counts size inside =
       access = record {
         accesses = omega (arith, filled.access.accesses, sets.access.accesses);
         no_commands = sets.access.no_commands ∙ filled.access.no_commands;
+        no_steps = omega (arith, filled.access.no_steps, sets.access.no_steps);
       };
       counts = goes_on_after _ _ _ filled.counts counts;
     }

@@ -76,7 +76,7 @@ pub use Rattle.laws_machine.specs.OnOrders.Results.{IsFor, Only}
 pub use Rattle.laws_machine.specs.OnQuiet.Quiet.{GoesQuietly, HaveTurned, HoldsOn, IsHushed, IsQuiet, StandsStill, Turned, only_listens}
 pub use Rattle.laws_machine.specs.OnQuiet.Settings.{ChipsStand, Setting, Stands, setting_of}
 pub use Rattle.laws_machine.specs.OnReads.Begins.{IsDriveOf}
-pub use Rattle.laws_machine.specs.OnReads.Ends.{IsSoonOver, ReadPrompt, ReadSoon, lingers, most_steps, steps_taken, task_lingers, wait_left}
+pub use Rattle.laws_machine.specs.OnReads.Ends.{IsSoonOver, ReadPrompt, ReadSoon, lingers, most_steps, most_steps_of, steps_taken, task_lingers, wait_left}
 pub use Rattle.laws_machine.specs.OnReads.Ids.{IdEnded, IdEndedIn}
 pub use Rattle.laws_machine.specs.OnReads.Late.{ends_late, is_late}
 pub use Rattle.laws_machine.specs.OnReads.Results.{EndedIn, ReadEnded, StaysOutside}

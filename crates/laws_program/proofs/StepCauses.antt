@@ -103,7 +103,7 @@ module _ (asked : Request) (old new : State) (answer : Reply) where
         record {
           names = call.names;
           stays = refused.stays;
-          idle = record { accesses = omega (arith, idle.past_driver); no_commands = omega (arith, idle.most_commands, counts.data_commands) };
+          idle = record { accesses = omega (arith, idle.past_driver); no_commands = omega (arith, idle.most_commands, counts.data_commands); no_steps = refused.no_steps };
           counts = counts;
         },
       )

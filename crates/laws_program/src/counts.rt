@@ -4,7 +4,9 @@ ghost use Rattle.flop_base.specs.declared.answers.Status.{Status};
 ghost use Rattle.floppy_jobs.specs.declared.request.Request.{Request};
 ghost use Rattle.flop_base.specs.Counters.{DriveCounts};
 ghost use Rattle.pc_bus.specs.Boards.{Board};
+ghost use Rattle.laws_machine.specs.OnSteps.Lasts.{clock_of};
 ghost use Rattle.sector_model.specs.Ties.{TiesCounts, IsJob, accesses_of_job};
+ghost use Rattle.sector_model.specs.Times.{course_time};
 ghost use Rattle.archive_commands.specs.Files.{Outside};
 ghost use Rattle.floppy_words.specs.declared.form.Form.{Form};
 ghost use Rattle.floppy_words.specs.declared.form.Form.TheVariants as form;
@@ -26,4 +28,12 @@ pub fn job_accesses(_job: &str)
     ensures { (spares : List DriveCounts) (old new : Board) (before after : Outside) (ended : Status) (requests : List Request)
         → RunsOver (Some (form.Play _job.now)) old spares before new after ended → IsJob before.files _job.now requests
         → new.bus.direct ≤ old.bus.direct + accesses_of_job requests }
+{}
+
+/// A law: `play JOB` over a machine lasts no more device steps than its set-up, two of them, and the sum of what its requests last, each by
+/// the medium that it finds, beside those of the gaps behind port accesses, which are used up; also where the run stopped before its end.
+pub fn job_lasts(_job: &str)
+    ensures { (spares : List DriveCounts) (old new : Board) (before after : Outside) (ended : Status)
+        (over : RunsOver (Some (form.Play _job.now)) old spares before new after ended)
+        → clock_of new ≤ clock_of old + (2 + course_time over.start.station over.runs.course) }
 {}

@@ -3,16 +3,23 @@ use Rattle.std.proofs.Common.{◌≡◌, inl, inr, ℕ, zero, suc, ◌+◌, ◌-
 use Rattle.std.specs.Int.RustNames.{bit_or}
 use Rattle.std.specs.Option.{option_map_or}
 use Rattle.std.proofs.lemmas.Bool.{false_from_ne_true, true_from_ne_false, false≢true}
-use Rattle.machine_commands.proofs.Common.{Seeking, seek_bits, has_ended, is_executing, is_held, Fdc, Phase, Command, Execute, Result, is_unread, with_one, Order, Scene, Steady, controller, Board, controller_of, Inputs, Step, stirred, Watch, Watches, AwaitsResults, latch_taken}
+use Rattle.machine_commands.proofs.Common.{Seeking, seek_bits, has_ended, is_executing, is_held, Fdc, Phase, Command, Execute, Result, is_unread, with_one, Order, Scene, Steady, controller, Board, controller_of, holds_of, Inputs, Step, stirred, Watch, Watches, AwaitsResults, latch_taken}
 use Rattle.fdc_registers.specs.declared.drive_lines.Dor.{Dor}
 use Rattle.fdc_commands.specs.Table.{is_begun}
 use Rattle.fdc_core.specs.Ports.{main_status, phase_bits}
 use Rattle.fdc_core.specs.Steps.{steps_left, EndsIn}
+use Rattle.irq_events.specs.Holds.{AreShort}
 use Rattle.laws_machine.specs.OnAwaits.Awaits.{IsAwaited}
 use Rattle.laws_machine.specs.OnAwaits.Goes.{GoesOn}
-use Rattle.laws_machine.proofs.OnAwaits.Courses.{goes_status, goes_stray, goes_wait, goes_waits}
+use Rattle.laws_machine.specs.OnReads.Ends.{most_steps_of, steps_taken}
+use Rattle.laws_machine.specs.OnSteps.Lasts.{Lasts}
+use Rattle.laws_machine.proofs.OnAwaits.Courses.{going, goes_status, goes_stray, goes_wait, goes_waits}
+use Rattle.laws_machine.proofs.OnAwaits.Few.{few}
 use Rattle.laws_machine.proofs.OnSteps.DataEnds.{step_ends}
-use Rattle.laws_machine.proofs.OnSteps.Runs.{inputs, wait, waits}
+use Rattle.laws_machine.proofs.OnSteps.Lasting.{lasts_input, lasts_none, lasts_taken, lasts_twice, lasts_unset, lasts_wait, lasts_within}
+use Rattle.laws_machine.proofs.OnSteps.Runs.{inputs, unset, wait, waits}
+use Rattle.pc_bus.specs.Boards.{latch_of}
+use Rattle.pc_bus.specs.Steps.{RunsUnset}
 use Rattle.machine_commands.proofs.Idling.{Idles, IsResting}
 use Rattle.machine_commands.proofs.Settling.{runs_one}
 use Rattle.machine_commands.proofs.Steps.{idles_none, idling}
@@ -46,6 +53,12 @@ positive_in (Execute execution) new busy ends = let fewer = ends.0 in omega arit
 step_positive : (old new : Board) → Step old new → is_executing (controller_of old).phase ≡ true → 1 ≤ left_of old
 step_positive old new step busy = controller (1 ≤ left_of old) old new step (λ before after works. positive_in (controller_of old).phase step.between.phase busy works.ends)
     (λ works. positive_in (controller_of old).phase step.between.phase busy works.ends)
+
+-- where it takes no more than so many, one is left of as many and one more
+positive_by : (most : ℕ) (phase : Phase) → is_executing phase ≡ true → steps_taken phase ≤ most → most ≤ 65535 → 1 ≤ steps_left phase - (65535 - most)
+positive_by most Command busy taken small = absurd (false≢true busy)
+positive_by most (Result answer) busy taken small = absurd (false≢true busy)
+positive_by most (Execute execution) busy taken small = omega arith
 
 -- none comes back
 fewer : (most : ℕ) → Steady (λ board. left_of board ≤ most)
@@ -153,3 +166,111 @@ module _ (order : Order) (scene : Scene) (start : Board) (free : is_held (contro
     where
       never : left_of new + 65537 ≤ left_of old → EndsAt order scene start new
       never left = let most = most_left (controller_of old).phase in absurd (omega arith)
+
+  -- ---- how long it lasts, where the holds were bytes as it began
+
+  module _ (short : AreShort (holds_of start)) where
+    abbrev most : ℕ
+    most = most_steps_of scene.disk.words_per_track
+
+    -- of as many device steps as it takes, and one more, so many are left
+    abbrev still : Board → ℕ
+    still board = left_of board - (65535 - most)
+
+    small_most : (now : Board) → GoesOn order scene start now → most ≤ 33026
+    small_most now was = let size = was.underway.1.scene_is.disk.words_per_track.1 in omega arith
+
+    still_most : (now : Board) → GoesOn order scene start now → still now ≤ most + 1
+    still_most now was = let all = most_left (controller_of now).phase in let small = small_most now was in omega arith
+
+    keeps_still : (k : ℕ) → Steady (λ board. still board ≤ k)
+    keeps_still k = record { step = λ old new step was. (let less = step_ends old new step in omega arith); idle = λ old gaps fresh was. was }
+
+    step_still : (old new : Board) → Step old new → GoesOn order scene start old → is_executing (controller_of old).phase ≡ true → still new + 1 ≤ still old
+    step_still old new step was busy =
+        let small = small_most old was in
+        let some = positive_by most (controller_of old).phase busy (few order scene start old was short) (omega arith) in
+        let less = step_ends old new step in
+        omega arith
+
+    -- each step while the latch isn't set is in execution
+    unset_still : (n : ℕ) (old new : Board) → RunsUnset n old new → GoesOn order scene start old → n + still new ≤ still old
+    unfolding RunsUnset
+    unset_still zero old new same was = subst (λ b. 0 + still b ≤ still old) (sym same) (omega arith)
+    unset_still (suc n) old new (between, runs, low, step) was =
+        let goes = unset (GoesOn order scene start) (going order scene start) n old between runs was in
+        let busy = true_from_ne_false (is_executing (controller_of between).phase) (λ idle. false≢true (sym low ∙ (goes.awaited.ended idle).set)) in
+        let before = unset_still n old between runs was in
+        let one = step_still between new step goes busy in
+        omega arith
+
+    stirred_goes : (now : Board) → GoesOn order scene start now → GoesOn order scene start (stirred now)
+    stirred_goes now was = (going order scene start).idle now now.bus.gaps false was
+
+    -- a watch
+    module _ (ready : Bool) (old new : Board) (was : GoesOn order scene start old) (watch : Watch old ready new) where
+      waited_still : watch.waits.steps + still watch.waited ≤ still watch.stepped
+      waited_still =
+          unset_still watch.waits.steps (stirred watch.stepped) watch.waited watch.waits.runs (stirred_goes watch.stepped (goes_wait order scene start 1 old watch.stepped watch.steps was))
+
+      read_still : still new ≤ still watch.waited
+      read_still =
+          let same : still watch.waited ≤ still watch.waited = omega arith in
+          inputs (λ board. still board ≤ still watch.waited) (keeps_still (still watch.waited)) 0x3F4 watch.value (latch_taken watch.waited) new same watch.reads
+
+      watch_lasts : Lasts (1 + watch.waits.steps) old new
+      watch_lasts =
+          let read = lasts_twice 0 0 watch.waited (latch_taken watch.waited) new (lasts_taken watch.waited) (lasts_input 0x3F4 watch.value (latch_taken watch.waited) new watch.reads) in
+          let waited = lasts_twice watch.waits.steps 0 watch.stepped watch.waited new (lasts_unset watch.waits.steps watch.stepped watch.waited watch.waits.runs) read in
+          lasts_within (1 + (watch.waits.steps + 0)) (1 + watch.waits.steps) old new (omega arith)
+          (lasts_twice 1 (watch.waits.steps + 0) old watch.stepped new (lasts_wait 1 old watch.stepped watch.steps) waited)
+
+      fails_still : ready ≡ false → 1 + watch.waits.steps + still new ≤ still old
+      fails_still no_results =
+          let one = step_still (stirred old) watch.stepped (runs_one (stirred old) watch.stepped watch.steps) (stirred_goes old was) (busy_before ready old new was watch no_results) in
+          let waited = waited_still in
+          let read = read_still in
+          omega arith
+
+      -- the last one may begin behind the end
+      last_still : 1 + watch.waits.steps ≤ still old + 1
+      last_still =
+          let same : still old ≤ still old = omega arith in
+          let one = wait (λ board. still board ≤ still old) (keeps_still (still old)) 1 old watch.stepped watch.steps same in
+          let waited = waited_still in
+          omega arith
+
+    record HasLasted (old new : Board) : Type 0 where
+      steps : ℕ
+      lasts : Lasts steps old new
+      left : steps + still new ≤ still old
+
+    watches_last : (n : ℕ) (old new : Board) → Watches n old new → GoesOn order scene start old → HasLasted old new
+    watches_last zero old new same was = record {
+      steps = 0;
+      lasts = subst (Lasts 0 old) (sym same) (lasts_none old);
+      left = subst (λ b. 0 + still b ≤ still old) (sym same) (omega arith);
+    }
+    watches_last (suc n) old new (between, watches, watch) was =
+        let before = watches_last n old between watches was in
+        let goes = (watches_go n old between watches was).goes in
+        let so_far = before.left in
+        let one = fails_still false between new goes watch refl in
+        record {
+          steps = before.steps + (1 + watch.waits.steps);
+          lasts = lasts_twice before.steps (1 + watch.waits.steps) old between new before.lasts (watch_lasts false between new goes watch);
+          left = omega arith;
+        }
+
+    pub awaits_last : (old new : Board) → AwaitsResults old new → GoesOn order scene start old → Lasts (most + 2) old new
+    awaits_last old new awaits was = elim awaits [
+      | inl (n, between, watches, watch) ↦ (
+          let before = watches_last n old between watches was in
+          let goes = (watches_go n old between watches was).goes in
+          let so_far = before.left in
+          let last = last_still true between new goes watch in
+          let all = still_most old was in
+          lasts_within (before.steps + (1 + watch.waits.steps)) (most + 2) old new (omega arith)
+          (lasts_twice before.steps (1 + watch.waits.steps) old between new before.lasts (watch_lasts true between new goes watch)))
+      | inr watches ↦ (let left = (watches_go 65537 old new watches was).left in let all = most_left (controller_of old).phase in absurd (omega arith))
+    ]

@@ -9,7 +9,7 @@ use Rattle.std.proofs.lemmas.List.FromFn.{length-map-range_with_len}
 use Rattle.sector_map.specs.Standard.{key_of, track_keys}
 use Rattle.machine_commands.specs.WriteSent.{IsKeyAt, OnlyMemory, PutsByte, PutsKey, PutsKeys}
 use Rattle.std.specs.Option.{option_map_or}
-use Rattle.floppy_driver.specs.Rigs.{Rig}
+use Rattle.floppy_driver.specs.Rigs.{LastsFor, Rig}
 use Rattle.machine_commands.specs.Shown.{page_part, user_part}
 use Rattle.machine_commands.proofs.Landing.{user_same}
 use Rattle.machine_commands.proofs.PastDriver.{still_idle}
@@ -29,6 +29,8 @@ puts_byte address value old new high is = record {
     channel = ap (λ b. b.bus.chips.channel) is;
     holding = ap (λ b. b.bus.chips.holding) is;
     latch = ap (λ b. b.bus.latch) is;
+    steps = ap (λ b. b.bus.steps) is;
+    gaps = ap (λ b. b.bus.gaps) is;
     direct = ap (λ b. b.bus.direct) is ∙ ap (λ b. if b then counted old.bus.direct else old.bus.direct) (not_user address high);
     taken = ap (λ b. b.bus.taken) is;
     first = ap (λ b. b.first) is;
@@ -43,6 +45,8 @@ only_then a b c one two = record {
   channel = two.channel ∙ one.channel;
   holding = two.holding ∙ one.holding;
   latch = two.latch ∙ one.latch;
+  steps = two.steps ∙ one.steps;
+  gaps = two.gaps ∙ one.gaps;
   direct = two.direct ∙ one.direct;
   taken = two.taken ∙ one.taken;
   first = two.first ∙ one.first;
@@ -142,7 +146,7 @@ idle_kept motors old new only was =
     (ap (λ d. d.motor) only.second ∙ was.motors_are.second) (subst InRange (sym only.first) was.first) (subst InRange (sym only.second) was.second) was
 
 pub rig_kept : (old new : Board) → OnlyMemory old new → user_part (memory_of new) ≡ user_part (memory_of old) → rig_of new ≡ record (rig_of old) { page = page_part (memory_of new) }
-rig_kept old new only same = rw (only.first, only.second, only.controller, only.holding, only.taken, only.direct, same) refl
+rig_kept old new only same = rw (only.first, only.second, only.controller, only.holding, only.taken, only.direct, only.steps, only.gaps, same) refl
 
 -- user memory is below the page
 user_stays : (old new : List ℕ) → length old ≡ 1048576 → length new ≡ length old → ((k : ℕ) → k < user_bytes → slice_index new k ≡ slice_index old k) → user_part new ≡ user_part old
@@ -203,6 +207,7 @@ format_whole motors bay asked outcome old put new idle small low spun free bytes
       laying = is.laying;
       formats = other_page (rig_of old) (page_part (memory_of put)) bay asked is.laying (told_of outcome) (rig_of new)
           (subst (λ r. FormatsTrack bay asked is.laying r (told_of outcome) (rig_of new)) rig is.formats);
+      lasts = let lasts = subst (λ r. LastsFor bay 2 261 r (rig_of new)) rig is.lasts in record { turn = lasts.turn; few = lasts.few };
     }
 
 -- ---- for the code

@@ -12,6 +12,7 @@ pub mod FormatKeys
 pub mod FormatRigs
 pub mod Identifying
 pub mod Landing
+pub mod Lasting
 pub mod Moving
 pub mod Outcomes
 pub mod PastDriver

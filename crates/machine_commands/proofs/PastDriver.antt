@@ -10,6 +10,7 @@ use Rattle.machine_commands.proofs.Common.{last_count, Disk, DriveGoesOn, GoesOn
 use Rattle.flop_base.specs.Counters.{IsPastDriver}
 use Rattle.flop_base.proofs.Counted.{drive_same}
 use Rattle.drive_model.specs.Drive.{at_speed, loaded, unloaded}
+use Rattle.laws_machine.specs.OnSteps.Lasts.{clock_of}
 use Rattle.pc_bus.specs.Boards.{IsEmpty}
 use Rattle.pc_bus.specs.Handling.{Touches, touched}
 use Rattle.fdc_core.specs.Drives.Following.{FollowsMotor}
@@ -21,13 +22,14 @@ use Rattle.machine_commands.proofs.Showing.{counts_go}
 
 -- ---- counts
 
--- no hold, no data command and no interrupt came, and at most one access past the driver
+-- no hold, no data command, no interrupt and no device step came, and at most one access past the driver
 record LeavesCounts (old new : Board) : Type 0 where
   holding : holds_of new ≡ holds_of old
   sent : data_commands_of (controller_of new) ≡ data_commands_of (controller_of old)
   taken : new.bus.taken ≡ old.bus.taken
   never_falls : old.bus.direct ≤ new.bus.direct
   most : new.bus.direct ≤ old.bus.direct + 1
+  clock : clock_of new ≡ clock_of old
 
 touched_leaves : (old new : Board) → old.bus.direct ≤ last_count → new.bus ≡ touched old.bus → LeavesCounts old new
 touched_leaves old new few is =
@@ -38,6 +40,7 @@ touched_leaves old new few is =
       taken = ap (λ (b : Bus). b.taken) is;
       never_falls = omega arith;
       most = omega arith;
+      clock = ap (λ (b : Bus). clock_of (record old { bus = b })) is;
     }
 
 counts_on : (old new : Board) → LeavesCounts old new → DriveGoesOn (counts_of old.first) (counts_of new.first) → DriveGoesOn (counts_of old.second) (counts_of new.second) → GoesOn (counters_of old) (counters_of new)
@@ -47,7 +50,7 @@ counts_on old new leaves first second =
     leaves.never_falls (omega arith) leaves.sent
 
 past_driver : (old new : Board) → LeavesCounts old new → IsPastDriver 1 (counters_of old) (counters_of new)
-past_driver old new leaves = record { accesses = leaves.most; no_commands = leaves.sent }
+past_driver old new leaves = record { accesses = leaves.most; no_commands = leaves.sent; no_steps = let same = leaves.clock in omega arith }
 
 -- ---- drives
 
@@ -227,6 +230,7 @@ byte_leaves address byte old new few is =
       taken = ap (λ (b : Board). b.bus.taken) is;
       never_falls = subst (λ n. old.bus.direct ≤ n) (sym same) up;
       most = subst (λ n. n ≤ old.bus.direct + 1) (sym same) most;
+      clock = ap clock_of is;
     }
 
 pub puts_memory : (address byte : ℕ) (old new : Board) → address < user_bytes → old.bus.direct ≤ last_count → new ≡ record old { bus = byte_set address byte old.bus }

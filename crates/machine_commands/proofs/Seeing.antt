@@ -5,14 +5,17 @@ use Rattle.machine_commands.proofs.Common.{last_count, RoseBy, Spends, Code, Rat
 use Rattle.laws_machine.specs.OnAwaits.Awaits.{TurnsOn}
 use Rattle.pc_bus.specs.Counts.{long_holds}
 use Rattle.laws_machine.specs.OnQuiet.Quiet.{HaveTurned}
+use Rattle.laws_machine.specs.OnReads.Ends.{most_steps_of}
 use Rattle.floppy_driver.specs.Reading.{SendsRead}
-use Rattle.floppy_driver.specs.Rigs.{HeadsStay}
+use Rattle.floppy_driver.specs.Rigs.{HeadsStay, LastsFor, turn_in}
 use Rattle.floppy_driver.specs.Writing.{SendsWrite}
+use Rattle.sector_model.specs.Lasting.{turn_of}
 use Rattle.machine_commands.specs.Shown.{page_part, user_part}
 use Rattle.machine_commands.proofs.Beginning.{HasRun}
 use Rattle.machine_commands.proofs.Endings.{finished_idle}
 use Rattle.machine_commands.proofs.Idling.{KeepsDrive, KeepsSpeed}
 use Rattle.machine_commands.proofs.Bays.{cylinder_in, drive_kept, faults_in, kept_in, medium_in}
+use Rattle.machine_commands.proofs.Lasting.{rig_lasts}
 use Rattle.machine_commands.proofs.Showing.{at_speed_on, two_same}
 
 -- ---- the drives
@@ -182,6 +185,14 @@ module _ {order : Order} {scene : Scene} {motors : Motors} {rate : Rate} {start 
 
   pub idle_after : InRange new.first → InRange new.second → IsIdle motors new
   idle_after = finished_idle motors scene.bay order scene start outcome new run.sent.sending run.over
+
+  -- ---- how long it lasts
+
+  turn_before : turn_in (rig_of old) scene.bay ≡ scene.disk.words_per_track
+  turn_before = ap turn_of medium_before
+
+  pub run_lasts : turn_in (rig_of new) scene.bay ≡ turn_in (rig_of old) scene.bay → LastsFor scene.bay 2 261 (rig_of old) (rig_of new)
+  run_lasts same = let turn = turn_before in rig_lasts scene.bay 2 261 (most_steps_of scene.disk.words_per_track + 3) old new same (omega arith) run.lasts
 
   -- ---- what disturbs
 

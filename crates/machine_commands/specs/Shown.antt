@@ -5,6 +5,7 @@ use Rattle.flop_base.specs.Memory.{user_bytes}
 use Rattle.drive_model.specs.Drive.{DriveState, at_speed}
 use Rattle.fdc_core.specs.State.{data_commands_of}
 use Rattle.pc_bus.specs.Boards.{Board, board, controller_of, memory_of, holds_of}
+use Rattle.laws_machine.specs.OnSteps.Lasts.{clock_of}
 use Rattle.floppy_driver.specs.Rigs.{Rig}
 use Rattle.pc_bus.specs.Counts.{counts_of}
 use Rattle.machine_commands.specs.Ready.{IsIdle}
@@ -36,6 +37,7 @@ counters_of board = record {
   data_commands = data_commands_of (controller_of board);
   taken = board.bus.taken;
   direct = board.bus.direct;
+  clock = clock_of board;
 }
 
 -- the number that the controller has of a drive's cylinder

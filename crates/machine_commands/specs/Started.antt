@@ -1,6 +1,6 @@
 -- A station before the first request.
 use Rattle.std.specs.Prelude.{◌≡◌, List}
-use Rattle.flop_base.specs.Counters.{DriveCounts, GoesOn}
+use Rattle.flop_base.specs.Counters.{DriveCounts, GoesOn, LastsUpTo}
 use Rattle.drive_model.specs.Drive.{DriveState}
 use Rattle.irq_events.specs.declared.pace.Pace.{Pace}
 use Rattle.pc_bus.specs.Boards.{Board, IsEmpty, IsNew}
@@ -18,9 +18,10 @@ pub record IsFreshBoard (board : Board) : Type 0 where
   pub new : IsNew pace bay0 bay1 board
 
 -- a station was set up on this board: its spare drives have these counts, its counts go on from the board's, and no data
--- command was sent nor anything done past the driver
+-- command was sent nor anything done past the driver, in two device steps
 pub record Starts (board : Board) (spares : List DriveCounts) (station : StationState) : Type 0 where
   pub spares_are : station.counters.spares ≡ spares
   pub counts : GoesOn (with_waiting (counters_of board) spares) station.counters
   pub data_commands : station.counters.data_commands ≡ (counters_of board).data_commands
   pub direct : station.counters.direct ≡ (counters_of board).direct
+  pub lasts : LastsUpTo 2 (counters_of board) station.counters

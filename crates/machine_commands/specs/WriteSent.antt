@@ -50,6 +50,8 @@ pub record OnlyMemory (old new : Board) : Type 0 where
   pub channel : channel_of new ≡ channel_of old
   pub holding : holds_of new ≡ holds_of old
   pub latch : latch_of new ≡ latch_of old
+  pub steps : new.bus.steps ≡ old.bus.steps
+  pub gaps : new.bus.gaps ≡ old.bus.gaps
   pub direct : new.bus.direct ≡ old.bus.direct
   pub taken : new.bus.taken ≡ old.bus.taken
   pub first : new.first ≡ old.first

@@ -1,13 +1,44 @@
 // What follows of boards. The bodies are empty.
+ghost use Rattle.fdc_core.specs.State.{is_held};
 ghost use Rattle.floppy_driver.specs.Attached.{CanSetUp};
+ghost use Rattle.flop_base.specs.declared.answers.Code.{Code};
+ghost use Rattle.flop_base.specs.declared.answers.Rate.{Rate};
+ghost use Rattle.irq_events.specs.Holds.{AreShort};
+ghost use Rattle.laws_machine.specs.OnAwaits.Goes.{GoesOn};
+ghost use Rattle.laws_machine.specs.OnOrders.Orders.{Order};
+ghost use Rattle.laws_machine.specs.OnReads.Ends.{most_steps_of};
+ghost use Rattle.laws_machine.specs.OnReads.Scenes.{Scene};
+ghost use Rattle.laws_machine.specs.OnSteps.Lasts.{Lasts};
+ghost use Rattle.machine_commands.specs.Asked.{ReadsLine, Resets, SendsRecalibrate, SendsSeek, SensesDrive, StartsMotor};
+ghost use Rattle.machine_commands.specs.Awaited.{Finishes, Prepares, SetsChannel};
+ghost use Rattle.machine_commands.specs.Sending.{Sends};
+ghost use Rattle.machine_commands.specs.declared.motors.Motors.{Motors};
+ghost use Rattle.machine_commands.specs.declared.results.Done.{Done};
 ghost use Rattle.machine_commands.specs.Shown.{rig_of};
 ghost use Rattle.machine_commands.specs.Started.{IsFreshBoard};
-ghost use Rattle.pc_bus.specs.Boards.{AreSetIfEmpty, Board};
+ghost use Rattle.pc_bus.specs.Boards.{AreSetIfEmpty, Board, controller_of, holds_of};
 ghost use Rattle.pc_bus.specs.Calls.{AreCalled};
-ghost use Rattle.std.specs.Prelude.{ℕ};
+ghost use Rattle.std.specs.Prelude.{◌≡◌, ◌+◌, ℕ, Bool, false, Result};
 
 /// A driver can be set up on every machine that was made and then used in any way, since each empty drive has its change line set.
 pub fn a_machine_can_be_set_up()
     ensures shown { (board : Board) → AreSetIfEmpty board → CanSetUp (rig_of board) }
     ensures used { (calls : ℕ) (made board : Board) → IsFreshBoard made → AreCalled calls made board → CanSetUp (rig_of board) }
+{}
+
+/// How many device steps each command lasts at most, beside those of the gaps behind its port accesses, whatever the gaps, the strays
+/// and the holds are. A data command that goes on on a medium at speed ends, and its results are taken, within 261 more than two turns
+/// of the track have words: strays are watches that find no results, and each takes steps of the command.
+pub fn commands_last()
+    ensures resets { (old new : Board) → Resets old new → Lasts 2 old new }
+    ensures asks_line { (motors : Motors) (bay : ℕ) (changed : Bool) (old new : Board) → ReadsLine motors bay old changed new → Lasts 0 old new }
+    ensures asks_drive { (motors : Motors) (bay status : ℕ) (old new : Board) → SensesDrive motors bay old status new → Lasts 0 old new }
+    ensures motor { (motors : Motors) (bay : ℕ) (old new : Board) → StartsMotor motors bay old new → Lasts 6250 old new }
+    ensures recalibrates { (motors : Motors) (bay status : ℕ) (old new : Board) → SendsRecalibrate motors bay old status new → Lasts 81 old new }
+    ensures seeks { (motors : Motors) (bay target : ℕ) (old new : Board) → SendsSeek motors bay target old new → Lasts 81 old new }
+    ensures prepares { (motors : Motors) (bay : ℕ) (rate : Rate) (old new : Board) → Prepares motors bay rate old new → Lasts 0 old new }
+    ensures channel { (mode address last : ℕ) (old new : Board) → SetsChannel mode address last old new → Lasts 0 old new }
+    ensures finishes { (order : Order) (scene : Scene) (start : Board) → is_held (controller_of start) ≡ false → AreShort (holds_of start)
+        → (outcome : Result Done Code) (sent new : Board) → GoesOn order scene start sent → Finishes sent outcome new
+        → Lasts (most_steps_of scene.disk.words_per_track + 3) sent new }
 {}

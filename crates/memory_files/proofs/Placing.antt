@@ -15,7 +15,7 @@ use Rattle.memory_files.specs.Sectors.{Places}
 pub places_none : (old : StationState) (bytes : List ℕ) → Places (take 0 bytes) old old
 places_none old bytes = record {
   becomes = ap (λ (memory : List ℕ). let station : StationState = record old { memory = memory } in station) (sym (with_items-nil old.memory sector_place));
-  access = record { accesses = omega arith; no_commands = refl };
+  access = record { accesses = omega arith; no_commands = refl; no_steps = omega arith };
 }
 
 -- a byte behind those that were put
@@ -38,6 +38,7 @@ places_more old mid new bytes i below few size placed sets =
       access = record {
         accesses = omega (arith, long, longer, placed.access.accesses, sets.access.accesses);
         no_commands = sets.access.no_commands ∙ placed.access.no_commands;
+        no_steps = omega (arith, placed.access.no_steps, sets.access.no_steps);
       };
     }
 

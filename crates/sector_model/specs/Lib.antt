@@ -1,4 +1,5 @@
 pub mod Stations
+pub mod Lasting
 pub mod Orders
 pub mod Asked
 pub mod Reads
@@ -11,4 +12,5 @@ pub mod Texts
 pub mod Runs
 pub mod Plays
 pub mod Ties
+pub mod Times
 pub mod Faults

@@ -7,7 +7,7 @@ use Rattle.flop_base.specs.declared.answers.Rate.TheVariants.{R500, R250}
 use Rattle.flop_base.specs.declared.answers.Code.{Code}
 use Rattle.flop_base.specs.declared.answers.Code.TheVariants.{BadRequest, NoMark, Protected, NotFound, Changed, Overrun, Page, BadCrc, Seek}
 use Rattle.track_model.specs.Fields.{content_size}
-use Rattle.flop_base.specs.Counters.{IsDriven}
+use Rattle.flop_base.specs.Counters.{IsDriven, LastsUpTo}
 use Rattle.flop_base.specs.Memory.{user_bytes}
 use Rattle.sector_model.specs.Stations.{StationState, Stays, bay_of}
 
@@ -84,6 +84,7 @@ pub record IsRefusedAtOnce {A : Type 0} (code : Code) (old : StationState) (answ
   pub refused : answer ≡ Err code
   pub stays : Stays old new
   pub idle : IsDriven 0 old.counters new.counters
+  pub no_steps : LastsUpTo 0 old.counters new.counters
 
 -- a refusal that comes from the drive
 abbrev pub IsDeviceRefusal : Code → Type 0

@@ -3,6 +3,7 @@
 //! stations, and the tests of what can be asked for; no controller, no register and no cell buffer is in it.
 #![tactic(auto)]
 
+pub mod laws;
 mod orders;
 mod reply;
 mod station;

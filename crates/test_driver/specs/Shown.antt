@@ -12,7 +12,7 @@ use Rattle.test_driver.specs.declared.bench.Bench.{Bench}
 abbrev pub faults_shown : Drive → DriveCounts
 faults_shown drive = record { faults = drive.faults; left = None }
 
--- no spare drives, and nothing past the driver
+-- no spare drives, nothing past the driver, and no device steps
 abbrev pub counters_of : Two Drive → Counts → Counters
 counters_of drives counts = record {
   drives = record { first = faults_shown drives.first; second = faults_shown drives.second };
@@ -22,6 +22,7 @@ counters_of drives counts = record {
   data_commands = counts.commands;
   taken = counts.taken;
   direct = 0;
+  clock = 0;
 }
 
 abbrev pub rig_of : Two Drive → List ℕ → List ℕ → Counts → Rig

@@ -23,10 +23,10 @@ use Rattle.laws_machine.proofs.OnReads.EndSteps.{soon_over, prompting}
 
 pub still_soon : (old new : Board) → StandsStill old new → (scene : Scene) → ReadSoon scene old → ReadSoon scene new
 still_soon old new still scene (under, soon, short) =
-    (still_keeps order.Read scene old new still under, subst IsSoonOver (sym still.chips) soon, subst (λ chips. AreShort chips.holding) (sym still.chips) short)
+    (still_keeps order.Read scene old new still under, subst (IsSoonOver scene.disk.words_per_track) (sym still.chips) soon, subst (λ chips. AreShort chips.holding) (sym still.chips) short)
 
 pub still_prompt : (old new : Board) → StandsStill old new → (scene : Scene) → ReadPrompt scene old → ReadPrompt scene new
-still_prompt old new still scene (in_time, soon) = (still_in_time old new still scene in_time, subst IsSoonOver (sym still.chips) soon)
+still_prompt old new still scene (in_time, soon) = (still_in_time old new still scene in_time, subst (IsSoonOver scene.disk.words_per_track) (sym still.chips) soon)
 
 -- ---- the beginning
 
@@ -34,9 +34,9 @@ low_short : (line : Bool) (holding : Holds) → line ≡ false → IsShort (show
 low_short true holding low = absurd (false≢true (sym low))
 low_short false holding low = tt
 
-begun_soon : (chips : Chips) (sent : Sent) (task : Task) (old : Fdc) → IsReadingData sent task → is_gated old ≡ true
-    → IsSoonOver (shown_again (record chips { controller = begun sent.head_drive task old }))
-begun_soon chips sent task old is gated = record {
+begun_soon : (words : ℕ) (chips : Chips) (sent : Sent) (task : Task) (old : Fdc) → IsReadingData sent task → is_gated old ≡ true
+    → IsSoonOver words (shown_again (record chips { controller = begun sent.head_drive task old }))
+begun_soon words chips sent task old is gated = record {
   gated = gated;
   short = low_short _ chips.holding (ap (λ b. b && false) gated);
   granted = λ _. record {
@@ -49,7 +49,7 @@ begun_soon chips sent task old is gated = record {
 
 -- before the gap
 between_soon : (scene : Scene) (byte : ℕ) (old between : Board) → WritesPort 0x3F5 byte old between → CanBegin order.Read scene byte old → is_gated (controller_of old) ≡ true
-    → IsSoonOver between.bus.chips × (AreShort (holds_of old) → AreShort (holds_of between))
+    → IsSoonOver scene.disk.words_per_track between.bus.chips × (AreShort (holds_of old) → AreShort (holds_of between))
 between_soon scene byte old between writes can gated =
     let (controller, does, chips_are) = writes.writes.controllers refl in
     let fdc = controller_of old in
@@ -58,8 +58,8 @@ between_soon scene byte old between writes can gated =
     let takes = subst (λ accepted. TakesAs accepted (lines_of old) (record fdc { command = kept accepted bytes }) controller) can.last.whole ((does.bytes refl).0 can.last.taking) in
     let (task, is, waits, after) = (takes.0 can.last.no_seek).1 can.last.dma in
     let at : between.bus.chips ≡ shown_again (record old.bus.chips { controller = controller }) = ap (λ bus. bus.chips) writes.bus ∙ chips_are in
-    let soon = begun_soon old.bus.chips scene.sent task (record fdc { command = kept whole bytes }) is gated in (
-      subst IsSoonOver (sym at) (subst (λ c. IsSoonOver (shown_again (record old.bus.chips { controller = c }))) (sym after) soon),
+    let soon = begun_soon scene.disk.words_per_track old.bus.chips scene.sent task (record fdc { command = kept whole bytes }) is gated in (
+      subst (IsSoonOver scene.disk.words_per_track) (sym at) (subst (λ c. IsSoonOver scene.disk.words_per_track (shown_again (record old.bus.chips { controller = c }))) (sym after) soon),
       λ short. subst (λ chips. AreShort chips.holding) (sym at) (shown_short (asks controller) (holds_of old) short),
     )
 
@@ -94,8 +94,8 @@ wait_shown true line holding up = omega arith
 wait_shown false true holding up = omega arith
 wait_shown false false holding up = absurd (false≢true (up refl))
 
-shown_soon : (chips : Chips) → is_gated chips.controller ≡ true → IsGrantedSoon chips → IsGrantedSoon (shown_again chips)
-shown_soon chips gated was = record {
+shown_soon : (words : ℕ) (chips : Chips) → is_gated chips.controller ≡ true → IsGrantedSoon words chips → IsGrantedSoon words (shown_again chips)
+shown_soon words chips gated was = record {
   ruled = was.ruled;
   drained = was.drained;
   few = λ over.
@@ -104,18 +104,18 @@ shown_soon chips gated was = record {
       omega arith;
 }
 
-read_soon : (chips : Chips) (port : ℕ) → IsSoonOver chips → (controllers data_port : Bool)
-    → IsSoonOver (if controllers then shown_again (record chips { controller = if data_port then given chips.controller else chips.controller }) else record chips { channel = after_read port chips.channel })
-read_soon chips port was true true = record {
+read_soon : (words : ℕ) (chips : Chips) (port : ℕ) → IsSoonOver words chips → (controllers data_port : Bool)
+    → IsSoonOver words (if controllers then shown_again (record chips { controller = if data_port then given chips.controller else chips.controller }) else record chips { channel = after_read port chips.channel })
+read_soon words chips port was true true = record {
   gated = was.gated;
   short = request_short _ chips.holding was.short;
   granted = λ busy. let before = busy_before chips.controller.phase busy in
-      subst (λ fdc. IsGrantedSoon (shown_again (record chips { controller = fdc }))) (sym (same_busy chips.controller before)) (shown_soon chips was.gated (was.granted before));
+      subst (λ fdc. IsGrantedSoon words (shown_again (record chips { controller = fdc }))) (sym (same_busy chips.controller before)) (shown_soon words chips was.gated (was.granted before));
   no_late = calm_read chips.controller.phase was.no_late;
 }
-read_soon chips port was true false =
-    record { gated = was.gated; short = request_short _ chips.holding was.short; granted = λ busy. shown_soon chips was.gated (was.granted busy); no_late = was.no_late }
-read_soon chips port was false data_port = record {
+read_soon words chips port was true false =
+    record { gated = was.gated; short = request_short _ chips.holding was.short; granted = λ busy. shown_soon words chips was.gated (was.granted busy); no_late = was.no_late }
+read_soon words chips port was false data_port = record {
   gated = was.gated;
   short = was.short;
   granted = λ busy. let granted = was.granted busy in record { ruled = granted.ruled; drained = granted.drained; few = granted.few };
@@ -131,7 +131,7 @@ pub inputs_soon : (port value : ℕ) (old new : Board) → Inputs port old value
     → ReadSoon scene new ⊎ ((controller_of new).phase ≡ Command)
 inputs_soon port value old new access scene (under, soon, short) = elim (read_between order.Read scene port value old new access under) [
   | inl on ↦ inl (gap (ReadSoon scene) (soon_over scene) (read_from port old) new access.gap
-      (on, read_soon old.bus.chips port soon (is_controllers port) (port == 0x3F5), port_short old.bus.chips port short (is_controllers port)))
+      (on, read_soon scene.disk.words_per_track old.bus.chips port soon (is_controllers port) (port == 0x3F5), port_short old.bus.chips port short (is_controllers port)))
   | inr over ↦ inr over
 ]
 
@@ -139,7 +139,7 @@ pub inputs_prompt : (port value : ℕ) (old new : Board) → Inputs port old val
     → ReadPrompt scene new ⊎ ((controller_of new).phase ≡ Command) ⊎ Stalled old new
 inputs_prompt port value old new access scene (in_time, soon) = elim (read_in_time port value old new access scene in_time) [
   | inl on_time ↦ elim (runs_until (ReadPrompt scene) (prompting scene) (next_entry old.bus.gaps) (read_board port old) new access.gap.runs
-      (on_time, read_soon old.bus.chips port soon (is_controllers port) (port == 0x3F5))) [
+      (on_time, read_soon scene.disk.words_per_track old.bus.chips port soon (is_controllers port) (port == 0x3F5))) [
         | inl on ↦ inl on
         | inr rose ↦ inr (inr (subst (λ stalls. Rose stalls (holds_of new).stalls) (read_stalls port old) rose))
       ]

@@ -1,7 +1,7 @@
 -- The transfers behind the word time of a READ DATA that ends soon.
-use Rattle.std.proofs.Common.{◌≡◌, ◌⊎◌, inl, inr, ℕ, ◌+◌, ◌-◌, ◌≤◌, ◌==◌, ◌&&◌, ◌||◌, not, nat_le, nat_lt, Bool, true, false, [], length, drop, if◌then◌else◌, refl, sym, ◌∙◌, ap, subst, arith}
+use Rattle.std.proofs.Common.{◌≡◌, ◌⊎◌, inl, inr, ℕ, ◌+◌, ◌-◌, ◌*◌, ◌≤◌, ◌==◌, ◌&&◌, ◌||◌, not, nat_le, nat_lt, Bool, true, false, [], length, drop, if◌then◌else◌, refl, sym, ◌∙◌, ap, subst, arith}
 use Rattle.std.proofs.lemmas.Bool.{and_from, cases_lt, cond_both, cond-true, eqb-false, false_from_ne_true, false≢true, lt-ltb}
-use Rattle.laws_machine.proofs.Common.{Rose, Fifo, room_of, worth_fetching, ReadStage, fifo_told, taken_out, to_memory_of, phase_asks, task_asks, phase_told, is_executing, is_over, is_reading, asks, is_gated, phase_counted, Fdc, Phase, Command, Execute, Result, Task, next_entry, Holds, IsShort, is_due, looked, shown, waited, counted, DmaRequest, Low, High, can_move, moved_to_memory, moved_from_memory, told_if, looked_at, shown_again, Chips, IsRuled, lingers, task_lingers, steps_taken, wait_left, most_steps, IsSoonOver}
+use Rattle.laws_machine.proofs.Common.{Rose, Fifo, room_of, worth_fetching, ReadStage, fifo_told, taken_out, to_memory_of, phase_asks, task_asks, phase_told, is_executing, is_over, is_reading, asks, is_gated, phase_counted, Fdc, Phase, Command, Execute, Result, Task, next_entry, Holds, IsShort, is_due, looked, shown, waited, counted, DmaRequest, Low, High, can_move, moved_to_memory, moved_from_memory, told_if, looked_at, shown_again, Chips, IsRuled, lingers, task_lingers, steps_taken, wait_left, most_steps_of, IsSoonOver}
 use Rattle.dma_8237.specs.Channel.{grants}
 use Rattle.fdc_phases.specs.declared.phases.Task.TheVariants.{Read}
 use Rattle.pc_bus.specs.Transfers.{moved, moved_up_to, granted, dma_stepped}
@@ -127,29 +127,29 @@ asks_up fdc gated ruled over some = and_from (is_gated fdc) fdc.asking gated (ru
 
 -- ---- behind the word time
 
-pub record IsBehind (steps : ℕ) (chips : Chips) : Type 0 where
+pub record IsBehind (words steps : ℕ) (chips : Chips) : Type 0 where
   pub stage : ReadStage
   pub at : IsReadingAt (steps + 1) stage chips.controller
   pub ruled : IsRuled chips.controller
   pub short : IsShort (looked_at chips).holding.request
   pub some : is_over stage ≡ true → (length chips.controller.fifo.bytes == 0) ≡ false
-  pub few : is_over stage ≡ true → (steps + wait_left false chips.holding.request ≤ most_steps) ⊎ (steps ≤ 32768)
+  pub few : is_over stage ≡ true → (steps + wait_left false chips.holding.request ≤ most_steps_of words) ⊎ (steps ≤ 2 * words)
 
 room_most : (on : Bool) → room_of on ≤ 16
 room_most true = omega arith
 room_most false = omega arith
 
-module _ (steps : ℕ) (stage : ReadStage) (new : Chips) (at : IsReadingAt steps stage new.controller) (ruled : IsRuled new.controller) (gated : is_gated new.controller ≡ true)
+module _ (words steps : ℕ) (stage : ReadStage) (new : Chips) (at : IsReadingAt steps stage new.controller) (ruled : IsRuled new.controller) (gated : is_gated new.controller ≡ true)
     (granting : phase_counted new.controller.phase ≡ false → grants new.channel ≡ true) where
-  at_soon : IsShort new.holding.request → (is_over stage ≡ true → steps + wait_left (length new.controller.fifo.bytes == 0) new.holding.request ≤ most_steps)
-      → IsSoonOver new
+  at_soon : IsShort new.holding.request → (is_over stage ≡ true → steps + wait_left (length new.controller.fifo.bytes == 0) new.holding.request ≤ most_steps_of words)
+      → IsSoonOver words new
   at_soon short few = record {
     gated = gated;
     short = short;
     granted = λ _. record {
       ruled = ruled;
       drained = λ counted. at.drained (sym (ap phase_counted at.phase) ∙ counted);
-      few = λ over. subst (λ n. n + wait_left (length new.controller.fifo.bytes == 0) new.holding.request ≤ most_steps) (sym (ap steps_taken at.phase)) (few (sym (ap lingers at.phase) ∙ over));
+      few = λ over. subst (λ n. n + wait_left (length new.controller.fifo.bytes == 0) new.holding.request ≤ most_steps_of words) (sym (ap steps_taken at.phase)) (few (sym (ap lingers at.phase) ∙ over));
     };
     no_late = ap is_late at.phase;
   }
@@ -161,50 +161,50 @@ module _ (steps : ℕ) (stage : ReadStage) (new : Chips) (at : IsReadingAt steps
     granting (false_from_ne_true (phase_counted new.controller.phase) (λ counted. false≢true (sym some ∙ ap (λ bytes. length bytes == 0) (at.drained (sym (ap phase_counted at.phase) ∙ counted))))),
   )
 
-waits_soon : (steps : ℕ) (chips : Chips) → IsBehind steps chips → (is_due (looked_at chips).holding.request ≡ false) ⊎ (grants chips.channel ≡ false)
+waits_soon : (words steps : ℕ) (chips : Chips) → IsBehind words steps chips → (is_due (looked_at chips).holding.request ≡ false) ⊎ (grants chips.channel ≡ false)
     → is_gated chips.controller ≡ true
-    → (phase_counted chips.controller.phase ≡ false → grants chips.channel ≡ true) → IsSoonOver (looked_at chips)
-waits_soon steps chips is why gated granting = at_soon (steps + 1) is.stage (looked_at chips) is.at is.ruled gated granting is.short (λ over.
-    let (up, grant) = can (steps + 1) is.stage (looked_at chips) is.at is.ruled gated granting over (is.some over) in
+    → (phase_counted chips.controller.phase ≡ false → grants chips.channel ≡ true) → IsSoonOver words (looked_at chips)
+waits_soon words steps chips is why gated granting = at_soon words (steps + 1) is.stage (looked_at chips) is.at is.ruled gated granting is.short (λ over.
+    let (up, grant) = can words (steps + 1) is.stage (looked_at chips) is.at is.ruled gated granting over (is.some over) in
     let idle : is_due (looked_at chips).holding.request ≡ false = elim why [ inl idle ↦ idle | inr masked ↦ absurd (false≢true (sym masked ∙ grant)) ] in
-    subst (λ none. steps + 1 + wait_left none (looked_at chips).holding.request ≤ most_steps) (sym (is.some over))
+    subst (λ none. steps + 1 + wait_left none (looked_at chips).holding.request ≤ most_steps_of words) (sym (is.some over))
     (by_few (wait_left false chips.holding.request) (wait_left false (looked_at chips).holding.request) (looks_less (asks chips.controller) chips.holding up is.short idle)
     (wait_most (looked_at chips).holding.request is.short) (is.few over)))
   where
-    by_few : (before now : ℕ) → now + 1 ≤ before → now ≤ 257 → (steps + before ≤ most_steps) ⊎ (steps ≤ 32768) → steps + 1 + now ≤ most_steps
+    by_few : (before now : ℕ) → now + 1 ≤ before → now ≤ 257 → (steps + before ≤ most_steps_of words) ⊎ (steps ≤ 2 * words) → steps + 1 + now ≤ most_steps_of words
     by_few before now less most few = elim few [ inl soon ↦ omega arith | inr heard ↦ omega arith ]
 
 -- a request that is granted takes all bytes
-moves_soon : (steps : ℕ) (chips : Chips) → IsBehind steps chips → is_gated (moved_up_to 16 (looked_at chips)).controller ≡ true
+moves_soon : (words steps : ℕ) (chips : Chips) → IsBehind words steps chips → is_gated (moved_up_to 16 (looked_at chips)).controller ≡ true
     → IsShort (shown_again (moved_up_to 16 (looked_at chips))).holding.request
     → (phase_counted (moved_up_to 16 (looked_at chips)).controller.phase ≡ false → grants (moved_up_to 16 (looked_at chips)).channel ≡ true)
-    → IsSoonOver (shown_again (moved_up_to 16 (looked_at chips)))
-moves_soon steps chips is gated short granting =
+    → IsSoonOver words (shown_again (moved_up_to 16 (looked_at chips)))
+moves_soon words steps chips is gated short granting =
     let left = left_reading chips.controller.phase chips.controller.fifo (ap is_reading is.at.phase) in
     let room = is.ruled.room in
     let most = room_most chips.controller.fifo.on in
     let falls = served 16 (looked_at chips) is.ruled (omega arith) in
     let at = up_to (λ c. IsReadingAt (steps + 1) is.stage c.controller) (moved_at (steps + 1) is.stage) 16 (looked_at chips) is.at in
-    at_soon (steps + 1) is.stage new at falls.ruled gated granting short
-    (λ over. by_none over falls.falls (can (steps + 1) is.stage new at falls.ruled gated granting over) (length new.controller.fifo.bytes == 0) refl)
+    at_soon words (steps + 1) is.stage new at falls.ruled gated granting short
+    (λ over. by_none over falls.falls (can words (steps + 1) is.stage new at falls.ruled gated granting over) (length new.controller.fifo.bytes == 0) refl)
   where
     new : Chips
     new = shown_again (moved_up_to 16 (looked_at chips))
 
     by_none : is_over is.stage ≡ true → can_move (moved_up_to 16 (looked_at chips)) ≡ false
         → ((length new.controller.fifo.bytes == 0) ≡ false → (asks new.controller ≡ true) × (grants new.channel ≡ true))
-        → (none : Bool) → (length new.controller.fifo.bytes == 0) ≡ none → steps + 1 + wait_left none new.holding.request ≤ most_steps
+        → (none : Bool) → (length new.controller.fifo.bytes == 0) ≡ none → steps + 1 + wait_left none new.holding.request ≤ most_steps_of words
     by_none over falls can true is_none = elim (is.few over) [ inl soon ↦ (let some = wait_some chips.holding.request in omega arith) | inr heard ↦ omega arith ]
     by_none over falls can false some = let (up, grant) = can some in absurd (false≢true (sym falls ∙ and_from (asks new.controller) (grants new.channel) up grant))
 
-pub goes_soon : (steps : ℕ) (chips new : Chips) → Dealt chips new → IsBehind steps chips → is_gated new.controller ≡ true
-    → (phase_counted new.controller.phase ≡ false → grants new.channel ≡ true) → IsSoonOver new
-goes_soon steps chips new (Waits why) is gated granting = waits_soon steps chips is why gated granting
-goes_soon steps chips new Moves is gated granting = moves_soon steps chips is gated (dealt_holding (λ h. IsShort h.request) request_short chips new Moves is.short) granting
+pub goes_soon : (words steps : ℕ) (chips new : Chips) → Dealt chips new → IsBehind words steps chips → is_gated new.controller ≡ true
+    → (phase_counted new.controller.phase ≡ false → grants new.channel ≡ true) → IsSoonOver words new
+goes_soon words steps chips new (Waits why) is gated granting = waits_soon words steps chips is why gated granting
+goes_soon words steps chips new Moves is gated granting = moves_soon words steps chips is gated (dealt_holding (λ h. IsShort h.request) request_short chips new Moves is.short) granting
 
-pub ends_soon : (chips new : Chips) → Dealt chips new → HasEnded chips.controller → IsShort (looked_at chips).holding.request → is_gated new.controller ≡ true
-    → IsSoonOver new
-ends_soon chips new deals ended short gated =
+pub ends_soon : (words : ℕ) (chips new : Chips) → Dealt chips new → HasEnded chips.controller → IsShort (looked_at chips).holding.request → is_gated new.controller ≡ true
+    → IsSoonOver words new
+ends_soon words chips new deals ended short gated =
     let same = dealt_idle chips new deals ended.idle in
     record {
       gated = gated;

@@ -1,7 +1,7 @@
 -- A READ DATA that ends soon, through device steps.
-use Rattle.std.proofs.Common.{◌≡◌, ◌⊎◌, inl, inr, ℕ, ◌+◌, ◌%◌, ◌≤◌, ◌==◌, bit_and, Bool, true, false, List, length, refl, sym, ◌∙◌, ap, subst, arith}
+use Rattle.std.proofs.Common.{◌≡◌, ◌⊎◌, inl, inr, ℕ, ◌+◌, ◌*◌, ◌%◌, ◌≤◌, ◌==◌, bit_and, Bool, true, false, List, length, refl, sym, ◌∙◌, ap, subst, arith}
 use Rattle.std.proofs.lemmas.Bool.{cases_Bool, false≢true}
-use Rattle.laws_machine.proofs.Common.{Rose, DriveState, gate, Past, phase_asks, Sent, MayReadIn, MayReadTask, is_executing, is_over, asks, is_gated, polled, RestsIn, phase_counted, task_counted, Fdc, Phase, Execute, Task, IsShort, Board, controller_of, drive_in, holds_of, Works, Step, looked_at, Chips, Steady, Keeping, Scene, IsScene, track_met, IsHearing, lingers, steps_taken, wait_left, most_steps, IsSoonOver, ReadSoon, ReadPrompt}
+use Rattle.laws_machine.proofs.Common.{Rose, DriveState, gate, Past, phase_asks, Sent, MayReadIn, MayReadTask, is_executing, is_over, asks, is_gated, polled, RestsIn, phase_counted, task_counted, Fdc, Phase, Execute, Task, IsShort, Board, controller_of, drive_in, holds_of, Works, Step, looked_at, Chips, Steady, Keeping, Scene, IsScene, track_met, IsHearing, lingers, steps_taken, wait_left, most_steps, most_steps_of, IsSoonOver, ReadSoon, ReadPrompt}
 use Rattle.laws_machine.proofs.Facts.{polled_phase}
 use Rattle.dma_8237.specs.Channel.{grants}
 use Rattle.fdc_phases.specs.declared.phases.Task.TheVariants.{Read}
@@ -42,38 +42,40 @@ busy_over (Execute execution) over = refl
 busy_over _ over = absurd (false≢true over)
 
 -- the steps that a READ DATA has taken
-module _ (scene : Scene) (past : Past) (chips : Chips) (executes : Bool) (drive : DriveState) (whole : IsScene scene) (known : order.IsDoneBy order.Read scene past chips) (hears : IsHearing scene past executes drive) (soon : IsSoonOver chips) where
-  heard_few : lingers chips.controller.phase ≡ false → steps_taken chips.controller.phase ≤ 32768
-  heard_few = few_in past scene.sent chips.controller.phase chips.controller.asking chips.controller.fifo.bytes known.may (paced past scene.sent chips.controller known.may) (λ few.
+module _ (scene : Scene) (past : Past) (chips : Chips) (executes : Bool) (drive : DriveState) (whole : IsScene scene) (known : order.IsDoneBy order.Read scene past chips) (hears : IsHearing scene past executes drive) (soon : IsSoonOver scene.disk.words_per_track chips) where
+  heard_few : lingers chips.controller.phase ≡ false → steps_taken chips.controller.phase ≤ 2 * scene.disk.words_per_track
+  heard_few = few_in scene.disk.words_per_track past scene.sent chips.controller.phase chips.controller.asking chips.controller.fifo.bytes known.may (paced past scene.sent chips.controller known.may) (λ few.
       let words = words_few (track_met scene) scene.from past.turns past.seen hears.heard few in
       let long = length-met scene whole.disk in
-      let size = whole.disk.words_per_track.1 in
       omega arith)
 
-  steps_few : steps_taken chips.controller.phase ≤ most_steps
+  steps_few : steps_taken chips.controller.phase ≤ most_steps_of scene.disk.words_per_track
   steps_few = elim (cases_Bool (lingers chips.controller.phase)) [
     | inl over ↦ (let few = (soon.granted (busy_over chips.controller.phase over)).few over in omega arith)
     | inr hearing ↦ (let few = heard_few hearing in omega arith)
   ]
 
+pub soon_few_of : (scene : Scene) (board : Board) → ReadSoon scene board → steps_taken (controller_of board).phase ≤ most_steps_of scene.disk.words_per_track
+soon_few_of scene board ((past, was), soon, short) = steps_few scene past board.bus.chips _ (drive_in board scene.bay) was.scene_is was.chips was.drive soon
+
 pub soon_few : (scene : Scene) (board : Board) → ReadSoon scene board → steps_taken (controller_of board).phase ≤ most_steps
-soon_few scene board ((past, was), soon, short) = steps_few scene past board.bus.chips _ (drive_in board scene.bay) was.scene_is was.chips was.drive soon
+soon_few scene board was = let few = soon_few_of scene board was in let size = was.0.1.scene_is.disk.words_per_track.1 in omega arith
 
 module _ (scene : Scene) (past : Past) (chips : Chips) (drive : DriveState) (between : Fdc) (after : DriveState) (whole : IsScene scene) (known : order.IsDoneBy order.Read scene past chips)
-    (hears : IsHearing scene past (is_executing chips.controller.phase) drive) (works : Works chips.controller drive between after) (soon : IsSoonOver chips)
+    (hears : IsHearing scene past (is_executing chips.controller.phase) drive) (works : Works chips.controller drive between after) (soon : IsSoonOver scene.disk.words_per_track chips)
     (short : IsShort (looked_at (record chips { controller = between })).holding.request) where
   abbrev old : Fdc
   old = chips.controller
 
   word : WordOn old.phase (polled old) between
   word = word_on past scene.sent old.phase old.asking old.fifo.bytes _ works.reads.word (polled old) between (drive.cylinder == 0) known.may works.reads.follows.executes
-      (subst (λ phase. RestsIn phase (drive.cylinder == 0) (polled old) between) (polled_phase old) works.rests) (polled_phase old) (steps_few scene past chips _ drive whole known hears soon)
+      (subst (λ phase. RestsIn phase (drive.cylinder == 0) (polled old) between) (polled_phase old) works.rests) (polled_phase old) (let few = steps_few scene past chips _ drive whole known hears soon in let size = whole.disk.words_per_track.1 in omega arith)
       (λ busy. let was = soon.granted busy in record {
         drained = λ counted. ap (λ fifo. fifo.bytes) (polled_fifo old) ∙ was.drained counted;
         room = let same = polled_fifo old in rw same was.ruled.room;
       }) soon.no_late
 
-  behind : GoesOn old.phase (polled old) between → IsBehind (steps_taken old.phase) (record chips { controller = between })
+  behind : GoesOn old.phase (polled old) between → IsBehind scene.disk.words_per_track (steps_taken old.phase) (record chips { controller = between })
   behind goes = record {
     stage = goes.stage;
     at = goes.at;
@@ -90,20 +92,20 @@ module _ (scene : Scene) (past : Past) (chips : Chips) (drive : DriveState) (bet
       flows = flows_in old.phase old.asking between goes.busy works.flows
 
       by_before : is_over goes.stage ≡ true → (b : Bool) → lingers old.phase ≡ b
-          → (steps_taken old.phase + wait_left false chips.holding.request ≤ most_steps) ⊎ (steps_taken old.phase ≤ 32768)
-      by_before over true was = inl (subst (λ none. steps_taken old.phase + wait_left none chips.holding.request ≤ most_steps)
+          → (steps_taken old.phase + wait_left false chips.holding.request ≤ most_steps_of scene.disk.words_per_track) ⊎ (steps_taken old.phase ≤ 2 * scene.disk.words_per_track)
+      by_before over true was = inl (subst (λ none. steps_taken old.phase + wait_left none chips.holding.request ≤ most_steps_of scene.disk.words_per_track)
           (ap (λ bytes. length bytes == 0) (sym (goes.same was ∙ ap (λ fifo. fifo.bytes) (polled_fifo old))) ∙ goes.some over) ((soon.granted goes.busy).few was))
       by_before over false was = inr (heard_few scene past chips _ drive whole known hears soon was)
 
   pub soon_dealt : (new : Chips) → Dealt (record chips { controller = between }) new → is_gated new.controller ≡ true
-      → (phase_counted new.controller.phase ≡ false → grants new.channel ≡ true) → IsSoonOver new
+      → (phase_counted new.controller.phase ≡ false → grants new.channel ≡ true) → IsSoonOver scene.disk.words_per_track new
   soon_dealt new deals gated granting = elim word [
-    | inl ended ↦ ends_soon (record chips { controller = between }) new deals ended short gated
-    | inr goes ↦ goes_soon (steps_taken old.phase) (record chips { controller = between }) new deals (behind goes) gated granting
+    | inl ended ↦ ends_soon scene.disk.words_per_track (record chips { controller = between }) new deals ended short gated
+    | inr goes ↦ goes_soon scene.disk.words_per_track (steps_taken old.phase) (record chips { controller = between }) new deals (behind goes) gated granting
   ]
 
-step_soon : (scene : Scene) (old new : Board) → (step : Step old new) → order.Underway order.Read scene old → IsSoonOver old.bus.chips
-    → IsShort (looked_at (record old.bus.chips { controller = step.between })).holding.request → IsSoonOver new.bus.chips
+step_soon : (scene : Scene) (old new : Board) → (step : Step old new) → order.Underway order.Read scene old → IsSoonOver scene.disk.words_per_track old.bus.chips
+    → IsShort (looked_at (record old.bus.chips { controller = step.between })).holding.request → IsSoonOver scene.disk.words_per_track new.bus.chips
 step_soon scene old new step (past, was) soon short =
     let (now, is) = (underway order.Read scene).step old new step (past, was) in
     let works = selected scene.bay was.scene_is.bay old new (ap (λ byte. byte % 4) was.chips.dor ∙ was.scene_is.selects) step in

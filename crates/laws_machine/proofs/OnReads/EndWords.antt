@@ -116,17 +116,17 @@ pub record IsHeld (phase : Phase) (fdc : Fdc) : Type 0 where
   pub room : length fdc.fifo.bytes ≤ room_of fdc.fifo.on
 
 -- while its field wasn't over it heard each word, of two turns at most
-few_task : (past : Past) (sent : Sent) (head_drive steps : ℕ) (task : Task) (asking : Bool) (bytes : List ℕ)
+few_task : (words : ℕ) (past : Past) (sent : Sent) (head_drive steps : ℕ) (task : Task) (asking : Bool) (bytes : List ℕ)
     → MayReadTask past sent head_drive steps task asking bytes
-    → IsPaced past steps (is_hearing task) → (HasFewTurns past → words_heard past ≤ 32768) → task_lingers task ≡ false → steps ≤ 32768
-few_task past sent head_drive steps (Read reading) asking bytes was pace turns hearing =
+    → IsPaced past steps (is_hearing task) → (HasFewTurns past → words_heard past ≤ 2 * words) → task_lingers task ≡ false → steps ≤ 2 * words
+few_task words past sent head_drive steps (Read reading) asking bytes was pace turns hearing =
     let all = turns (pace.few (not_from_false (is_over reading.stage) hearing)) in let are = pace.heard_are in omega arith
-few_task past sent head_drive steps _ asking bytes was pace turns hearing = absurd was
+few_task words past sent head_drive steps _ asking bytes was pace turns hearing = absurd was
 
-pub few_in : (past : Past) (sent : Sent) (phase : Phase) (asking : Bool) (bytes : List ℕ) → MayReadIn past sent phase asking bytes
-    → PacedIn past phase → (HasFewTurns past → words_heard past ≤ 32768) → lingers phase ≡ false → steps_taken phase ≤ 32768
-few_in past sent (Execute execution) asking bytes was pace turns hearing = few_task past sent execution.head_drive execution.steps execution.task asking bytes was pace turns hearing
-few_in past sent _ asking bytes was pace turns hearing = omega arith
+pub few_in : (words : ℕ) (past : Past) (sent : Sent) (phase : Phase) (asking : Bool) (bytes : List ℕ) → MayReadIn past sent phase asking bytes
+    → PacedIn past phase → (HasFewTurns past → words_heard past ≤ 2 * words) → lingers phase ≡ false → steps_taken phase ≤ 2 * words
+few_in words past sent (Execute execution) asking bytes was pace turns hearing = few_task words past sent execution.head_drive execution.steps execution.task asking bytes was pace turns hearing
+few_in words past sent _ asking bytes was pace turns hearing = omega arith
 
 pub word_on : (past : Past) (sent : Sent) (phase : Phase) (asking : Bool) (bytes : List ℕ) (index : Bool) (word : ℕ) (polls new : Fdc) (track0 : Bool)
     → MayReadIn past sent phase asking bytes → ExecutesIn phase index word polls new → RestsIn phase track0 polls new → polls.phase ≡ phase

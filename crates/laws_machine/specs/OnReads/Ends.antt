@@ -1,5 +1,5 @@
 -- A READ DATA that ends before it has taken all its steps.
-use Rattle.std.specs.Prelude.{◌≡◌, ℕ, ◌+◌, ◌≤◌, ◌==◌, ◌&&◌, not, bit_and, Bool, true, false, [], length}
+use Rattle.std.specs.Prelude.{◌≡◌, ℕ, ◌+◌, ◌*◌, ◌≤◌, ◌==◌, ◌&&◌, not, bit_and, Bool, true, false, [], length}
 use Rattle.fdc_registers.specs.St1 as st1
 use Rattle.fdc_registers.specs.St2 as st2
 use Rattle.fdc_commands.specs.declared.results.Results.{Results}
@@ -48,29 +48,33 @@ wait_left true request = 0
 wait_left false Low = 257
 wait_left false (High left) = left + 1
 
--- a READ DATA takes no more steps: two turns of 16,384 words and a word, and as long as the last bytes wait for their grant
+-- a READ DATA takes no more steps: two turns of so many words and a word, and as long as the last bytes wait for their grant
+abbrev pub most_steps_of : ℕ → ℕ
+most_steps_of words = 2 * words + 258
+
+-- with the longest turn, of 16,384 words
 abbrev pub most_steps : ℕ
 most_steps = 33026
 
 -- in execution DRQ goes by the rule, the FIFO holds no more than it has room for, and nothing behind the terminal count; once
--- the field is over its bytes are granted before as many steps were taken
-pub record IsGrantedSoon (chips : Chips) : Type 0 where
+-- the field is over its bytes are granted before as many steps were taken; a turn has so many words
+pub record IsGrantedSoon (words : ℕ) (chips : Chips) : Type 0 where
   pub ruled : IsRuled chips.controller
   pub drained : phase_counted chips.controller.phase ≡ true → chips.controller.fifo.bytes ≡ []
   pub few : lingers chips.controller.phase ≡ true
-      → steps_taken chips.controller.phase + wait_left (length chips.controller.fifo.bytes == 0) chips.holding.request ≤ most_steps
+      → steps_taken chips.controller.phase + wait_left (length chips.controller.fifo.bytes == 0) chips.holding.request ≤ most_steps_of words
 
 -- DOR lets DRQ out, and a request waits for a byte's hold at most; so the results don't tell that the command took too long
-pub record IsSoonOver (chips : Chips) : Type 0 where
+pub record IsSoonOver (words : ℕ) (chips : Chips) : Type 0 where
   pub gated : is_gated chips.controller ≡ true
   pub short : IsShort chips.holding.request
-  pub granted : is_executing chips.controller.phase ≡ true → IsGrantedSoon chips
+  pub granted : is_executing chips.controller.phase ≡ true → IsGrantedSoon words chips
   pub no_late : is_late chips.controller.phase ≡ false
 
 -- a READ DATA is underway, and ends soon behind its field, whatever stalls are counted
 abbrev pub ReadSoon : Scene → Board → Type 0
-ReadSoon scene board = order.Underway order.Read scene board × IsSoonOver board.bus.chips × AreShort (holds_of board)
+ReadSoon scene board = order.Underway order.Read scene board × IsSoonOver scene.disk.words_per_track board.bus.chips × AreShort (holds_of board)
 
 -- a READ DATA is underway, in time, and ends soon behind its field
 abbrev pub ReadPrompt : Scene → Board → Type 0
-ReadPrompt scene board = ReadInTime scene board × IsSoonOver board.bus.chips
+ReadPrompt scene board = ReadInTime scene board × IsSoonOver scene.disk.words_per_track board.bus.chips

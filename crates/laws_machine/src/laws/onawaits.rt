@@ -1,15 +1,16 @@
 // What follows of the machine's steps. The bodies are empty.
-ghost use Rattle.std.specs.Prelude.{◌≡◌, ℕ, true, false, ◌==◌};
+ghost use Rattle.std.specs.Prelude.{◌≡◌, ◌≤◌, ℕ, true, false, ◌==◌};
 ghost use Rattle.fdc_core.specs.Listening.{is_executing};
 ghost use Rattle.fdc_core.specs.State.{data_commands_of};
 ghost use Rattle.laws_machine.specs.OnAwaits.Awaits.{IsAwaited, IsLetOut};
 ghost use Rattle.laws_machine.specs.OnAwaits.Goes.{GoesOn, StandsReady};
 ghost use Rattle.laws_machine.specs.OnOrders.Orders.{CanBegin, Order};
 ghost use Rattle.laws_machine.specs.OnQuiet.Quiet.{IsHushed};
+ghost use Rattle.laws_machine.specs.OnReads.Ends.{most_steps_of, steps_taken};
 ghost use Rattle.laws_machine.specs.OnReads.Scenes.{Scene};
 ghost use Rattle.laws_machine.specs.OnSteps.Steady.{Steady};
-ghost use Rattle.irq_events.specs.Holds.{counted};
-ghost use Rattle.pc_bus.specs.Boards.{Board, controller_of};
+ghost use Rattle.irq_events.specs.Holds.{AreShort, counted};
+ghost use Rattle.pc_bus.specs.Boards.{Board, controller_of, holds_of};
 ghost use Rattle.pc_bus.specs.Handling.{irq_taken};
 ghost use Rattle.pc_bus.specs.Ports.{Inputs, Outputs};
 
@@ -38,4 +39,12 @@ pub fn a_data_command_goes_on()
         → GoesOn order scene start old → GoesOn order scene start new }
     ensures strays { (order : Order) (scene : Scene) (start old : Board) → is_executing (controller_of old).phase ≡ true → GoesOn order scene start old
         → GoesOn order scene start (record old { bus = irq_taken old.bus }) }
+{}
+
+/// Where the holds were bytes as it began, such a data command takes no more device steps than two turns of the track have words,
+/// and 258 more: a READ DATA waits for the grant of its last bytes.
+#[tactic(auto, using(crate::proofs::OnAwaits::Few::few))]
+pub fn a_data_command_takes_few_steps()
+    ensures { (order : Order) (scene : Scene) (start now : Board) → GoesOn order scene start now → AreShort (holds_of start)
+        → steps_taken (controller_of now).phase ≤ most_steps_of scene.disk.words_per_track }
 {}

@@ -1,8 +1,9 @@
 // What follows of every course of calls: device steps, and whatever is done between them. The bodies are empty.
-ghost use Rattle.std.specs.Prelude.{◌≡◌, ◌≤◌, ◌-◌, ℕ, Bool, false};
+ghost use Rattle.std.specs.Prelude.{◌≡◌, ◌≤◌, ◌+◌, ◌-◌, ℕ, Bool, false};
 ghost use Rattle.fdc_core.specs.Listening.{is_executing};
 ghost use Rattle.fdc_core.specs.Steps.{steps_left, IsCounted};
 ghost use Rattle.laws_machine.specs.OnSteps.Ends.{Counts, HasNoSeek, IsOver, Meets, Recalibrates, pulses_left, seeks};
+ghost use Rattle.laws_machine.specs.OnSteps.Lasts.{Lasts, clock_of};
 ghost use Rattle.laws_machine.specs.OnSteps.Moves.{Goes};
 ghost use Rattle.laws_machine.specs.OnSteps.Steady.{Marching, Steady};
 ghost use Rattle.irq_events.specs.Entries.{next_entry};
@@ -55,4 +56,20 @@ pub fn device_steps_are_counted()
 /// A hold that is left stays below 256, and so does what is left of a request.
 pub fn holds_stay_short()
     ensures { Steady (λ board. AreShort (holds_of board)) }
+{}
+
+/// Each call of the machine lasts as many device steps as it is given, at most, beside those of the gaps behind port accesses,
+/// which are used up. So the device steps that were counted and those of the gaps that are still to come rise together by no
+/// more than the sum of what calls last, whatever the gaps, the strays and the holds are.
+pub fn calls_last()
+    ensures wait { (n : ℕ) (old new : Board) → Runs n (stirred old) new → Lasts n old new }
+    ensures wait_irq { (most : ℕ) (set : Bool) (old new : Board) → Waits most old set new → Lasts most old new }
+    ensures run_to_irq { (most steps : ℕ) (old new : Board) → RunsToIrq most old steps new → Lasts steps old new }
+    ensures read { (port value : ℕ) (old new : Board) → Inputs port old value new → Lasts 0 old new }
+    ensures write { (port value : ℕ) (old new : Board) → Outputs port value old new → Lasts 0 old new }
+    ensures take_irq { (old : Board) → Lasts 0 old (record old { bus = irq_taken old.bus }) }
+    ensures set_byte { (address value : ℕ) (old : Board) → Lasts 0 old (record old { bus = byte_set address value old.bus }) }
+    ensures handle { (bay : ℕ) (old new : Board) → Touches bay old new → Lasts 0 old new }
+    ensures twice { (n m : ℕ) (a b c : Board) → Lasts n a b → Lasts m b c → Lasts (n + m) a c }
+    ensures clock { (most : ℕ) (old new : Board) → Lasts most old new → clock_of new ≤ clock_of old + most }
 {}

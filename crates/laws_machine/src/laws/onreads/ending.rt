@@ -9,7 +9,7 @@ ghost use Rattle.fdc_stages.specs.declared.ending.Ending.{Ending};
 ghost use Rattle.track_model.specs.Looks.{HasAddressMark};
 ghost use Rattle.laws_machine.specs.OnSteps.Steady.{Steady};
 ghost use Rattle.laws_machine.specs.OnSteps.Stalls.{Keeping};
-ghost use Rattle.laws_machine.specs.OnReads.Ends.{ReadPrompt, ReadSoon, is_late, most_steps, steps_taken, tells_no_mark};
+ghost use Rattle.laws_machine.specs.OnReads.Ends.{ReadPrompt, ReadSoon, is_late, most_steps, most_steps_of, steps_taken, tells_no_mark};
 ghost use Rattle.irq_events.specs.Holds.{AreShort};
 ghost use Rattle.laws_machine.specs.OnReads.Ids.{IdEnded};
 ghost use Rattle.laws_machine.specs.OnReads.Results.{ReadEnded};
@@ -22,7 +22,8 @@ ghost use Rattle.pc_bus.specs.Boards.{Board, controller_of, drive_in, holds_of};
 ghost use Rattle.pc_bus.specs.Ports.{Inputs, Outputs};
 
 /// A READ DATA that begins with DRQ let out and holds that are bytes, of a medium at speed, ends in its results before it took
-/// its 65,536 steps, whatever stalls are counted: it takes 33,026 at most. Each step keeps it so, and so does each call that
+/// its 65,536 steps, whatever stalls are counted: it takes 258 more than two turns of the track at most, and so never more than
+/// 33,026. Each step keeps it so, and so does each call that
 /// leaves the chips and the drives, and each port read until the last result byte was read.
 #[tactic(auto, using(crate::proofs::OnReads::EndSteps::soon_over, crate::proofs::OnReads::EndCalls::still_soon))]
 pub fn a_read_ends_in_time()
@@ -33,6 +34,8 @@ pub fn a_read_ends_in_time()
     ensures read { (port value : ℕ) (old new : Board) → Inputs port old value new → (scene : Scene) → ReadSoon scene old
         → ReadSoon scene new ⊎ ((controller_of new).phase ≡ Command) }
     ensures few { (scene : Scene) (board : Board) → ReadSoon scene board → steps_taken (controller_of board).phase ≤ most_steps }
+    ensures fewer { (scene : Scene) (board : Board) → ReadSoon scene board
+        → steps_taken (controller_of board).phase ≤ most_steps_of scene.disk.words_per_track }
     ensures no_late { (scene : Scene) (board : Board) → ReadSoon scene board → is_late (controller_of board).phase ≡ false }
 {}
 

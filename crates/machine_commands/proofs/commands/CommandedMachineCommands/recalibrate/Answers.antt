@@ -1,5 +1,8 @@
-use Rattle.machine_commands.specs.Shown.{board_of}
+use Rattle.machine_commands.specs.Shown.{board_of, rig_of}
 use Rattle.machine_commands.proofs.SeekRigs.{recalibrates, recalibrate_idle}
+use Rattle.std.proofs.Common.{arith}
+use Rattle.floppy_driver.proofs.Lasting.{turn_same}
+use Rattle.machine_commands.proofs.Lasting.{rig_lasts, recalibrate_lasts}
 use Rattle.machine_commands.proofs.commands.CommandedMachineCommands.recalibrate.Goals as goal
 
 pub returns-clause-step : goal.returns-clause-step
@@ -12,3 +15,9 @@ returns-clause-idle g c =
     rw c.step_outward-status.ensures.motors
     (recalibrate_idle c.args.self.now.motors c.args.bay c.step_outward-status.result (board_of g.D.Drive.state c.args.self.now) (board_of g.D.Drive.state c.step_outward-status.new.self)
     c.requires.idle c.requires.bay c.step_outward-status.ensures.sends c.keep_ranges.ensures.first c.keep_ranges.ensures.second)
+
+pub returns-clause-lasts : goal.returns-clause-lasts
+returns-clause-lasts g c =
+    let old = board_of g.D.Drive.state c.args.self.now in
+    let new = board_of g.D.Drive.state c.step_outward-status.new.self in
+    rig_lasts c.args.bay 0 81 81 old new (turn_same c.args.bay (rig_of old) (rig_of new) (returns-clause-step g c).moves.media) (omega arith) (recalibrate_lasts c.args.self.now.motors c.args.bay c.step_outward-status.result old new c.step_outward-status.ensures.sends)

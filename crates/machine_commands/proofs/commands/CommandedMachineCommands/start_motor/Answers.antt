@@ -1,5 +1,8 @@
-use Rattle.machine_commands.specs.Shown.{board_of}
+use Rattle.machine_commands.specs.Shown.{board_of, rig_of}
 use Rattle.machine_commands.proofs.Spinning.{starts_asking, starts_spinning, start_idle}
+use Rattle.std.proofs.Common.{arith}
+use Rattle.floppy_driver.proofs.Lasting.{turn_same}
+use Rattle.machine_commands.proofs.Lasting.{rig_lasts, motor_lasts}
 use Rattle.machine_commands.proofs.commands.CommandedMachineCommands.start_motor.Goals as goal
 
 pub returns-clause-asks : goal.returns-clause-asks
@@ -15,3 +18,9 @@ returns-clause-idle g c =
     rw c.spin_up.ensures.motors
     (start_idle c.args.self.now.motors c.args.bay (board_of g.D.Drive.state c.args.self.now) (board_of g.D.Drive.state c.spin_up.new.self) c.requires.idle c.requires.bay c.spin_up.ensures.starts
     c.keep_ranges.ensures.first c.keep_ranges.ensures.second)
+
+pub returns-clause-lasts : goal.returns-clause-lasts
+returns-clause-lasts g c =
+    let old = board_of g.D.Drive.state c.args.self.now in
+    let new = board_of g.D.Drive.state c.spin_up.new.self in
+    rig_lasts c.args.bay 0 6250 6250 old new (turn_same c.args.bay (rig_of old) (rig_of new) (returns-clause-asks g c).media) (omega arith) (motor_lasts c.args.self.now.motors c.args.bay old new c.spin_up.ensures.starts)

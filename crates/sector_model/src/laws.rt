@@ -1,0 +1,21 @@
+// What follows of the steps of requests. The bodies are empty.
+ghost use Rattle.std.specs.Prelude.{◌≤◌, ℕ, List, Option};
+ghost use Rattle.flop_base.specs.Counters.{LastsUpTo};
+ghost use Rattle.flop_base.specs.Shelf.{Files};
+ghost use Rattle.flop_base.specs.declared.answers.Status.{Status};
+ghost use Rattle.sector_model.specs.Plays.{Plays, World};
+ghost use Rattle.sector_model.specs.Runs.{Run, Taken, requests_of};
+ghost use Rattle.sector_model.specs.States.{State};
+ghost use Rattle.sector_model.specs.Stations.{StationState};
+ghost use Rattle.sector_model.specs.Times.{AreWithin, course_time, job_time};
+
+/// A run lasts no more device steps than its requests do, each by the medium that it finds, beside those of the gaps behind port
+/// accesses; and so does the whole play of a job, wherever it stops.
+pub fn a_run_lasts()
+    ensures run { (old new : State) (told after : Option Files) (course : List Taken) → Run old told course new after
+        → LastsUpTo (course_time old.station course) old.station.counters new.station.counters }
+    ensures play { (old new : World) (job : List ℕ) (course : List Taken) (ended : Status) → Plays job old course new ended
+        → LastsUpTo (course_time old.state.station course) old.state.station.counters new.state.station.counters }
+    ensures within { (turn tries : ℕ) (station : StationState) (course : List Taken) → AreWithin turn tries station course
+        → course_time station course ≤ job_time turn tries (requests_of course) }
+{}
