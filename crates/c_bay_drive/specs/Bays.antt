@@ -1,10 +1,12 @@
 -- The drive of a bay: one with planned faults, which tells the tracks that were written, and whose cable can be pulled.
-use Rattle.std.specs.Prelude.{◌≡◌, ◌⊎◌, ℕ, Bool, true, false, not, List, Option, Some, None, is_some}
-use Rattle.flop_base.specs.Counts.{Rose}
-use Rattle.drive_model.specs.Drive.{DriveState, Becomes, cut_off, replaces, written}
-use Rattle.drive_model.specs.ScriptDrive.{script_of, script_state}
+use Rattle.std.specs.Prelude.{◌≡◌, ℕ, Bool, true, false, not, List, Option, Some, None, is_some}
+use Rattle.std.specs.Bool.{OnTrue, OnFalse}
+use Rattle.drive_model.specs.Drive.{DriveState, Becomes, cut_off, moved, passed, word_under, written}
+use Rattle.drive_model.specs.Fault.{total_left}
+use Rattle.drive_model.specs.Mechanics.{at_rest}
+use Rattle.drive_model.specs.ScriptDrive.{Accounts, cuts, drops, loses, pulse_of, read_of, script_of, script_state, told, write_of}
 use Rattle.drive_model.specs.declared.fault.Fault.{Fault}
-use Rattle.c_bay_drive.specs.Maps.{marked_if}
+use Rattle.drive_model.specs.Maps.{no_tracks}
 use Rattle.c_bay_drive.specs.declared.bay.BayDrive.{BayDrive}
 use Rattle.c_bay_drive.specs.declared.cable.Pulled.{Pulled}
 
@@ -27,19 +29,21 @@ abbrev pub left_by : Option Pulled → Option ℕ → Option ℕ
 left_by None left = left
 left_by (Some pulled) left = None
 
--- a drive as it is told by a cable, with another word on whether a word of the medium was replaced
-abbrev pub told_by : Option Pulled → Bool → DriveState → DriveState
-told_by pulled replaced s = record s {
+-- a drive as it is told by a cable, with another word on whether a word of the medium was replaced, and with this map of written tracks
+abbrev pub told_by : Option Pulled → Bool → List ℕ → DriveState → DriveState
+told_by pulled replaced tracks s = record s {
   cylinder = cylinder_by pulled s.cylinder;
   change = change_by pulled s.change;
   replaced = replaced;
+  marks = Some tracks;
+  cable = not (is_some pulled);
   faults = faults_by pulled s.faults;
   left = left_by pulled s.left;
 }
 
 -- its state
 abbrev pub bay_state : BayDrive → DriveState
-bay_state bay = told_by bay.pulled bay.replaced (script_state bay.inside)
+bay_state bay = told_by bay.pulled bay.replaced bay.tracks (script_state bay.inside)
 
 -- its cable is in
 abbrev pub is_attached : BayDrive → Bool
@@ -57,6 +61,24 @@ faults_in_bay bay = script_of bay.inside
 abbrev pub tracks_in_bay : BayDrive → List ℕ
 tracks_in_bay bay = bay.tracks
 
+-- a drive as it comes into a bay: with no track in its map
+abbrev pub new_in_bay : Option ℕ → DriveState
+new_in_bay left = record (at_rest left) { marks = Some no_tracks }
+
+-- the drive behind the cable as it is itself, whatever the cable tells of it
+abbrev pub drive_within : BayDrive → DriveState
+drive_within bay = script_state bay.inside
+
+-- the same drive with no track in its map
+abbrev pub without_tracks : BayDrive → BayDrive
+without_tracks bay = record bay { tracks = no_tracks }
+
+-- the state once other faults are planned: by a pulled cable nothing is told of them
+abbrev pub state_replanned : List Fault → BayDrive → DriveState
+state_replanned faults bay = record (bay_state bay) {
+  left = left_by bay.pulled (told (drive_within bay).faults (total_left faults));
+}
+
 -- the state once its cable is pulled, or put in. By one that is pulled now no pulse was lost, and the change line is down
 abbrev pub state_with_cable : Bool → BayDrive → DriveState
 state_with_cable true bay = bay_state (drive_in_bay bay)
@@ -65,6 +87,7 @@ state_with_cable false bay = record (bay_state bay) {
   change = change_by bay.pulled false;
   faults = faults_by bay.pulled 0;
   left = None;
+  cable = false;
 }
 
 -- a pulled cable by which the change line is up
@@ -72,8 +95,47 @@ abbrev pub with_change : Option Pulled → Option Pulled
 with_change None = None
 with_change (Some pulled) = Some (record pulled { change = true })
 
--- a write under a head: the track is marked where a word was replaced. Where the gate was cut none was
-abbrev pub MarksTrack : (head word : ℕ) → DriveState → List ℕ → DriveState → List ℕ → Type 0
-MarksTrack head word old tracks new after =
-    (Becomes (written head word old) old new × (after ≡ marked_if (replaces old head) old.cylinder head tracks))
-    ⊎ (Becomes (cut_off old) old new × Rose old.faults new.faults × (after ≡ tracks))
+-- ---- what a call makes of the drive behind the cable
+
+-- where the cable is in, and where it is pulled
+abbrev pub ByCable : Option Pulled → Type 0 → Type 0 → Type 0
+ByCable None attached pulled = attached
+ByCable (Some _) attached pulled = pulled
+
+-- it becomes this, and no fault comes: the planned faults stay
+pub record BecomesWithin (target : DriveState) (old new : BayDrive) : Type 0 where
+  pub state : drive_within new ≡ target
+  pub script : faults_in_bay new ≡ faults_in_bay old
+
+-- a pulse that reached the drive, lost or not: the faults that came are off the list, and counted
+pub record IsPulsedWithin (lost : Bool) (inward : Bool) (old new : BayDrive) : Type 0 where
+  pub moves : OnFalse lost (Becomes (moved inward (drive_within old)) (drive_within old) (drive_within new))
+  pub stays : OnTrue lost (Becomes (drive_within old) (drive_within old) (drive_within new))
+  pub accounts : Accounts lost (pulse_of (drive_within old) inward) old.inside new.inside
+
+-- a word that was heard, or that dropped out
+pub record IsHeardWithin (drops : Bool) (head word : ℕ) (old new : BayDrive) : Type 0 where
+  pub dropped : OnTrue drops (word ≡ 0)
+  pub read : OnFalse drops (word ≡ word_under (drive_within old) head)
+  pub accounts : Accounts drops (read_of (drive_within old) head) old.inside new.inside
+
+-- a word that was given to the drive, or at which its gate was cut
+pub record IsWrittenWithin (cut : Bool) (head word : ℕ) (old new : BayDrive) : Type 0 where
+  pub stops : OnTrue cut (Becomes (cut_off (bay_state old)) (bay_state old) (bay_state new))
+  pub writes : OnFalse cut (Becomes (written head word (bay_state old)) (bay_state old) (bay_state new))
+  pub accounts : Accounts cut (write_of (drive_within old) head) old.inside new.inside
+
+-- a pulse is lost where the plan says so. By a pulled cable none reaches the drive
+abbrev pub PulsesWithin : Bool → BayDrive → BayDrive → Type 0
+PulsesWithin inward old new =
+    ByCable old.pulled (IsPulsedWithin (loses old.inside inward) inward old new) (BecomesWithin (drive_within old) old new)
+
+-- a word drops out where the plan says so. By a pulled cable none is heard, and the drive lets a word time pass
+abbrev pub HearsWithin : (head word : ℕ) → (target : DriveState) → BayDrive → BayDrive → Type 0
+HearsWithin head word target old new =
+    ByCable old.pulled (IsHeardWithin (drops old.inside head) head word old new) (BecomesWithin target old new)
+
+-- the gate is cut where the plan says so. By a pulled cable nothing is written, and the drive lets a word time pass
+abbrev pub WritesWithin : (head word : ℕ) → BayDrive → BayDrive → Type 0
+WritesWithin head word old new =
+    ByCable old.pulled (IsWrittenWithin (cuts old.inside head) head word old new) (BecomesWithin (passed (drive_within old)) old new)

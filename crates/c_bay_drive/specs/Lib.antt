@@ -1,4 +1,3 @@
-pub mod Maps
 pub mod Bays
 pub mod WithMedium
 pub mod Saving

@@ -2,7 +2,7 @@
 use Rattle.std.specs.Prelude.{◌≡◌, ℕ, Bool, List, Option, Some, None, not, is_some}
 use Rattle.saved_state.specs.Saved.{spelled_bytes, spelled_count, spelled_flag}
 use Rattle.drive_model.specs.Saving.{spelled_script_drive}
-use Rattle.c_bay_drive.specs.Maps.{IsMap}
+use Rattle.drive_model.specs.Maps.{IsMap}
 use Rattle.c_bay_drive.specs.declared.bay.BayDrive.{BayDrive}
 use Rattle.c_bay_drive.specs.declared.cable.Pulled.{Pulled}
 

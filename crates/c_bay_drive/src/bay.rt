@@ -1,6 +1,5 @@
 // The drive of a bay.
 ghost use Rattle.std.specs.Prelude.{◌≡◌, ◌||◌};
-ghost use Rattle.c_bay_drive.specs.Maps.{no_tracks};
 
 mod driving;
 mod inspecting;
@@ -31,14 +30,13 @@ fn either(first: bool, second: bool) -> bool
 
 impl BayDrive {
     ghost use Rattle.drive_model.specs.Fault.{total_left};
-    ghost use Rattle.drive_model.specs.Mechanics.{at_rest};
     ghost use Rattle.drive_model.specs.ScriptDrive.{told};
-    ghost use Rattle.c_bay_drive.specs.Bays.{bay_state, is_attached, drive_in_bay, faults_in_bay, tracks_in_bay, state_with_cable};
+    ghost use Rattle.c_bay_drive.specs.Bays.{bay_state, new_in_bay, drive_within, is_attached, drive_in_bay, faults_in_bay, tracks_in_bay, without_tracks, state_replanned, state_with_cable};
 
     /// A drive with these faults, attached, with no medium, at cylinder 0, its motor off, its change line set.
     pub fn new(faults: Vec<Fault>) -> BayDrive
-        ensures state { bay_state result ≡ at_rest (told 0 (total_left faults.items)) }
-        ensures tracks { tracks_in_bay result ≡ no_tracks }
+        ensures state { bay_state result ≡ new_in_bay (told 0 (total_left faults.items)) }
+        ensures faults { faults_in_bay result ≡ faults.items }
     {
         BayDrive {
             inside: ScriptDrive::new(faults),
@@ -76,22 +74,18 @@ impl BayDrive {
     /// Plans these faults in place of those that can still come. All else stays, the count of faults too.
     pub fn replan(&mut self, faults: Vec<Fault>)
         ensures faults { faults_in_bay self.new ≡ faults.items }
-        ensures plans { bay_state (drive_in_bay self.new) ≡ record (bay_state (drive_in_bay self.old)) {
-          left = told (bay_state (drive_in_bay self.old)).faults (total_left faults.items);
+        ensures within { drive_within self.new ≡ record (drive_within self.old) {
+          left = told (drive_within self.old).faults (total_left faults.items);
         } }
-        ensures cable { is_attached self.new ≡ is_attached self.old }
-        ensures tracks { tracks_in_bay self.new ≡ tracks_in_bay self.old }
+        ensures state { bay_state self.new ≡ state_replanned faults.items self.old }
     {
         self.inside.replan(faults);
     }
 
-    /// The tracks that were written since this was last asked. They are forgotten.
+    /// The tracks that were written since this was last asked. They are forgotten; all else stays.
     pub fn take_tracks(&mut self) -> TrackMap
         ensures taken { result ≡ tracks_in_bay self.old }
-        ensures left { tracks_in_bay self.new ≡ no_tracks }
-        ensures state { bay_state self.new ≡ bay_state self.old }
-        ensures faults { faults_in_bay self.new ≡ faults_in_bay self.old }
-        ensures cable { is_attached self.new ≡ is_attached self.old }
+        ensures left { self.new ≡ without_tracks self.old }
     {
         std::mem::replace(&mut self.tracks, TrackMap::new())
     }

@@ -1,6 +1,6 @@
 // Which tracks were written.
 ghost use Rattle.std.specs.Prelude.{◌≡◌, ⊤, length};
-ghost use Rattle.c_bay_drive.specs.Maps.{no_tracks, bit_of as bit_of_place, marked, marked_if};
+ghost use Rattle.drive_model.specs.Maps.{no_tracks, bit_of as bit_of_place, marked, marked_if};
 ghost use Rattle.saved_state.specs.Saved.{spelled_bytes};
 
 use saved_state::{Saved, Sink, Source, load_bytes, save_bytes};
@@ -20,7 +20,7 @@ pub struct TrackMap {
 
 impl Model for TrackMap {
     ghost use Rattle.std.specs.Prelude.{List, ℕ};
-    ghost use Rattle.c_bay_drive.specs.Maps.{IsMap};
+    ghost use Rattle.drive_model.specs.Maps.{IsMap};
 
     ghost Value = { List ℕ };
 
@@ -46,7 +46,7 @@ fn bit_of(place: usize) -> u8
 }
 
 impl TrackMap {
-    ghost use Rattle.c_bay_drive.specs.Maps.{IsMap};
+    ghost use Rattle.drive_model.specs.Maps.{IsMap};
 
     /// No track.
     pub fn new() -> TrackMap
@@ -105,7 +105,7 @@ fn map_of(bytes: &[u8]) -> TrackMap
 }
 
 impl Saved for TrackMap {
-    ghost use Rattle.c_bay_drive.specs.Maps.{IsMap};
+    ghost use Rattle.drive_model.specs.Maps.{IsMap};
 
     ghost spelled = { spelled_bytes };
 

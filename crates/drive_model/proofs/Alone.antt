@@ -3,27 +3,21 @@ use Rattle.std.proofs.Common.{◌≡◌, ℕ, zero, suc, ◌+◌, ◌-◌, ◌%�
 use Rattle.std.proofs.Math.Nat.{mod-eq_of_lt, add-mod_left}
 use Rattle.std.proofs.lemmas.Bool.{cond_both, and_parts, leb-true, eqb-true, lt-leb, ne_eqb}
 use Rattle.std.proofs.lemmas.List.{drop_more}
-use Rattle.flop_base.specs.Counts.{Spends}
 use Rattle.drive_model.specs.Ahead.{LetsPass, AreAhead}
 use Rattle.drive_model.specs.Drive.{DriveState, track_words, turns, at_speed, passed, with_gate, words_on}
 
 -- ---- one word time
 
-spends_nothing : (count : ℕ) (left : Option ℕ) → Spends count left count left
-spends_nothing count None = refl
-spends_nothing count (Some most) = (most, refl, omega arith)
-
 -- a word time, and then the others
 one_more : (count : ℕ) (s between new : DriveState) → passed (with_gate false s) ≡ between → LetsPass count between new → LetsPass (suc count) s new
 unfolding LetsPass
 one_more count s between new step rest =
-    (passed (with_gate false s), record { becomes = refl; never_falls = omega arith; spends = spends_nothing s.faults s.left }, subst (λ mid. LetsPass count mid new) (sym step) rest)
+    subst (λ mid. LetsPass count mid new) (sym step) rest
 
 -- with its gate closed a drive goes on in the same way
 shut_first : (count : ℕ) (s new : DriveState) → LetsPass (suc count) (with_gate false s) new → LetsPass (suc count) s new
 unfolding LetsPass
-shut_first count s new (mid, step, rest) =
-    (mid, record { becomes = step.becomes; never_falls = step.never_falls; spends = step.spends }, rest)
+shut_first count s new passes = passes
 
 none_pass : (s new : DriveState) → new ≡ s → LetsPass 0 s new
 unfolding LetsPass
@@ -35,9 +29,9 @@ unfolding LetsPass
 both_pass zero b s between new first second =
     let whole : b ≡ b + 0 = omega arith in
     subst (λ n. LetsPass n s new) whole (subst (λ from. LetsPass b from new) first second)
-both_pass (suc a) b s between new (mid, step, first) second =
+both_pass (suc a) b s between new first second =
     let whole : suc (b + a) ≡ b + suc a = omega arith in
-    subst (λ n. LetsPass n s new) whole (mid, step, both_pass a b mid between new first second)
+    subst (λ n. LetsPass n s new) whole (both_pass a b (passed (with_gate false s)) between new first second)
 
 -- ---- a medium that doesn't turn
 

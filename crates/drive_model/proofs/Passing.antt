@@ -1,41 +1,46 @@
 -- Word times in a row.
-use Rattle.std.proofs.Common.{◌+◌, ℕ, zero, suc, Bool, false, List, [], ◌∷◌, take, Option, Some, None, refl, subst, ap, ◌∙◌, ◌≤◌, add-one, arith, inl, inr}
-use Rattle.flop_base.specs.Counts.{Spends, Rose}
+use Rattle.std.proofs.Common.{◌≡◌, ◌+◌, ℕ, zero, suc, Bool, false, List, [], ◌∷◌, take, Option, Some, None, refl, sym, subst, ap, ◌∙◌, add-one, arith}
+use Rattle.flop_base.specs.Counts.{Spends}
 use Rattle.drive_model.specs.Ahead.{LetsPass, AreAhead}
-use Rattle.drive_model.specs.Drive.{DriveState, Becomes, Reads, passed, with_gate, word_under}
-
-pub spends_twice : (a b c : ℕ) (l m n : Option ℕ) → Spends a l b m → Spends b m c n → Spends a l c n
-spends_twice a b c None m n first second = subst (λ (o : Option ℕ). Spends b o c n) first second
-spends_twice a b c (Some most) m n first second =
-    let next = subst (λ (o : Option ℕ). Spends b o c n) first.1 second in
-    (next.0, next.1, omega (arith, first.2, next.2))
+use Rattle.drive_model.specs.Drive.{DriveState, Becomes, Reads, passed, with_gate}
 
 -- the gate is closed, and a word time passes
-pub shut_passes : (a b c : DriveState) → Becomes (with_gate false a) a b → Becomes (passed b) b c → Becomes (passed (with_gate false a)) a c
-shut_passes a b c shut passes = record {
-  becomes = passes.becomes ∙ ap (λ s. record (passed s) { faults = c.faults; left = c.left }) shut.becomes;
-  never_falls = omega (arith, shut.never_falls, passes.never_falls);
-  spends = spends_twice a.faults b.faults c.faults a.left b.left c.left shut.spends passes.spends;
-}
+pub shut_passes : (a b c : DriveState) → b ≡ with_gate false a → Becomes (passed b) b c → Becomes (passed (with_gate false a)) a c
+shut_passes a b c shut passes =
+    let shut_passing : Becomes (passed (with_gate false a)) (with_gate false a) c = subst (λ s. Becomes (passed s) s c) shut passes in
+    record { becomes = shut_passing.becomes; never_falls = shut_passing.never_falls; spends = shut_passing.spends }
 
 -- a word that is read with the gate closed
-rose_before : (before mid after : ℕ) → before ≤ mid → Rose mid after → Rose before after
-rose_before before mid after rises rose = omega arith
+pub reads_shut : (head raw : ℕ) (before mid after : DriveState) → mid ≡ with_gate false before → Reads head mid raw after → Reads head before raw after
+reads_shut head raw before mid after shut reads = subst (λ s. Reads head s raw after) shut reads
 
-pub reads_shut : (head raw : ℕ) (before mid after : DriveState) → Becomes (with_gate false before) before mid → Reads head mid raw after → Reads head before raw after
-reads_shut head raw before mid after shut (inl is) = inl (is ∙ ap (λ s. word_under s head) shut.becomes)
-reads_shut head raw before mid after shut (inr (none, rose)) = inr (none, rose_before before.faults mid.faults after.faults shut.never_falls rose)
+-- ---- calls in which no fault comes
+
+pub spends_nothing : (count : ℕ) (left : Option ℕ) → Spends count left count left
+spends_nothing count None = refl
+spends_nothing count (Some most) = (most, refl, omega arith)
+
+-- a drive that is just this, with the count of faults and what is left of it as before, is this but for these
+pub becomes_at : (target old new : DriveState) → new ≡ target → target.faults ≡ old.faults → target.left ≡ old.left → Becomes target old new
+becomes_at target old new is same_faults same_left = record {
+  becomes = is ∙ ap (λ s. record target { faults = s.faults; left = s.left }) (sym is);
+  never_falls = let now : new.faults ≡ target.faults = ap (λ s. s.faults) is in omega arith;
+  spends = subst (λ count. Spends old.faults old.left count new.left) (sym (ap (λ s. s.faults) is ∙ same_faults))
+      (subst (λ left. Spends old.faults old.left old.faults left) (sym (ap (λ s. s.left) is ∙ same_left)) (spends_nothing old.faults old.left));
+}
+
+-- ---- word times in a row
 
 pub lets_pass_none : (s : DriveState) → LetsPass 0 s s
 unfolding LetsPass
 lets_pass_none s = refl
 
-lets_pass_suc : (count : ℕ) (old between new : DriveState) → LetsPass count old between → Becomes (passed (with_gate false between)) between new → LetsPass (suc count) old new
+lets_pass_suc : (count : ℕ) (old between new : DriveState) → LetsPass count old between → new ≡ passed (with_gate false between) → LetsPass (suc count) old new
 unfolding LetsPass
-lets_pass_suc zero old between new same step = (new, subst (λ s. Becomes (passed (with_gate false s)) s new) same step, refl)
-lets_pass_suc (suc count) old between new (mid, first, rest) step = (mid, first, lets_pass_suc count mid between new rest step)
+lets_pass_suc zero old between new same step = step ∙ ap (λ s. passed (with_gate false s)) same
+lets_pass_suc (suc count) old between new passes step = lets_pass_suc count (passed (with_gate false old)) between new passes step
 
-pub lets_pass_more : (count : ℕ) (old between new : DriveState) → LetsPass count old between → Becomes (passed (with_gate false between)) between new → LetsPass (count + 1) old new
+pub lets_pass_more : (count : ℕ) (old between new : DriveState) → LetsPass count old between → new ≡ passed (with_gate false between) → LetsPass (count + 1) old new
 lets_pass_more count old between new passes step = rw add-one (lets_pass_suc count old between new passes step)
 
 -- ---- words ahead

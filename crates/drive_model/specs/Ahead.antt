@@ -1,12 +1,11 @@
 -- Word times in a row: a drive that is let alone, and the words that are certain to pass.
 use Rattle.std.specs.Prelude.{◌≡◌, ℕ, zero, suc, false, List, [], ◌∷◌}
-use Rattle.drive_model.specs.Drive.{DriveState, Becomes, at_index, passed, with_gate, word_under}
+use Rattle.drive_model.specs.Drive.{DriveState, at_index, passed, with_gate, word_under}
 
--- so many word times pass, with the gate closed
+-- so many word times pass, with the gate closed. No fault comes
 unfoldable pub LetsPass : ℕ → DriveState → DriveState → Type 0
 LetsPass zero old new = new ≡ old
-LetsPass (suc count) old new =
-    (mid : DriveState) × Becomes (passed (with_gate false old)) old mid × LetsPass count mid new
+LetsPass (suc count) old new = LetsPass count (passed (with_gate false old)) new
 
 -- these words pass next under a head, and the index follows none of them
 unfoldable pub AreAhead : ℕ → List ℕ → DriveState → Type 0

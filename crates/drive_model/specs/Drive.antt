@@ -4,11 +4,12 @@ use Rattle.flop_base.specs.declared.answers.Rate.{Rate}
 use Rattle.flop_base.specs.declared.answers.Rate.TheVariants.{R500}
 use Rattle.flop_base.specs.Counts.{last_count, Rose, CanTell, Spends}
 use Rattle.raw_image.specs.Disk.{Disk, IsDisk, tabbed, track_of, with_word}
+use Rattle.drive_model.specs.Maps.{emptied, marked_where}
 
 -- a drive: the medium in it or none, the cylinder under its heads, the place that passes them next, its motor, for how many
 -- word times the medium has spun up, its change line, its write gate, whether the gate was cut, whether a word of the medium was
--- replaced since it was put in or since that was last forgotten, its count of faults, and the most by which that count can still
--- rise, where the drive tells it
+-- replaced since it was put in or since that was last forgotten, the map of the tracks that were written, where the drive keeps one,
+-- whether its cable is in, its count of faults, and the most by which that count can still rise, where the drive tells it
 pub record DriveState : Type 0 where
   pub medium : Option Disk
   pub cylinder : ℕ
@@ -19,6 +20,8 @@ pub record DriveState : Type 0 where
   pub gate : Bool
   pub cut : Bool
   pub replaced : Bool
+  pub marks : Option (List ℕ)
+  pub cable : Bool
   pub faults : ℕ
   pub left : Option ℕ
 
@@ -84,11 +87,11 @@ passed s = record s {
 abbrev pub word_under : DriveState → ℕ → ℕ
 word_under s head = if at_speed s then slice_index (words_on s.medium s.cylinder head) s.place else 0
 
--- with this medium in, of which no word was replaced yet
+-- with this medium in, of which no word was replaced yet, and no track written
 abbrev pub loaded : Disk → DriveState → DriveState
-loaded d s = record s { medium = Some d; spin = 0; place = 0; change = true; replaced = false }
+loaded d s = record s { medium = Some d; spin = 0; place = 0; change = true; replaced = false; marks = emptied s.marks }
 
--- with the medium taken out; with none in, as before. It is still told whether a word of it was replaced
+-- with the medium taken out; with none in, as before. It is still told whether a word of it was replaced, and of which tracks
 abbrev pub unloaded : DriveState → DriveState
 unloaded s = record s {
   medium = None;
@@ -120,16 +123,21 @@ can_write s = at_speed s && (s.gate && not s.cut)
 abbrev pub replaces : DriveState → ℕ → Bool
 replaces s head = can_write s && can_replace s.medium s.cylinder head
 
--- one word time later, with the word under a head replaced where it can be
+-- one word time later, with the word under a head replaced where it can be, and its track marked then
 abbrev pub written : ℕ → ℕ → DriveState → DriveState
 written head word s = record (passed s) {
   medium = if can_write s then rewritten s.medium s.cylinder head s.place word else s.medium;
   replaced = s.replaced || replaces s head;
+  marks = marked_where (replaces s head) s.cylinder head s.marks;
 }
 
 -- it is forgotten that a word of the medium was replaced
 abbrev pub forgotten : DriveState → DriveState
 forgotten s = record s { replaced = false }
+
+-- it is forgotten which tracks were written
+abbrev pub unmarked : DriveState → DriveState
+unmarked s = record s { marks = emptied s.marks }
 
 -- the medium with its tab moved, so that it is write-protected, or not; with no medium none
 abbrev pub with_tab : Bool → Option Disk → Option Disk

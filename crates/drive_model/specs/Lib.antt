@@ -1,3 +1,4 @@
+pub mod Maps
 pub mod Drive
 pub mod Ahead
 pub mod Mechanics

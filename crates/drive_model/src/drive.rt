@@ -27,8 +27,9 @@ pub struct Heard {
 
 /// A diskette drive with one medium at most.
 ///
-/// A drive may have faults: a pulse is lost, a word reads as 0000, a write gate is cut. Each is counted in the call
-/// in which it comes. The index and the change line have none.
+/// A drive may have faults: a pulse is lost, a word reads as 0000, a write gate is cut. So a fault comes in a pulse, a read or a write
+/// alone, and is counted there. In every other call the count of faults stays, and so does what is left of them. The index and the
+/// change line have none.
 pub trait Drive: Drop {
     /// All that the rules of the calls speak of.
     ghost state: { Self → DriveState };
@@ -37,18 +38,17 @@ pub trait Drive: Drop {
     fn insert(&mut self, medium: Medium) -> Result<(), Medium>
         ensures refused { IsErr result ↔ IsSome (state self.old).medium }
         ensures ok { OnOk result
-            (Becomes (loaded medium (state self.old)) (state self.old) (state self.new)) }
-        ensures err { IfErr result (λ back. (back ≡ medium)
-            × Becomes (state self.old) (state self.old) (state self.new)) };
+            (state self.new ≡ loaded medium (state self.old)) }
+        ensures err { IfErr result (λ back. (back ≡ medium) × (state self.new ≡ state self.old)) };
 
     /// Takes the medium out; nothing where none is in.
     fn eject(&mut self) -> Option<Medium>
         ensures medium { result ≡ (state self.old).medium }
-        ensures becomes { Becomes (unloaded (state self.old)) (state self.old) (state self.new) };
+        ensures becomes { state self.new ≡ unloaded (state self.old) };
 
     /// Turns the motor on or off. With it on, a medium is at speed after 6,250 word times.
     fn motor(&mut self, on: bool)
-        ensures becomes { Becomes (with_motor on (state self.old)) (state self.old) (state self.new) };
+        ensures becomes { state self.new ≡ with_motor on (state self.old) };
 
     /// A step pulse, to a higher cylinder where `inward`. The heads stay within cylinders 0 to 82.
     fn pulse(&mut self, inward: bool)
@@ -73,11 +73,11 @@ pub trait Drive: Drop {
 
     /// Opens or closes the write gate. A gate that opens isn't cut any more.
     fn gate(&mut self, on: bool)
-        ensures becomes { Becomes (with_gate on (state self.old)) (state self.old) (state self.new) };
+        ensures becomes { state self.new ≡ with_gate on (state self.old) };
 
     /// Lets one word time pass, and tells whether the index came at its end.
     fn pass(&mut self) -> bool
-        ensures becomes { Becomes (passed (state self.old)) (state self.old) (state self.new) }
+        ensures becomes { state self.new ≡ passed (state self.old) }
         ensures index { result ≡ at_index (state self.old) }
         ensures range_before { InRange (state self.old) }
         ensures range { InRange (state self.new) };
@@ -124,13 +124,13 @@ pub trait Drive: Drop {
 
     /// Closes the gate and lets one word time pass, as a drive does that isn't selected.
     fn idle(&mut self)
-        ensures { Becomes (passed (with_gate false (state self.old))) (state self.old) (state self.new) }
+        ensures { state self.new ≡ passed (with_gate false (state self.old)) }
     {
         self.gate(false);
         self.pass();
     }
 
-    /// Closes the gate and lets so many word times pass.
+    /// Closes the gate and lets so many word times pass. Where there are none the gate stays as it is.
     fn let_pass(&mut self, count: u32)
         ensures passes { LetsPass count (state self.old) (state self.new) }
     {

@@ -128,11 +128,8 @@ impl Drive for ScriptDrive {
 
     fn insert(&mut self, medium: Medium) -> Result<(), Medium>
         ensures refused { IsErr result ↔ IsSome (script_state self.old).medium }
-        ensures ok { OnOk result
-            (Becomes (loaded medium (script_state self.old))
-            (script_state self.old) (script_state self.new)) }
-        ensures err { IfErr result (λ back. (back ≡ medium)
-            × Becomes (script_state self.old) (script_state self.old) (script_state self.new)) }
+        ensures ok { OnOk result (script_state self.new ≡ loaded medium (script_state self.old)) }
+        ensures err { IfErr result (λ back. (back ≡ medium) × (script_state self.new ≡ script_state self.old)) }
         ensures no_fault { NoFault self.old self.new }
     {
         self.mechanics.insert(medium)
@@ -140,16 +137,14 @@ impl Drive for ScriptDrive {
 
     fn eject(&mut self) -> Option<Medium>
         ensures medium { result ≡ (script_state self.old).medium }
-        ensures becomes { Becomes (unloaded (script_state self.old))
-            (script_state self.old) (script_state self.new) }
+        ensures becomes { script_state self.new ≡ unloaded (script_state self.old) }
         ensures no_fault { NoFault self.old self.new }
     {
         self.mechanics.eject()
     }
 
     fn motor(&mut self, on: bool)
-        ensures becomes { Becomes (with_motor on (script_state self.old))
-            (script_state self.old) (script_state self.new) }
+        ensures becomes { script_state self.new ≡ with_motor on (script_state self.old) }
         ensures no_fault { NoFault self.old self.new }
     {
         self.mechanics.motor(on);
@@ -189,16 +184,14 @@ impl Drive for ScriptDrive {
     }
 
     fn gate(&mut self, on: bool)
-        ensures becomes { Becomes (with_gate on (script_state self.old))
-            (script_state self.old) (script_state self.new) }
+        ensures becomes { script_state self.new ≡ with_gate on (script_state self.old) }
         ensures no_fault { NoFault self.old self.new }
     {
         self.mechanics.gate(on);
     }
 
     fn pass(&mut self) -> bool
-        ensures becomes { Becomes (passed (script_state self.old))
-            (script_state self.old) (script_state self.new) }
+        ensures becomes { script_state self.new ≡ passed (script_state self.old) }
         ensures index { result ≡ at_index (script_state self.old) }
         ensures range_before { InRange (script_state self.old) }
         ensures range { InRange (script_state self.new) }
@@ -293,8 +286,7 @@ impl Drive for ScriptDrive {
     }
 
     fn idle(&mut self)
-        ensures becomes { Becomes (passed (with_gate false (script_state self.old)))
-            (script_state self.old) (script_state self.new) }
+        ensures becomes { script_state self.new ≡ passed (with_gate false (script_state self.old)) }
         ensures no_fault { NoFault self.old self.new }
     {
         self.mechanics.idle();

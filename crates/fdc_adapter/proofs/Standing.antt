@@ -1,8 +1,7 @@
 -- Device steps of a controller that does nothing.
 use Rattle.std.proofs.Common.{◌≡◌, ℕ, zero, suc, ◌==◌, ◌&&◌, Bool, true, false, not, if◌then◌else◌, Option, Some, None, refl, sym, ap, ◌∙◌, subst, arith}
 use Rattle.std.proofs.lemmas.Bool.{true≢false}
-use Rattle.flop_base.specs.Counts.{Spends}
-use Rattle.drive_model.specs.Drive.{DriveState, Becomes}
+use Rattle.drive_model.specs.Drive.{DriveState}
 use Rattle.fdc_core.specs.Courses.{IsStill, Works, WorksAlone}
 use Rattle.fdc_core.specs.Listening.{is_executing}
 use Rattle.fdc_core.specs.State.{is_held}
@@ -16,14 +15,6 @@ use Rattle.fdc_adapter.specs.Adapters.{AdapterState, StepsAdapter, selected_at}
 use Rattle.fdc_adapter.specs.Still.{Stands}
 
 -- ---- a word time in which nothing is executed
-
--- a word time of a drive that has no fault
-spends_nothing : (count : ℕ) (left : Option ℕ) → Spends count left count left
-spends_nothing count None = refl
-spends_nothing count (Some most) = (most, refl, omega arith)
-
-passes_well : (drive : DriveState) → Becomes (let_pass drive) drive (let_pass drive)
-passes_well drive = record { becomes = refl; never_falls = omega arith; spends = spends_nothing drive.faults drive.left }
 
 -- what a step of a data command leaves isn't that command at the same step
 not_executing : (phase : Phase) → EndsIn phase phase → is_executing phase ≡ false
@@ -50,7 +41,7 @@ idle_polled old ends = ap is_executing (polled_phase old) ∙ not_executing old.
 
 still_with : (old : Fdc) (before : DriveState) (new : Fdc) (after : DriveState) → IsStill old → Works old before new after → new ≡ old
 still_with old before new after still works =
-    let none = still.works before (let_pass before) (passes_well before) in
+    let none = still.works before in
     one_outcome (polled old).phase (before.cylinder == 0) (polled old) old new (idle_polled old none.ends) none.rests works.rests
 
 still_alone : (old new : Fdc) → IsStill old → WorksAlone old new → new ≡ old

@@ -1,6 +1,6 @@
 -- A controller with two drives, as contracts see it.
 use Rattle.std.specs.Prelude.{◌≡◌, ◌≤◌, zero, suc, ℕ, ◌==◌, if◌then◌else◌, false, not, ◌&&◌, Bool, true, Option, Some, None}
-use Rattle.drive_model.specs.Drive.{DriveState, Becomes, with_motor}
+use Rattle.drive_model.specs.Drive.{DriveState, with_motor}
 use Rattle.fdc_core.specs.Courses.{HoldsLines}
 use Rattle.fdc_core.specs.Dma.{byte_out, taken_out, taken_in, to_memory_of}
 use Rattle.fdc_core.specs.Ports.{Writes}
@@ -52,8 +52,8 @@ lines_at adapter = lines_of_selected (selected_at adapter) adapter.first adapter
 -- a new one with these drives
 pub record IsNewAdapter (bay0 bay1 : DriveState) (new : AdapterState) : Type 0 where
   pub controller : new.controller ≡ at_power_up
-  pub first : Becomes (with_motor false bay0) bay0 new.first
-  pub second : Becomes (with_motor false bay1) bay1 new.second
+  pub first : new.first ≡ with_motor false bay0
+  pub second : new.second ≡ with_motor false bay1
 
 -- a byte is written to a port, and both drives follow it, whichever DOR selects
 pub record WritesAdapter (port value : ℕ) (old new : AdapterState) : Type 0 where

@@ -1,21 +1,21 @@
 -- What is done by hand to the media in the bays. The drive in the other bay stays.
 use Rattle.std.specs.Prelude.{◌≡◌, ◌↔◌, ℕ, ◌-◌, false, Option, Some, Result, IsErr, IsSome, OnOk, IfOk, IfErr}
 use Rattle.raw_image.specs.Disk.{Disk}
-use Rattle.drive_model.specs.Drive.{DriveState, Becomes, loaded, unloaded, same_length, exchanged}
+use Rattle.drive_model.specs.Drive.{DriveState, loaded, unloaded, same_length, exchanged}
 use Rattle.fdc_adapter.specs.Adapters.{AdapterState, drive_at}
 
 -- a medium goes in, of which no word was replaced yet; where one is in already, it is given back
 pub record PutsIn (bay : ℕ) (medium : Disk) (old new : AdapterState) (result : Result (Unit {0}) Disk) : Type 0 where
   pub other : drive_at new (1 - bay) ≡ drive_at old (1 - bay)
   pub refused : IsErr result ↔ IsSome (drive_at old bay).medium
-  pub ok : OnOk result (Becomes (loaded medium (drive_at old bay)) (drive_at old bay) (drive_at new bay))
-  pub err : IfErr result (λ back. (back ≡ medium) × Becomes (drive_at old bay) (drive_at old bay) (drive_at new bay))
+  pub ok : OnOk result (drive_at new bay ≡ loaded medium (drive_at old bay))
+  pub err : IfErr result (λ back. (back ≡ medium) × (drive_at new bay ≡ drive_at old bay))
 
 -- the medium goes out, if one is in
 pub record TakesOut (bay : ℕ) (old new : AdapterState) (result : Option Disk) : Type 0 where
   pub other : drive_at new (1 - bay) ≡ drive_at old (1 - bay)
   pub medium : result ≡ (drive_at old bay).medium
-  pub becomes : Becomes (unloaded (drive_at old bay)) (drive_at old bay) (drive_at new bay)
+  pub becomes : drive_at new bay ≡ unloaded (drive_at old bay)
 
 -- a medium goes in the place of another with tracks as long, and turns on; where there is none such, it is given back
 pub record Exchanges (bay : ℕ) (medium : Disk) (old new : AdapterState) (result : Result Disk Disk) : Type 0 where

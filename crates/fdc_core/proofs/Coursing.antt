@@ -4,7 +4,7 @@ use Rattle.std.proofs.lemmas.Bool.{false≢true}
 use Rattle.std.specs.Option.{option_map_or}
 use Rattle.drive_model.specs.Drive.{DriveState, Becomes, at_index, passed, rate_of, word_under}
 use Rattle.drive_model.specs.Ahead.{LetsPass, AreAhead}
-use Rattle.drive_model.proofs.Passing.{ahead_same}
+use Rattle.drive_model.proofs.Passing.{ahead_same, becomes_at}
 use Rattle.fdc_registers.specs.Fifo.{wants}
 use Rattle.fdc_stages.specs.declared.searching.Search.{Search}
 use Rattle.fdc_stages.specs.declared.reading.ReadStage.TheVariants as stages
@@ -124,10 +124,11 @@ outside P command result (Execute execution) other = absurd (other execution ref
 -- nothing of the controller changes any more
 pub still : (fdc : Fdc) → fdc.poll_due ≡ false → is_seeking fdc.seeks ≡ false → ((execution : Execution) → fdc.phase ≡ Execute execution → ⊥) → IsStill fdc
 still fdc due ended other = record {
-  works = λ before after passes.
+  works = λ before.
+      let after = let_pass before in
       let track0 = before.cylinder == 0 in
       let same = unseeking track0 fdc ended in
-      let moves : Moves (pulse_due fdc.seeks track0) before after = subst (λ pulse. Moves pulse before after) (sym (seek_none fdc.seeks.seek track0 ended)) passes in
+      let moves : Moves (pulse_due fdc.seeks track0) before after = subst (λ pulse. Moves pulse before after) (sym (seek_none fdc.seeks.seek track0 ended)) refl in
       works_unpolled fdc due fdc before after
       (outside (λ phase. RestsIn phase track0 fdc fdc) same (λ answer. same) fdc.phase other)
       (rests_hears track0 (at_index before) fdc fdc before after same other)
@@ -159,9 +160,12 @@ ahead_first head (suc count) [] s ahead = tt
 ahead_first head (suc count) (word ∷ rest) s (same, before, ahead) = (same, before, ahead_first head count rest (passed s) ahead)
 
 -- behind a word time with the gate closed
-pub ahead_behind : (head : ℕ) (rest : List ℕ) (before mid : DriveState) → Becomes (let_pass before) before mid → AreAhead head rest (passed before) → AreAhead head rest mid
-ahead_behind head rest before mid passes ahead =
-    subst (λ s. AreAhead head rest s) (sym passes.becomes) (ahead_same head rest (passed before) false before.cut mid.faults mid.left ahead)
+pub ahead_behind : (head : ℕ) (rest : List ℕ) (before : DriveState) → AreAhead head rest (passed before) → AreAhead head rest (let_pass before)
+ahead_behind head rest before ahead = ahead_same head rest (passed before) false before.cut before.faults before.left ahead
+
+-- a word time in which no fault comes
+pub passes_calmly : (before after : DriveState) → after ≡ let_pass before → Becomes (let_pass before) before after
+passes_calmly before after is = becomes_at (let_pass before) before after is refl refl
 
 -- a word that passes by a search in one device step, behind so many others and at least some
 pub record PassesWord (least head : ℕ) (rate : DataRate) (steps word : ℕ) (search next : Search) (before after : DriveState) : Type 0 where
@@ -191,13 +195,14 @@ unfolding Courses AreAhead HearsNothingIn LetsPass
 courses least head rate at each [] steps last search final before after some sum few fits ahead same passes =
     let none : last ≡ steps = omega (arith, sum) in
     (ap (λ n. at n final) none ∙ ap (at steps) same, passes)
-courses least head rate at each (word ∷ rest) steps last search final before after some sum few fits (under, no_index, ahead) (next, hears, more) (mid, passes, others) =
-    let step = each steps word search next before mid (record { some = some; few = omega (arith, sum, few); under = under; no_index = no_index; fits = fits; hears = hears; passes = passes }) in (
+courses least head rate at each (word ∷ rest) steps last search final before after some sum few fits (under, no_index, ahead) (next, hears, more) others =
+    let mid = let_pass before in
+    let step = each steps word search next before mid (record { some = some; few = omega (arith, sum, few); under = under; no_index = no_index; fits = fits; hears = hears; passes = passes_calmly before mid refl }) in (
       at (steps + 1) next,
       mid,
       step.0,
       step.1,
-      courses least head rate at each rest (steps + 1) last next final mid after (omega (arith, some)) (omega (arith, sum)) few (subst (λ s. rate_fits rate (rate_of s.medium) ≡ true) (sym passes.becomes) fits) (ahead_behind head rest before mid passes ahead) more others,
+      courses least head rate at each rest (steps + 1) last next final mid after (omega (arith, some)) (omega (arith, sum)) few fits (ahead_behind head rest before ahead) more others,
     )
 
 -- and so many

@@ -25,7 +25,7 @@ use Rattle.fdc_core.specs.State.{finished}
 use Rattle.fdc_core.specs.Steps.{let_pass}
 use Rattle.fdc_core.specs.declared.controller.Fdc.{Fdc}
 use Rattle.fdc_core.proofs.Following.{at_reading}
-use Rattle.fdc_core.proofs.Coursing.{works_on, ahead_first, ahead_behind}
+use Rattle.fdc_core.proofs.Coursing.{works_on, ahead_first, ahead_behind, passes_calmly}
 
 -- ---- bytes to the FIFO
 
@@ -158,15 +158,16 @@ module _ (head_drive : ℕ) (reading : Reading) (old : Fdc) (still : IsQuiet old
             ∙ ap (content_at head_drive reading old steps stage) kept,
         passes,
       )
-  content_courses (word ∷ words) bytes steps last stage final fifo before after sum few fits (under, no_index, ahead) (value, more, next, is, hears, rest) room (mid, passes, others) =
+  content_courses (word ∷ words) bytes steps last stage final fifo before after sum few fits (under, no_index, ahead) (value, more, next, is, hears, rest) room others =
+      let mid = let_pass before in
       let now : Fifo = with_bytes reading.counted (value ∷ []) fifo in
       let full : with_bytes reading.counted more now ≡ with_bytes reading.counted bytes fifo = with_more reading.counted (value ∷ []) more fifo ∙ ap (λ b. with_bytes reading.counted b fifo) (sym is) in (
         content_at head_drive reading old (steps + 1) next now,
         mid,
-        content_step (length words) steps word value stage next fifo before mid room (record { few = omega (arith, sum, few); under = under; no_index = no_index; fits = fits; hears = hears; passes = passes }),
+        content_step (length words) steps word value stage next fifo before mid room (record { few = omega (arith, sum, few); under = under; no_index = no_index; fits = fits; hears = hears; passes = passes_calmly before mid refl }),
         record { request = refl; interrupt = refl; ended = refl; mark = hears.same },
         subst (λ f. Courses (length words) (content_at head_drive reading old (steps + 1) next now) mid (content_at head_drive reading old last final f) after) full
-            (content_courses words more (steps + 1) last next final now mid after (omega (arith, sum)) few (subst (λ s. rate_fits old.rate (rate_of s.medium) ≡ true) (sym passes.becomes) fits) (ahead_behind (head_of head_drive) words before mid passes ahead) rest (room_behind (length words) value reading.counted fifo room) others),
+            (content_courses words more (steps + 1) last next final now mid after (omega (arith, sum)) few fits (ahead_behind (head_of head_drive) words before ahead) rest (room_behind (length words) value reading.counted fifo room) others),
       )
 
   -- all of them

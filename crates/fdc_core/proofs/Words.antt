@@ -2,6 +2,7 @@
 use Rattle.std.proofs.Common.{◌≡◌, ◌<◌, ℕ, zero, suc, ◌+◌, Bool, true, false, None, Some, refl, sym, ap, subst, ◌∙◌, inl}
 use Rattle.std.proofs.lemmas.Bool.{false≢true}
 use Rattle.drive_model.specs.Drive.{DriveState, Becomes, Reads, at_index, word_under, rate_of}
+use Rattle.drive_model.proofs.Passing.{becomes_at}
 use Rattle.fdc_stages.specs.declared.ending.Ending.{Ending}
 use Rattle.fdc_stages.specs.declared.ending.Ending.TheVariants.{Overrun}
 use Rattle.flop_base.specs.declared.answers.Rate.{Rate}
@@ -45,12 +46,12 @@ sees_fitting rate head raw before after medium is fits reads = sees rate head ra
 
 -- ---- the last step of a command that listens
 
-pub last_listens : (head_drive steps : ℕ) (task : Task) (old : Fdc) (before after : DriveState) (new : Fdc) → Becomes (let_pass before) before after
+pub last_listens : (head_drive steps : ℕ) (task : Task) (old : Fdc) (before after : DriveState) (new : Fdc) → after ≡ let_pass before
     → ((word : ℕ) → StepsOn head_drive steps task (at_index before) word old new) → IsListenStep head_drive steps task old before after new
 last_listens head_drive steps task old before after new passes does =
     let raw = word_under before (head_of head_drive) in
     let word = seen_of (rate_fits old.rate (rate_of before.medium)) raw in
-    record { word = word; sees = (raw, inl refl, refl); passes = passes; does = does word }
+    record { word = word; sees = (raw, inl refl, refl); passes = becomes_at (let_pass before) before after passes refl refl; does = does word }
 
 -- ---- a device step of what is in execution
 
@@ -106,7 +107,7 @@ wrote_time head_drive steps byte writing old mid_fdc before after new few fits d
 
 -- the index is the same with the gate open
 pub opens_index : (first : Bool) (before from : DriveState) → Opens first before from → at_index from ≡ at_index before
-opens_index true before from is = ap at_index is.becomes
+opens_index true before from is = ap at_index is
 opens_index false before from is = ap at_index is
 
 -- ---- a FORMAT
@@ -165,7 +166,7 @@ stopped_without true ending head_drive key old = refl
 stopped_without false ending head_drive key old = refl
 
 pub missed_time : (head_drive steps : ℕ) (needs : Bool) (formatting : Formatting) (old mid_fdc : Fdc) (before after : DriveState) (new : Fdc) → steps < 65535 → formats_of.is_due formatting.stage ≡ true → formats_of.Takes formatting.stage needs → ((lead : ℕ) → HasLead formatting.stage lead → needs ≡ true → lead ≡ 0)
-    → byte_taken needs formatting.counted old.fifo ≡ None → mid_fdc ≡ without_byte needs old → Becomes (let_pass before) before after → new ≡ finished Overrun head_drive no_key mid_fdc → IsFormatTime head_drive steps formatting old before after new
+    → byte_taken needs formatting.counted old.fifo ≡ None → mid_fdc ≡ without_byte needs old → after ≡ let_pass before → new ≡ finished Overrun head_drive no_key mid_fdc → IsFormatTime head_drive steps formatting old before after new
 missed_time head_drive steps needs formatting old mid_fdc before after new few due asks needed missing leaves passes is = record {
   time = Stopped;
   is = passes;

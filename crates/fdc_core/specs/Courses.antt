@@ -1,6 +1,6 @@
 -- Device steps whole, and so many of them in a row.
 use Rattle.std.specs.Prelude.{◌≡◌, ◌==◌, ℕ, zero, suc, ◌+◌, ◌≤◌, Bool, true, false, not, List, length, if◌then◌else◌}
-use Rattle.drive_model.specs.Drive.{DriveState, Becomes, at_index}
+use Rattle.drive_model.specs.Drive.{DriveState, at_index}
 use Rattle.drive_model.specs.Ahead.{LetsPass, AreAhead}
 use Rattle.fdc_phases.specs.Phases.{ending_of_phase, mark_of_phase}
 use Rattle.fdc_phases.specs.declared.phases.Phase.{Phase}
@@ -60,9 +60,9 @@ executes _ = false
 abbrev pub is_at_rest : Fdc → Bool
 is_at_rest fdc = if fdc.poll_due then false else if is_seeking fdc.seeks then false else not (executes fdc.phase)
 
--- a device step changes nothing of the controller, with whatever drive and with none, and lets a word time pass
+-- a device step changes nothing of the controller, with whatever drive and with none, and lets a word time pass in which no fault comes
 pub record IsStill (fdc : Fdc) : Type 0 where
-  pub works : (before after : DriveState) → Becomes (let_pass before) before after → Works fdc before fdc after
+  pub works : (before : DriveState) → Works fdc before fdc (let_pass before)
   pub alone : WorksAlone fdc fdc
 
 -- no poll comes, and DRQ is down

@@ -34,15 +34,15 @@ Rests track0 old new = RestsIn old.phase track0 old new
 abbrev pub let_pass : DriveState → DriveState
 let_pass drive = passed (with_gate false drive)
 
--- one word time passes at the drive, behind the pulse of a seek
+-- one word time passes at the drive, after the pulse of a seek. A fault may come in the pulse alone
 abbrev pub Moves : Option Bool → DriveState → DriveState → Type 0
-Moves None before after = Becomes (let_pass before) before after
+Moves None before after = after ≡ let_pass before
 Moves (Some inward) before after =
-    (between : DriveState) × Pulses inward before between × Becomes (let_pass between) between after
+    (between : DriveState) × Pulses inward before between × (after ≡ let_pass between)
 
--- READ ID and READ DATA let it pass
+-- READ ID and READ DATA let it pass and hear a word, in which a fault may come
 abbrev pub MovesTask : Bool → DriveState → DriveState → Type 0
-MovesTask true before after = Moves None before after
+MovesTask true before after = Becomes (let_pass before) before after
 MovesTask false before after = Unit {0}
 
 abbrev pub MovesIn : Phase → Fdc → DriveState → DriveState → Type 0

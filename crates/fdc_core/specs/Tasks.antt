@@ -1,6 +1,6 @@
 -- A device step of a data command, by its task.
 use Rattle.std.specs.Prelude.{◌≡◌, ◌⊎◌, ◌<◌, ℕ, ◌+◌, false, None}
-use Rattle.drive_model.specs.Drive.{DriveState, at_index}
+use Rattle.drive_model.specs.Drive.{DriveState, Becomes, at_index}
 use Rattle.fdc_stages.specs.declared.formatting.FormatNext.{FormatNext}
 use Rattle.fdc_stages.specs.declared.writing.WriteNext.{WriteNext}
 use Rattle.fdc_phases.specs.Answers.{no_key}
@@ -9,7 +9,7 @@ use Rattle.fdc_phases.specs.Formatting.{StageHearsIndex}
 use Rattle.fdc_core.specs.Listening.{SeesUnder, StepsOn}
 use Rattle.fdc_phases.specs.Phases.{head_of}
 use Rattle.fdc_core.specs.State.{finished}
-use Rattle.fdc_core.specs.Steps.{Moves}
+use Rattle.fdc_core.specs.Steps.{let_pass}
 use Rattle.fdc_core.specs.Writing.{IsWriteStep, after_next}
 use Rattle.fdc_phases.specs.Writing.{StageHearsWord}
 use Rattle.fdc_stages.specs.declared.ending.Ending.TheVariants.{Late}
@@ -25,7 +25,7 @@ use Rattle.fdc_phases.specs.declared.transfers.Writing.{Writing}
 pub record IsListenStep (head_drive steps : ℕ) (task : Task) (old : Fdc) (before after : DriveState) (new : Fdc) : Type 0 where
   pub word : ℕ
   pub sees : SeesUnder old.rate (head_of head_drive) before word after
-  pub passes : Moves None before after
+  pub passes : Becomes (let_pass before) before after
   pub does : StepsOn head_drive steps task (at_index before) word old new
 
 -- a device step, behind so many others

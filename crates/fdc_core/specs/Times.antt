@@ -21,12 +21,12 @@ pub data WordTime : Type 0 where
 
 -- the gate is opened, or stays as it is
 abbrev pub Opens : Bool → DriveState → DriveState → Type 0
-Opens true old new = Becomes (with_gate true old) old new
+Opens true old new = new ≡ with_gate true old
 Opens false old new = new ≡ old
 
 -- the gate is closed, or stays as it is
 abbrev pub Closes : Bool → DriveState → DriveState → Type 0
-Closes true old new = Becomes (with_gate false old) old new
+Closes true old new = new ≡ with_gate false old
 Closes false old new = new ≡ old
 
 -- a word is seen under this head, with the gate closed
@@ -54,7 +54,7 @@ IsTime (KeptOut index word) rate head before after =
     (rate_fits rate (rate_of before.medium) ≡ false) × IsHeardTime index word rate head before after
 IsTime (Wrote opened closed index word) rate head before after =
     IsWroteTime opened closed index word rate head before after
-IsTime Stopped rate head before after = Becomes (let_pass before) before after
+IsTime Stopped rate head before after = after ≡ let_pass before
 
 -- what has passed then
 abbrev pub after_time : WordTime → Past → Past

@@ -354,7 +354,7 @@ impl Fdc {
         drive: &mut D,
     )
         ensures state { self.new ≡ finished ending head_drive key self.old }
-        ensures drive { Becomes (let_pass (D.state drive.old)) (D.state drive.old) (D.state drive.new) }
+        ensures drive { D.state drive.new ≡ let_pass (D.state drive.old) }
     {
         drive.idle();
         self.finish(ending, head_drive, key);

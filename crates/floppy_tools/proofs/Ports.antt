@@ -1,14 +1,14 @@
 -- Port accesses on the machine that is handed in.
 use Rattle.std.proofs.Common.{◌≡◌, ◌∙◌, ℕ, List, Option, Some, None, ap, false}
 use Rattle.std.specs.Prelude.{IsSome}
-use Rattle.drive_model.specs.Drive.{DriveState, Becomes, with_motor}
+use Rattle.drive_model.specs.Drive.{DriveState, with_motor}
 use Rattle.pc_bus.specs.Boards.{Board, IsEmpty}
 use Rattle.machine_commands.specs.Started.{IsFreshBoard}
 use Rattle.text_commands.specs.Benches.{IsBare}
 
 -- a drive that was put into a new machine empty is empty
-made : (bay drive : DriveState) → IsEmpty bay → Becomes (with_motor false bay) bay drive → drive.medium ≡ None
-made bay drive empty becomes = ap (λ (d : DriveState). d.medium) becomes.becomes ∙ empty.medium
+made : (bay drive : DriveState) → IsEmpty bay → drive ≡ with_motor false bay → drive.medium ≡ None
+made bay drive empty is = ap (λ (d : DriveState). d.medium) is ∙ empty.medium
 
 -- a machine as it is made has no medium in
 pub bare : (board : Board) → IsFreshBoard board → IsBare board

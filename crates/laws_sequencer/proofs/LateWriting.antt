@@ -285,7 +285,7 @@ module _ (outset : Outset) (sent : Sent) (deleted : Bool) (lead : ℕ) (late : P
     late = stepped late;
     past_is = time_led lead late Stopped;
     guarded = guarded;
-    drive_is = inr (subst (λ b. IsAtWindow outset (stepped late) b after) (sym (ap (λ fdc. is_executing fdc.phase) does.after_is)) (spun_stopped none (turning_on outset 0 drive spins after is)));
+    drive_is = inr (subst (λ b. IsAtWindow outset (stepped late) b after) (sym (ap (λ fdc. is_executing fdc.phase) does.after_is)) (spun_stopped none (turning_on outset 0 drive spins after (becomes_at (let_pass drive) drive after is refl refl))));
   }
 
   pub window_timed : (IsUnheard late × IsSpinning outset 0 drive) ⊎ IsAtWindow outset late true drive → (time : WordTime) → IsTime time outset.rate outset.head drive after

@@ -481,16 +481,18 @@ module _ (place : Place) (first : Transfer) (wanted skip : Bool) (reads : first.
 
   motor_turns : (b : Bool) (bay : ℕ) (controller : Fdc) (before after : DriveState) → FollowsDor b bay controller before after → after.motor ≡ true → TurnsOn before after
   motor_turns true bay controller before after (on, is, becomes) runs =
-      let stays : on ≡ true = sym (ap (λ s. s.motor) becomes.becomes) ∙ runs in
-      let spin : after.spin ≡ before.spin = ap (λ s. s.spin) becomes.becomes ∙ ap (λ runs. if runs then before.spin else 0) stays in
-      record { place = ap (λ s. s.place) becomes.becomes; never_falls = becomes.never_falls; keeps_speed = λ fast. omega arith }
+      let stays : on ≡ true = sym (ap (λ s. s.motor) becomes) ∙ runs in
+      let spin : after.spin ≡ before.spin = ap (λ s. s.spin) becomes ∙ ap (λ runs. if runs then before.spin else 0) stays in
+      let faults : after.faults ≡ before.faults = ap (λ s. s.faults) becomes in
+      record { place = ap (λ s. s.place) becomes; never_falls = omega arith; keeps_speed = λ fast. omega arith }
   motor_turns false bay controller before after is runs = subst (TurnsOn before) (sym is) (turns_same before)
 
   gate_turns : (b : Bool) (before after : DriveState) → Closes b before after → (after.motor ≡ before.motor) × TurnsOn before after
   gate_turns true before after becomes =
-      let spin : after.spin ≡ before.spin = ap (λ s. s.spin) becomes.becomes in
-      let turns : TurnsOn before after = record { place = ap (λ s. s.place) becomes.becomes; never_falls = becomes.never_falls; keeps_speed = λ fast. omega arith } in
-      (ap (λ s. s.motor) becomes.becomes, turns)
+      let spin : after.spin ≡ before.spin = ap (λ s. s.spin) becomes in
+      let faults : after.faults ≡ before.faults = ap (λ s. s.faults) becomes in
+      let turns : TurnsOn before after = record { place = ap (λ s. s.place) becomes; never_falls = omega arith; keeps_speed = λ fast. omega arith } in
+      (ap (λ s. s.motor) becomes, turns)
   gate_turns false before after is = (ap (λ s. s.motor) is, subst (TurnsOn before) (sym is) (turns_same before))
 
   write_turns : (port value bay : ℕ) (controller : Fdc) (before after : DriveState) → FollowsWrite port value bay controller before after → after.motor ≡ true → TurnsOn before after

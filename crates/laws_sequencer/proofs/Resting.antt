@@ -21,9 +21,9 @@ polled_phase old = by_poll (old.poll_due && not (is_held old))
 
 -- a word time with its pulse
 pub moves_same : (pulse : Option Bool) (before after : DriveState) → Moves pulse before after → after.medium ≡ before.medium
-moves_same None before after becomes = ap (λ s. s.medium) becomes.becomes
-moves_same (Some inward) before after (between, pulses, becomes) =
-    ap (λ s. s.medium) becomes.becomes ∙ elim pulses [ inl moved ↦ ap (λ s. s.medium) moved.becomes | inr lost ↦ ap (λ s. s.medium) lost.0.becomes ]
+moves_same None before after is = ap (λ s. s.medium) is
+moves_same (Some inward) before after (between, pulses, is) =
+    ap (λ s. s.medium) is ∙ elim pulses [ inl moved ↦ ap (λ s. s.medium) moved.becomes | inr lost ↦ ap (λ s. s.medium) lost.0.becomes ]
 
 idle_moves : (phase : Phase) (polls : Fdc) (before after : DriveState) → is_executing phase ≡ false → MovesIn phase polls before after → after.medium ≡ before.medium
 idle_moves Command polls before after idle moves = moves_same _ before after moves

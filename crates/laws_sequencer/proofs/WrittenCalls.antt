@@ -51,12 +51,12 @@ port_puts : (port value bay : ℕ) (controller : Fdc) (before after : DriveState
 port_puts port value bay controller before after follows none = by_gate (resets port value) none follows.gate (by_motor (port == 0x3F2) follows.motor)
   where
     by_motor : (b : Bool) → FollowsDor b bay controller before follows.between → StaysPut before follows.between
-    by_motor true (on, is, becomes) = record {
-      medium = ap (λ s. s.medium) becomes.becomes;
-      place = ap (λ s. s.place) becomes.becomes;
-      gate = ap (λ s. s.gate) becomes.becomes;
-      cut = ap (λ s. s.cut) becomes.becomes;
-      never_falls = becomes.never_falls;
+    by_motor true (on, line, is) = record {
+      medium = ap (λ s. s.medium) is;
+      place = ap (λ s. s.place) is;
+      gate = ap (λ s. s.gate) is;
+      cut = ap (λ s. s.cut) is;
+      never_falls = let same : follows.between.faults ≡ before.faults = ap (λ s. s.faults) is in omega arith;
     }
     by_motor false is = record {
       medium = ap (λ s. s.medium) is;
@@ -80,8 +80,8 @@ adapter_puts port value bay old new writes none = by_bay (bay == 0)
 -- one that stays on keeps its speed
 motor_speed : (b : Bool) (bay : ℕ) (controller : Fdc) (before after : DriveState) → FollowsDor b bay controller before after → after.motor ≡ true → KeepsSpeed before after
 motor_speed true bay controller before after (on, is, becomes) runs fast =
-    let stays : on ≡ true = sym (ap (λ s. s.motor) becomes.becomes) ∙ runs in
-    let spin : after.spin ≡ before.spin = ap (λ s. s.spin) becomes.becomes ∙ ap (λ runs. if runs then before.spin else 0) stays in
+    let stays : on ≡ true = sym (ap (λ s. s.motor) becomes) ∙ runs in
+    let spin : after.spin ≡ before.spin = ap (λ s. s.spin) becomes ∙ ap (λ runs. if runs then before.spin else 0) stays in
     omega arith
 motor_speed false bay controller before after is runs fast = let same = ap (λ s. s.spin) is in omega arith
 

@@ -125,17 +125,17 @@ step_rests : (place : Place) (disk : Disk) (old new : AdapterState) → StepsAda
 step_rests place disk old new steps rests = elim (which_drive (selected_at old)) [
   | inl at ↦ let (works, passes) = steps.at_first at in
       record {
-        medium = same_media place.bay old new (idle_medium old.controller new.controller old.first new.first rests.idle works) (ap (λ s. s.medium) passes.becomes) ∙ rests.medium;
+        medium = same_media place.bay old new (idle_medium old.controller new.controller old.first new.first rests.idle works) (ap (λ s. s.medium) passes) ∙ rests.medium;
         idle = idle_rests (old.first.cylinder == 0) old.controller new.controller rests.idle works.rests;
       }
   | inr (inl at) ↦ let (works, passes) = steps.at_second at in
       record {
-        medium = same_media place.bay old new (ap (λ s. s.medium) passes.becomes) (idle_medium old.controller new.controller old.second new.second rests.idle works) ∙ rests.medium;
+        medium = same_media place.bay old new (ap (λ s. s.medium) passes) (idle_medium old.controller new.controller old.second new.second rests.idle works) ∙ rests.medium;
         idle = idle_rests (old.second.cylinder == 0) old.controller new.controller rests.idle works.rests;
       }
   | inr (inr at) ↦ let (works, first_passes, second_passes) = steps.at_none at in
       record {
-        medium = same_media place.bay old new (ap (λ s. s.medium) first_passes.becomes) (ap (λ s. s.medium) second_passes.becomes) ∙ rests.medium;
+        medium = same_media place.bay old new (ap (λ s. s.medium) first_passes) (ap (λ s. s.medium) second_passes) ∙ rests.medium;
         idle = idle_rests false old.controller new.controller rests.idle works.rests;
       }
 ]

@@ -9,7 +9,8 @@ use Rattle.std.specs.Prelude.{List}
 use Rattle.machine_commands.proofs.Common.{last_count, Disk, DriveGoesOn, GoesOn, user_bytes, DriveState, Becomes, InRange, data_commands_of, dor_of, Holds, counted, Board, controller_of, drive_in, holds_of, memory_of, byte_set, Bus, IsIdle, IsReady, is_up, counts_of, counters_of, is_spun, rig_of, stalls_left, Motors}
 use Rattle.flop_base.specs.Counters.{IsPastDriver}
 use Rattle.flop_base.proofs.Counted.{drive_same}
-use Rattle.drive_model.specs.Drive.{at_speed, loaded, unloaded}
+use Rattle.drive_model.specs.Drive.{at_speed, loaded, unloaded, with_motor}
+use Rattle.drive_model.proofs.Passing.{becomes_at}
 use Rattle.laws_machine.specs.OnSteps.Lasts.{clock_of}
 use Rattle.pc_bus.specs.Boards.{IsEmpty}
 use Rattle.pc_bus.specs.Handling.{Touches, touched}
@@ -71,13 +72,19 @@ same_drive old new is = record {
   counts = drive_same (counts_of old) (counts_of new) (ap counts_of is);
 }
 
-becomes_same : (old new : DriveState) → Becomes old old new → SameDrive old new
+-- the count of a drive that is just this goes on, where this has the count that was there
+drive_goes : (old target new : DriveState) → new ≡ target → target.faults ≡ old.faults → target.left ≡ old.left → DriveGoesOn (counts_of old) (counts_of new)
+drive_goes old target new is faults left =
+    let becomes = becomes_at target old new is faults left in
+    record { never_falls = becomes.never_falls; spends = becomes.spends }
+
+becomes_same : (old new : DriveState) → new ≡ old → SameDrive old new
 becomes_same old new becomes = record {
-  medium = ap (λ (d : DriveState). d.medium) becomes.becomes;
-  cylinder = ap (λ (d : DriveState). d.cylinder) becomes.becomes;
-  change = ap (λ (d : DriveState). d.change) becomes.becomes;
-  spun = ap (λ (d : DriveState). at_speed d) becomes.becomes;
-  counts = record { never_falls = becomes.never_falls; spends = becomes.spends };
+  medium = ap (λ (d : DriveState). d.medium) becomes;
+  cylinder = ap (λ (d : DriveState). d.cylinder) becomes;
+  change = ap (λ (d : DriveState). d.change) becomes;
+  spun = ap (λ (d : DriveState). at_speed d) becomes;
+  counts = drive_goes old old new becomes refl refl;
 }
 
 -- it has another medium, or none
@@ -87,20 +94,20 @@ record Swapped (medium : Option Disk) (old new : DriveState) : Type 0 where
   change : new.change ≡ true
   counts : DriveGoesOn (counts_of old) (counts_of new)
 
-becomes_loaded : (medium : Disk) (old new : DriveState) → Becomes (loaded medium old) old new → Swapped (Some medium) old new
+becomes_loaded : (medium : Disk) (old new : DriveState) → new ≡ loaded medium old → Swapped (Some medium) old new
 becomes_loaded medium old new becomes = record {
-  is = ap (λ (d : DriveState). d.medium) becomes.becomes;
-  cylinder = ap (λ (d : DriveState). d.cylinder) becomes.becomes;
-  change = ap (λ (d : DriveState). d.change) becomes.becomes;
-  counts = record { never_falls = becomes.never_falls; spends = becomes.spends };
+  is = ap (λ (d : DriveState). d.medium) becomes;
+  cylinder = ap (λ (d : DriveState). d.cylinder) becomes;
+  change = ap (λ (d : DriveState). d.change) becomes;
+  counts = drive_goes old (loaded medium old) new becomes refl refl;
 }
 
-becomes_unloaded : (old new : DriveState) → IsSome old.medium → Becomes (unloaded old) old new → Swapped None old new
+becomes_unloaded : (old new : DriveState) → IsSome old.medium → new ≡ unloaded old → Swapped None old new
 becomes_unloaded old new some becomes = record {
-  is = ap (λ (d : DriveState). d.medium) becomes.becomes;
-  cylinder = ap (λ (d : DriveState). d.cylinder) becomes.becomes;
-  change = ap (λ (d : DriveState). d.change) becomes.becomes ∙ ap (λ b. if b then true else old.change) some;
-  counts = record { never_falls = becomes.never_falls; spends = becomes.spends };
+  is = ap (λ (d : DriveState). d.medium) becomes;
+  cylinder = ap (λ (d : DriveState). d.cylinder) becomes;
+  change = ap (λ (d : DriveState). d.change) becomes ∙ ap (λ b. if b then true else old.change) some;
+  counts = drive_goes old (unloaded old) new becomes refl refl;
 }
 
 unloaded_empty : (s : DriveState) → s.medium ≡ None → unloaded s ≡ s
@@ -110,7 +117,7 @@ unloaded_empty s none =
 
 -- ---- the rig
 
-untouched : (old new : Board) (bay : ℕ) → bay ≤ 1 → old.bus.direct ≤ last_count → Touches bay old new → Becomes (drive_in old bay) (drive_in old bay) (drive_in new bay) → Untouched (rig_of old) (rig_of new)
+untouched : (old new : Board) (bay : ℕ) → bay ≤ 1 → old.bus.direct ≤ last_count → Touches bay old new → drive_in new bay ≡ drive_in old bay → Untouched (rig_of old) (rig_of new)
 untouched old new bay small few touches becomes =
     let leaves = touched_leaves old new few touches.bus in
     let here = becomes_same (drive_in old bay) (drive_in new bay) becomes in
@@ -154,8 +161,8 @@ none_in None empty = refl
 none_in (Some disk) empty = absurd (empty refl)
 
 pub puts_in : (old new : Board) (bay : ℕ) (medium : Disk) (answer : Result (Unit {0}) Disk) → bay ≤ 1 → old.bus.direct ≤ last_count → Touches bay old new
-    → (IsErr answer ↔ IsSome (drive_in old bay).medium) → OnOk answer (Becomes (loaded medium (drive_in old bay)) (drive_in old bay) (drive_in new bay))
-    → IfErr answer (λ back. (back ≡ medium) × Becomes (drive_in old bay) (drive_in old bay) (drive_in new bay)) → PutsIn bay medium (rig_of old) answer (rig_of new)
+    → (IsErr answer ↔ IsSome (drive_in old bay).medium) → OnOk answer (drive_in new bay ≡ loaded medium (drive_in old bay))
+    → IfErr answer (λ back. (back ≡ medium) × (drive_in new bay ≡ drive_in old bay)) → PutsIn bay medium (rig_of old) answer (rig_of new)
 puts_in old new bay medium (Ok _) small few touches refused ok err = (
   sym (medium_in bay old) ∙ none_in (drive_in old bay).medium (λ some. false≢true (refused.1 some)),
   exchanged old new bay (Some medium) small few touches (becomes_loaded medium (drive_in old bay) (drive_in new bay) ok),
@@ -164,12 +171,12 @@ puts_in old new bay medium (Err back) small few touches refused ok (same, become
     (ap is_some (sym (medium_in bay old)) ∙ refused.0 refl, same, untouched old new bay small few touches becomes)
 
 pub takes_out : (old new : Board) (bay : ℕ) (answer : Option Disk) → bay ≤ 1 → old.bus.direct ≤ last_count → Touches bay old new
-    → answer ≡ (drive_in old bay).medium → Becomes (unloaded (drive_in old bay)) (drive_in old bay) (drive_in new bay) → TakesOut bay (rig_of old) answer (rig_of new)
+    → answer ≡ (drive_in old bay).medium → drive_in new bay ≡ unloaded (drive_in old bay) → TakesOut bay (rig_of old) answer (rig_of new)
 takes_out old new bay answer small few touches is becomes = record {
   medium = is ∙ medium_in bay old;
   taken_out = λ some. exchanged old new bay None small few touches (becomes_unloaded (drive_in old bay) (drive_in new bay) (ap is_some (sym is) ∙ some) becomes);
   empty = λ none. untouched old new bay small few touches
-      (subst (λ d. Becomes d (drive_in old bay) (drive_in new bay)) (unloaded_empty (drive_in old bay) (sym is ∙ none)) becomes);
+      (becomes ∙ unloaded_empty (drive_in old bay) (sym is ∙ none));
 }
 
 -- ---- drives
@@ -192,9 +199,9 @@ pub exchanges : (old new : Board) (bay : ℕ) (drive : DriveState) → bay ≤ 1
     → FollowsMotor bay (controller_of old) drive (drive_in new bay) → ExchangesDrive bay (counts_of drive) (rig_of old) (rig_of new)
 exchanges old new bay drive small few touches empty (on, lines, becomes) =
     let other = same_drive (drive_in old (1 - bay)) (drive_in new (1 - bay)) touches.other in
-    let medium = ap (λ (d : DriveState). d.medium) becomes.becomes ∙ empty.medium in
-    let change = ap (λ (d : DriveState). d.change) becomes.becomes ∙ empty.change in
-    let goes : DriveGoesOn (counts_of drive) (counts_of (drive_in new bay)) = record { never_falls = becomes.never_falls; spends = becomes.spends } in
+    let medium = ap (λ (d : DriveState). d.medium) becomes ∙ empty.medium in
+    let change = ap (λ (d : DriveState). d.change) becomes ∙ empty.change in
+    let goes : DriveGoesOn (counts_of drive) (counts_of (drive_in new bay)) = drive_goes drive (with_motor on drive) (drive_in new bay) becomes refl refl in
     record {
       media = parts_with (λ (d : DriveState). d.medium) None bay old new small medium other.medium;
       changes = parts_with (λ (d : DriveState). d.change) true bay old new small change other.change;
@@ -280,19 +287,19 @@ touched_idle motors old new bay small touches motor first second was =
     still_idle motors old new (ap (λ (b : Bus). b.chips.controller) touches.bus) (ap (λ (b : Bus). b.latch.level) touches.bus) (one ∙ was.motors_are.first)
     (two ∙ was.motors_are.second) first second was
 
-put_motor : (old new : DriveState) (medium : Disk) (answer : Result (Unit {0}) Disk) → OnOk answer (Becomes (loaded medium old) old new)
-    → IfErr answer (λ back. (back ≡ medium) × Becomes old old new) → new.motor ≡ old.motor
-put_motor old new medium (Ok _) ok err = ap (λ (d : DriveState). d.motor) ok.becomes
-put_motor old new medium (Err back) ok (same, becomes) = ap (λ (d : DriveState). d.motor) becomes.becomes
+put_motor : (old new : DriveState) (medium : Disk) (answer : Result (Unit {0}) Disk) → OnOk answer (new ≡ loaded medium old)
+    → IfErr answer (λ back. (back ≡ medium) × (new ≡ old)) → new.motor ≡ old.motor
+put_motor old new medium (Ok _) ok err = ap (λ (d : DriveState). d.motor) ok
+put_motor old new medium (Err back) ok (same, becomes) = ap (λ (d : DriveState). d.motor) becomes
 
 pub put_idle : (motors : Motors) (old new : Board) (bay : ℕ) (medium : Disk) (answer : Result (Unit {0}) Disk) → bay ≤ 1 → Touches bay old new
-    → OnOk answer (Becomes (loaded medium (drive_in old bay)) (drive_in old bay) (drive_in new bay))
-    → IfErr answer (λ back. (back ≡ medium) × Becomes (drive_in old bay) (drive_in old bay) (drive_in new bay)) → InRange new.first → InRange new.second → IsIdle motors old → IsIdle motors new
+    → OnOk answer (drive_in new bay ≡ loaded medium (drive_in old bay))
+    → IfErr answer (λ back. (back ≡ medium) × (drive_in new bay ≡ drive_in old bay)) → InRange new.first → InRange new.second → IsIdle motors old → IsIdle motors new
 put_idle motors old new bay medium answer small touches ok err = touched_idle motors old new bay small touches (put_motor (drive_in old bay) (drive_in new bay) medium answer ok err)
 
-pub taken_idle : (motors : Motors) (old new : Board) (bay : ℕ) → bay ≤ 1 → Touches bay old new → Becomes (unloaded (drive_in old bay)) (drive_in old bay) (drive_in new bay)
+pub taken_idle : (motors : Motors) (old new : Board) (bay : ℕ) → bay ≤ 1 → Touches bay old new → drive_in new bay ≡ unloaded (drive_in old bay)
     → InRange new.first → InRange new.second → IsIdle motors old → IsIdle motors new
-taken_idle motors old new bay small touches becomes = touched_idle motors old new bay small touches (ap (λ (d : DriveState). d.motor) becomes.becomes)
+taken_idle motors old new bay small touches becomes = touched_idle motors old new bay small touches (ap (λ (d : DriveState). d.motor) becomes)
 
 -- the motor of a drive that takes the place of another goes on as DOR says
 follows : (motors : Motors) (old : Board) (bay : ℕ) (drive after : DriveState) → bay ≤ 1 → IsIdle motors old → FollowsMotor bay (controller_of old) drive after

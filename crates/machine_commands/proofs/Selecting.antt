@@ -4,7 +4,8 @@ use Rattle.std.specs.Int.{IsBitSet}
 use Rattle.std.specs.Prelude.{bit_and}
 use Rattle.std.proofs.lemmas.Bool.{false≢true}
 use Rattle.machine_commands.proofs.Common.{DriveState, Becomes, track_words, dor_written, dor_of, Fdc, Board, controller_of, Outputs, Bus, dor_with, Motors}
-use Rattle.drive_model.specs.Drive.{with_motor}
+use Rattle.drive_model.specs.Drive.{with_gate, with_motor}
+use Rattle.drive_model.proofs.Passing.{becomes_at}
 use Rattle.fdc_core.specs.Ports.{resets}
 use Rattle.fdc_core.specs.Times.{Closes}
 use Rattle.machine_commands.proofs.Idling.{IsResting, KeepsDrive, KeepsSpeed, Idles}
@@ -77,24 +78,24 @@ becomes_keeps to before after medium cylinder change place becomes = record {
   spends = becomes.spends;
 }
 
-switched_by : (on : Bool) (before after : DriveState) → Becomes (with_motor on before) before after → IsSwitched on before after
+switched_by : (on : Bool) (before after : DriveState) → after ≡ with_motor on before → IsSwitched on before after
 switched_by on before after becomes = record {
-  keeps = becomes_keeps (with_motor on before) before after refl refl refl refl becomes;
-  motor = ap (λ d. d.motor) becomes.becomes;
-  spin = λ is. ap (λ d. d.spin) becomes.becomes ∙ ap (λ b. if b then before.spin else 0) is;
+  keeps = becomes_keeps (with_motor on before) before after refl refl refl refl (becomes_at (with_motor on before) before after becomes refl refl);
+  motor = ap (λ d. d.motor) becomes;
+  spin = λ is. ap (λ d. d.spin) becomes ∙ ap (λ b. if b then before.spin else 0) is;
 }
 
 pub switched : (k byte : ℕ) (want : Bool) (before after : DriveState) → (IsTrue want ↔ IsBitSet byte k)
-    → (on : Bool) × (IsTrue on ↔ IsBitSet byte k) × Becomes (with_motor on before) before after → IsSwitched want before after
+    → (on : Bool) × (IsTrue on ↔ IsBitSet byte k) × (after ≡ with_motor on before) → IsSwitched want before after
 switched k byte want before after is (on, follows, becomes) =
     subst (λ b. IsSwitched b before after) (same_truth on want (IsBitSet byte k) follows is) (switched_by on before after becomes)
 
 -- the gate is closed besides, or stays as it is
 switched_closed : (want closed : Bool) (a b c : DriveState) → IsSwitched want a b → Closes closed b c → IsSwitched want a c
 switched_closed want true a b c is becomes = record {
-  keeps = drive_then a b c is.keeps (becomes_keeps (record b { gate = false }) b c refl refl refl refl becomes);
-  motor = ap (λ d. d.motor) becomes.becomes ∙ is.motor;
-  spin = λ on. ap (λ d. d.spin) becomes.becomes ∙ is.spin on;
+  keeps = drive_then a b c is.keeps (becomes_keeps (with_gate false b) b c refl refl refl refl (becomes_at (with_gate false b) b c becomes refl refl));
+  motor = ap (λ d. d.motor) becomes ∙ is.motor;
+  spin = λ on. ap (λ d. d.spin) becomes ∙ is.spin on;
 }
 switched_closed want false a b c is same = subst (λ d. IsSwitched want a d) (sym same) is
 

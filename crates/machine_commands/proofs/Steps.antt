@@ -8,7 +8,7 @@ use Rattle.flop_base.proofs.Counted.{spends_itself}
 use Rattle.fdc_commands.specs.declared.motion.Seek.{Seek}
 use Rattle.fdc_core.specs.State.{is_gated}
 use Rattle.fdc_core.specs.Steps.{let_pass}
-use Rattle.laws_machine.proofs.OnQuiet.Turning.{turned_let}
+use Rattle.laws_machine.proofs.OnQuiet.Turning.{turned_calmly}
 use Rattle.laws_machine.proofs.OnSteps.Words.{drives}
 use Rattle.pc_bus.specs.Steps.{Runs}
 use Rattle.pc_bus.specs.Transfers.{dma_stepped}
@@ -88,10 +88,10 @@ spun_more : (spin : ℕ) → min (spin + 1) 6250 ≤ (if nat_lt spin 6250 then s
 spun_more spin = grind (arith, nat_tests)
 
 -- what one word time leaves
-pub gate_turns : (before after : DriveState) → Becomes (let_pass before) before after → OnlyTurns before after
-gate_turns before after becomes =
-    let turned = turned_let before after becomes in
-    let spun : after.spin ≡ (if turns before && nat_lt before.spin 6250 then before.spin + 1 else before.spin) = ap (λ d. d.spin) becomes.becomes in record {
+pub gate_turns : (before after : DriveState) → after ≡ let_pass before → OnlyTurns before after
+gate_turns before after is =
+    let turned = turned_calmly before after is in
+    let spun : after.spin ≡ (if turns before && nat_lt before.spin 6250 then before.spin + 1 else before.spin) = ap (λ d. d.spin) is in record {
       keeps = record {
         medium = turned.medium;
         cylinder = turned.cylinder;

@@ -1,7 +1,7 @@
 -- The machine as contracts see it: a board of chips, with a drive in each bay.
 use Rattle.std.specs.Prelude.{◌≡◌, ℕ, true, false, ◌==◌, if◌then◌else◌, List, None}
 use Rattle.flop_base.specs.Memory.{zeroes}
-use Rattle.drive_model.specs.Drive.{DriveState, Becomes, InRange, with_motor}
+use Rattle.drive_model.specs.Drive.{DriveState, InRange, with_motor}
 use Rattle.dma_8237.specs.Channel.{Channel, power_up}
 use Rattle.irq_events.specs.Latch.{Latch}
 use Rattle.irq_events.specs.declared.pace.Pace.{Pace}
@@ -86,8 +86,8 @@ new_bus pace = record {
 -- a new machine with these drives: the controller turns their motors off
 pub record IsNew (pace : Pace) (bay0 bay1 : DriveState) (new : Board) : Type 0 where
   pub bus : new.bus ≡ new_bus pace
-  pub first : Becomes (with_motor false bay0) bay0 new.first
-  pub second : Becomes (with_motor false bay1) bay1 new.second
+  pub first : new.first ≡ with_motor false bay0
+  pub second : new.second ≡ with_motor false bay1
 
 -- the numbers of the drives, of the controller and of the holds are those that they hold
 pub record IsInRange (board : Board) : Type 0 where

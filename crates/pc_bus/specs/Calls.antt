@@ -1,7 +1,7 @@
 -- The calls of a machine that may change it, one after the other.
 use Rattle.std.specs.Prelude.{◌≡◌, ◌≤◌, ℕ, zero, suc, Bool}
 use Rattle.raw_image.specs.Disk.{Disk}
-use Rattle.drive_model.specs.Drive.{DriveState, Becomes, loaded, unloaded}
+use Rattle.drive_model.specs.Drive.{DriveState, loaded, unloaded}
 use Rattle.fdc_core.specs.Drives.Following.{FollowsMotor}
 use Rattle.pc_bus.specs.Boards.{Board, IsEmpty, controller_of, drive_in}
 use Rattle.pc_bus.specs.Handling.{Touches, byte_set, irq_taken}
@@ -17,10 +17,10 @@ pub data IsCalled (old new : Board) : Type 0 where
   ByWaitIrq : (most : ℕ) (set : Bool) → Waits most old set new → IsCalled old new
   ByTakeIrq : new ≡ record old { bus = irq_taken old.bus } → IsCalled old new
   ByRamSet : (address value : ℕ) → new ≡ record old { bus = byte_set address value old.bus } → IsCalled old new
-  ByInsert : (bay : ℕ) (medium : Disk) → bay ≤ 1 → Touches bay old new → Becomes (loaded medium (drive_in old bay)) (drive_in old bay) (drive_in new bay) → IsCalled old new
+  ByInsert : (bay : ℕ) (medium : Disk) → bay ≤ 1 → Touches bay old new → drive_in new bay ≡ loaded medium (drive_in old bay) → IsCalled old new
   -- a medium was in already
-  ByRefusal : (bay : ℕ) → bay ≤ 1 → Touches bay old new → Becomes (drive_in old bay) (drive_in old bay) (drive_in new bay) → IsCalled old new
-  ByEject : (bay : ℕ) → bay ≤ 1 → Touches bay old new → Becomes (unloaded (drive_in old bay)) (drive_in old bay) (drive_in new bay) → IsCalled old new
+  ByRefusal : (bay : ℕ) → bay ≤ 1 → Touches bay old new → drive_in new bay ≡ drive_in old bay → IsCalled old new
+  ByEject : (bay : ℕ) → bay ≤ 1 → Touches bay old new → drive_in new bay ≡ unloaded (drive_in old bay) → IsCalled old new
   ByExchange : (bay : ℕ) (drive : DriveState) → bay ≤ 1 → IsEmpty drive → Touches bay old new → FollowsMotor bay (controller_of old) drive (drive_in new bay) → IsCalled old new
 
 -- so many calls

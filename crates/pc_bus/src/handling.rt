@@ -1,6 +1,6 @@
 // Calls past the controller: memory, media and drives, and the latch.
 ghost use Rattle.std.specs.Prelude.{◌≡◌, ◌≤◌, ◌<◌, ◌^◌, ◌↔◌, ℕ, IsErr, IsSome, OnOk, IfErr, length, slice_index, true};
-ghost use Rattle.drive_model.specs.Drive.{Becomes, loaded, unloaded};
+ghost use Rattle.drive_model.specs.Drive.{loaded, unloaded};
 ghost use Rattle.fdc_core.specs.Drives.Following.{FollowsMotor};
 ghost use Rattle.pc_bus.specs.Boards.{board, drive_in, controller_of, memory_of, latch_of, IsEmpty};
 ghost use Rattle.pc_bus.specs.Handling.{Touches, byte_set, irq_taken};
@@ -43,10 +43,10 @@ impl<D: Drive> MachineOf<D> {
         requires { bay ≤ 1 }
         ensures touches { Touches bay (board D.state self.old) (board D.state self.new) }
         ensures refused { IsErr result ↔ IsSome (drive_in (board D.state self.old) bay).medium }
-        ensures ok { OnOk result (Becomes (loaded medium (drive_in (board D.state self.old) bay))
-            (drive_in (board D.state self.old) bay) (drive_in (board D.state self.new) bay)) }
+        ensures ok { OnOk result
+            (drive_in (board D.state self.new) bay ≡ loaded medium (drive_in (board D.state self.old) bay)) }
         ensures err { IfErr result (λ back. (back ≡ medium)
-            × Becomes (drive_in (board D.state self.old) bay) (drive_in (board D.state self.old) bay) (drive_in (board D.state self.new) bay)) }
+            × (drive_in (board D.state self.new) bay ≡ drive_in (board D.state self.old) bay)) }
     {
         self.bus.touch();
         if bay == 0 {
@@ -61,8 +61,7 @@ impl<D: Drive> MachineOf<D> {
         requires { bay ≤ 1 }
         ensures touches { Touches bay (board D.state self.old) (board D.state self.new) }
         ensures medium { result ≡ (drive_in (board D.state self.old) bay).medium }
-        ensures becomes { Becomes (unloaded (drive_in (board D.state self.old) bay))
-            (drive_in (board D.state self.old) bay) (drive_in (board D.state self.new) bay) }
+        ensures becomes { drive_in (board D.state self.new) bay ≡ unloaded (drive_in (board D.state self.old) bay) }
     {
         self.bus.touch();
         if bay == 0 {

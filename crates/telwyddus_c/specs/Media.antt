@@ -1,15 +1,15 @@
 -- Media between a tray and a drive.
 use Rattle.std.specs.Prelude.{◌≡◌, ℕ, ◌==◌, Option, None, Some, IsSome, MatchBool}
 use Rattle.c_slots.specs.Trays.{TrayValue}
-use Rattle.drive_model.specs.Drive.{DriveState, Becomes, loaded, unloaded}
+use Rattle.drive_model.specs.Drive.{DriveState, loaded, unloaded}
 use Rattle.raw_image.specs.Disk.{Disk}
 use Rattle.telwyddus_c.specs.Slots.{FullOr}
 
--- the medium of a tray goes into a drive: 0. The drive has one in, 6, or the tray has none, 7: it stays in the tray
+-- the medium of a tray goes into a drive: 0. The drive has one in, 6, or the tray has none, 7: it stays in the tray, and the drive as it was
 abbrev pub PutsIn : ℕ → TrayValue → TrayValue → DriveState → DriveState → Type 0
 PutsIn code tray left before after =
-    MatchBool (code == 0) ((disk : Disk) × (tray.medium ≡ Some disk) × (left.medium ≡ None) × Becomes (loaded disk before) before after)
-    (MatchBool (code == 6) (IsSome before.medium × (left ≡ tray) × Becomes before before after)
+    MatchBool (code == 0) ((disk : Disk) × (tray.medium ≡ Some disk) × (left.medium ≡ None) × (after ≡ loaded disk before))
+    (MatchBool (code == 6) (IsSome before.medium × (left ≡ tray) × (after ≡ before))
     (MatchBool (code == 7) ((tray.medium ≡ None) × (left ≡ tray) × (after ≡ before)) ⊥))
 
 -- the same from the slot of a tray; it holds none: 7
@@ -17,12 +17,12 @@ abbrev pub Inserts : ℕ → Option TrayValue → Option TrayValue → DriveStat
 Inserts code None left before after = (code ≡ 7) × (left ≡ None) × (after ≡ before)
 Inserts code (Some tray) left before after = (kept : TrayValue) × (left ≡ Some kept) × PutsIn code tray kept before after
 
--- the medium of a drive goes into a new tray: 0. The slot holds a tray already, 2, memory is out, 3, or the drive has none in, 7: the slot
--- stays
+-- the medium of a drive goes into a new tray: 0. The slot holds a tray already, 2, memory is out, 3, or the drive has none in, 7: slot and
+-- drive stay
 abbrev pub Ejects : ℕ → Option TrayValue → Option TrayValue → DriveState → DriveState → Type 0
 Ejects code tray left before after =
     FullOr code tray left (after ≡ before)
     (MatchBool (code == 0) ((disk : Disk) × (before.medium ≡ Some disk) × (left ≡ Some (record { medium = Some disk }))
-    × Becomes (unloaded before) before after)
-    (MatchBool (code == 7) ((before.medium ≡ None) × (left ≡ tray) × Becomes (unloaded before) before after)
+    × (after ≡ unloaded before))
+    (MatchBool (code == 7) ((before.medium ≡ None) × (left ≡ tray) × (after ≡ before))
     (MatchBool (code == 3) ((left ≡ tray) × (after ≡ before)) ⊥)))

@@ -6,7 +6,7 @@ use Rattle.flop_base.specs.Shelf.{stored}
 use Rattle.flop_base.specs.declared.answers.Code.TheVariants.{BadRequest}
 use Rattle.raw_image.specs.Disk.{Disk}
 use Rattle.raw_image.specs.Image.{file_of}
-use Rattle.drive_model.specs.Drive.{Becomes, loaded, unloaded}
+use Rattle.drive_model.specs.Drive.{loaded, unloaded}
 use Rattle.floppy_jobs.specs.declared.ports.PortLine.{PortLine}
 use Rattle.floppy_jobs.specs.declared.ports.PortLine.TheVariants as line
 use Rattle.floppy_jobs.specs.declared.request.Request.TheVariants as request
@@ -44,14 +44,14 @@ pub record LoadsMedium (bay : ℕ) (name : List ℕ) (old new : Bench) : Type 0 
   pub disk : Disk
   pub image : IsImageOf old.files name disk
   pub touches : Touches bay old.board new.board
-  pub drive : Becomes (loaded disk (drive_in old.board bay)) (drive_in old.board bay) (drive_in new.board bay)
+  pub drive : drive_in new.board bay ≡ loaded disk (drive_in old.board bay)
   pub names : new.names ≡ with_bay old.names bay (Some name)
   pub files : new.files ≡ old.files
 
 -- the medium was taken out of the bay
 pub record TakesOut (bay : ℕ) (old new : Bench) : Type 0 where
   pub touches : Touches bay old.board new.board
-  pub drive : Becomes (unloaded (drive_in old.board bay)) (drive_in old.board bay) (drive_in new.board bay)
+  pub drive : drive_in new.board bay ≡ unloaded (drive_in old.board bay)
   pub names : new.names ≡ with_bay old.names bay None
 
 -- the medium was taken out, and its image stored under its name

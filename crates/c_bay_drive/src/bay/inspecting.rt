@@ -1,6 +1,6 @@
 // What can be looked at: as in the drive within. Where the heads stand isn't known by a pulled cable.
-ghost use Rattle.std.specs.Prelude.{◌≡◌, ◌↔◌, Some, IsErr, OnOk, IfOk, IfErr, false};
-ghost use Rattle.drive_model.specs.Drive.{same_length, exchanged};
+ghost use Rattle.std.specs.Prelude.{◌≡◌, ◌↔◌, Some, IsErr, OnOk, OnErr, IfOk, IfErr, false};
+ghost use Rattle.drive_model.specs.Drive.{forgotten, same_length, exchanged, with_protection};
 
 use super::BayDrive;
 use drive_model::{Drive, Inspect};
@@ -10,7 +10,7 @@ use raw_image::Medium;
 const BEYOND: u8 = 82;
 
 impl Inspect for BayDrive {
-    ghost use Rattle.c_bay_drive.specs.Bays.{bay_state};
+    ghost use Rattle.c_bay_drive.specs.Bays.{bay_state, drive_within, BecomesWithin};
     ghost use Rattle.c_bay_drive.specs.WithMedium.{BayWithMedium};
 
     fn medium(&self) -> Option<&Medium> {
@@ -37,11 +37,17 @@ impl Inspect for BayDrive {
         self.replaced
     }
 
-    fn forget_written(&mut self) {
+    fn forget_written(&mut self)
+        ensures state { bay_state self.new ≡ forgotten (bay_state self.old) }
+        ensures within { BecomesWithin (drive_within self.old) self.old self.new }
+    {
         self.replaced = false;
     }
 
-    fn set_protected(&mut self, on: bool) {
+    fn set_protected(&mut self, on: bool)
+        ensures state { bay_state self.new ≡ with_protection on (bay_state self.old) }
+        ensures within { BecomesWithin (with_protection on (drive_within self.old)) self.old self.new }
+    {
         self.inside.set_protected(on);
     }
 
@@ -51,6 +57,7 @@ impl Inspect for BayDrive {
         ensures held { OnOk result (BayWithMedium (Some medium) self.old self.new) }
         ensures before { IfOk result (λ before. Some before ≡ (bay_state self.old).medium) }
         ensures err { IfErr result (λ back. (back ≡ medium) × (bay_state self.new ≡ bay_state self.old)) }
+        ensures stays { OnErr result (BecomesWithin (drive_within self.old) self.old self.new) }
     {
         self.inside.exchange(medium)
     }

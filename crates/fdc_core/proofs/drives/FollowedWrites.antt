@@ -18,11 +18,11 @@ drive_stays {port} {value} {bay} {controller} {before} {after} follows none = by
 
 dor_leaves : (written : Bool) (bay : ℕ) (controller : Fdc) (before after : DriveState) → FollowsDor written bay controller before after
     → (after.medium ≡ before.medium) × (after.change ≡ before.change)
-dor_leaves true bay controller before after (on, line, becomes) = (ap (λ s. s.medium) becomes.becomes, ap (λ s. s.change) becomes.becomes)
+dor_leaves true bay controller before after (on, line, becomes) = (ap (λ s. s.medium) becomes, ap (λ s. s.change) becomes)
 dor_leaves false bay controller before after same = (ap (λ s. s.medium) same, ap (λ s. s.change) same)
 
 gate_leaves : (closed : Bool) (before after : DriveState) → Closes closed before after → (after.medium ≡ before.medium) × (after.change ≡ before.change)
-gate_leaves true before after becomes = (ap (λ s. s.medium) becomes.becomes, ap (λ s. s.change) becomes.becomes)
+gate_leaves true before after becomes = (ap (λ s. s.medium) becomes, ap (λ s. s.change) becomes)
 gate_leaves false before after same = (ap (λ s. s.medium) same, ap (λ s. s.change) same)
 
 -- no write changes a medium or a change line

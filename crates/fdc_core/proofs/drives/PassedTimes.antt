@@ -3,6 +3,7 @@ use Rattle.std.proofs.Common.{◌≡◌, ℕ, zero, suc, refl, sym, ap, ◌∙�
 use Rattle.drive_model.specs.Ahead.{LetsPass}
 use Rattle.drive_model.specs.Drive.{DriveState}
 use Rattle.fdc_core.specs.Courses.{Courses, HoldsLines, IsStill}
+use Rattle.fdc_core.specs.Steps.{let_pass}
 use Rattle.fdc_core.specs.declared.controller.Fdc.{Fdc}
 use Rattle.fdc_core.specs.Drives.WordTimes.{PassesWordTime, WordTimes}
 
@@ -19,17 +20,17 @@ times_first : (count : ℕ) (old : Fdc) (first second : DriveState) (new : Fdc) 
 unfolding WordTimes Courses LetsPass
 times_first zero old first second new first_after second_after courses passes = (courses.0, courses.1, passes)
 times_first (suc count) old first second new first_after second_after courses passes =
-    let passes_one : PassesWordTime 0 old first second courses.0 courses.1 passes.0 = record {
-      at_first = λ _. (courses.2, passes.1);
+    let passes_one : PassesWordTime 0 old first second courses.0 courses.1 (let_pass second) = record {
+      at_first = λ _. (courses.2, refl);
       at_second = λ is. absurd cc;
       at_none = λ more. absurd (omega arith);
     } in (
       courses.0,
       courses.1,
-      passes.0,
+      let_pass second,
       passes_one,
       courses.3,
-      times_first count courses.0 courses.1 passes.0 new first_after second_after courses.4 passes.2,
+      times_first count courses.0 courses.1 (let_pass second) new first_after second_after courses.4 passes,
     )
 
 -- of the second
@@ -39,17 +40,17 @@ times_second : (count : ℕ) (old : Fdc) (first second : DriveState) (new : Fdc)
 unfolding WordTimes Courses LetsPass
 times_second zero old first second new first_after second_after courses passes = (courses.0, passes, courses.1)
 times_second (suc count) old first second new first_after second_after courses passes =
-    let passes_one : PassesWordTime 1 old first second courses.0 passes.0 courses.1 = record {
+    let passes_one : PassesWordTime 1 old first second courses.0 (let_pass first) courses.1 = record {
       at_first = λ is. absurd cc;
-      at_second = λ _. (courses.2, passes.1);
+      at_second = λ _. (courses.2, refl);
       at_none = λ more. absurd (omega arith);
     } in (
       courses.0,
-      passes.0,
+      let_pass first,
       courses.1,
       passes_one,
       courses.3,
-      times_second count courses.0 passes.0 courses.1 new first_after second_after courses.4 passes.2,
+      times_second count courses.0 (let_pass first) courses.1 new first_after second_after courses.4 passes,
     )
 
 -- the drive whose number is selected
@@ -74,13 +75,13 @@ pub times_still : (count selected : ℕ) (fdc : Fdc) (first second first_after s
 unfolding WordTimes LetsPass
 times_still zero selected fdc first second first_after second_after still ones twos = (refl, ones, twos)
 times_still (suc count) selected fdc first second first_after second_after still ones twos =
-    let passes_one : PassesWordTime selected fdc first second fdc ones.0 twos.0 = record {
-      at_first = λ _. (still.works first ones.0 ones.1, twos.1);
-      at_second = λ _. (still.works second twos.0 twos.1, ones.1);
-      at_none = λ _. (still.alone, ones.1, twos.1);
+    let passes_one : PassesWordTime selected fdc first second fdc (let_pass first) (let_pass second) = record {
+      at_first = λ _. (still.works first, refl);
+      at_second = λ _. (still.works second, refl);
+      at_none = λ _. (still.alone, refl, refl);
     } in
     let holds : HoldsLines fdc fdc = record { request = refl; interrupt = refl; ended = refl; mark = refl } in
-    (fdc, ones.0, twos.0, passes_one, holds, times_still count selected fdc ones.0 twos.0 first_after second_after still ones.2 twos.2)
+    (fdc, let_pass first, let_pass second, passes_one, holds, times_still count selected fdc (let_pass first) (let_pass second) first_after second_after still ones twos)
 
 -- ---- what stays
 

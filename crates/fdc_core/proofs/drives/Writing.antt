@@ -20,6 +20,10 @@ use Rattle.fdc_core.proofs.drives.WritingWords.{by_index, close_put, closes_same
 
 -- ---- the track
 
+-- the count of faults stays where the drive is just as it was but for what a word time changes
+same_falls : (drive after : DriveState) → after ≡ let_pass drive → drive.faults ≤ after.faults
+same_falls drive after is = let same : after.faults ≡ drive.faults = ap (λ s. s.faults) is in omega arith
+
 not_lt : (a b : ℕ) → nat_lt a b ≡ false → a < b → ⊥
 not_lt a b h less = grind (arith, nat_tests)
 
@@ -227,11 +231,11 @@ medium_stays outset start words before after was same falls = record {
 }
 
 -- in the step that stops it
-pub stopped_on : (outset : Outset) (past : Past) (drive after : DriveState) → IsDisk outset.disk → IsAtDrive outset past true drive → Becomes (let_pass drive) drive after
+pub stopped_on : (outset : Outset) (past : Past) (drive after : DriveState) → IsDisk outset.disk → IsAtDrive outset past true drive → after ≡ let_pass drive
     → IsAtDrive outset (stepped past) false after
 stopped_on outset past drive after valid was becomes = record {
-  hears = hears_on outset past.turns past.seen drive.faults after.faults becomes.never_falls was.hears;
-  medium = medium_stays outset (start_in outset past) past.words drive after was.medium (ap (λ s. s.medium) becomes.becomes) becomes.never_falls;
+  hears = hears_on outset past.turns past.seen drive.faults after.faults (same_falls drive after becomes) was.hears;
+  medium = medium_stays outset (start_in outset past) past.words drive after was.medium (ap (λ s. s.medium) becomes) (same_falls drive after becomes);
   unprotected = was.unprotected;
   fits = was.fits;
   barred = was.barred;

@@ -48,36 +48,36 @@ index_is now c place drive medium over = rw (medium, over.motor, le_true 6250 dr
 
 pub over_opened : (opened : Bool) (c place : ℕ) (old new : DriveState) → IsOver c place old → Opens opened old new → IsOver c place new
 over_opened true c place old new over becomes = record {
-  cylinder = ap (λ s. s.cylinder) becomes.becomes ∙ over.cylinder;
-  place = ap (λ s. s.place) becomes.becomes ∙ over.place;
-  motor = ap (λ s. s.motor) becomes.becomes ∙ over.motor;
-  speed = subst (λ n. 6250 ≤ n) (sym (ap (λ s. s.spin) becomes.becomes)) over.speed;
+  cylinder = ap (λ s. s.cylinder) becomes ∙ over.cylinder;
+  place = ap (λ s. s.place) becomes ∙ over.place;
+  motor = ap (λ s. s.motor) becomes ∙ over.motor;
+  speed = subst (λ n. 6250 ≤ n) (sym (ap (λ s. s.spin) becomes)) over.speed;
 }
 over_opened false c place old new over same = subst (IsOver c place) (sym same) over
 
 pub over_closed : (closed : Bool) (c place : ℕ) (old new : DriveState) → IsOver c place old → Closes closed old new → IsOver c place new
 over_closed true c place old new over becomes = record {
-  cylinder = ap (λ s. s.cylinder) becomes.becomes ∙ over.cylinder;
-  place = ap (λ s. s.place) becomes.becomes ∙ over.place;
-  motor = ap (λ s. s.motor) becomes.becomes ∙ over.motor;
-  speed = subst (λ n. 6250 ≤ n) (sym (ap (λ s. s.spin) becomes.becomes)) over.speed;
+  cylinder = ap (λ s. s.cylinder) becomes ∙ over.cylinder;
+  place = ap (λ s. s.place) becomes ∙ over.place;
+  motor = ap (λ s. s.motor) becomes ∙ over.motor;
+  speed = subst (λ n. 6250 ≤ n) (sym (ap (λ s. s.spin) becomes)) over.speed;
 }
 over_closed false c place old new over same = subst (IsOver c place) (sym same) over
 
 pub opens_same : (opened : Bool) (old new : DriveState) → Opens opened old new → new.medium ≡ old.medium
-opens_same true old new becomes = ap (λ s. s.medium) becomes.becomes
+opens_same true old new becomes = ap (λ s. s.medium) becomes
 opens_same false old new same = ap (λ s. s.medium) same
 
 pub closes_same : (closed : Bool) (old new : DriveState) → Closes closed old new → new.medium ≡ old.medium
-closes_same true old new becomes = ap (λ s. s.medium) becomes.becomes
+closes_same true old new becomes = ap (λ s. s.medium) becomes
 closes_same false old new same = ap (λ s. s.medium) same
 
 pub falls_opened : (opened : Bool) (old new : DriveState) → Opens opened old new → old.faults ≤ new.faults
-falls_opened true old new becomes = becomes.never_falls
+falls_opened true old new becomes = let is : new.faults ≡ old.faults = ap (λ s. s.faults) becomes in omega arith
 falls_opened false old new same = let is = ap (λ s. s.faults) same in omega arith
 
 pub falls_closed : (closed : Bool) (old new : DriveState) → Closes closed old new → old.faults ≤ new.faults
-falls_closed true old new becomes = becomes.never_falls
+falls_closed true old new becomes = let is : new.faults ≡ old.faults = ap (λ s. s.faults) becomes in omega arith
 falls_closed false old new same = let is = ap (λ s. s.faults) same in omega arith
 
 pub falls_written : (old new : DriveState) (head word : ℕ) → Writes head word old new → old.faults ≤ new.faults

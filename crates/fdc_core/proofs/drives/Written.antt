@@ -122,12 +122,12 @@ stands_less disk c h start words count now word was =
 -- ---- the drive
 
 pub gate_opens : (disk : Disk) (c h start faults : ℕ) (before after : DriveState) → IsDisk disk → HasTrack disk c h → start < disk.words_per_track
-    → before.medium ≡ Some disk → Becomes (with_gate true before) before after → IsPutOpen disk c h start [] faults after
+    → before.medium ≡ Some disk → after ≡ with_gate true before → IsPutOpen disk c h start [] faults after
 gate_opens disk c h start faults before after whole has room is becomes = record {
   put = record {
     now = disk;
     count = 0;
-    medium = ap (λ s. s.medium) becomes.becomes ∙ is;
+    medium = ap (λ s. s.medium) becomes ∙ is;
     stands = record {
       few = omega arith;
       inside = omega arith;
@@ -135,22 +135,22 @@ gate_opens disk c h start faults before after whole has room is becomes = record
     };
     whole = λ _. refl;
   };
-  gate = ap (λ s. s.gate) becomes.becomes;
+  gate = ap (λ s. s.gate) becomes;
   uncut = λ _. refl;
-  cut = λ cut _. absurd (closed (sym (ap (λ s. s.cut) becomes.becomes) ∙ cut));
+  cut = λ cut _. absurd (closed (sym (ap (λ s. s.cut) becomes) ∙ cut));
 }
   where
     closed : false ≡ true → ⊥
     closed same = absurd cc
 
 pub gate_closes : (disk : Disk) (c h start : ℕ) (words : List ℕ) (faults : ℕ) (before after : DriveState)
-    → IsPut disk c h start words faults before → Becomes (with_gate false before) before after → IsPut disk c h start words faults after
+    → IsPut disk c h start words faults before → after ≡ with_gate false before → IsPut disk c h start words faults after
 gate_closes disk c h start words faults before after was becomes = record {
   now = was.now;
   count = was.count;
-  medium = ap (λ s. s.medium) becomes.becomes ∙ was.medium;
+  medium = ap (λ s. s.medium) becomes ∙ was.medium;
   stands = was.stands;
-  whole = λ calm. was.whole (let falls = becomes.never_falls in let no_more = calm.0 in let below = calm.1 in (omega arith, omega arith));
+  whole = λ calm. was.whole (let same : after.faults ≡ before.faults = ap (λ s. s.faults) becomes in let no_more = calm.0 in let below = calm.1 in (omega arith, omega arith));
 }
 
 -- the medium stays

@@ -1,6 +1,6 @@
 -- Drives at a port write.
 use Rattle.std.specs.Prelude.{◌≡◌, ◌↔◌, ◌+◌, ℕ, Bool, true, false, ◌||◌, ◌==◌, IsTrue, IsBitSet}
-use Rattle.drive_model.specs.Drive.{DriveState, Becomes, with_motor}
+use Rattle.drive_model.specs.Drive.{DriveState, with_motor}
 use Rattle.fdc_core.specs.Ports.{resets}
 use Rattle.fdc_core.specs.State.{dor_of}
 use Rattle.fdc_core.specs.Times.{Closes}
@@ -9,7 +9,7 @@ use Rattle.fdc_core.specs.declared.controller.Fdc.{Fdc}
 -- a drive's motor line is the bit of DOR
 abbrev pub FollowsMotor : ℕ → Fdc → DriveState → DriveState → Type 0
 FollowsMotor bay controller before after =
-    (on : Bool) × (IsTrue on ↔ IsBitSet (dor_of controller) (4 + bay)) × Becomes (with_motor on before) before after
+    (on : Bool) × (IsTrue on ↔ IsBitSet (dor_of controller) (4 + bay)) × (after ≡ with_motor on before)
 
 -- where DOR was written the motor follows it; else the drive is as it was
 abbrev pub FollowsDor : Bool → ℕ → Fdc → DriveState → DriveState → Type 0

@@ -1,13 +1,13 @@
 -- Word times of a controller and its drives.
 use Rattle.std.specs.Prelude.{◌≡◌, ◌≤◌, ℕ, zero, suc}
-use Rattle.drive_model.specs.Drive.{DriveState, Becomes}
+use Rattle.drive_model.specs.Drive.{DriveState}
 use Rattle.fdc_core.specs.Courses.{HoldsLines, Works, WorksAlone}
 use Rattle.fdc_core.specs.Steps.{let_pass}
 use Rattle.fdc_core.specs.declared.controller.Fdc.{Fdc}
 
--- a word time passes at a drive that isn't selected, with its gate closed
+-- a word time passes at a drive that isn't selected, with its gate closed. No fault comes
 abbrev pub Passes : DriveState → DriveState → Type 0
-Passes before after = Becomes (let_pass before) before after
+Passes before after = after ≡ let_pass before
 
 -- the controller makes its device step with the selected drive, and the word time passes at the others
 pub record PassesWordTime (selected : ℕ) (old : Fdc) (first second : DriveState) (new : Fdc) (first_after second_after : DriveState) : Type 0 where

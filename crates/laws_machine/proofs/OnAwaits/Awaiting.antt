@@ -10,7 +10,7 @@ use Rattle.laws_machine.proofs.OnSteps.Controllers.{idle_dma, dma_controller}
 use Rattle.laws_machine.proofs.OnQuiet.Turning.{turned_moves}
 use Rattle.laws_machine.proofs.OnSteps.Words.{drives, some_drive}
 use Rattle.laws_machine.specs.OnAwaits.Awaits.{HasEnded}
-use Rattle.laws_machine.proofs.OnAwaits.Turning.{as_turned, on_let, on_further}
+use Rattle.laws_machine.proofs.OnAwaits.Turning.{as_turned, on_calm, on_further}
 use Rattle.laws_machine.proofs.OnAwaits.Words.{Leaves, word_leaves}
 
 -- ---- the word time
@@ -156,7 +156,7 @@ pub record IsPast (old new : Board) (between : Fdc) : Type 0 where
 
 step_past : (old new : Board) → IsLetOut (controller_of old) → (step : Step old new) → IsPast old new step.between
 step_past old new out step = record {
-  both = drives TurnsOn old new step (λ before after works. (at before after works).drive) (λ before after passes. on_let before after passes);
+  both = drives TurnsOn old new step (λ before after works. (at before after works).drive) (λ before after passes. on_calm before after passes);
   behind = some_drive ((before : DriveState) × (after : DriveState) × IsBehind before after (controller_of old) step.between) old new out.selects step
       (λ bay works. (drive_in old bay, drive_in new bay, at (drive_in old bay) (drive_in new bay) works));
   stays = some_drive (Stays (controller_of old) step.between) old new out.selects step (λ bay works. works.stays);

@@ -3,13 +3,17 @@ use Rattle.std.proofs.Common.{◌≡◌, inl, inr, ℕ, ◌≤◌, ◌&&◌, nat
 use Rattle.laws_machine.proofs.Common.{Disk, spends_twice, DriveState, Becomes, Writes, can_write, has_track, rewritten, turns, with_gate, let_pass, WordTime, Saw, KeptOut, Wrote, Stopped, IsTime, Opens, Closes, DataRate, Turned, TurnsOn}
 use Rattle.laws_machine.proofs.Facts.{if_both, spin_on}
 use Rattle.raw_image.specs.Disk.{with_word}
-use Rattle.laws_machine.proofs.OnQuiet.Turning.{turned_let, turned_still}
+use Rattle.laws_machine.proofs.OnQuiet.Turning.{turned_calmly, turned_let, turned_still}
+use Rattle.drive_model.proofs.Passing.{becomes_at}
 
 pub as_turned : (old new : DriveState) → Turned old new → TurnsOn old new
 as_turned old new turned = record { stays_in = ap is_some turned.medium; cylinder = turned.cylinder; change = turned.change; motor = turned.motor; spin = turned.spin; never_falls = turned.faults; spends = turned.spends }
 
 pub on_let : (old new : DriveState) → Becomes (let_pass old) old new → TurnsOn old new
 on_let old new is = as_turned old new (turned_let old new is)
+
+pub on_calm : (old new : DriveState) → new ≡ let_pass old → TurnsOn old new
+on_calm old new is = as_turned old new (turned_calmly old new is)
 
 pub on_still : (old new : DriveState) → new ≡ old → TurnsOn old new
 on_still old new same = as_turned old new (turned_still old new same)
@@ -25,16 +29,18 @@ on_further a b c one two = record {
   spends = spends_twice a.faults b.faults c.faults a.left b.left c.left one.spends two.spends;
 }
 
-on_gate : (opened : Bool) (old new : DriveState) → Becomes (with_gate opened old) old new → TurnsOn old new
-on_gate opened old new is = record {
-  stays_in = ap (λ s. is_some s.medium) is.becomes;
-  cylinder = ap (λ s. s.cylinder) is.becomes;
-  change = ap (λ s. s.change) is.becomes;
-  motor = ap (λ s. s.motor) is.becomes;
-  spin = let same : new.spin ≡ old.spin = ap (λ s. s.spin) is.becomes in omega arith;
-  never_falls = is.never_falls;
-  spends = is.spends;
-}
+on_gate : (opened : Bool) (old new : DriveState) → new ≡ with_gate opened old → TurnsOn old new
+on_gate opened old new is =
+    let becomes = becomes_at (with_gate opened old) old new is refl refl in
+    record {
+      stays_in = ap (λ s. is_some s.medium) is;
+      cylinder = ap (λ s. s.cylinder) is;
+      change = ap (λ s. s.change) is;
+      motor = ap (λ s. s.motor) is;
+      spin = let same : new.spin ≡ old.spin = ap (λ s. s.spin) is in omega arith;
+      never_falls = becomes.never_falls;
+      spends = becomes.spends;
+    }
 
 some_rewritten : (medium : Option Disk) (c h place word : ℕ) → is_some (rewritten medium c h place word) ≡ is_some medium
 some_rewritten None c h place word = refl
@@ -78,4 +84,4 @@ on_time (KeptOut index word) rate head before after (other, is) = on_let before 
 on_time (Wrote opened closed index word) rate head before after is =
     on_further before is.from after (on_opened opened before is.from is.opens)
     (on_further is.from is.mid after (on_written head word is.from is.mid is.writes) (on_closed closed is.mid after is.closes))
-on_time Stopped rate head before after is = on_let before after is
+on_time Stopped rate head before after is = on_calm before after is

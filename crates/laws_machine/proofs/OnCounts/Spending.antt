@@ -1,9 +1,10 @@
 -- The faults of the drives, step by step and access by access.
-use Rattle.std.proofs.Common.{◌≡◌, inl, inr, ℕ, ◌==◌, Bool, true, false, Option, Some, None, ap}
+use Rattle.std.proofs.Common.{◌≡◌, inl, inr, ℕ, ◌==◌, Bool, true, false, Option, Some, None, ap, refl}
 use Rattle.laws_machine.proofs.Common.{drive_twice, DriveState, Becomes, Pulses, with_gate, let_pass, Moves, WordTime, IsTime, Closes, Fdc, DataRate, Board, FollowsWrite, Step, counts_of}
 use Rattle.flop_base.specs.Counters.{DriveGoesOn}
 use Rattle.flop_base.proofs.Counted.{drive_same}
 use Rattle.drive_model.specs.Drive.{moved, with_motor}
+use Rattle.drive_model.proofs.Passing.{becomes_at}
 use Rattle.fdc_core.specs.Drives.Following.{FollowsDor}
 use Rattle.pc_bus.specs.Ports.{SetsLines}
 use Rattle.fdc_core.specs.Ports.{resets}
@@ -24,6 +25,9 @@ pub record DrivesGoOn (old new : Board) : Type 0 where
 goes_as : (old target new : DriveState) → Becomes target old new → GoesOn old new
 goes_as old target new becomes = record { never_falls = becomes.never_falls; spends = becomes.spends }
 
+goes_at : (old target new : DriveState) → new ≡ target → target.faults ≡ old.faults → target.left ≡ old.left → GoesOn old new
+goes_at old target new is faults left = goes_as old target new (becomes_at target old new is faults left)
+
 goes_same : (old new : DriveState) → new ≡ old → GoesOn old new
 goes_same old new same = drive_same (counts_of old) (counts_of new) (ap counts_of same)
 
@@ -31,7 +35,7 @@ goes_twice : (a b c : DriveState) → GoesOn a b → GoesOn b c → GoesOn a c
 goes_twice a b c first second = drive_twice (counts_of a) (counts_of b) (counts_of c) first second
 
 goes_closed : (closed : Bool) (old new : DriveState) → Closes closed old new → GoesOn old new
-goes_closed true old new becomes = goes_as old (with_gate false old) new becomes
+goes_closed true old new is = goes_at old (with_gate false old) new is refl refl
 goes_closed false old new same = goes_same old new same
 
 goes_pulsed : (inward : Bool) (old new : DriveState) → Pulses inward old new → GoesOn old new
@@ -41,9 +45,9 @@ goes_pulsed inward old new (inr (stays, rose)) = goes_as old old new stays
 -- ---- the word time
 
 goes_moved : (pulse : Option Bool) (before after : DriveState) → Moves pulse before after → GoesOn before after
-goes_moved None before after becomes = goes_as before (let_pass before) after becomes
-goes_moved (Some inward) before after (between, pulses, becomes) =
-    goes_twice before between after (goes_pulsed inward before between pulses) (goes_as between (let_pass between) after becomes)
+goes_moved None before after is = goes_at before (let_pass before) after is refl refl
+goes_moved (Some inward) before after (between, pulses, is) =
+    goes_twice before between after (goes_pulsed inward before between pulses) (goes_at between (let_pass between) after is refl refl)
 
 goes_timed : (time : WordTime) (rate : DataRate) (head : ℕ) (before after : DriveState) → IsTime time rate head before after → GoesOn before after
 goes_timed time rate head before after is =
@@ -53,7 +57,7 @@ goes_timed time rate head before after is =
 
 pub drives_step : (old new : Board) → Step old new → DrivesGoOn old new
 drives_step old new step =
-    let (first, second) = both GoesOn goes_moved goes_timed old new step in
+    let (first, second) = both GoesOn goes_moved (λ before after heard. goes_as before (let_pass before) after heard) goes_timed old new step in
     record { first = first; second = second }
 
 -- ---- port accesses
@@ -62,7 +66,7 @@ pub drives_same : (old new : Board) → new.first ≡ old.first → new.second �
 drives_same old new first second = record { first = goes_same old.first new.first first; second = goes_same old.second new.second second }
 
 goes_driven : (written : Bool) (bay : ℕ) (controller : Fdc) (before after : DriveState) → FollowsDor written bay controller before after → GoesOn before after
-goes_driven true bay controller before after (on, line, becomes) = goes_as before (with_motor on before) after becomes
+goes_driven true bay controller before after (on, line, is) = goes_at before (with_motor on before) after is refl refl
 goes_driven false bay controller before after same = goes_same before after same
 
 goes_followed : (port value bay : ℕ) (controller : Fdc) (before after : DriveState) → FollowsWrite port value bay controller before after → GoesOn before after

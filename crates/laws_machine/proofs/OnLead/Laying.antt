@@ -10,6 +10,7 @@ use Rattle.fdc_core.proofs.drives.Spinning.{no_index, hears_none, turning_on}
 use Rattle.laws_machine.specs.OnReads.Scenes.{outset_of}
 use Rattle.laws_machine.proofs.OnLead.Listening.{led_over, spun}
 use Rattle.laws_machine.proofs.OnLead.Spinning.{nothing_heard}
+use Rattle.laws_machine.proofs.OnQuiet.Turning.{calmly}
 use Rattle.laws_machine.proofs.OnFormats.Covered as formats
 use Rattle.laws_machine.proofs.OnOrders.Behind.{IsTimed, Laying, laid_on}
 use Rattle.laws_machine.proofs.OnOrders.Words.{laying, timed_led}
@@ -41,9 +42,9 @@ WritesNothing _ = ⊥
 
 module _ (laid : Laid) (scene : Scene) (lead : ℕ) (late : Past) (drive after : DriveState) (executes : Bool) (whole : IsScene scene) (guarded : 1 ≤ lead → scene.disk.protected ≡ false)
     (none : IsUnheard late) (spins : IsSpinning scene lead drive) where
-  stops_spinning : Becomes (let_pass drive) drive after → IsLed (Write laid) scene (stepped (led lead late)) false after
-  stops_spinning becomes =
-      let turning = turning_on (outset_of scene) lead drive spins after becomes in
+  stops_spinning : after ≡ let_pass drive → IsLed (Write laid) scene (stepped (led lead late)) false after
+  stops_spinning is =
+      let turning = turning_on (outset_of scene) lead drive spins after (calmly drive after is) in
       let steps = ap (λ (p : Past). p.steps) none in
       let room = turning.inside in
       let since = spins.since in

@@ -8,7 +8,7 @@ use Rattle.pc_bus.specs.Calls.{AreCalled, IsCalled, ByEject, ByExchange, ByInb, 
 use Rattle.pc_bus.specs.Handling.{Touches, byte_set}
 use Rattle.fdc_core.specs.Drives.Following.{FollowsMotor}
 use Rattle.pc_bus.specs.declared.bus.Bus.{Bus}
-use Rattle.laws_machine.proofs.OnAwaits.Turning.{on_let, on_time}
+use Rattle.laws_machine.proofs.OnAwaits.Turning.{on_calm, on_let, on_time}
 use Rattle.laws_machine.proofs.OnSteps.Runs.{inputs, outputs, wait, waits}
 use Rattle.laws_machine.proofs.OnSteps.Drives.{both}
 
@@ -46,9 +46,9 @@ leaves_pulsed inward old new (inr (stays, rose)) none = leaves_same old new (ap 
 -- ---- the word time
 
 leaves_moved : (pulse : Option Bool) (old new : DriveState) → Moves pulse old new → LeavesEmpty old new
-leaves_moved None old new becomes = leaves_turned old new (on_let old new becomes)
-leaves_moved (Some inward) old new (between, pulses, becomes) =
-    leaves_on old between new (leaves_pulsed inward old between pulses) (leaves_turned between new (on_let between new becomes))
+leaves_moved None old new is = leaves_turned old new (on_calm old new is)
+leaves_moved (Some inward) old new (between, pulses, is) =
+    leaves_on old between new (leaves_pulsed inward old between pulses) (leaves_turned between new (on_calm between new is))
 
 -- ---- device steps
 
@@ -57,7 +57,7 @@ lines_on old new first second was = record { first = set_on old.first new.first 
 
 pub step_lines : (old new : Board) → Step old new → AreSetIfEmpty old → AreSetIfEmpty new
 step_lines old new step =
-    let (first, second) = both LeavesEmpty leaves_moved
+    let (first, second) = both LeavesEmpty leaves_moved (λ before after heard. leaves_turned before after (on_let before after heard))
     (λ time rate head before after is. leaves_turned before after (on_time time rate head before after is)) old new step in
     lines_on old new first second
 
@@ -92,21 +92,21 @@ handled_lines zero old new small touches goes was = record { first = goes was.fi
 handled_lines (suc zero) old new small touches goes was = record { first = subst IsSetIfEmpty (sym touches.other) was.first; second = goes was.second }
 handled_lines (suc (suc bay)) old new small touches goes was = absurd (omega arith)
 
-put_set : (medium : Disk) (old new : DriveState) → Becomes (loaded medium old) old new → IsSetIfEmpty old → IsSetIfEmpty new
-put_set medium old new becomes was none = ap (λ s. s.change) becomes.becomes
+put_set : (medium : Disk) (old new : DriveState) → new ≡ loaded medium old → IsSetIfEmpty old → IsSetIfEmpty new
+put_set medium old new is was none = ap (λ s. s.change) is
 
-kept_set : (old new : DriveState) → Becomes old old new → IsSetIfEmpty old → IsSetIfEmpty new
-kept_set old new becomes was = set_on old new (leaves_same old new (ap (λ s. s.medium) becomes.becomes) (ap (λ s. s.change) becomes.becomes)) was
+kept_set : (old new : DriveState) → new ≡ old → IsSetIfEmpty old → IsSetIfEmpty new
+kept_set old new same was = subst IsSetIfEmpty (sym same) was
 
 taken_line : (medium : Option Disk) (change : Bool) → (medium ≡ None → change ≡ true) → (if is_some medium then true else change) ≡ true
 taken_line None change set = set refl
 taken_line (Some disk) change set = refl
 
-taken_set : (old new : DriveState) → Becomes (unloaded old) old new → IsSetIfEmpty old → IsSetIfEmpty new
-taken_set old new becomes was none = ap (λ s. s.change) becomes.becomes ∙ taken_line old.medium old.change was
+taken_set : (old new : DriveState) → new ≡ unloaded old → IsSetIfEmpty old → IsSetIfEmpty new
+taken_set old new is was none = ap (λ s. s.change) is ∙ taken_line old.medium old.change was
 
 exchanged_set : (bay : ℕ) (controller : Fdc) (drive new : DriveState) → IsEmpty drive → FollowsMotor bay controller drive new → IsSetIfEmpty new
-exchanged_set bay controller drive new empty (on, line, becomes) none = ap (λ s. s.change) becomes.becomes ∙ empty.change
+exchanged_set bay controller drive new empty (on, line, is) none = ap (λ s. s.change) is ∙ empty.change
 
 -- ---- every call
 
@@ -133,6 +133,6 @@ calls_lines (suc calls) old new (between, before, call) was = call_lines between
 
 pub new_lines : (pace : Pace) (bay0 bay1 : DriveState) (new : Board) → IsEmpty bay0 → IsEmpty bay1 → IsNew pace bay0 bay1 new → AreSetIfEmpty new
 new_lines pace bay0 bay1 new first second made = record {
-  first = λ none. ap (λ s. s.change) made.first.becomes ∙ first.change;
-  second = λ none. ap (λ s. s.change) made.second.becomes ∙ second.change;
+  first = λ none. ap (λ s. s.change) made.first ∙ first.change;
+  second = λ none. ap (λ s. s.change) made.second ∙ second.change;
 }

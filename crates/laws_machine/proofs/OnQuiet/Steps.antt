@@ -6,7 +6,7 @@ use Rattle.fdc_phases.specs.declared.phases.Task.TheVariants.{Read, Write}
 use Rattle.laws_machine.proofs.OnQuiet.Listening.{pulse_none, Listened, word_listens}
 use Rattle.laws_machine.proofs.OnSteps.Words.{controller, drives}
 use Rattle.laws_machine.proofs.OnSteps.Transfers.{after_step}
-use Rattle.laws_machine.proofs.OnQuiet.Turning.{turned_let, turned_moves, turned_still, turned_on}
+use Rattle.laws_machine.proofs.OnQuiet.Turning.{turned_calmly, turned_let, turned_moves, turned_still, turned_on}
 use Rattle.laws_machine.proofs.OnSteps.Controllers.{by_bytes, byte_on, byte_threshold, polled_cylinders, polled_seek}
 
 -- ---- the word time
@@ -120,7 +120,7 @@ pub record WorksOn (begun : ℕ) (start : Fdc) (old new : Board) (between : Fdc)
 pub step_works : (begun : ℕ) (start : Fdc) (old new : Board) → HoldsOn begun start (controller_of old) → (step : Step old new) → WorksOn begun start old new step.between
 step_works begun start old new was step =
     let (first, second) = drives Turned old new step
-    (λ before after works. turned_works (controller_of old) before step.between after was.quiet works) turned_let in record {
+    (λ before after works. turned_works (controller_of old) before step.between after was.quiet works) turned_calmly in record {
       controller = controller (HoldsOn begun start step.between) old new step
           (λ before after works. holds_works begun start (controller_of old) before step.between after was works)
           (holds_alone begun start (controller_of old) step.between was);

@@ -4,6 +4,7 @@ use Rattle.laws_machine.proofs.Common.{spends_twice, DriveState, Becomes, at_spe
 use Rattle.laws_machine.proofs.Facts.{different, spin_on}
 use Rattle.flop_base.specs.Counts.{Spends}
 use Rattle.flop_base.proofs.Counted.{spends_itself}
+use Rattle.drive_model.proofs.Passing.{becomes_at}
 
 place_on : (fast : Bool) (place words : ℕ) → place < words
     → (if fast && (place + 1 == words) then 0 else (if fast then place + 1 else place)) < words
@@ -27,8 +28,15 @@ turned_let old new is = record {
   spends = is.spends;
 }
 
+-- a word time in which no fault comes
+pub calmly : (before after : DriveState) → after ≡ let_pass before → Becomes (let_pass before) before after
+calmly before after is = becomes_at (let_pass before) before after is refl refl
+
+pub turned_calmly : (old new : DriveState) → new ≡ let_pass old → Turned old new
+turned_calmly old new is = turned_let old new (calmly old new is)
+
 pub turned_moves : (pulse : Option Bool) (old new : DriveState) → pulse ≡ None → Moves pulse old new → Turned old new
-turned_moves pulse old new none moves = turned_let old new (subst (λ p. Moves p old new) none moves)
+turned_moves pulse old new none moves = turned_calmly old new (subst (λ p. Moves p old new) none moves)
 
 pub turned_still : (old new : DriveState) → new ≡ old → Turned old new
 turned_still old new same = record {

@@ -30,9 +30,9 @@ asks_busy (Execute execution) asking fifo up = refl
 asks_busy (Result answer) asking fifo up = absurd (false≢true up)
 
 pub moves_faults : (pulse : Option Bool) (before after : DriveState) → Moves pulse before after → before.faults ≤ after.faults
-moves_faults None before after becomes = becomes.never_falls
-moves_faults (Some inward) before after (between, pulses, becomes) =
-    let falls = becomes.never_falls in elim pulses [
+moves_faults None before after is = let same : after.faults ≡ before.faults = ap (λ s. s.faults) is in omega arith
+moves_faults (Some inward) before after (between, pulses, is) =
+    let same : after.faults ≡ between.faults = ap (λ s. s.faults) is in elim pulses [
       | inl moved ↦ (let first = moved.never_falls in omega arith)
       | inr lost ↦ (let first = lost.0.never_falls in omega arith)
     ]

@@ -1,18 +1,19 @@
--- The word time of a device step, at both drives: what holds of a drive over a word that passes behind a pulse or without one, and over
--- a word time of a command that records.
+-- The word time of a device step, at both drives: what holds of a drive over a word that passes after a pulse or without one, over one
+-- that is heard, and over a word time of a command that records.
 use Rattle.std.proofs.Common.{ℕ, ◌/◌, ◌%◌, Bool, Option, None, subst}
-use Rattle.laws_machine.proofs.Common.{DriveState, Fifo, is_listening, polled, Moves, MovesIn, MovesTask, WordTime, IsTime, WritesIn, WritesTask, Fdc, Phase, Command, Execute, Result, Task, ReadId, Format, DataRate, Board, controller_of, Works, Step}
+use Rattle.laws_machine.proofs.Common.{Becomes, DriveState, Fifo, let_pass, is_listening, polled, Moves, MovesIn, MovesTask, WordTime, IsTime, WritesIn, WritesTask, Fdc, Phase, Command, Execute, Result, Task, ReadId, Format, DataRate, Board, controller_of, Works, Step}
 use Rattle.laws_machine.proofs.Facts.{polled_phase}
 use Rattle.fdc_phases.specs.declared.phases.Task.TheVariants.{Read, Write}
 use Rattle.laws_machine.proofs.OnSteps.Words.{drives}
 
 module _ (D : DriveState → DriveState → Type 0) (moved : (pulse : Option Bool) (before after : DriveState) → Moves pulse before after → D before after)
+    (heard : (before after : DriveState) → Becomes (let_pass before) before after → D before after)
     (timed : (time : WordTime) (rate : DataRate) (head : ℕ) (before after : DriveState) → IsTime time rate head before after → D before after) where
   by_task : (task : Task) (head_drive steps : ℕ) (asking : Bool) (fifo : Fifo) (polls : Fdc) (before after : DriveState) (new : Fdc)
       → MovesTask (is_listening task) before after
       → WritesTask task head_drive steps asking fifo polls before after new → D before after
-  by_task (ReadId search) head_drive steps asking fifo polls before after new moves writes = moved None before after moves
-  by_task (Read reading) head_drive steps asking fifo polls before after new moves writes = moved None before after moves
+  by_task (ReadId search) head_drive steps asking fifo polls before after new moves writes = heard before after moves
+  by_task (Read reading) head_drive steps asking fifo polls before after new moves writes = heard before after moves
   by_task (Write writing) head_drive steps asking fifo polls before after new moves writes =
       timed writes.step.does.time polls.rate (head_drive / 4 % 2) before after writes.step.does.is
   by_task (Format formatting) head_drive steps asking fifo polls before after new moves writes =

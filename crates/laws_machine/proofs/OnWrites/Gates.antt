@@ -1,7 +1,7 @@
 -- The write gates, step by step.
 use Rattle.std.proofs.Common.{◌≡◌, ◌⊎◌, inl, inr, ℕ, ◌+◌, ◌<◌, ◌/◌, ◌%◌, ◌&&◌, not, Bool, true, false, Option, Some, None, if◌then◌else◌, refl, sym, ◌∙◌, ap, subst}
 use Rattle.std.proofs.lemmas.Bool.{and_parts, false≢true}
-use Rattle.laws_machine.proofs.Common.{DriveState, Writes, at_speed, can_write, rewritten, Fifo, FormatNext, WriteNext, FormatDoes, after_laid, is_listening, polled, Moves, MovesIn, MovesTask, WordTime, Saw, KeptOut, Wrote, Stopped, IsTime, Closes, WritesIn, WritesTask, WriteDoes, after_next, is_ended, Fdc, Phase, Command, Execute, Result, Task, ReadId, Format, DataRate, Formatting, Writing, Board, controller_of, selected_of, Works, Step, Marching}
+use Rattle.laws_machine.proofs.Common.{Becomes, DriveState, Writes, at_speed, can_write, rewritten, Fifo, FormatNext, WriteNext, FormatDoes, after_laid, is_listening, let_pass, polled, Moves, MovesIn, MovesTask, WordTime, Saw, KeptOut, Wrote, Stopped, IsTime, Closes, WritesIn, WritesTask, WriteDoes, after_next, is_ended, Fdc, Phase, Command, Execute, Result, Task, ReadId, Format, DataRate, Formatting, Writing, Board, controller_of, selected_of, Works, Step, Marching}
 use Rattle.laws_machine.proofs.Facts.{polled_phase}
 use Rattle.fdc_stages.specs.declared.formatting.FormatNext.TheVariants as format_next
 use Rattle.fdc_stages.specs.declared.writing.WriteNext.TheVariants as write_next
@@ -17,14 +17,16 @@ use Rattle.laws_machine.proofs.OnSteps.Words.{bays}
 -- ---- a drive
 
 moves_closed : (pulse : Option Bool) (before after : DriveState) → Moves pulse before after → PassesClosed before after
-moves_closed None before after becomes =
-    record { pulse = None; moves = becomes; gate = ap (λ s. s.gate) becomes.becomes; medium = ap (λ s. s.medium) becomes.becomes }
-moves_closed (Some inward) before after (between, pulses, becomes) = record {
-  pulse = Some inward;
-  moves = (between, pulses, becomes);
-  gate = ap (λ s. s.gate) becomes.becomes;
-  medium = moves_same (Some inward) before after (between, pulses, becomes);
+moves_closed None before after is = record { passes = inl (None, is); gate = ap (λ s. s.gate) is; medium = ap (λ s. s.medium) is }
+moves_closed (Some inward) before after (between, pulses, is) = record {
+  passes = inl (Some inward, (between, pulses, is));
+  gate = ap (λ s. s.gate) is;
+  medium = moves_same (Some inward) before after (between, pulses, is);
 }
+
+heard_closed : (before after : DriveState) → Becomes (let_pass before) before after → PassesClosed before after
+heard_closed before after becomes =
+    record { passes = inr becomes; gate = ap (λ s. s.gate) becomes.becomes; medium = ap (λ s. s.medium) becomes.becomes }
 
 not_closed : (drive : DriveState) → drive.gate ≡ false → drive.gate ≡ true → ⊥
 not_closed drive closed on = false≢true (sym closed ∙ on)
@@ -44,8 +46,8 @@ writes_gated from mid head word (inr (can, becomes, rose)) = inl (ap (λ s. s.me
 
 time_gates : (Makes : WordTime → Type 0) (time : WordTime) (rate : DataRate) (head : ℕ) (before after : DriveState) → IsTime time rate head before after → Makes time
     → PassesClosed before after ⊎ IsGivenIn Makes before after
-time_gates Makes (Saw index word) rate head before after is makes = inl (moves_closed None before after is.passes)
-time_gates Makes (KeptOut index word) rate head before after (other, is) makes = inl (moves_closed None before after is.passes)
+time_gates Makes (Saw index word) rate head before after is makes = inl (heard_closed before after is.passes)
+time_gates Makes (KeptOut index word) rate head before after (other, is) makes = inl (heard_closed before after is.passes)
 time_gates Makes (Wrote opened closed index word) rate head before after is makes = inr (record {
   head = head;
   opened = opened;
@@ -66,7 +68,7 @@ time_gates Makes (Wrote opened closed index word) rate head before after is make
 time_gates Makes Stopped rate head before after is makes = inl (moves_closed None before after is)
 
 closes_gate : (closed : Bool) (mid after : DriveState) → Closes closed mid after → closed ≡ true → after.gate ≡ false
-closes_gate true mid after becomes is = ap (λ s. s.gate) becomes.becomes
+closes_gate true mid after closed is = ap (λ s. s.gate) closed
 closes_gate false mid after same wrong = absurd cc
 
 -- where a word leaves the gate open, the write goes on
@@ -113,8 +115,8 @@ recording (inr given) = inr (refl, given)
 by_task : (task : Task) (head_drive steps : ℕ) (asking : Bool) (fifo : Fifo) (polls : Fdc) (before after : DriveState) (new : Fdc) → MovesTask (is_listening task) before after
     → WritesTask task head_drive steps asking fifo polls before after new
     → IsWorked (not (is_listening task)) (λ time. MakesTask task head_drive steps time polls before new) before after new
-by_task (ReadId search) head_drive steps asking fifo polls before after new moves writes = worked_closed false _ before after new (moves_closed None before after moves)
-by_task (Read reading) head_drive steps asking fifo polls before after new moves writes = worked_closed false _ before after new (moves_closed None before after moves)
+by_task (ReadId search) head_drive steps asking fifo polls before after new moves writes = worked_closed false _ before after new (heard_closed before after moves)
+by_task (Read reading) head_drive steps asking fifo polls before after new moves writes = worked_closed false _ before after new (heard_closed before after moves)
 by_task (Write writing) head_drive steps asking fifo polls before after new moves writes =
     let does = writes.step.does in record {
       time = recording (time_gates (λ time. WriteDoes time head_drive steps writing polls before new) does.time polls.rate (head_drive / 4 % 2) before after does.is does.does);

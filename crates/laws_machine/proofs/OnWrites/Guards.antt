@@ -42,19 +42,20 @@ time_guards (KeptOut index word) rate head before after (other, is) = inl (ap (�
 time_guards (Wrote opened closed index word) rate head before after is =
     subst (λ medium. IsGuarded medium after.medium) (opens_same opened before is.from is.opens)
     (subst (λ medium. IsGuarded is.from.medium medium) (sym (closes_same closed is.mid after is.closes)) (writes_guard is.from is.mid head word is.writes))
-time_guards Stopped rate head before after is = inl (ap (λ s. s.medium) is.becomes)
+time_guards Stopped rate head before after is = inl (ap (λ s. s.medium) is)
 
 pub moves_same : (pulse : Option Bool) (before after : DriveState) → Moves pulse before after → after.medium ≡ before.medium
-moves_same None before after becomes = ap (λ s. s.medium) becomes.becomes
-moves_same (Some inward) before after (between, pulses, becomes) =
-    ap (λ s. s.medium) becomes.becomes ∙ elim pulses [ inl moved ↦ ap (λ s. s.medium) moved.becomes | inr lost ↦ ap (λ s. s.medium) lost.0.becomes ]
+moves_same None before after is = ap (λ s. s.medium) is
+moves_same (Some inward) before after (between, pulses, is) =
+    ap (λ s. s.medium) is ∙ elim pulses [ inl moved ↦ ap (λ s. s.medium) moved.becomes | inr lost ↦ ap (λ s. s.medium) lost.0.becomes ]
 
 -- ---- the device step
 
 pub step_guards : (old new : Board) → Step old new → GuardsMedia old new
 step_guards old new step =
     let (first, second) = both (λ before after. IsGuarded before.medium after.medium)
-    (λ pulse before after moves. inl (moves_same pulse before after moves)) time_guards old new step in
+    (λ pulse before after moves. inl (moves_same pulse before after moves)) (λ before after heard. inl (ap (λ s. s.medium) heard.becomes))
+    time_guards old new step in
     record { first = first; second = second }
 
 -- ---- a protected medium
@@ -88,8 +89,8 @@ pub step_leaves : (old new : Board) → Step old new → LeavesOthers old new
 step_leaves old new step = record {
   dor = dor_on old new step (controller (dor_of step.between ≡ dor_of (controller_of old)) old new step
       (λ before after works. ap (λ dor. dor.0) works.stays.dor) (λ works. ap (λ dor. dor.0) works.stays.dor));
-  first = λ other. ap (λ s. s.medium) (first_passes old new step other).becomes;
-  second = λ other. ap (λ s. s.medium) (second_passes old new step other).becomes;
+  first = λ other. ap (λ s. s.medium) (first_passes old new step other);
+  second = λ other. ap (λ s. s.medium) (second_passes old new step other);
 }
 
 pub leaves_on : (old between new : Board) → LeavesOthers old between → LeavesOthers between new → LeavesOthers old new

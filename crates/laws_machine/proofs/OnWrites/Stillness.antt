@@ -5,7 +5,7 @@ use Rattle.std.proofs.lemmas.Bool.Decides.{nat_tests}
 use Rattle.laws_machine.proofs.Common.{spends_twice, DriveState, turns, Fifo, Seeking, pulse_due, seek_bits, Seek, ExecutesIn, polled, Moves, MovesIn, RestsIn, WritesIn, Fdc, Phase, Command, Execute, Result, drive_in, Board, controller_of, selected_of, Works, Step, TurnsOn, Steady, HasNoSeek, StaysStill}
 use Rattle.laws_machine.proofs.Facts.{polled_phase}
 use Rattle.laws_machine.specs.OnWrites.Heads.{IsStill}
-use Rattle.laws_machine.proofs.OnAwaits.Turning.{on_let, on_still}
+use Rattle.laws_machine.proofs.OnAwaits.Turning.{on_calm, on_still}
 use Rattle.laws_machine.proofs.OnAwaits.Words.{word_leaves}
 use Rattle.laws_machine.proofs.OnQuiet.Listening.{pulse_none, stepped_none}
 use Rattle.laws_machine.proofs.OnSteps.Controllers.{controller_dma, polled_cylinders, polled_seek}
@@ -58,7 +58,7 @@ with_seeks before after old new turns_on same =
 
 at_rest : (track0 : Bool) (polls : Fdc) (before after : DriveState) → polls.seeks.seek ≡ None → Moves (pulse_due polls.seeks track0) before after
     → TurnsOn before after
-at_rest track0 polls before after none moves = on_let before after (subst (λ pulse. Moves pulse before after) (pulse_none polls.seeks track0 none) moves)
+at_rest track0 polls before after none moves = on_calm before after (subst (λ pulse. Moves pulse before after) (pulse_none polls.seeks track0 none) moves)
 
 still_phase : (phase : Phase) (asking : Bool) (fifo : Fifo) (index : Bool) (word : ℕ) (polls : Fdc) (before after : DriveState) (new : Fdc) → polls.seeks.seek ≡ None → MovesIn phase polls before after
     → WritesIn phase asking fifo polls before after new → ExecutesIn phase index word polls new → RestsIn phase (before.cylinder == 0) polls new → IsStillStep before after polls new
@@ -106,7 +106,7 @@ step_still old new step was =
     (step.between.seeks.cylinders ≡ (controller_of old).seeks.cylinders)) old new was.selects step
     (λ bay works. let is = still_works (controller_of old) (drive_in old bay) step.between (drive_in new bay) was.none works in (is.seek, is.numbers)) in
     let (first, second) = drives IsStill old new step (λ before after works. (still_works (controller_of old) before step.between after was.none works).still)
-    (λ before after passes. still_turned before after (on_let before after passes)) in
+    (λ before after passes. still_turned before after (on_calm before after passes)) in
     still_step old new step was seek numbers first second
 
 pub stays_further : (old between new : Board) → StaysStill old between → StaysStill between new → StaysStill old new

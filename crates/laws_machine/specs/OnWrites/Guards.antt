@@ -1,10 +1,10 @@
 -- What any device step may do to the media.
 use Rattle.std.specs.Prelude.{◌≡◌, ◌⊎◌, ◌==◌, ℕ, Bool, true, false, not, Option, Some}
 use Rattle.raw_image.specs.Disk.{Disk, with_word}
-use Rattle.drive_model.specs.Drive.{DriveState, Writes}
+use Rattle.drive_model.specs.Drive.{DriveState, Becomes, Writes}
 use Rattle.fdc_core.specs.State.{dor_of}
 use Rattle.fdc_core.specs.Formatting.{FormatDoes}
-use Rattle.fdc_core.specs.Steps.{Moves, polled}
+use Rattle.fdc_core.specs.Steps.{Moves, let_pass, polled}
 use Rattle.fdc_core.specs.Times.{WordTime, Wrote, Opens, Closes}
 use Rattle.fdc_core.specs.Writing.{WriteDoes}
 use Rattle.fdc_core.specs.declared.controller.Fdc.{Fdc}
@@ -47,10 +47,9 @@ pub record LeavesOthers (old new : Board) : Type 0 where
 abbrev pub is_recording : Phase → Bool
 is_recording phase = not (only_listens phase)
 
--- a word time passes at a drive with its gate closed, behind the pulse of a seek where one is due
+-- a word time passes at a drive with its gate closed: after the pulse of a seek where one is due, or while a word is heard
 pub record PassesClosed (before after : DriveState) : Type 0 where
-  pub pulse : Option Bool
-  pub moves : Moves pulse before after
+  pub passes : ((pulse : Option Bool) × Moves pulse before after) ⊎ Becomes (let_pass before) before after
   pub gate : after.gate ≡ false
   pub medium : after.medium ≡ before.medium
 

@@ -1,7 +1,7 @@
 // The lines that exchange media, and the end of a run.
 ghost use Rattle.std.specs.Prelude.{◌≡◌, ◌≤◌, false, true};
 ghost use Rattle.floppy_jobs.specs.declared.ports.PortLine.TheVariants as line;
-ghost use Rattle.drive_model.specs.Drive.{Becomes, loaded};
+ghost use Rattle.drive_model.specs.Drive.{loaded};
 ghost use Rattle.flop_base.specs.Bays.{with_bay};
 ghost use Rattle.pc_bus.specs.Boards.{board, drive_in};
 ghost use Rattle.pc_bus.specs.Handling.{Touches};
@@ -66,8 +66,7 @@ fn put_in<D: Drive>(
     requires bay { bay ≤ 1 }
     requires empty { is_loaded names.old bay ≡ false }
     ensures touches { Touches bay (board D.state machine.old) (board D.state machine.new) }
-    ensures drive { Becomes (loaded medium (drive_in (board D.state machine.old) bay))
-        (drive_in (board D.state machine.old) bay) (drive_in (board D.state machine.new) bay) }
+    ensures drive { drive_in (board D.state machine.new) bay ≡ loaded medium (drive_in (board D.state machine.old) bay) }
     ensures names { names.new ≡ with_bay names.old bay (Some name) }
     ensures named { AreNamed names.new (board D.state machine.new) }
 {

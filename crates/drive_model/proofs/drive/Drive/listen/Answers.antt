@@ -14,4 +14,4 @@ returns-clause-word g c =
     reads_shut c.args.head c.read_word-turn.result.word (state c.args.self.now) (state c.gate.new.self) (state c.read_word-turn.new.self) c.gate.ensures.becomes c.read_word-turn.ensures.word
 
 pub returns-clause-rate : goal.returns-clause-rate
-returns-clause-rate g c = c.rate-rate.ensures ∙ ap (λ s. rate_of s.medium) c.gate.ensures.becomes.becomes
+returns-clause-rate g c = c.rate-rate.ensures ∙ ap (λ s. rate_of s.medium) c.gate.ensures.becomes

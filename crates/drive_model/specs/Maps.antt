@@ -1,5 +1,5 @@
 -- Which tracks were written, a bit for each.
-use Rattle.std.specs.Prelude.{◌≡◌, length, ℕ, Bool, ◌+◌, ◌*◌, ◌/◌, ◌%◌, ◌==◌, nat_lt, List, replicate, slice_index, slice_set, if◌then◌else◌}
+use Rattle.std.specs.Prelude.{◌≡◌, length, ℕ, Bool, ◌+◌, ◌*◌, ◌/◌, ◌%◌, ◌==◌, nat_lt, List, Option, Some, None, replicate, slice_index, slice_set, if◌then◌else◌}
 use Rattle.std.specs.Int.RustNames.{bit_or}
 
 -- no track
@@ -26,6 +26,16 @@ marked c h map =
 -- the same where a word was replaced
 abbrev pub marked_if : Bool → (c h : ℕ) → List ℕ → List ℕ
 marked_if wrote c h map = if wrote then marked c h map else map
+
+-- the same in a map that a drive may keep
+abbrev pub marked_where : Bool → (c h : ℕ) → Option (List ℕ) → Option (List ℕ)
+marked_where wrote c h None = None
+marked_where wrote c h (Some map) = Some (marked_if wrote c h map)
+
+-- a map that a drive may keep, with no track in it any more
+abbrev pub emptied : Option (List ℕ) → Option (List ℕ)
+emptied None = None
+emptied (Some map) = Some no_tracks
 
 -- a map has 20 bytes
 abbrev pub IsMap : List ℕ → Type 0
