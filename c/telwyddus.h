@@ -324,7 +324,7 @@ TELWYDDUS_NEWS uint32_t telwyddus_controller_plan(telwyddus_controller *controll
 
 /* A SAVE STATE: the whole controller as bytes, between any two calls, also in the middle of a command, with its drives, the media
  * in them, what written tells, and the faults that a plan has still to bring. The form of the bytes is this version's own: they begin with the
- * eight bytes "TELWYDD" and 1, and where the form is another one the last of these is too, so that such bytes are no state. */
+ * eight bytes "TELWYDD" and 2, and where the form is another one the last of these is too, so that such bytes are no state. */
 
 /* Writes the state to the beginning of a buffer; the controller goes on. *length is the state's, told where the buffer is too short
  * too. DONE, EMPTY, NO_MEMORY, TOO_SHORT. */
@@ -340,7 +340,7 @@ TELWYDDUS_NEWS uint32_t telwyddus_controller_restore(telwyddus_controller *contr
 
 /* A BARE STATE: the same without the media, for an emulator that keeps each disk in a file of its own. Of a medium it has the length of its
  * tracks and its rate, by a stand-in of one empty track: an image file of 25,014 bytes for 1.44 MB, 12,514 for 720 KB. Left out are each cell
- * and the tab. It begins with "TELWYDB" and 1, so that restore refuses it with BAD_STATE, as restore_bare does a whole state.
+ * and the tab. It begins with "TELWYDB" and 2, so that restore refuses it with BAD_STATE, as restore_bare does a whole state.
  *
  * Writes it as save does. The controller is behind it as it was, also where memory is out. DONE, EMPTY, NO_MEMORY, TOO_SHORT. */
 TELWYDDUS_NEWS uint32_t telwyddus_controller_save_bare(telwyddus_controller *controller, uint8_t *out, size_t room, size_t *length);

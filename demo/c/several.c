@@ -2,7 +2,8 @@
  *
  * A guest writes whole cylinders of 36 sectors, in one command each, and reads them back; `export` on a shelf then gives the flat
  * file that was wanted. Then one command for each rule of MT, SK, EOT and the terminal count: how many bytes pass, and what its
- * result bytes are by the table in docs/C.md; also of VERIFY and READ TRACK, and with the bytes at the data port. At last it
+ * result bytes are by the table in docs/C.md; also of VERIFY and READ TRACK, and with the bytes at the data port; what is told of
+ * seeks with the strap for step times and without; and that nothing happens while it is held in reset. At last it
  * formats a track with 21 sectors, and the disk has no flat file. */
 #include "guest.h"
 #include "flat.h"
@@ -260,6 +261,46 @@ static void seeks(void) {
     configure(&guest, FIFO_OFF | EIS);
 }
 
+/* SENSE INTERRUPT tells this. */
+static int is_sensed(uint8_t status, uint8_t number) {
+    sense_interrupt(&guest);
+    return guest.results == 2 && guest.result[0] == status && guest.result[1] == number;
+}
+
+/* A SEEK whose last byte comes before the first device step behind a reset, and a RECALIBRATE from further out than its 79 pulses go:
+ * the same is told with the strap for step times and without. */
+static void step_times(uint8_t strap) {
+    static const uint8_t fast[] = {0x03, 0xFF, 0x02}, near[] = {0x0F, 0, 3}, home[] = {0x07, 0};
+    int polls = 0;
+    MUST(telwyddus_controller_strap_steps(&guest.controller, strap));
+    command(&guest, fast, 3);
+    out(&guest, DOR, 0x18);
+    out(&guest, DOR, 0x1C);
+    put(&guest, near, 3);
+    make_steps(&guest, 1);
+    check(has_line(&guest, TELWYDDUS_INT), "a SEEK before the first step behind a reset: INT of the reset comes");
+    for (uint8_t drive = 0; drive < 4; drive++) polls += is_sensed(0xC0 | drive, 0);
+    need(run(&guest, 1000000), "the seek ends");
+    check(polls == 4 && is_sensed(0x20, 3), "C0, C1, C2 and C3 are told, and then 20");
+    recalibrate(&guest);
+    seek(&guest, 82);
+    put(&guest, home, 2);
+    need(run(&guest, 1000000), "the heads stand");
+    check(is_sensed(0x70, 0) && cylinder() == 3, "RECALIBRATE from cylinder 82 ends with 70 behind 79 pulses");
+    recalibrate(&guest);
+    check(cylinder() == 0, "and once more it comes to cylinder 0");
+    MUST(telwyddus_controller_strap_steps(&guest.controller, 0));
+}
+
+/* Held in reset nothing is under way: no timer is needed. */
+static void held(void) {
+    uint32_t quiet;
+    out(&guest, DOR, 0x08);
+    MUST(telwyddus_controller_quiet(&guest.controller, 1000000, &quiet));
+    check(quiet == 1000000 && !run(&guest, 1000), "held in reset, with bit 3 of DOR: no line changes in all steps");
+    start(&guest);
+}
+
 /* What a guest does within a command: nothing comes of it. */
 static void within(void) {
     const uint8_t bytes[] = {READ | MT, 0, 30, 0, 1, 2, 18, GAP}, sector_one[] = {0x00, 0, 0, 30, 0, 2, 2};
@@ -394,6 +435,10 @@ int main(void) {
     breaks();
     starve();
     seeks();
+    step_times(0);
+    step_times(1);
+    held();
+    configure(&guest, FIFO_OFF | EIS);
     flat_files();
     protect();
     MUST(telwyddus_controller_free(&guest.controller));

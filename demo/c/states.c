@@ -745,7 +745,7 @@ static void each_stage(void) {
  * its FIFO off with a threshold of one byte; the change lines of both empty drives are up. Counts have eight bytes, the low one first. */
 static void made_as_written(void) {
     static const uint8_t wanted[198] = {
-        'T', 'E', 'L', 'W', 'Y', 'D', 'D', 1,
+        'T', 'E', 'L', 'W', 'Y', 'D', 'D', 2,
         'G', 'C',
         0, 2, 0, 1, 1, 0, 0, 0,             /* DOR, the rate, non-DMA, polling, poll due, INT, DRQ, the command phase */
         0, 0, 0, 0, 0, 0, 0, 0, 0,          /* the cylinders, no seek, no results */

@@ -8,6 +8,7 @@ mod driver;
 mod files;
 mod guest;
 mod sector;
+mod straps;
 mod tools;
 mod trouble;
 
@@ -17,5 +18,6 @@ fn main(rt: HostRuntime) -> Result<(), Trouble> {
     sector::run(&rt)?;
     controller::run(&rt)?;
     driver::run(&rt)?;
+    straps::run(&rt)?;
     diskette::run(&rt)
 }

@@ -1,6 +1,7 @@
-// Whether the controller does anything.
+// Whether the controller does anything, and the range of its numbers.
 ghost use Rattle.std.specs.Prelude.{◌≡◌, true};
 ghost use Rattle.fdc_core.specs.Courses.{is_at_rest};
+ghost use Rattle.fdc_core.specs.Ranges.{IsInRange};
 ghost use Rattle.fdc_adapter.specs.Still.{Stands};
 
 use crate::adapter::DisketteAdapter;
@@ -15,5 +16,12 @@ impl<D: Inspect> DisketteAdapter<D> {
         ensures still { result ≡ true → Stands (controller_of self.now) }
     {
         self.controller.is_still()
+    }
+
+    /// The numbers of its controller are those that registers hold. It does nothing.
+    pub fn ranges(&self)
+        ensures { IsInRange (controller_of self.now) }
+    {
+        self.controller.ranges();
     }
 }

@@ -2,7 +2,7 @@
 ghost use Rattle.std.specs.Prelude.{◌≡◌};
 ghost use Rattle.fdc_core.specs.Listening.{is_executing};
 ghost use Rattle.fdc_core.specs.State.{is_gated};
-ghost use Rattle.fdc_core.specs.Whole.{is_idle, options_with, TakesWhole, ending_told, given_up, mark_of, without_seek};
+ghost use Rattle.fdc_core.specs.Whole.{is_idle, options_with, TakesWhole, ending_told, given_up, mark_of, recalibrated_within, without_seek};
 ghost use Rattle.fdc_commands.specs.Seeking.{has_ended_seek};
 
 use crate::adapter::DisketteAdapter;
@@ -75,5 +75,13 @@ impl<D: Inspect> DisketteAdapter<D> {
         ensures drives { SameDrives self.old self.new }
     {
         self.controller.forget_seek()
+    }
+
+    /// Begins a RECALIBRATE that gives so many pulses at most, where the first byte of a command may come and no seek bit is set.
+    pub fn recalibrate_within(&mut self, drive: u8, pulses: u8)
+        ensures after { controller_of self.new ≡ recalibrated_within drive pulses (controller_of self.old) }
+        ensures drives { SameDrives self.old self.new }
+    {
+        self.controller.recalibrate_within(drive, pulses);
     }
 }

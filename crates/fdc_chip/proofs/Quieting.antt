@@ -6,7 +6,8 @@ use Rattle.fdc_sequencer.specs.Fronts.{Front, KeepsFront, asks_at, asks_outside,
 use Rattle.fdc_sequencer.specs.Moves.{RunsFrontWith, RunsFront}
 use Rattle.fdc_sequencer.specs.Senses.{pending_outside, sensed_outside}
 use Rattle.fdc_chip.specs.Chips.{ChipState, KeepsChip, KeepsRest, asks_chip, interrupts_chip, passes, passes_by_channel, passes_by_port, shows_behind, with_front}
-use Rattle.fdc_chip.specs.Doing.{drained, drained_by, drained_one, kept}
+use Rattle.fdc_chip.specs.Doing.{drained, drained_by, drained_one, is_told, kept}
+use Rattle.fdc_chip.specs.Interrupts.{with_result}
 use Rattle.fdc_chip.specs.Paces.{Paces}
 use Rattle.fdc_chip.specs.Quiet.{IsQuietFor, IsShut, IsStill, StepsBy, rests_at}
 use Rattle.fdc_chip.specs.Settings.{is_by_port}
@@ -155,7 +156,11 @@ alike_as one set other alike is = subst (λ (c : ChipState). IsAlike one c) (sym
 
 kept_alike : (found : Option (ℕ × ℕ)) (old : ChipState) → IsAlike old (kept found old)
 kept_alike None old = record { stage = refl; pace = refl; gate = refl }
-kept_alike (Some (status, cylinder)) old = record { stage = refl; pace = refl; gate = refl }
+kept_alike (Some (status, cylinder)) old = told_alike (is_told old.pace status)
+  where
+    told_alike : (b : Bool) → IsAlike old (if b then record old { interrupts = with_result status cylinder old.interrupts } else old)
+    told_alike true = record { stage = refl; pace = refl; gate = refl }
+    told_alike false = record { stage = refl; pace = refl; gate = refl }
 
 one_alike : (old : ChipState) → IsAlike old (drained_one old)
 one_alike old =

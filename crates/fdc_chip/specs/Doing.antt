@@ -4,6 +4,7 @@ use Rattle.std.specs.Int.RustNames.{bit_or}
 use Rattle.flop_base.specs.declared.key.Chrn.{Chrn}
 use Rattle.fdc_sequencer.specs.Fronts.{Front, WritesFront, after_reading, value_outside}
 use Rattle.fdc_sequencer.specs.Senses.{pending_outside, sensed_outside}
+use Rattle.fdc_registers.specs.St0.{seek_end}
 use Rattle.fdc_sequencer.specs.Transfers.{size_of}
 use Rattle.fdc_chip.specs.Chips.{ChipState, with_front, KeepsRest}
 use Rattle.fdc_chip.specs.Codes.{has_bit}
@@ -33,10 +34,16 @@ Sends (byte ∷ rest) old new = (between : Front) × WritesFront 0x3F5 byte old 
 abbrev pub SendsOn : List ℕ → ChipState → ChipState → Type 0
 SendsOn bytes old new = Sends bytes old.front new.front × KeepsRest old new
 
--- a result of a seek or poll that is pending behind is taken over, and INT rises
+-- a result is to be told: while pulses come in the time that SPECIFY sets, what one of them came to isn't, and the poll is
+abbrev pub is_told : Option Pace → ℕ → Bool
+is_told None status = true
+is_told (Some _) status = bit_and status seek_end == 0
+
+-- a result of a seek or poll that is pending behind is taken over, and INT rises where it is to be told
 abbrev pub kept : Option (ℕ × ℕ) → ChipState → ChipState
 kept None old = old
-kept (Some (status, cylinder)) old = record old { interrupts = with_result status cylinder old.interrupts }
+kept (Some (status, cylinder)) old =
+    if is_told old.pace status then record old { interrupts = with_result status cylinder old.interrupts } else old
 
 abbrev pub drained_one : ChipState → ChipState
 drained_one old = kept (pending_outside old.front) (with_front (sensed_outside old.front) old)
@@ -129,9 +136,9 @@ abbrev pub moving : ℕ → Option ℕ → List ℕ
 moving unit None = 0x07 ∷ unit ∷ []
 moving unit (Some target) = 0x0F ∷ unit ∷ target ∷ []
 
--- from the cylinder number that the controller counts, the first pulse at once
+-- from the cylinder number that the controller counts, the first pulse at once; a RECALIBRATE gives 79 at most
 abbrev pub pace_begun : ℕ → ℕ → Option ℕ → Pace
-pace_begun unit cylinder goal = record { unit = unit; cylinder = cylinder; goal = goal; wait = 0 }
+pace_begun unit cylinder goal = record { unit = unit; cylinder = cylinder; goal = goal; left = 79; wait = 0 }
 
 -- its pulses come in the time that SPECIFY sets, or it is given behind
 abbrev pub MovesIf : Bool → Option ℕ → ChipState → ChipState → Type 0

@@ -1,8 +1,8 @@
 -- Seeks whose pulses come in the time that SPECIFY sets.
-use Rattle.std.specs.Prelude.{◌≡◌, ℕ, ◌+◌, ◌-◌, ◌%◌, Bool, true, false, not, ◌==◌, ◌&&◌, List, [], ◌∷◌, Option, Some, None, if◌then◌else◌, nat_le, nat_lt, unwrap_or}
-use Rattle.fdc_sequencer.specs.Senses.{is_ready, sensed_outside}
+use Rattle.std.specs.Prelude.{◌≡◌, ℕ, ◌+◌, ◌-◌, ◌%◌, Bool, true, false, not, ◌==◌, ◌&&◌, ◌||◌, List, [], ◌∷◌, Option, Some, None, is_none, if◌then◌else◌, nat_le, nat_lt, unwrap_or}
+use Rattle.fdc_sequencer.specs.Senses.{is_ready, recalibrated_outside}
 use Rattle.fdc_chip.specs.Chips.{ChipState, with_front}
-use Rattle.fdc_chip.specs.Doing.{SendsOn, moving, moves_heads}
+use Rattle.fdc_chip.specs.Doing.{SendsOn, drained, moving, moves_heads}
 use Rattle.fdc_chip.specs.Settings.{step_words}
 use Rattle.fdc_chip.specs.declared.pace.Pace.{Pace}
 
@@ -10,31 +10,42 @@ use Rattle.fdc_chip.specs.declared.pace.Pace.{Pace}
 abbrev pub target_of : Pace → ℕ
 target_of pace = unwrap_or pace.goal 0
 
--- a cylinder nearer, and so many word times until the next
+-- a cylinder nearer by a pulse, and so many word times until the next
 abbrev pub stepped : ℕ → Pace → Pace
 stepped words pace = record pace {
   cylinder = if nat_lt pace.cylinder (target_of pace) then pace.cylinder + 1 else pace.cylinder - 1;
+  left = pace.left - 1;
   wait = words;
 }
+
+-- it is there by the number, or is a RECALIBRATE that gave all its pulses
+abbrev pub is_over : Pace → Bool
+is_over pace = (pace.cylinder == target_of pace) || (is_none pace.goal && (pace.left == 0))
 
 -- the time is over, and what stands behind takes the next command
 abbrev pub is_due : Pace → ChipState → Bool
 is_due pace chip = (nat_le pace.wait 1 && is_ready chip.front) && not (moves_heads chip.front)
 
--- it is there by the number: the command is given behind, which ends it; else a SEEK by one cylinder is
+-- what ends it is given behind: a SEEK of its cylinder, or a RECALIBRATE with no more pulses than are left of the 79
+abbrev pub EndsAt : Option ℕ → Pace → ChipState → ChipState → Type 0
+EndsAt (Some target) pace old new = SendsOn (moving pace.unit (Some target)) old new
+EndsAt None pace old new = new ≡ with_front (recalibrated_outside pace.unit pace.left old.front) old
+
+-- it is over, and ends; else a SEEK by one cylinder is given behind
 abbrev pub PulsesIf : Bool → Pace → ChipState → ChipState → Type 0
-PulsesIf true pace old new = SendsOn (moving pace.unit pace.goal) (record old { pace = None }) new
+PulsesIf true pace old new = EndsAt pace.goal pace (record old { pace = None }) new
 PulsesIf false pace old new = let next = stepped (step_words old.settings) pace in
     SendsOn (moving pace.unit (Some next.cylinder)) (record old { pace = Some next }) new
 
 abbrev pub GoesOnIf : Bool → Pace → ChipState → ChipState → Type 0
-GoesOnIf true pace old new = PulsesIf (pace.cylinder == target_of pace) pace old new
+GoesOnIf true pace old new = PulsesIf (is_over pace) pace old new
 GoesOnIf false pace old new = new ≡ record old { pace = Some (record pace { wait = pace.wait - 1 }) }
 
--- a device step of it: the result of a SEEK by one cylinder isn't told
+-- a device step of it
 abbrev pub GoesOn : Pace → ChipState → ChipState → Type 0
 GoesOn pace old new = GoesOnIf (is_due pace old) pace old new
 
+-- results behind are taken over first: those of the poll are told, and those of a SEEK by one cylinder aren't
 abbrev pub Paces : Option Pace → ChipState → ChipState → Type 0
 Paces None old new = new ≡ old
-Paces (Some pace) old new = GoesOn pace (with_front (sensed_outside old.front) old) new
+Paces (Some pace) old new = GoesOn pace (drained old) new

@@ -70,7 +70,7 @@ spelled_task (task.Track track) rest = 4 ∷ spelled_track track rest
 -- a seek whose pulses come in the time that SPECIFY sets
 unfoldable pub spelled_pace : Pace → List ℕ → List ℕ
 spelled_pace pace rest =
-    spelled_byte pace.unit (spelled_byte pace.cylinder (spelled_option spelled_byte pace.goal (spelled_word pace.wait rest)))
+    spelled_byte pace.unit (spelled_byte pace.cylinder (spelled_option spelled_byte pace.goal (spelled_byte pace.left (spelled_word pace.wait rest))))
 
 -- what is under way
 unfoldable pub spelled_stage : Stage → List ℕ → List ℕ

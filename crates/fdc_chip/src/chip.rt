@@ -82,7 +82,8 @@ impl<D: Inspect> Chip<D> {
     }
 
     /// Lets the pulses of SEEK, RELATIVE SEEK and RECALIBRATE come in the time that SPECIFY sets; or one in each word time. A
-    /// RECALIBRATE gives those of the cylinders that the controller has counted so, and what is left to track 0 in a word time each.
+    /// RECALIBRATE gives those of the cylinders that the controller has counted so, and what is left to track 0 in a word time each,
+    /// 79 in all at most.
     pub fn strap_steps(&mut self, on: bool)
         ensures state { chip_state D.state self.new ≡ record (chip_state D.state self.old) { paced = on } }
         ensures drives { SameDrives (adapter_of (behind_of self.old)) (adapter_of (behind_of self.new)) }

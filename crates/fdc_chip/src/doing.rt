@@ -2,7 +2,7 @@
 ghost use Rattle.std.specs.Prelude.{◌≡◌};
 ghost use Rattle.fdc_sequencer.specs.Fronts.{front_state};
 ghost use Rattle.fdc_chip.specs.Chips.{chip_state, behind_of, KeepsRest};
-ghost use Rattle.fdc_chip.specs.Doing.{Sends, SendsOn, drained_one, drained, moves_heads, is_moving, told, ready, sensing, specified, configured, configuring, dumped, locked, made_perpendicular, relative_target, Asks, Moves, Obeys, AttendsTo, Attends, needs_heads};
+ghost use Rattle.fdc_chip.specs.Doing.{Sends, SendsOn, is_told, drained_one, drained, moves_heads, is_moving, told, ready, sensing, specified, configured, configuring, dumped, locked, made_perpendicular, relative_target, Asks, Moves, Obeys, AttendsTo, Attends, needs_heads};
 ghost use Rattle.fdc_chip.specs.Interrupts.{cylinder_of};
 
 use crate::answer::{Answer, Registers};
@@ -13,6 +13,7 @@ use crate::pace::Pace;
 use crate::settings::Settings;
 use crate::stage::{Stage, Task};
 use drive_model::Inspect;
+use fdc_registers::{Flags, St0};
 
 /// MSR where it is read.
 pub(crate) const STATUS: u16 = 0x3F4;
@@ -80,12 +81,24 @@ impl<D: Inspect> Chip<D> {
         self.stage = Stage::Telling { answer, read: 0 };
     }
 
-    /// Takes over a result of a seek or poll that is pending behind.
+    /// Whether a result with this ST0 is to be told. While pulses come in the time that SPECIFY sets, what one of them came to isn't.
+    fn is_told(&self, status: u8) -> bool
+        ensures { result ≡ is_told (chip_state D.state self.now).pace status }
+    {
+        match self.pace {
+            None => true,
+            Some(_) => status & St0::SEEK_END.bits() == 0,
+        }
+    }
+
+    /// Takes over a result of a seek or poll that is pending behind, where it is to be told.
     fn drain_one(&mut self)
         ensures { chip_state D.state self.new ≡ drained_one (chip_state D.state self.old) }
     {
         if let Some((status, cylinder)) = self.behind.sense() {
-            self.interrupts.keep(status, cylinder);
+            if self.is_told(status) {
+                self.interrupts.keep(status, cylinder);
+            }
         }
     }
 

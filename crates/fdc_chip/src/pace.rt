@@ -1,9 +1,10 @@
-// Seeks whose pulses come in the time that SPECIFY sets: behind, each is a SEEK by one cylinder.
-ghost use Rattle.std.specs.Prelude.{◌≡◌, ◌==◌, Some};
+// Seeks whose pulses come in the time that SPECIFY sets: behind, each is a SEEK by one cylinder, and a RECALIBRATE ends with the
+// pulses that are left of its 79.
+ghost use Rattle.std.specs.Prelude.{◌≡◌, Some};
 ghost use Rattle.fdc_chip.specs.Chips.{chip_state, pace_bit};
 ghost use Rattle.fdc_chip.specs.Doing.{SendsOn, moving, pace_begun};
 ghost use Rattle.fdc_chip.specs.Interrupts.{cylinder_of};
-ghost use Rattle.fdc_chip.specs.Paces.{target_of, stepped, is_due, PulsesIf, GoesOn, Paces};
+ghost use Rattle.fdc_chip.specs.Paces.{target_of, stepped, is_over, is_due, EndsAt, PulsesIf, GoesOn, Paces};
 
 use crate::chip::Chip;
 use drive_model::Inspect;
@@ -15,6 +16,9 @@ const RECALIBRATE: u8 = 0x07;
 /// SEEK.
 const SEEK: u8 = 0x0F;
 
+/// The most pulses of a RECALIBRATE.
+const RECALIBRATE_PULSES: u8 = 79;
+
 /// A seek that goes on cylinder by cylinder.
 #[derive(Clone, Copy, PartialEq, Eq, Debug)]
 pub struct Pace {
@@ -24,6 +28,8 @@ pub struct Pace {
     pub cylinder: u8,
     /// Where it goes; none for a RECALIBRATE.
     pub goal: Option<u8>,
+    /// The most pulses that a RECALIBRATE has left.
+    pub left: u8,
     /// The word times until the next pulse.
     pub wait: u16,
 }
@@ -52,6 +58,7 @@ impl Pace {
             unit,
             cylinder,
             goal,
+            left: RECALIBRATE_PULSES,
             wait: 0,
         }
     }
@@ -66,7 +73,14 @@ impl Pace {
         }
     }
 
-    /// A cylinder nearer, and so many word times until the next.
+    /// Whether it is there by the number, or is a RECALIBRATE that gave all its pulses.
+    fn is_over(self) -> bool
+        ensures { result ≡ is_over self }
+    {
+        self.cylinder == self.target() || (self.goal.is_none() && self.left == 0)
+    }
+
+    /// A cylinder nearer by a pulse, and so many word times until the next.
     fn stepped(self, words: u16) -> Pace
         ensures { result ≡ stepped words self }
     {
@@ -77,6 +91,7 @@ impl Pace {
         };
         Pace {
             cylinder,
+            left: self.left.saturating_sub(1),
             wait: words,
             ..self
         }
@@ -94,17 +109,18 @@ impl<D: Inspect> Chip<D> {
         }
     }
 
-    /// A device step of such a seek, if one is under way. What a SEEK by one cylinder came to isn't told.
+    /// A device step of such a seek, if one is under way. The results behind are taken over first: those of the poll are told, and
+    /// those of a SEEK by one cylinder aren't.
     pub(crate) fn keep_pace(&mut self)
         ensures { Paces self.old.pace (chip_state D.state self.old) (chip_state D.state self.new) }
     {
         if let Some(pace) = self.pace {
-            let _untold = self.behind.sense();
+            self.drain();
             self.pace_on(pace);
         }
     }
 
-    /// The same, once what stands behind has nothing to tell of it.
+    /// The same, once no result waits behind.
     fn pace_on(&mut self, pace: Pace)
         ensures { GoesOn pace (chip_state D.state self.old) (chip_state D.state self.new) }
     {
@@ -126,17 +142,27 @@ impl<D: Inspect> Chip<D> {
         pace.wait <= 1 && self.behind.is_ready() && !self.moves_heads()
     }
 
-    /// The next pulse; or the command that ends the seek, where it is there by the number that is counted.
+    /// The next pulse; or the command that ends the seek, where it is over.
     fn pulse(&mut self, pace: Pace)
-        ensures { PulsesIf (pace.cylinder == target_of pace) pace (chip_state D.state self.old) (chip_state D.state self.new) }
+        ensures { PulsesIf (is_over pace) pace (chip_state D.state self.old) (chip_state D.state self.new) }
     {
-        if pace.cylinder == pace.target() {
+        if pace.is_over() {
             self.pace = None;
-            self.send_move(pace.unit, pace.goal);
+            self.end_pace(pace);
             return;
         }
         let next = pace.stepped(self.settings.step_words());
         self.pace = Some(next);
         self.send_move(next.unit, Some(next.cylinder));
+    }
+
+    /// Gives behind what ends it: a SEEK of its cylinder, or a RECALIBRATE with no more pulses than are left of the 79.
+    fn end_pace(&mut self, pace: Pace)
+        ensures { EndsAt pace.goal pace (chip_state D.state self.old) (chip_state D.state self.new) }
+    {
+        match pace.goal {
+            Some(target) => self.send_move(pace.unit, Some(target)),
+            None => self.behind.recalibrate_within(pace.unit, pace.left),
+        }
     }
 }

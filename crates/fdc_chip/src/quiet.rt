@@ -1,5 +1,7 @@
-// How long no line changes, and device steps while nothing runs.
+// How long no line changes, and device steps while nothing runs; and the range of the numbers behind.
 ghost use Rattle.std.specs.Prelude.{◌≡◌, ◌≤◌, true};
+ghost use Rattle.fdc_core.specs.Ranges.{IsInRange};
+ghost use Rattle.fdc_sequencer.specs.Ranges.{HasByteNumbers};
 ghost use Rattle.fdc_chip.specs.Chips.{chip_state, interrupts_chip, asks_chip};
 ghost use Rattle.fdc_chip.specs.Quiet.{IsIdle, IsQuietFor, IsShut, IsStill, idles, is_shut_at, is_still_at, quiet_steps, rests_at};
 ghost use Rattle.fdc_chip.specs.Steps.{RunsChipWith};
@@ -23,6 +25,14 @@ impl Stage {
 }
 
 impl<D: Inspect> Chip<D> {
+    /// The numbers behind are those that registers and bytes hold. It does nothing.
+    pub fn ranges(&self)
+        ensures controller { IsInRange (chip_state D.state self.now).front.adapter.controller }
+        ensures records { HasByteNumbers (chip_state D.state self.now).front.stage }
+    {
+        self.behind.ranges();
+    }
+
     /// So many device steps, `most` at most, surely leave INT and DRQ as they are, whatever the drives do. It is `most` where no
     /// command is executed and no heads move, motors on or off, or where moreover DOR lets no line out, so that no timer is needed
     /// until the next call; and 0 where the next step may change a line.

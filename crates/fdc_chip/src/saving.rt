@@ -327,6 +327,7 @@ impl Saved for Pace {
         self.unit.save(to);
         self.cylinder.save(to);
         self.goal.save(to);
+        self.left.save(to);
         self.wait.save(to);
     }
 
@@ -335,11 +336,13 @@ impl Saved for Pace {
         let unit = u8::load(from);
         let cylinder = u8::load(from);
         let goal = Option::<u8>::load(from);
+        let left = u8::load(from);
         let wait = u16::load(from);
         Pace {
             unit,
             cylinder,
             goal,
+            left,
             wait,
         }
     }

@@ -60,6 +60,10 @@ with_polls old = record old {
 abbrev pub with_motion : Seeking → ℕ → Motion → Seeking
 with_motion old drive motion = record old { seek = Some (record { drive = drive; motion = motion }) }
 
+-- the pulses of a RECALIBRATE that is to give so many at most: no more than 79
+abbrev pub pulses_within : ℕ → ℕ
+pulses_within pulses = if nat_lt pulses 79 then pulses else 79
+
 -- the drive's seek has ended at a cylinder, and its result is pending, in place of an older one
 abbrev pub ended : Seeking → ℕ → ℕ → ℕ → Seeking
 ended old drive cylinder status = record {

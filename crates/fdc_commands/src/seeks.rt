@@ -1,7 +1,7 @@
 // The seeks of the four drives.
 ghost use Rattle.std.specs.Prelude.{◌≡◌, ◌<◌, ◌↔◌, IsTrue, IsFalse, IsSome, IsNone, is_some, slice_index};
 ghost use Rattle.fdc_commands.specs.Seeking.{InRange, IsMotion, at_rest, with_polls, with_motion, ended, pulse_due, stepped, is_seeking, EndsSeek};
-ghost use Rattle.fdc_commands.specs.Seeking.{seek_bits, first_pending, sensed, after_sense, released, has_ended_seek, without_ended};
+ghost use Rattle.fdc_commands.specs.Seeking.{pulses_within, seek_bits, first_pending, sensed, after_sense, released, has_ended_seek, without_ended};
 ghost use Rattle.fdc_commands.specs.Seeking.{polled as polled_status, sought as sought_status, recalibrated as recalibrated_status};
 
 mod saving;
@@ -84,6 +84,21 @@ impl Seeks {
                 pulses: RECALIBRATE_PULSES,
             },
         );
+    }
+
+    /// Begins a RECALIBRATE of the drive that gives so many pulses at most, and never more than any.
+    pub fn recalibrate_within(&mut self, drive: u8, pulses: u8)
+        requires drive { drive < 4 }
+        requires no_seek { seek_bits self.old ≡ 0 }
+        ensures state { self.new ≡ with_motion self.old drive (Motion.Outward (pulses_within pulses)) }
+        ensures runs { IsTrue (is_seeking self.new) }
+    {
+        let pulses = if pulses < RECALIBRATE_PULSES {
+            pulses
+        } else {
+            RECALIBRATE_PULSES
+        };
+        self.go_on(drive, Motion::Outward { pulses });
     }
 
     /// Begins a SEEK of the drive to a cylinder, which is any byte, from 0.

@@ -33,7 +33,7 @@ use Rattle.fdc_phases.specs.declared.answers.Answer.{Answer}
 use Rattle.fdc_phases.specs.declared.phases.Execution.{Execution}
 use Rattle.fdc_phases.specs.declared.phases.Phase.{Phase}
 use Rattle.fdc_phases.specs.declared.phases.Phase.TheVariants.{Command, Execute, Result}
-use Rattle.fdc_core.specs.Courses.{PassesMany, Works, HoldsLines, Courses, IsStill, IsQuiet}
+use Rattle.fdc_core.specs.Courses.{PassesMany, Works, HoldsLines, Courses, IsStill, IsQuiet, comes_poll}
 use Rattle.fdc_core.specs.Listening.{SeesUnder, StepsOn, Listens, ListensToNone}
 use Rattle.fdc_core.specs.State.{is_held}
 use Rattle.fdc_core.specs.Steps.{polled, seek_stepped, let_pass, Rests, RestsIn, Moves, MovesDrive, MovesIn, Ends, EndsIn, Stays, Flows, FlowsIn}
@@ -49,16 +49,19 @@ use Rattle.fdc_core.proofs.Writes.{executes_writes, rests_writes}
 
 -- ---- no poll comes
 
-undue : (due held : Bool) (old : Fdc) → due ≡ false → (if due && not held then record old { poll_due = false; interrupt = true; seeks = with_polls old.seeks } else old) ≡ old
-undue true held old is = absurd (false≢true (sym is))
-undue false held old is = refl
+undue : (comes : Bool) (old : Fdc) → comes ≡ false → (if comes then record old { poll_due = false; interrupt = true; seeks = with_polls old.seeks } else old) ≡ old
+undue true old is = absurd (false≢true (sym is))
+undue false old is = refl
 
--- without a poll that is due
-pub unpolled : (old : Fdc) → old.poll_due ≡ false → polled old ≡ old
-unpolled old is = undue old.poll_due (is_held old) old is
+pub none_comes : (fdc : Fdc) → fdc.poll_due ≡ false → comes_poll fdc ≡ false
+none_comes fdc is = ap (λ due. due && not (is_held fdc)) is
+
+-- without a poll
+pub unpolled : (old : Fdc) → comes_poll old ≡ false → polled old ≡ old
+unpolled old is = undue (comes_poll old) old is
 
 -- a device step in which no poll comes
-module _ (old : Fdc) (due : old.poll_due ≡ false) where
+module _ (old : Fdc) (due : comes_poll old ≡ false) where
   pub works_unpolled : (new : Fdc) (before after : DriveState) → Rests (before.cylinder == 0) old new → Listens old (at_index before) old before after new → WritesOn old old before after new → MovesDrive old before after
       → Ends old new → Stays old new → Flows old new → LastsOn old new → Works old before new after
   works_unpolled new before after rests reads writes drive ends stays flows lasts = record {
@@ -75,7 +78,7 @@ module _ (old : Fdc) (due : old.poll_due ≡ false) where
 -- a device step of what is in execution
 pub works_on : (old new : Fdc) (before after : DriveState) (execution : Execution) → old.poll_due ≡ false → old.phase ≡ Execute execution → TaskSteps execution.task execution.head_drive execution.steps old before after new → Works old before new after
 works_on old new before after execution due is steps =
-    works_unpolled old due new before after
+    works_unpolled old (none_comes old due) new before after
     (subst (λ phase. RestsIn phase (before.cylinder == 0) old new) (sym is) tt)
     (executes_hears old new before after execution is steps)
     (executes_writes old new before after execution is steps)
@@ -122,7 +125,7 @@ outside P command result (Result answer) other = result answer
 outside P command result (Execute execution) other = absurd (other execution refl)
 
 -- nothing of the controller changes any more
-pub still : (fdc : Fdc) → fdc.poll_due ≡ false → is_seeking fdc.seeks ≡ false → ((execution : Execution) → fdc.phase ≡ Execute execution → ⊥) → IsStill fdc
+pub still : (fdc : Fdc) → comes_poll fdc ≡ false → is_seeking fdc.seeks ≡ false → ((execution : Execution) → fdc.phase ≡ Execute execution → ⊥) → IsStill fdc
 still fdc due ended other = record {
   works = λ before.
       let after = let_pass before in

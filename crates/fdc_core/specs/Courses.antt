@@ -1,5 +1,5 @@
 -- Device steps whole, and so many of them in a row.
-use Rattle.std.specs.Prelude.{◌≡◌, ◌==◌, ℕ, zero, suc, ◌+◌, ◌≤◌, Bool, true, false, not, List, length, if◌then◌else◌}
+use Rattle.std.specs.Prelude.{◌≡◌, ◌==◌, ◌&&◌, ℕ, zero, suc, ◌+◌, ◌≤◌, Bool, true, false, not, List, length, if◌then◌else◌}
 use Rattle.drive_model.specs.Drive.{DriveState, at_index}
 use Rattle.drive_model.specs.Ahead.{LetsPass, AreAhead}
 use Rattle.fdc_phases.specs.Phases.{ending_of_phase, mark_of_phase}
@@ -9,7 +9,7 @@ use Rattle.fdc_commands.specs.Seeking.{is_seeking}
 use Rattle.fdc_stages.specs.declared.searching.Search.{Search}
 use Rattle.fdc_stages.specs.Searches.{HearsNothingIn}
 use Rattle.fdc_core.specs.Listening.{Listens, ListensToNone}
-use Rattle.fdc_core.specs.State.{asks, interrupts}
+use Rattle.fdc_core.specs.State.{asks, interrupts, is_held}
 use Rattle.fdc_core.specs.Steps.{polled, let_pass, Rests, MovesDrive, Ends, Stays, Flows}
 use Rattle.fdc_core.specs.Tasks.{StepsNowhere}
 use Rattle.fdc_core.specs.Waiting.{LastsOn}
@@ -56,9 +56,13 @@ abbrev pub executes : Phase → Bool
 executes (Execute _) = true
 executes _ = false
 
--- no poll is due, no seek runs, and no data command is in its execution
+-- the poll comes in the next device step: it is due, and DOR doesn't hold the controller in reset
+abbrev pub comes_poll : Fdc → Bool
+comes_poll fdc = fdc.poll_due && not (is_held fdc)
+
+-- no poll comes, no seek runs, and no data command is in its execution
 abbrev pub is_at_rest : Fdc → Bool
-is_at_rest fdc = if fdc.poll_due then false else if is_seeking fdc.seeks then false else not (executes fdc.phase)
+is_at_rest fdc = if comes_poll fdc then false else if is_seeking fdc.seeks then false else not (executes fdc.phase)
 
 -- a device step changes nothing of the controller, with whatever drive and with none, and lets a word time pass in which no fault comes
 pub record IsStill (fdc : Fdc) : Type 0 where

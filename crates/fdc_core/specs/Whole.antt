@@ -1,10 +1,11 @@
 -- Whole commands and their endings, for a layer in front of the controller that collects the bytes itself.
-use Rattle.std.specs.Prelude.{ℕ, Bool, not, ◌&&◌, ◌==◌, Option, Some, None, false, [], ◌∷◌, ◌++◌, if◌then◌else◌}
+use Rattle.std.specs.Prelude.{ℕ, ◌%◌, Bool, not, ◌&&◌, ◌==◌, Option, Some, None, false, [], ◌∷◌, ◌++◌, if◌then◌else◌}
 use Rattle.fdc_commands.specs.Table.{answer, is_begun, whole}
 use Rattle.fdc_commands.specs.declared.bytes.Accepted.{Accepted}
 use Rattle.fdc_commands.specs.declared.bytes.Accepted.TheVariants.{Ready}
 use Rattle.fdc_commands.specs.declared.command.Command.TheVariants.{Configure}
-use Rattle.fdc_commands.specs.Seeking.{seek_bits, has_ended_seek, without_ended}
+use Rattle.fdc_commands.specs.declared.motion.Motion.TheVariants.{Outward}
+use Rattle.fdc_commands.specs.Seeking.{seek_bits, has_ended_seek, pulses_within, with_motion, without_ended}
 use Rattle.fdc_stages.specs.declared.ending.Ending.{Ending}
 use Rattle.fdc_core.specs.Commands.{TakesAs}
 use Rattle.fdc_core.specs.Ports.{is_taking}
@@ -54,3 +55,9 @@ mark_of fdc = mark_of_phase fdc.phase
 abbrev pub without_seek : Fdc → Fdc
 without_seek old =
     if has_ended_seek old.seeks then record old { seeks = without_ended old.seeks; interrupt = false } else old
+
+-- a RECALIBRATE begins that gives so many pulses at most, where the first byte of a command may come and no seek bit is set
+abbrev pub recalibrated_within : ℕ → ℕ → Fdc → Fdc
+recalibrated_within drive pulses old =
+    if is_idle old && (seek_bits old.seeks == 0) then record old { seeks = with_motion old.seeks (drive % 4) (Outward (pulses_within pulses)) }
+    else old

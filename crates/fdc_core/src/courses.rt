@@ -3,7 +3,7 @@ ghost use Rattle.std.specs.Prelude.{◌≡◌, ◌≤◌, ◌+◌, true, length,
 ghost use Rattle.drive_model.specs.Drive.{rate_of};
 ghost use Rattle.fdc_phases.specs.Phases.{head_of};
 ghost use Rattle.fdc_phases.specs.Rates.{rate_fits};
-ghost use Rattle.fdc_core.specs.Courses.{Courses, IsStill, IsQuiet, PassesMany, is_at_rest};
+ghost use Rattle.fdc_core.specs.Courses.{Courses, IsStill, IsQuiet, PassesMany, comes_poll, is_at_rest};
 
 use crate::controller::Fdc;
 use drive_model::Drive;
@@ -17,13 +17,24 @@ impl Fdc {
         ensures value { result ≡ is_at_rest self.now }
         ensures still { result ≡ true → IsStill self.now }
     {
-        if self.poll_due || self.seeks.is_seeking() {
+        if self.comes_poll() {
+            return false;
+        }
+        if self.seeks.is_seeking() {
             return false;
         }
         match &self.phase {
             Phase::Execute { .. } => false,
             _ => true,
         }
+    }
+
+    /// Whether the poll comes in the next device step: it waits while DOR holds the controller in reset.
+    #[inline(always)]
+    fn comes_poll(&self) -> bool
+        ensures { result ≡ comes_poll self.now }
+    {
+        self.poll_due && !self.is_held()
     }
 
     /// Whether `is_still` or `skim` may find steps to make at once. It only chooses between two ways.

@@ -1,7 +1,7 @@
 // Whole commands and their endings, for a layer in front of the controller that collects the bytes itself.
 ghost use Rattle.std.specs.Prelude.{◌≡◌};
 ghost use Rattle.fdc_core.specs.Listening.{is_executing};
-ghost use Rattle.fdc_core.specs.Whole.{is_idle, options_with, TakesWhole, ending_told, given_up, mark_of, without_seek};
+ghost use Rattle.fdc_core.specs.Whole.{is_idle, options_with, TakesWhole, ending_told, given_up, mark_of, recalibrated_within, without_seek};
 ghost use Rattle.fdc_commands.specs.Seeking.{has_ended_seek};
 
 use crate::commands::INVALID;
@@ -79,5 +79,17 @@ impl Fdc {
         }
         self.interrupt = false;
         true
+    }
+
+    /// Begins a RECALIBRATE that gives so many pulses at most, where the first byte of a command may come and no seek bit is set.
+    pub fn recalibrate_within(&mut self, drive: u8, pulses: u8)
+        ensures { self.new ≡ recalibrated_within drive pulses self.old }
+    {
+        if !self.is_idle() {
+            return;
+        }
+        if self.seeks.bits() == 0 {
+            self.seeks.recalibrate_within(drive % 4, pulses);
+        }
     }
 }

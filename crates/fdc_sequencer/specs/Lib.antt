@@ -5,3 +5,4 @@ pub mod Moves
 pub mod Senses
 pub mod Saving
 pub mod Still
+pub mod Ranges

@@ -1,7 +1,7 @@
 -- The controller behind, for a layer in front of the sequencer that keeps the results of seeks itself.
 use Rattle.std.specs.Prelude.{ℕ, Bool, false, Option, None}
 use Rattle.fdc_adapter.specs.Senses.{pending_result, after_result}
-use Rattle.fdc_core.specs.Whole.{is_idle}
+use Rattle.fdc_core.specs.Whole.{is_idle, recalibrated_within}
 use Rattle.fdc_core.specs.declared.controller.Fdc.{Fdc}
 use Rattle.fdc_sequencer.specs.Fronts.{Front, with_controller}
 use Rattle.fdc_sequencer.specs.declared.stage.Stage.{Stage}
@@ -30,3 +30,12 @@ sensed_at _ old = old
 
 abbrev pub sensed_outside : Front → Front
 sensed_outside old = sensed_at old.stage old
+
+-- a RECALIBRATE begins that gives so many pulses at most, where the first byte of a command may come and no heads move
+abbrev pub recalibrated_at : Stage → ℕ → ℕ → Front → Front
+recalibrated_at Through drive pulses old =
+    record old { adapter = with_controller (recalibrated_within drive pulses old.adapter.controller) old.adapter }
+recalibrated_at _ drive pulses old = old
+
+abbrev pub recalibrated_outside : ℕ → ℕ → Front → Front
+recalibrated_outside drive pulses old = recalibrated_at old.stage drive pulses old

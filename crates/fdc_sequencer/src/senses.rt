@@ -3,7 +3,7 @@ ghost use Rattle.std.specs.Prelude.{◌≡◌};
 ghost use Rattle.fdc_adapter.specs.Adapters.{controller_of, SameDrives};
 ghost use Rattle.fdc_core.specs.State.{is_gated};
 ghost use Rattle.fdc_sequencer.specs.Fronts.{front_state, adapter_of};
-ghost use Rattle.fdc_sequencer.specs.Senses.{is_ready, pending_outside, sensed_outside};
+ghost use Rattle.fdc_sequencer.specs.Senses.{is_ready, pending_outside, recalibrated_outside, sensed_outside};
 
 use crate::sequencer::Sequencer;
 use crate::stage::Stage;
@@ -37,6 +37,17 @@ impl<D: Inspect> Sequencer<D> {
         match self.stage {
             Stage::Through => self.adapter.sense(),
             _ => None,
+        }
+    }
+
+    /// Begins a RECALIBRATE of a drive that gives so many pulses at most, where the first byte of a command may come and no heads
+    /// move.
+    pub fn recalibrate_within(&mut self, drive: u8, pulses: u8)
+        ensures after { front_state D.state self.new ≡ recalibrated_outside drive pulses (front_state D.state self.old) }
+        ensures drives { SameDrives (adapter_of self.old) (adapter_of self.new) }
+    {
+        if let Stage::Through = self.stage {
+            self.adapter.recalibrate_within(drive, pulses);
         }
     }
 }

@@ -1,15 +1,19 @@
 -- A whole command of a sound chip: it is done, begun or held, and the chip stays sound.
-use Rattle.std.proofs.Common.{◌≡◌, inl, inr, ℕ, ◌*◌, ◌<◌, ◌%◌, nat_le, List, Bool, true, false, ◌&&◌, Option, Some, None, [], ◌∷◌, is_some, bit_and, refl, sym, ◌∙◌, ap, subst, arith}
+use Rattle.std.proofs.Common.{◌≡◌, inl, inr, ℕ, ◌*◌, ◌<◌, ◌%◌, nat_le, List, Bool, true, false, ◌&&◌, ◌==◌, if◌then◌else◌, Option, Some, None, [], ◌∷◌, is_some, bit_and, refl, sym, ◌∙◌, ap, subst, arith}
 use Rattle.std.specs.Int.RustNames.{bit_or}
 use Rattle.std.proofs.lemmas.Bool.{agree_below_at, and_parts, false≢true, leb-true, or_parts}
 use Rattle.flop_base.specs.declared.key.Chrn.{Chrn}
+use Rattle.fdc_commands.specs.Seeking.{pulses_within, seek_bits, with_motion}
 use Rattle.fdc_commands.specs.declared.command.Command.TheVariants as command
+use Rattle.fdc_commands.specs.declared.motion.Motion.TheVariants.{Outward}
 use Rattle.fdc_phases.specs.declared.phases.Phase.TheVariants.{Command as Taking}
 use Rattle.fdc_core.specs.Commands.{answered, recalibrating, seeking, status_of_lines}
 use Rattle.fdc_core.specs.Ports.{given}
+use Rattle.fdc_core.specs.Whole.{is_idle}
 use Rattle.fdc_core.specs.declared.controller.Fdc.{Fdc}
 use Rattle.fdc_sequencer.specs.Fronts.{Front, after_reading, byte_given, value_outside, with_controller}
 use Rattle.fdc_sequencer.specs.Opcodes.{opcode_of}
+use Rattle.fdc_sequencer.specs.Senses.{recalibrated_at, recalibrated_outside}
 use Rattle.fdc_sequencer.specs.Transfers.{size_of}
 use Rattle.fdc_sequencer.specs.declared.opcode.Opcode.{Opcode}
 use Rattle.fdc_chip.specs.Chips.{ChipState, KeepsRest, with_front}
@@ -121,6 +125,23 @@ given_moves unit None start new stands sends =
       },
       record { dor = ap (λ (fdc : Fdc). fdc.dor) is; non_dma = ap (λ (fdc : Fdc). fdc.non_dma) is; command = ap (λ (fdc : Fdc). fdc.command) is },
     )
+
+-- or a RECALIBRATE that gives so many pulses at most
+within_rests : (b : Bool) (unit pulses : ℕ) (front : Front) → Stands front
+    → (let fdc = front.adapter.controller in let new = (if b then record fdc { seeks = with_motion fdc.seeks (unit % 4) (Outward (pulses_within pulses)) } else fdc) in
+    RestsBehind (record front { adapter = with_controller new front.adapter }) × IsBase fdc new)
+within_rests true unit pulses front stands = (
+  record { through = stands.through; takes = stands.takes; seek = few_four unit },
+  record { dor = refl; non_dma = refl; command = stands.none },
+)
+within_rests false unit pulses front stands =
+    (stands_rests front stands, base_same front.adapter.controller stands.none)
+
+pub recalibrated_rests : (unit pulses : ℕ) (front : Front) → Stands front → RestsBehind (recalibrated_outside unit pulses front) × IsBase front.adapter.controller (recalibrated_outside unit pulses front).adapter.controller
+recalibrated_rests unit pulses front stands =
+    let fdc = front.adapter.controller in
+    subst (λ (f : Front). RestsBehind f × IsBase fdc f.adapter.controller) (sym (ap (λ stage. recalibrated_at stage unit pulses front) stands.through))
+    (within_rests (is_idle fdc && (seek_bits fdc.seeks == 0)) unit pulses front stands)
 
 -- or its pulses are to come in time
 moves_sound : (b : Bool) (goal : Option ℕ) (old new : ChipState) → IsBasis old → RestsBehind old.front → Stands old.front → MovesIf b goal old new → IsSound new

@@ -20,7 +20,8 @@ use Rattle.fdc_sequencer.specs.declared.stage.Stage.TheVariants.{Through}
 use Rattle.laws_sequencer.proofs.Known.{which_drive}
 use Rattle.laws_sequencer.proofs.Resting.{polled_phase}
 use Rattle.fdc_chip.specs.Chips.{ChipState, with_front}
-use Rattle.fdc_chip.specs.Doing.{drained_by, drained_one, kept}
+use Rattle.fdc_chip.specs.Doing.{drained_by, drained_one, is_told, kept}
+use Rattle.fdc_chip.specs.Interrupts.{with_result}
 use Rattle.laws_chip.specs.Beginning.{IsOfFour}
 use Rattle.laws_chip.specs.Sound.{RestsBehind}
 use Rattle.laws_chip.proofs.FirstSectors.{IsBase}
@@ -189,8 +190,11 @@ front_sensed front none rests =
 
 one_rests : (result : Option (ℕ × ℕ)) (old new : ChipState) → IsResting old new → IsResting old (kept result new)
 one_rests None old new rests = rests
-one_rests (Some (status, cylinder)) old new rests =
-    record { rests = rests.rests; base = rests.base; stage = rests.stage; count = rests.count; order = rests.order }
+one_rests (Some (status, cylinder)) old new rests = by_told (is_told new.pace status)
+  where
+    by_told : (b : Bool) → IsResting old (if b then record new { interrupts = with_result status cylinder new.interrupts } else new)
+    by_told true = record { rests = rests.rests; base = rests.base; stage = rests.stage; count = rests.count; order = rests.order }
+    by_told false = rests
 
 drains_one : (old new : ChipState) → IsResting old new → IsResting old (drained_one new)
 drains_one old new was =

@@ -8,12 +8,12 @@ use Rattle.fdc_core.specs.State.{is_held}
 use Rattle.fdc_sequencer.specs.Fronts.{Front, TakesFront, interrupts_outside, told_front}
 use Rattle.fdc_sequencer.specs.Moves.{StepsFront}
 use Rattle.fdc_sequencer.specs.Opcodes.{opcode_of}
-use Rattle.fdc_sequencer.specs.Senses.{is_ready as is_ready_behind, sensed_outside}
+use Rattle.fdc_sequencer.specs.Senses.{is_ready as is_ready_behind}
 use Rattle.fdc_chip.specs.Chips.{ChipState, asks_chip, interrupts_chip, with_front}
 use Rattle.fdc_chip.specs.Codes.{code_of}
 use Rattle.fdc_chip.specs.Doing.{SendsOn, drained, identifying, is_size, moves_heads, moving, reading_one}
 use Rattle.fdc_chip.specs.Ending.{Ends, EndsAddress, EndsAddressIf, EndsAt, EndsData, EndsIf, EndsIndex, EndsSent, LooksOn, MayEnd, ReadsOn, has_results, is_over, looks_for_cylinder, met_key, results_behind, results_taken, told_results, track_at, unit_of, verified, without_one}
-use Rattle.fdc_chip.specs.Paces.{GoesOnIf, Paces, PulsesIf, is_due, stepped, target_of}
+use Rattle.fdc_chip.specs.Paces.{EndsAt as EndsPace, GoesOnIf, Paces, PulsesIf, is_due, is_over as is_over_pace, stepped}
 use Rattle.fdc_chip.specs.Settings.{step_words}
 use Rattle.fdc_chip.specs.Steps.{Follows, FollowsTask, RunsChip, RunsChipWith, StepsChip, Swallows, SwallowsAs, SwallowsBy}
 use Rattle.fdc_chip.specs.declared.pace.Pace.{Pace}
@@ -25,12 +25,12 @@ use Rattle.fdc_chip.specs.declared.stage.Task.{Task}
 use Rattle.fdc_chip.specs.declared.stage.Task.TheVariants as task
 use Rattle.fdc_chip.specs.declared.stage.Track.{Track}
 use Rattle.laws_chip.specs.Sound.{ExecutesBehind, IsBusyAt, IsBusyWith, IsSound, RestsBehind, ServesBehind}
-use Rattle.laws_chip.proofs.Attended.{attended_sound, done_sound, given_moves, one_order, some_of}
+use Rattle.laws_chip.proofs.Attended.{attended_sound, done_sound, given_moves, one_order, recalibrated_rests, some_of}
 use Rattle.laws_chip.proofs.Channels.{IsOverBehind, counts_busy, counts_front_base, counts_over, takes_busy, takes_front_base, takes_over}
 use Rattle.laws_chip.proofs.CommandsBegun.{strapped_stands}
 use Rattle.laws_chip.proofs.FirstSectors.{IsBase}
 use Rattle.laws_chip.proofs.PassedOn.{none_wait}
-use Rattle.laws_chip.proofs.Rests.{IsResting, base_on, base_same, drained_rests, front_rests, front_sensed, stands_rests}
+use Rattle.laws_chip.proofs.Rests.{IsResting, base_on, base_same, drained_rests, front_rests, stands_rests}
 use Rattle.laws_chip.proofs.Sending.{id_obeyed}
 use Rattle.laws_chip.proofs.ServedSteps.{order_serves, serves_step, tells_shown, tells_taken}
 use Rattle.laws_chip.proofs.Singles.{executes_none, executes_step, id_executes, waits_shown, waits_taken}
@@ -262,8 +262,14 @@ gives_rests unit goal old set new stands front stage count order (sends, rest) =
       order = ap (λ (chip : ChipState). chip.order) rest ∙ order;
     }
 
+ends_rest : (goal : Option ℕ) (pace : Pace) (old new : ChipState) → Stands old.front → EndsPace goal pace (record old { pace = None }) new → IsResting old new
+ends_rest (Some target) pace old new stands ends = gives_rests pace.unit (Some target) old (record old { pace = None }) new stands refl refl refl refl ends
+ends_rest None pace old new stands is =
+    let (rests, base) = recalibrated_rests pace.unit pace.left old.front stands in
+    subst (IsResting old) (sym is) (record { rests = rests; base = base; stage = refl; count = refl; order = refl })
+
 pulses_rest : (b : Bool) (pace : Pace) (old new : ChipState) → Stands old.front → PulsesIf b pace old new → IsResting old new
-pulses_rest true pace old new stands ends = gives_rests pace.unit pace.goal old (record old { pace = None }) new stands refl refl refl refl ends
+pulses_rest true pace old new stands ends = ends_rest pace.goal pace old new stands ends
 pulses_rest false pace old new stands pulses =
     let next : Pace = stepped (step_words old.settings) pace in
     gives_rests pace.unit (Some next.cylinder) old (record old { pace = Some next }) new stands refl refl refl refl pulses
@@ -274,7 +280,7 @@ goes_rests true pace old new by_dma none rests due pulses =
     let waited = nat_le pace.wait 1 in
     let (timed, still) = and_parts (waited && is_ready_behind old.front) (not (moves_heads old.front)) due in
     let free = ready_free old.front (and_parts waited (is_ready_behind old.front) timed).1 in
-    pulses_rest (pace.cylinder == target_of pace) pace old new (record {
+    pulses_rest (is_over_pace pace) pace old new (record {
       through = rests.through;
       takes = rests.takes;
       none = none;
@@ -290,15 +296,15 @@ paces_rest : (pace : Option Pace) (old new : ChipState) → old.front.adapter.co
 paces_rest None old new by_dma none rests is =
     subst (IsResting old) (sym is) (record { rests = rests; base = base_same old.front.adapter.controller none; stage = refl; count = refl; order = refl })
 paces_rest (Some pace) old new by_dma none rests goes =
-    let set = with_front (sensed_outside old.front) old in
-    let (still, base) = front_sensed old.front none rests in
-    let on = goes_rests (is_due pace set) pace set new (base.non_dma ∙ by_dma) base.command still refl goes in
+    let set = drained old in
+    let was = drained_rests 4 old none rests in
+    let on = goes_rests (is_due pace set) pace set new (was.base.non_dma ∙ by_dma) was.base.command was.rests refl goes in
     record {
       rests = on.rests;
-      base = base_on old.front.adapter.controller set.front.adapter.controller new.front.adapter.controller base on.base;
-      stage = on.stage;
-      count = on.count;
-      order = on.order;
+      base = base_on old.front.adapter.controller set.front.adapter.controller new.front.adapter.controller was.base on.base;
+      stage = on.stage ∙ was.stage;
+      count = on.count ∙ was.count;
+      order = on.order ∙ was.order;
     }
 
 pub stepped_rests : (old : ChipState) (between : Front) (new : ChipState) → IsSound old → is_busy old.stage ≡ false → StepsFront old.front between → Paces old.pace (with_front between old) new → IsResting old new

@@ -10,6 +10,7 @@ use Rattle.fdc_core.specs.Steps.{steps_left}
 use Rattle.fdc_core.specs.declared.controller.Fdc.{Fdc}
 use Rattle.fdc_sequencer.specs.Fronts.{Front, WritesFront}
 use Rattle.fdc_sequencer.specs.Moves.{StepsFront}
+use Rattle.fdc_sequencer.specs.Transfers.{is_last}
 use Rattle.fdc_sequencer.specs.declared.opcode.Opcode.{Opcode}
 use Rattle.fdc_sequencer.specs.declared.opcode.Operation.TheVariants.{Read}
 use Rattle.fdc_sequencer.specs.declared.stage.Stage.{Stage as FrontStage}
@@ -17,7 +18,7 @@ use Rattle.fdc_sequencer.specs.declared.stage.Stage.TheVariants.{Through, Collec
 use Rattle.fdc_sequencer.specs.declared.transfer.Transfer.{Transfer}
 use Rattle.laws_sequencer.specs.Calls as behind
 use Rattle.laws_sequencer.specs.Lasting as lasting
-use Rattle.laws_sequencer.specs.Lasting.{HasByteRecords, is_under_way, most_steps}
+use Rattle.laws_sequencer.specs.Lasting.{HasRecords, is_under_way, most_steps}
 use Rattle.laws_sequencer.specs.Serving.{ServesAt, nothing_moved}
 use Rattle.laws_sequencer.proofs.Lasted.{Lasts, call_lasts, calls_last, first_lasts, lasts_some}
 use Rattle.fdc_chip.specs.Chips.{ChipState, is_data, passes_by_channel, passes_by_port, with_front}
@@ -35,7 +36,7 @@ use Rattle.fdc_chip.specs.declared.stage.Track.{Track}
 use Rattle.laws_chip.specs.Beginning.{IsFreeBehind, transfer_sent}
 use Rattle.laws_chip.specs.Calls as made
 use Rattle.laws_chip.specs.Calls.{Call, Does, is_step, steps_in, steps_of}
-use Rattle.laws_chip.specs.Lasting.{AreTracked, HasByteNumbers, IsTracking, most_track_steps}
+use Rattle.laws_chip.specs.Lasting.{AreTracked, IsTracking, most_track_steps}
 use Rattle.laws_chip.specs.Sound.{IsBusyAt, IsSound, ServesBehind}
 use Rattle.laws_chip.proofs.Attended.{one_order}
 use Rattle.laws_chip.proofs.CommandsBegun.{sought_sent, strapped_stands}
@@ -47,7 +48,7 @@ use Rattle.laws_chip.proofs.SinglesLast.{kind_of, left_most, left_some, place_ki
 use Rattle.laws_chip.proofs.SoundCalls.{call_sound}
 use Rattle.laws_chip.proofs.SoundParts.{IsBasis, busy_at, is_busy, is_ready, sound_basis}
 use Rattle.laws_chip.proofs.Standing.{Stands, stands_free}
-use Rattle.laws_chip.proofs.UnderWay.{either_way, not_through}
+use Rattle.laws_chip.proofs.UnderWay.{clash, either_way, not_through}
 use Rattle.laws_chip.proofs.VerifiesLast.{IsWithin, none_within, one_within}
 
 -- ---- how many device steps are left
@@ -126,20 +127,20 @@ same_record r = omega arith
 one_sector : (unit : ℕ) (key : Chrn) (gap length : ℕ) → most_steps (transfer_sent read_one (one_order unit key gap length)) ≡ 65792
 one_sector unit key gap length = ap (λ (n : ℕ). 256 + 65536 * ((n % 256 + 1) + 0)) (same_record key.r)
 
-first_bytes : (stage : FrontStage) (first : Transfer) (fdc : Fdc) → ServesAt stage first (nothing_moved false) fdc → is_under_way stage ≡ true → HasByteNumbers stage → HasByteRecords first
-first_bytes Through first fdc now under bytes = absurd now
-first_bytes (Collecting opcode) first fdc now under bytes = absurd now
-first_bytes (Telling results read) first fdc now under bytes = absurd (false≢true under)
-first_bytes (Seeking at counted) first fdc (here, nothing) under bytes = subst HasByteRecords here bytes
-first_bytes (Moving moving) first fdc (here, counts, carries) under bytes = subst HasByteRecords here bytes
+-- and no sector comes behind it
+same_number : (n : ℕ) → (n == n) ≡ true
+same_number n = either_way (n == n) (λ same. same) (λ other. absurd (eqb-false n n other refl))
 
-sector_lasts : (unit : ℕ) (key : Chrn) (gap length : ℕ) (set new : Front) → Stands set → is_size key.n ≡ true → Sends (reading_one unit key gap length) set new → HasByteNumbers new.stage
+one_last : (unit : ℕ) (key : Chrn) (gap length : ℕ) → is_last (transfer_sent read_one (one_order unit key gap length)) ≡ true
+one_last unit key gap length = ap (λ b. b && true) (same_number key.r)
+
+sector_lasts : (unit : ℕ) (key : Chrn) (gap length : ℕ) (set new : Front) → Stands set → is_size key.n ≡ true → Sends (reading_one unit key gap length) set new
     → IsInRange new.adapter.controller → Lasts 65792 new
-sector_lasts unit key gap length set new stands sized sends bytes range =
+sector_lasts unit key gap length set new stands sized sends range =
     let order = one_order unit key gap length in
     let (begins, carried) = order_begins read_one order set new stands refl sized sends in
     let first = transfer_sent read_one order in
-    let records = first_bytes new.stage first new.adapter.controller begins.serves.now carried.under_way bytes in
+    let records : HasRecords first = λ more. clash (is_last first) more (one_last unit key gap length) in
     subst (λ n. Lasts n new) (one_sector unit key gap length) (first_lasts begins.byte first begins.start new begins.last records begins.writes begins.stays range)
 
 -- ---- what comes of results
@@ -166,7 +167,7 @@ reads_leave n track key old new stands sized some spent tracks (sends, rest) = r
   some = some;
   leaves = (
     65792,
-    sector_lasts track.unit key old.order.gap old.order.length (record old.front { strapped = false }) new.front (strapped_stands false old.front stands) sized sends tracks.bytes tracks.range,
+    sector_lasts track.unit key old.order.gap old.order.length (record old.front { strapped = false }) new.front (strapped_stands false old.front stands) sized sends tracks.range,
     spent,
   );
 }
@@ -462,7 +463,7 @@ track_leaves old begun size free obeys tracks =
       some = all_left order.last_sector;
       leaves = (
         65792,
-        sector_lasts order.unit key order.gap order.length sent.set begun.front sent.stands refl sent.sends tracks.bytes tracks.range,
+        sector_lasts order.unit key order.gap order.length sent.set begun.front sent.stands refl sent.sends tracks.range,
         at_most (65792 + 131328 * (track_begun order).left),
       );
     }

@@ -12,7 +12,7 @@ use Rattle.fdc_sequencer.specs.declared.stage.Stage.TheVariants.{Through, Collec
 use Rattle.fdc_sequencer.specs.declared.transfer.Transfer.{Transfer}
 use Rattle.laws_sequencer.specs.Calls as behind
 use Rattle.laws_sequencer.specs.Lasting as lasting
-use Rattle.laws_sequencer.specs.Lasting.{HasByteRecords, is_under_way, most_steps}
+use Rattle.laws_sequencer.specs.Lasting.{HasByteNumbers, is_under_way, most_steps}
 use Rattle.laws_sequencer.proofs.Called.{both_within}
 use Rattle.laws_sequencer.proofs.Lasted.{command_within}
 use Rattle.laws_sequencer.proofs.Sectors.{steps_both}
@@ -39,7 +39,7 @@ use Rattle.laws_chip.proofs.UnderWay.{either_way, not_through}
 
 -- ---- a transfer
 
-pub transfer_last : (first : Transfer) (calls : List Call) (begun new : ChipState) → IsBegun first begun → HasByteRecords first → IsInRange begun.front.adapter.controller → AreServed calls begun new → steps_in calls < most_steps first
+pub transfer_last : (first : Transfer) (calls : List Call) (begun new : ChipState) → IsBegun first begun → HasByteNumbers begun.front.stage → IsInRange begun.front.adapter.controller → AreServed calls begun new → steps_in calls < most_steps first
 transfer_last first calls begun new is bytes range served =
     let passed = all_passed calls begun new served is.serving in
     let begins = is.begins in
@@ -228,7 +228,7 @@ all_within (call ∷ calls) old new was (between, does, still, rest) =
     let more = all_within calls between new still rest in
     record { under_way = more.under_way; within = then_within (steps_of call) (steps_in calls) old.front between.front new.front (call_within call was.left old between was.verifies does still) more.within }
 
-pub verify_last : (first : Transfer) (calls : List Call) (begun new : ChipState) → BeginsBehind first begun.front → IsVerifying begun → HasByteRecords first → IsInRange begun.front.adapter.controller
+pub verify_last : (first : Transfer) (calls : List Call) (begun new : ChipState) → BeginsBehind first begun.front → IsVerifying begun → HasByteNumbers begun.front.stage → IsInRange begun.front.adapter.controller
     → AreVerified calls begun new → steps_in calls < most_steps first
 verify_last first calls begun new begins was bytes range verified =
     let are = all_within calls begun new was verified in

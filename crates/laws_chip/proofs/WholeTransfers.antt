@@ -1,5 +1,5 @@
 -- The last byte of a command: what stands behind is free for it, and it begins; or it is held until heads stand.
-use Rattle.std.proofs.Common.{◌≡◌, ℕ, zero, suc, ◌+◌, ◌%◌, ◌<◌, nat_le, Bool, true, false, not, ◌||◌, ◌==◌, Option, Some, None, is_some, refl, sym, ◌∙◌, ap, subst}
+use Rattle.std.proofs.Common.{if◌then◌else◌, ◌≡◌, ℕ, zero, suc, ◌+◌, ◌%◌, ◌<◌, nat_le, Bool, true, false, not, ◌||◌, ◌==◌, Option, Some, None, is_some, refl, sym, ◌∙◌, ap, subst}
 use Rattle.std.proofs.lemmas.Bool.{and_from, and_right, eqb-true, false≢true, or_parts}
 use Rattle.fdc_sequencer.specs.Fronts.{Front}
 use Rattle.fdc_sequencer.specs.Opcodes.{opcode_of}
@@ -7,7 +7,8 @@ use Rattle.fdc_sequencer.specs.Senses.{is_ready, is_ready_at, pending_outside, s
 use Rattle.fdc_sequencer.specs.declared.opcode.Opcode.{Opcode}
 use Rattle.fdc_chip.specs.Chips.{ChipState, passes_by_channel, passes_by_port, with_front}
 use Rattle.fdc_chip.specs.Codes.{code_of, parameters}
-use Rattle.fdc_chip.specs.Doing.{Attends, AttendsIf, AttendsTo, drained, drained_by, is_moving, is_size, kept, moves_heads, needs_heads}
+use Rattle.fdc_chip.specs.Doing.{Attends, AttendsIf, AttendsTo, drained, drained_by, is_moving, is_size, is_told, kept, moves_heads, needs_heads}
+use Rattle.fdc_chip.specs.Interrupts.{with_result}
 use Rattle.fdc_chip.specs.Paces.{Paces}
 use Rattle.fdc_chip.specs.Ports.{CollectsIf, ComesIf, GivesChipIf, GivesIf, ReadsAt, ReadsIf, TakesByte, TakesIf, WritesChip, count_told, gated_by, given_one, is_whole, may_come, reset_if, with_next}
 use Rattle.fdc_chip.specs.Steps.{Follows, StepsChip}
@@ -34,7 +35,11 @@ use Rattle.laws_chip.proofs.UnderWay.{either_way}
 
 kept_front : (result : Option (ℕ × ℕ)) (old : ChipState) → (kept result old).front ≡ old.front
 kept_front None old = refl
-kept_front (Some (status, cylinder)) old = refl
+kept_front (Some (status, cylinder)) old = by_told (is_told old.pace status)
+  where
+    by_told : (b : Bool) → (if b then record old { interrupts = with_result status cylinder old.interrupts } else old).front ≡ old.front
+    by_told true = refl
+    by_told false = refl
 
 drained_front : (n : ℕ) (one other : ChipState) → one.front ≡ other.front → (drained_by n one).front ≡ (drained_by n other).front
 unfolding drained_by
@@ -48,7 +53,11 @@ drained_front (suc n) one other same =
 
 kept_pace : (result : Option (ℕ × ℕ)) (old : ChipState) → (kept result old).pace ≡ old.pace
 kept_pace None old = refl
-kept_pace (Some (status, cylinder)) old = refl
+kept_pace (Some (status, cylinder)) old = by_told (is_told old.pace status)
+  where
+    by_told : (b : Bool) → (if b then record old { interrupts = with_result status cylinder old.interrupts } else old).pace ≡ old.pace
+    by_told true = refl
+    by_told false = refl
 
 drained_pace : (n : ℕ) (chip : ChipState) → (drained_by n chip).pace ≡ chip.pace
 unfolding drained_by

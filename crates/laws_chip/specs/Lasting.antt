@@ -1,9 +1,7 @@
 -- How long a command lasts, in device steps.
 use Rattle.std.specs.Prelude.{◌≡◌, ℕ, ◌+◌, ◌*◌, true, List, [], ◌∷◌}
 use Rattle.fdc_core.specs.Ranges.{IsInRange}
-use Rattle.fdc_sequencer.specs.declared.stage.Stage.{Stage as FrontStage}
-use Rattle.fdc_sequencer.specs.declared.stage.Stage.TheVariants.{Seeking, Moving}
-use Rattle.laws_sequencer.specs.Lasting.{HasByteRecords, is_under_way}
+use Rattle.laws_sequencer.specs.Lasting.{is_under_way}
 use Rattle.fdc_chip.specs.Chips.{ChipState}
 use Rattle.fdc_chip.specs.Doing.{track_begun}
 use Rattle.fdc_chip.specs.declared.order.Order.{Order}
@@ -33,17 +31,10 @@ AreVerified (made ∷ calls) old new = (between : ChipState) × Does made old be
 
 -- ---- READ TRACK
 
--- the numbers of the record and of the last one are bytes, of a command of several sectors that is under way behind
-abbrev pub HasByteNumbers : FrontStage → Type 0
-HasByteNumbers (Seeking transfer _) = HasByteRecords transfer
-HasByteNumbers (Moving moving) = HasByteRecords moving.transfer
-HasByteNumbers _ = Unit {0}
-
--- it is under way, and the numbers behind are those that bytes and registers hold
+-- it is under way, and the numbers behind are those that registers hold
 pub record IsTracking (chip : ChipState) : Type 0 where
   pub track : Track
   pub reads : chip.stage ≡ Busy (task.Track track)
-  pub bytes : HasByteNumbers chip.front.stage
   pub range : IsInRange chip.front.adapter.controller
 
 -- these calls, behind each of which it is

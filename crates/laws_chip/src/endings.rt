@@ -1,10 +1,10 @@
-// How long a command lasts. The bodies are empty: the contracts say what follows from what each call does.
+// How long a command lasts. `ranges` tells of a chip at each time what is asked of numbers here. The bodies are empty: the contracts say what follows from what each call does.
 ghost use Rattle.std.specs.Prelude.{◌≡◌, ◌<◌, ℕ, true, Some, List};
 ghost use Rattle.fdc_core.specs.Ranges.{IsInRange};
 ghost use Rattle.fdc_sequencer.specs.Opcodes.{opcode_of};
 ghost use Rattle.fdc_sequencer.specs.declared.opcode.Opcode.{Opcode};
 ghost use Rattle.fdc_sequencer.specs.declared.transfer.Transfer.{Transfer};
-ghost use Rattle.laws_sequencer.specs.Lasting.{HasByteRecords, most_steps};
+ghost use Rattle.laws_sequencer.specs.Lasting.{HasByteNumbers, most_steps};
 ghost use Rattle.fdc_chip.specs.Chips.{ChipState};
 ghost use Rattle.fdc_chip.specs.Doing.{Obeys, is_size, verifying};
 ghost use Rattle.fdc_chip.specs.declared.code.Code.TheVariants.{ReadTrack, Verify as VerifyCode};
@@ -21,7 +21,7 @@ ghost use Rattle.laws_chip.specs.Sound.{ExecutesBehind, IsSound};
 pub fn each_command_ends()
     ensures single { (task : Task) (calls : List Call) (old new : ChipState) → IsSound old → old.stage ≡ Busy task → ExecutesBehind old.front → AreAt (Busy task) calls old new
         → steps_in calls < 65536 }
-    ensures transfer { (first : Transfer) (calls : List Call) (begun new : ChipState) → IsBegun first begun → HasByteRecords first → IsInRange begun.front.adapter.controller
+    ensures transfer { (first : Transfer) (calls : List Call) (begun new : ChipState) → IsBegun first begun → HasByteNumbers begun.front.stage → IsInRange begun.front.adapter.controller
         → AreServed calls begun new → steps_in calls < most_steps first }
 {}
 
@@ -32,7 +32,7 @@ pub fn a_verify_ends()
         → Obeys (VerifyCode true) old new → BeginsBehind (transfer_sent opcode (verifying old.order)) new.front }
     ensures verifies { (opcode : Opcode) (old new : ChipState) → opcode_of (verifying old.order).code ≡ Some opcode → is_size old.order.key.n ≡ true → IsFreeBehind old.front
         → Obeys (VerifyCode true) old new → IsVerifying new }
-    ensures within { (first : Transfer) (calls : List Call) (begun new : ChipState) → BeginsBehind first begun.front → IsVerifying begun → HasByteRecords first
+    ensures within { (first : Transfer) (calls : List Call) (begun new : ChipState) → BeginsBehind first begun.front → IsVerifying begun → HasByteNumbers begun.front.stage
         → IsInRange begun.front.adapter.controller → AreVerified calls begun new → steps_in calls < most_steps first }
 {}
 

@@ -37,7 +37,7 @@ use Rattle.fdc_sequencer.specs.declared.stage.Stage.TheVariants.{Through, Collec
 use Rattle.fdc_sequencer.specs.declared.transfer.Transfer.{Transfer}
 use Rattle.laws_sequencer.specs.Calls as call
 use Rattle.laws_sequencer.specs.Calls.{AreWithin, Call, Does, IsLastByte, Steps}
-use Rattle.laws_sequencer.specs.Lasting.{HasByteRecords, HasResults, is_under_way, most_steps, sectors_from, steps_in, steps_of}
+use Rattle.laws_sequencer.specs.Lasting.{HasByteNumbers, HasByteRecords, HasRecords, HasResults, is_under_way, most_steps, sectors_from, steps_in, steps_of}
 use Rattle.laws_sequencer.specs.Serving.{History, MayMove, Serves, ServesAt, nothing_moved, sent_of}
 use Rattle.laws_sequencer.proofs.Called.{call_serves, calls_serve}
 use Rattle.laws_sequencer.proofs.Known.{SameCommand, clash, either_way, port_same, which_drive}
@@ -110,14 +110,14 @@ fresh_counted (Write deleted) sent fdc was = by_phase fdc.phase was
 
 -- of the seek before, and of all sectors
 pub record SeeksWithin (n : ℕ) (at : Transfer) (fdc : Fdc) : Type 0 where
-  bytes : HasByteRecords at
+  bytes : HasRecords at
   idle : is_executing fdc.phase ≡ false
   runs : is_seeking fdc.seeks ≡ true
   within : seek_left fdc.seeks.seek + 65536 * sectors_from at ≤ n
 
 -- of the sector under way, and of those behind it
 pub record MovesWithin (n : ℕ) (at : Transfer) (fdc : Fdc) : Type 0 where
-  bytes : HasByteRecords at
+  bytes : HasRecords at
   counted : IsCounted fdc.phase
   within : steps_left fdc.phase + 65536 * sectors_from at ≤ n + 65536
 
@@ -151,7 +151,7 @@ told_within n at fdc was = same_within n at fdc (told_count fdc) (told_steps fdc
 some_within : (left sectors n : ℕ) → left ≤ 65536 → 65536 * sectors ≤ n → left + 65536 * sectors ≤ n + 65536
 some_within left sectors n most all = omega arith
 
-begun_within : (counted : Bool) (n : ℕ) (at : Transfer) (between : AdapterState) → HasByteRecords at → 65536 * sectors_from at ≤ n → IsCounted between.controller.phase
+begun_within : (counted : Bool) (n : ℕ) (at : Transfer) (between : AdapterState) → HasRecords at → 65536 * sectors_from at ≤ n → IsCounted between.controller.phase
     → MovesWithin n at (told_if counted between).controller
 begun_within counted n at between bytes all fresh = by_count counted
   where
@@ -162,7 +162,7 @@ begun_within counted n at between bytes all fresh = by_count counted
     by_count true = told_within n at between.controller begun
     by_count false = begun
 
-begins_lasts : (n : ℕ) (at : Transfer) (counted passed_over : Bool) (old new : Front) → HasByteRecords at → 65536 * sectors_from at ≤ n → (new.stage ≡ Through → ⊥)
+begins_lasts : (n : ℕ) (at : Transfer) (counted passed_over : Bool) (old new : Front) → HasRecords at → 65536 * sectors_from at ≤ n → (new.stage ≡ Through → ⊥)
     → BeginsSector at counted passed_over old new → Lasts n new
 begins_lasts n at counted passed_over old new bytes all stays begins = by_busy (is_executing begins.between.controller.phase) refl begins.begun
   where
@@ -214,8 +214,9 @@ module _ (n : ℕ) (moving : MovingSector) (old : Fdc) (was : MovesWithin n movi
   next_lasts marked phase front new fewer goes stays begins =
       let next = next_of moving.transfer in
       let more = not-true (is_last moving.transfer) (and_parts (would_go_on moving marked) (not (is_last moving.transfer)) goes).1 in
-      let one = sectors_next moving.transfer was.bytes more in
-      begins_lasts (n - 1) next false (has_met_other moving marked) front new (next_bytes moving.transfer was.bytes)
+      let bytes = was.bytes more in
+      let one = sectors_next moving.transfer bytes more in
+      begins_lasts (n - 1) next false (has_met_other moving marked) front new (λ last. next_bytes moving.transfer bytes)
       (next_within (steps_left phase) (steps_left old.phase) (sectors_from moving.transfer) (sectors_from next) n fewer one was.within) stays begins
 
   results_last : (results : Results) (front new : Front) → new ≡ record front { stage = Telling results 0 } → Lasts (n - 1) new
@@ -385,7 +386,7 @@ sought_first left sectors few = omega arith
 moved_first : (sectors : ℕ) → 65536 * sectors ≤ 256 + 65536 * sectors
 moved_first sectors = omega arith
 
-starts_last : (first : Transfer) (old new : Front) → HasByteRecords first → IsInRange new.adapter.controller → (new.stage ≡ Through → ⊥) → Starts (Some first) old new → Lasts (most_steps first) new
+starts_last : (first : Transfer) (old new : Front) → HasRecords first → IsInRange new.adapter.controller → (new.stage ≡ Through → ⊥) → Starts (Some first) old new → Lasts (most_steps first) new
 starts_last first old new bytes range stays starts = by_seek (old.strapped || old.configured) starts
   where
     by_idle : (seeks : SeeksFirst first old new) (b : Bool) → is_idle seeks.between.controller ≡ b → new ≡ record old { adapter = seeks.between; stage = if b then Seeking first false else Through } → Lasts (most_steps first) new
@@ -404,14 +405,46 @@ starts_last first old new bytes range stays starts = by_seek (old.strapped || ol
     by_seek true seeks = by_idle seeks (is_idle seeks.between.controller) refl seeks.begun
     by_seek false begins = begins_lasts (most_steps first) first false false old new bytes (moved_first (sectors_from first)) stays begins
 
-pub first_lasts : (byte : ℕ) (first : Transfer) (start begun : Front) → IsLastByte byte first start → HasByteRecords first → WritesFront 0x3F5 byte start begun → (begun.stage ≡ Through → ⊥) → IsInRange begun.adapter.controller
-    → Lasts (most_steps first) begun
-first_lasts byte first start begun last records writes stays range =
+-- its last byte starts it
+first_starts : (byte : ℕ) (first : Transfer) (start begun : Front) → IsLastByte byte first start → WritesFront 0x3F5 byte start begun → Starts (Some first) (record start { bytes = [] }) begun
+first_starts byte first start begun last writes =
     let bytes = start.bytes ++ byte ∷ [] in
     let takes : TakesByte (Collecting last.opcode) byte start begun = subst (λ stage. TakesByte stage byte start begun) last.collects (writes.bytes refl) in
     let collects : CollectsAs last.opcode (Ready last.command) (record start { bytes = [] }) begun =
     subst (λ accepted. CollectsAs last.opcode accepted (record start { bytes = kept accepted bytes }) begun) last.whole takes in
-    starts_last first (record start { bytes = [] }) begun records range stays (subst (λ transfer. Starts transfer (record start { bytes = [] }) begun) last.transfer collects)
+    subst (λ transfer. Starts transfer (record start { bytes = [] }) begun) last.transfer collects
+
+pub first_lasts : (byte : ℕ) (first : Transfer) (start begun : Front) → IsLastByte byte first start → HasRecords first → WritesFront 0x3F5 byte start begun → (begun.stage ≡ Through → ⊥) → IsInRange begun.adapter.controller
+    → Lasts (most_steps first) begun
+first_lasts byte first start begun last records writes stays range =
+    starts_last first (record start { bytes = [] }) begun records range stays (first_starts byte first start begun last writes)
+
+starts_under : (first : Transfer) (old new : Front) → (new.stage ≡ Through → ⊥) → Starts (Some first) old new → is_under_way new.stage ≡ true
+starts_under first old new stays starts = by_seek (old.strapped || old.configured) starts
+  where
+    by_idle : (seeks : SeeksFirst first old new) (b : Bool) → new ≡ record old { adapter = seeks.between; stage = if b then Seeking first false else Through } → is_under_way new.stage ≡ true
+    by_idle seeks false is = absurd (stays (ap (λ front. front.stage) is))
+    by_idle seeks true is = ap (λ front. is_under_way front.stage) is
+
+    by_busy : (begins : BeginsSector first false false old new) (b : Bool) → new ≡ begun_if b first false false begins.between old → is_under_way new.stage ≡ true
+    by_busy begins false is = absurd (stays (ap (λ front. front.stage) is))
+    by_busy begins true is = ap (λ front. is_under_way front.stage) is
+
+    by_seek : (b : Bool) → StartsIf b first old new → is_under_way new.stage ≡ true
+    by_seek true seeks = by_idle seeks (is_idle seeks.between.controller) seeks.begun
+    by_seek false begins = by_busy begins (is_executing begins.between.controller.phase) begins.begun
+
+first_under : (byte : ℕ) (first : Transfer) (start begun : Front) → IsLastByte byte first start → WritesFront 0x3F5 byte start begun → (begun.stage ≡ Through → ⊥) → is_under_way begun.stage ≡ true
+first_under byte first start begun last writes stays =
+    starts_under first (record start { bytes = [] }) begun stays (first_starts byte first start begun last writes)
+
+-- what is under way then is of the command's first sector
+begun_records : (stage : Stage) (first : Transfer) (fdc : Fdc) → ServesAt stage first (nothing_moved false) fdc → is_under_way stage ≡ true → HasByteNumbers stage → HasByteRecords first
+begun_records Through first fdc now under bytes = absurd now
+begun_records (Collecting opcode) first fdc now under bytes = absurd now
+begun_records (Telling results read) first fdc now under bytes = absurd (false≢true under)
+begun_records (Seeking at counted) first fdc (here, nothing) under bytes = subst HasByteRecords here bytes
+begun_records (Moving moving) first fdc (here, counts, carries) under bytes = subst HasByteRecords here bytes
 
 -- ---- the whole command
 
@@ -433,12 +466,13 @@ lasts_some n (Moving moving) first history fdc (here, counts, carries) was under
 less_by : (n m : ℕ) → 1 ≤ n - m → m < n
 less_by n m some = omega arith
 
-pub command_within : (byte : ℕ) (first : Transfer) (start begun end : Front) (calls : List Call) → IsLastByte byte first start → HasByteRecords first → WritesFront 0x3F5 byte start begun
+pub command_within : (byte : ℕ) (first : Transfer) (start begun end : Front) (calls : List Call) → IsLastByte byte first start → HasByteNumbers begun.stage → WritesFront 0x3F5 byte start begun
     → (begun.stage ≡ Through → ⊥) → IsInRange begun.adapter.controller → AreWithin calls begun end → is_under_way end.stage ≡ true → steps_in calls < most_steps first
 command_within byte first start begun end calls last bytes writes stays range are under =
     let serves = begins_served byte first start begun last writes stays in
+    let records = begun_records begun.stage first begun.adapter.controller serves.now (first_under byte first start begun last writes stays) bytes in
     let behind = calls_serve calls first (nothing_moved false) begun end are serves in
-    let lasts = calls_last calls (most_steps first) first (nothing_moved false) begun end are serves (first_lasts byte first start begun last bytes writes stays range) in
+    let lasts = calls_last calls (most_steps first) first (nothing_moved false) begun end are serves (first_lasts byte first start begun last (λ more. records) writes stays range) in
     less_by (most_steps first) (steps_in calls) (lasts_some (most_steps first - steps_in calls) end.stage first behind.history end.adapter.controller behind.serves.now lasts under)
 
 told_by : (stage : Stage) (first : Transfer) (history : History) (end : Front) → end.stage ≡ stage → ServesAt stage first history end.adapter.controller → (is_under_way stage ≡ true → ⊥) → HasResults end
@@ -451,10 +485,11 @@ told_by (Telling results read) first history end is now over = (results, read, i
 not_both : (n m : ℕ) → n < m → m ≤ n → ⊥
 not_both n m less more = omega arith
 
-pub command_told : (byte : ℕ) (first : Transfer) (start begun end : Front) (calls : List Call) → IsLastByte byte first start → HasByteRecords first → WritesFront 0x3F5 byte start begun
+pub command_told : (byte : ℕ) (first : Transfer) (start begun end : Front) (calls : List Call) → IsLastByte byte first start → HasByteNumbers begun.stage → WritesFront 0x3F5 byte start begun
     → (begun.stage ≡ Through → ⊥) → IsInRange begun.adapter.controller → AreWithin calls begun end → most_steps first ≤ steps_in calls → HasResults end
 command_told byte first start begun end calls last bytes writes stays range are many =
     let serves = begins_served byte first start begun last writes stays in
+    let records = begun_records begun.stage first begun.adapter.controller serves.now (first_under byte first start begun last writes stays) bytes in
     let behind = calls_serve calls first (nothing_moved false) begun end are serves in
     told_by end.stage first behind.history end refl behind.serves.now
     (λ under. not_both (steps_in calls) (most_steps first) (command_within byte first start begun end calls last bytes writes stays range are under) many)

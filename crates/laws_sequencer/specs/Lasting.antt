@@ -2,7 +2,8 @@
 use Rattle.std.specs.Prelude.{◌≡◌, ◌<◌, ◌+◌, ◌-◌, ◌*◌, ◌%◌, ℕ, Bool, true, false, not, ◌&&◌, List, [], ◌∷◌, if◌then◌else◌}
 use Rattle.fdc_commands.specs.declared.results.Results.{Results}
 use Rattle.fdc_sequencer.specs.Fronts.{Front}
-use Rattle.fdc_sequencer.specs.Transfers.{is_second_head}
+pub use Rattle.fdc_sequencer.specs.Ranges.{HasByteRecords, HasByteNumbers}
+use Rattle.fdc_sequencer.specs.Transfers.{is_last, is_second_head}
 use Rattle.fdc_sequencer.specs.declared.stage.Stage.{Stage}
 use Rattle.fdc_sequencer.specs.declared.stage.Stage.TheVariants.{Seeking, Moving, Telling}
 use Rattle.fdc_sequencer.specs.declared.transfer.Transfer.{Transfer}
@@ -22,9 +23,9 @@ goes_to_other at = at.opcode.multitrack && not (is_second_head at.head_drive)
 abbrev pub sectors_from : Transfer → ℕ
 sectors_from at = records_from at.last_sector at.key.r + (if goes_to_other at then records_from at.last_sector 1 else 0)
 
--- the numbers of its record and of the last one are bytes
-abbrev pub HasByteRecords : Transfer → Type 0
-HasByteRecords at = (at.key.r < 256) × (at.last_sector < 256)
+-- the numbers of its record and of the last one are bytes, where another sector comes behind its own
+abbrev pub HasRecords : Transfer → Type 0
+HasRecords at = is_last at ≡ false → HasByteRecords at
 
 -- ---- device steps
 

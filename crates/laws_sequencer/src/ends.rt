@@ -10,16 +10,17 @@ ghost use Rattle.fdc_sequencer.specs.Transfers.{is_last, next_of};
 ghost use Rattle.fdc_sequencer.specs.declared.stage.Stage.TheVariants.{Through, Telling};
 ghost use Rattle.fdc_sequencer.specs.declared.transfer.Transfer.{Transfer};
 ghost use Rattle.laws_sequencer.specs.Calls.{AreWithin, Call, IsLastByte, Steps};
-ghost use Rattle.laws_sequencer.specs.Lasting.{HasByteRecords, HasResults, is_under_way, most_steps, sectors_from, steps_in};
+ghost use Rattle.laws_sequencer.specs.Lasting.{HasByteNumbers, HasByteRecords, HasResults, is_under_way, most_steps, sectors_from, steps_in};
 
 /// A command of several sectors ends, whatever calls come between: in 256 device steps for an implied seek and 65,536 for each of
-/// its sectors, unless each access is the controller's again before. Then there are results.
+/// its sectors, unless each access is the controller's again before. Then there are results. `ranges` tells of a sequencer, as it
+/// begins, that its numbers are in range.
 pub fn a_command_ends()
     ensures within { (byte : ℕ) (first : Transfer) (start begun end : Front) (calls : List Call)
-        → IsLastByte byte first start → HasByteRecords first → WritesFront 0x3F5 byte start begun → (begun.stage ≡ Through → ⊥)
+        → IsLastByte byte first start → HasByteNumbers begun.stage → WritesFront 0x3F5 byte start begun → (begun.stage ≡ Through → ⊥)
         → IsInRange begun.adapter.controller → AreWithin calls begun end → is_under_way end.stage ≡ true → steps_in calls < most_steps first }
     ensures ends { (byte : ℕ) (first : Transfer) (start begun end : Front) (calls : List Call)
-        → IsLastByte byte first start → HasByteRecords first → WritesFront 0x3F5 byte start begun → (begun.stage ≡ Through → ⊥)
+        → IsLastByte byte first start → HasByteNumbers begun.stage → WritesFront 0x3F5 byte start begun → (begun.stage ≡ Through → ⊥)
         → IsInRange begun.adapter.controller → AreWithin calls begun end → most_steps first ≤ steps_in calls → HasResults end }
 {}
 

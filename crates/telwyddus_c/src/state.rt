@@ -10,10 +10,10 @@ use saved_state::{RestoreError, SavedWhole, Sink, Source};
 use std::alloc::Global;
 
 /// What each state begins with: a name, and the number of the form that the bytes behind it have.
-const NAME: [u8; 8] = *b"TELWYDD\x01";
+const NAME: [u8; 8] = *b"TELWYDD\x02";
 
 /// The same of a controller without its media.
-pub(crate) const BARE: [u8; 8] = *b"TELWYDB\x01";
+pub(crate) const BARE: [u8; 8] = *b"TELWYDB\x02";
 
 /// The bytes of a state, behind a name.
 pub(crate) fn save_behind<T: SavedWhole>(

@@ -4,4 +4,4 @@ use Rattle.fdc_core.proofs.controller.Fdc.is_still.Goals as goal
 
 pub returns-in_default-clause-still : goal.returns-in_default-clause-still
 returns-in_default-clause-still c =
-    λ is. still c.args.self.now c.if-self.false (sym c.is_seeking.ensures ∙ c.if-is_seeking.false) c.in_default.not-Execute
+    λ is. still c.args.self.now (sym c.comes_poll.ensures ∙ c.if-comes_poll.false) (sym c.is_seeking.ensures ∙ c.if-is_seeking.false) c.in_default.not-Execute

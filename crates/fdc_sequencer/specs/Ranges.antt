@@ -1,0 +1,15 @@
+-- The numbers of a command of several sectors.
+use Rattle.std.specs.Prelude.{◌<◌}
+use Rattle.fdc_sequencer.specs.declared.stage.Stage.{Stage}
+use Rattle.fdc_sequencer.specs.declared.stage.Stage.TheVariants.{Seeking, Moving}
+use Rattle.fdc_sequencer.specs.declared.transfer.Transfer.{Transfer}
+
+-- the numbers of its record and of the last one are bytes
+abbrev pub HasByteRecords : Transfer → Type 0
+HasByteRecords at = (at.key.r < 256) × (at.last_sector < 256)
+
+-- so they are where one is under way
+abbrev pub HasByteNumbers : Stage → Type 0
+HasByteNumbers (Seeking transfer _) = HasByteRecords transfer
+HasByteNumbers (Moving moving) = HasByteRecords moving.transfer
+HasByteNumbers _ = Unit {0}
