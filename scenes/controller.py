@@ -1,6 +1,6 @@
 """Commands of the controller at the ports: how each ends, what it reads, what it writes and what it formats.
 
-Result bytes come from the data sheet of the 82077AA, as docs/FORMATS.md sums it up; what is written and formatted from disks.py.
+Result bytes come from the data sheet of the 82077AA, as docs/FORMATS.md sums it up; what is written and formatted from tools/disks.py.
 Memory is 00 at first. What is to be written comes into it by a READ DATA of a field that holds it.
 """
 from accesses import *

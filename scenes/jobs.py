@@ -1,4 +1,4 @@
-"""Jobs and words of the command line. Reports come from the rules of docs/FORMATS.md, worked by hand; disks from disks.py."""
+"""Jobs and words of the command line. Reports come from the rules of docs/FORMATS.md, worked by hand; disks from tools/disks.py."""
 from book import Made, raw
 from disks import formatted
 from samples import *

@@ -1,7 +1,7 @@
 """Texts of port accesses on the bare machine.
 
 What the ports give comes from the registers and result bytes of docs/FORMATS.md and of the data sheets of the 82077AA, the 8237A
-and the PC/AT's board, worked by hand; steps are added up from the waits; what memory holds comes from the disks of disks.py.
+and the PC/AT's board, worked by hand; steps are added up from the waits; what memory holds comes from the disks of tools/disks.py.
 """
 from accesses import *
 from book import Made

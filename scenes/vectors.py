@@ -1,6 +1,6 @@
 """Pure functions on vectors: `of VERB ARGUMENTS` asks one about the bytes of the last file.
 
-What is wanted comes from published vectors, from tables worked by hand, and from disks.py. Words of a track are counted from
+What is wanted comes from published vectors, from tables worked by hand, and from tools/disks.py. Words of a track are counted from
 the index on, its cells in sixteens from the first cell of the first word.
 """
 from book import Made, raw, text

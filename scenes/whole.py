@@ -1,6 +1,6 @@
 """Commands on whole disks and on files: formats, copies, ImageDisk files, calls of the BIOS, rescues.
 
-Reports come from the rules of docs/FORMATS.md, worked by hand; disks from disks.py.
+Reports come from the rules of docs/FORMATS.md, worked by hand; disks from tools/disks.py.
 """
 from book import Made, raw, text
 from disks import Disk, formatted, layout, standard

@@ -1,6 +1,6 @@
 """Worked examples: runs of the program with their whole reports and all that they store.
 
-Reports and reasons come from the rules of docs/FORMATS.md, worked by hand; stored disks from disks.py; the workload's count
+Reports and reasons come from the rules of docs/FORMATS.md, worked by hand; stored disks from tools/disks.py; the workload's count
 and sum from its draws, reckoned here.
 """
 from book import Made, raw, text

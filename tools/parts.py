@@ -14,6 +14,8 @@ SONAME = f"libtelwyddus.so.{ABI}"
 SHARED = f"libtelwyddus.so.{VERSION}"
 PROGRAM = TOP / "crates/floppy/out/floppy"
 ARCHIVE = TOP / "crates/telwyddus_c/out/libtelwyddus_c.a"
+# What an archive of the library for C goes with: the code, and the header and the heap, which lie right in c/.
+LIBRARY = ["crates", ":(glob)c/*"]
 SUMMARY = "The 1.44 MB diskette path of the IBM PC/AT as one machine model, with proofs"
 
 

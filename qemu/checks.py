@@ -4,8 +4,11 @@ import os
 import random
 import re
 import subprocess
+import sys
 
-from guests import Linux, Refused, md5, telwyddus
+sys.path.append(os.path.join(os.path.dirname(os.path.dirname(os.path.abspath(__file__))), "tools"))
+from disks import shape_of, window_place  # noqa: E402
+from guests import Linux, Refused, md5, telwyddus  # noqa: E402
 
 SECTORS, TRACK, CYLINDER = 2880, 18 * 512, 36 * 512
 READ = "dd if=/dev/fd0 of=/tmp/a bs=18k 2> /tmp/said; echo $?; sum /tmp/a; fresh"
@@ -299,13 +302,13 @@ def unstored(place, say, guest):
 
 def word_of(record):
     """Which word of a standard 1.44 MB track is one in the middle of a record's data."""
-    return 146 + (record - 1) * (62 + 512 + 0x6C) + 44 + 60
+    return window_place(record) + 60
 
 
 def spoil(name, cylinder, head, record):
     """Spoils that word in an image."""
     image = bytearray(content(name))
-    at = 14 + 2 * ((cylinder * 2 + head) * 12500 + word_of(record))
+    at = shape_of(image).place(cylinder, head, word_of(record))
     image[at:at + 2] = b"\x55\x55" if image[at:at + 2] != b"\x55\x55" else b"\xAA\xAA"
     put(name, bytes(image))
 

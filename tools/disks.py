@@ -1,11 +1,17 @@
-"""Disks, reckoned from the plain definitions: cells bit by bit, the check sum of a field bit by bit, tracks field by field.
+"""Disks, reckoned from the plain definitions: cells bit by bit, the check sum of a field bit by bit, tracks field by field; and how an
+image file has them. docs/FORMATS.md tells both.
 
-Nothing here comes from the program. Only whole bytes and whole fields are remembered, so that 80 cylinders take a second.
+Nothing here comes from the program. Only whole bytes and whole fields are remembered, so that 80 cylinders take a second. This is the one
+place in Python that knows the layout; bios/track.c reckons it once more, in C and by itself, for judges that are written in C.
 """
+from collections import namedtuple
 from functools import lru_cache
 
 MARK = 0x4489          # A1 with a clock bit left out
 INDEX_MARK = 0x5224    # C2 with one left out
+MAGIC = b"RTIMAGE2"    # what an image file begins with
+HEADER = 14            # how long its header is
+WORDS, SECTORS = 12500, 18                      # of a standard track at 500 kbit/s
 
 
 @lru_cache(maxsize=None)
@@ -25,6 +31,11 @@ def encode(data, last):
         words.append(word_of(last, byte))
         last = byte & 1
     return words
+
+
+def byte_of(word):
+    """The data bits of a word: every second cell."""
+    return sum((word >> 2 * bit & 1) << bit for bit in range(8))
 
 
 @lru_cache(maxsize=None)
@@ -63,7 +74,7 @@ class Cells:
         self.last = last
 
 
-def layout(keys, gap3=0x6C, fill=0xF6, words=12500):
+def layout(keys, gap3=0x6C, fill=0xF6, words=WORDS):
     """A formatted track; `keys` are (C, H, R, N) of its sectors."""
     track = Cells()
     track.plain(b"\x4E" * 80 + bytes(12))
@@ -78,7 +89,7 @@ def layout(keys, gap3=0x6C, fill=0xF6, words=12500):
     return track.words
 
 
-def standard(c, h, sectors=18):
+def standard(c, h, sectors=SECTORS):
     """The keys of a standard track."""
     return [(c, h, r, 2) for r in range(1, sectors + 1)]
 
@@ -88,31 +99,66 @@ def window(content, deleted=False):
     return list(marked((b"\xF8" if deleted else b"\xFB") + content)[0])
 
 
+def address_place(record, step=682):
+    """The word at which the address field of a standard record begins, with its bytes 00: `step` is 682 words at 500 kbit/s, 654 at 250."""
+    return 146 + step * (record - 1)
+
+
+def window_place(record, step=682):
+    """The word at which its window begins."""
+    return address_place(record, step) + 44
+
+
+class Shape(namedtuple("Shape", "flags cylinders heads rate words")):
+    """What the header of an image file tells; the tracks stand behind it by cylinder, then head, each word with its high byte first."""
+
+    def header(self):
+        return MAGIC + bytes(self[:4]) + self.words.to_bytes(2, "big")
+
+    def place(self, cylinder, head, word=0):
+        """The byte of the file at which a word of a track stands."""
+        return HEADER + 2 * (self.words * (self.heads * cylinder + head) + word)
+
+    def length(self):
+        return self.place(self.cylinders, 0)
+
+    def is_protected(self):
+        return self.flags & 1 == 1
+
+    def kilobits(self):
+        """Its rate, in kbit/s."""
+        return 250 if self.rate == 2 else 500
+
+
+def shape_of(image):
+    """The shape of an image file, or of one that begins so."""
+    return Shape(*image[8:12], int.from_bytes(image[12:HEADER], "big"))
+
+
 class Disk:
     """A disk: the header fields of its image, and the words of its tracks."""
 
-    def __init__(self, cylinders, heads=2, words=12500, rate=0, flags=0, tracks=None):
+    def __init__(self, cylinders, heads=2, words=WORDS, rate=0, flags=0, tracks=None):
         self.cylinders, self.heads, self.words = cylinders, heads, words
         self.rate, self.flags = rate, flags
         self.tracks = tracks or [[0] * words for _ in range(cylinders * heads)]
 
     def write(self, record, content, deleted=False, track=0, step=682):
-        """Writes a standard record: `step` is 682 words at 500 kbit/s, 654 at 250."""
-        place = 146 + step * (record - 1) + 44
+        """Writes a standard record."""
+        place = window_place(record, step)
         words = window(content, deleted)
         self.tracks[track][place:place + len(words)] = words
         return self
 
     def file(self):
-        """Its image: magic, flags, cylinders, heads, rate, words a track, and the words, each high byte first."""
-        head = b"RTIMAGE2" + bytes([self.flags, self.cylinders, self.heads, self.rate])
-        head += self.words.to_bytes(2, "big")
+        """Its image file."""
+        head = Shape(self.flags, self.cylinders, self.heads, self.rate, self.words).header()
         return head + b"".join(w.to_bytes(2, "big") for t in self.tracks for w in t)
 
 
 def formatted(cylinders, rate=500):
     """As a format command leaves it: 18 sectors a track at 500 kbit/s, 9 at 250, all bytes F6."""
-    sectors, gap3, words, code = (18, 0x6C, 12500, 0) if rate == 500 else (9, 0x50, 6250, 2)
+    sectors, gap3, words, code = (SECTORS, 0x6C, WORDS, 0) if rate == 500 else (9, 0x50, 6250, 2)
     tracks = [layout(standard(c, h, sectors), gap3, 0xF6, words) for c in range(cylinders) for h in range(2)]
     return Disk(cylinders, 2, words, code, 0, tracks)
 

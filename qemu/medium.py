@@ -1,15 +1,16 @@
-"""A 1.44 MB medium as demo/qemu/faults judges it: the tracks of an image file, by demo/boot/track.c and with nothing of the library."""
+"""A 1.44 MB medium as qemu/faults judges it: the tracks of an image file, by bios/track.c and with nothing of the library."""
 import array
 import ctypes
 import os
 import subprocess
 import sys
 
-HERE = os.path.dirname(os.path.abspath(__file__))
-BOOT = os.path.join(os.path.dirname(HERE), "boot")
-WORDS, WINDOW, SECTORS, TRACKS = 12500, 530, 18, 160
-HEADER = b"RTIMAGE2"
-BYTES = 14 + 2 * WORDS * TRACKS
+TOP = os.path.dirname(os.path.dirname(os.path.abspath(__file__)))
+sys.path.append(os.path.join(TOP, "tools"))
+from disks import SECTORS, WORDS, Shape  # noqa: E402
+
+WINDOW, TRACKS = 530, 160
+SHAPE = Shape(0, 80, 2, 0, WORDS)
 
 
 class Field(ctypes.Structure):
@@ -33,7 +34,7 @@ class Tracks:
 
     def __init__(self, work):
         made = os.path.join(work, f"track.{os.getpid()}.so")
-        subprocess.run(["gcc", "-std=c11", "-O2", "-fPIC", "-shared", "-o", made, os.path.join(BOOT, "track.c")], check=True)
+        subprocess.run(["gcc", "-std=c11", "-O2", "-fPIC", "-shared", "-o", made, os.path.join(TOP, "bios", "track.c")], check=True)
         self.calls = ctypes.CDLL(made)
 
     def formatted(self, c, h, first=0):
@@ -59,12 +60,12 @@ def read(name):
     """The tracks of an image file."""
     with open(name, "rb") as file:
         image = file.read()
-    if len(image) != BYTES or image[:8] != HEADER:
+    if len(image) != SHAPE.length() or not image.startswith(SHAPE.header()):
         raise ValueError(f"{name} is no image of 1.44 MB")
-    return [image[14 + 2 * WORDS * t:14 + 2 * WORDS * (t + 1)] for t in range(TRACKS)]
+    return [image[SHAPE.place(t // 2, t % 2):][:2 * WORDS] for t in range(TRACKS)]
 
 
 def write(name, tracks):
     with open(name, "wb") as file:
-        file.write(HEADER + bytes([0, 80, 2, 0]) + WORDS.to_bytes(2, "big"))
+        file.write(SHAPE.header())
         file.writelines(tracks)

@@ -1,4 +1,4 @@
-/* What the programs here share. */
+/* What the examples share, and the checks of c/checks. */
 #ifndef COMMON_H
 #define COMMON_H
 #include "telwyddus.h"

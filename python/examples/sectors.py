@@ -24,7 +24,7 @@ def damaged():
     for c, h, r in places():
         made.write(r, content(c, h, r), track=2 * c + h)
     c, h, r = DAMAGED
-    made.tracks[2 * c + h][146 + 682 * (r - 1) + 44 + 100] = 0
+    made.tracks[2 * c + h][disks.window_place(r) + 100] = 0
     return made.file()
 
 

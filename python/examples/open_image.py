@@ -57,7 +57,7 @@ def disk(cylinders):
 
 
 def spoilt(made, c, h, r):
-    made.tracks[2 * c + h][146 + 682 * (r - 1) + 44 + 100] = 0
+    made.tracks[2 * c + h][disks.window_place(r) + 100] = 0
     return made
 
 
@@ -67,7 +67,7 @@ def check_sectors():
             assert sector == (None if key == DAMAGED else content(*key))
         print(f"72 sectors, of which {DAMAGED} is damaged")
         # The three A1 of a field stand behind 12 bytes 00.
-        wanted = [((146 + 682 * (r - 1) + 12) * 16, (1, 0, r, 2), "10" if r == 3 else "ok") for r in range(1, 19)]
+        wanted = [((disks.address_place(r) + 12) * 16, (1, 0, r, 2), "10" if r == 3 else "ok") for r in range(1, 19)]
         assert list(image.fields(1, 0)) == wanted
         print("the fields of track 1 0 begin at the cells", ", ".join(str(cell) for cell, _, _ in wanted[:4]), "..")
 

@@ -5,8 +5,8 @@ from telwyddus import BadPlan, Empty, Machine, Tray
 
 KEY = C, H, R = 1, 0, 4
 WANTED = bytes((5 * i + R) % 256 for i in range(512))
-# The hundredth word of the data field of a standard sector: it stands 44 words behind the beginning of its address field.
-PLACE = 146 + 682 * (R - 1) + 44 + 100
+# The hundredth word of its data field.
+PLACE = disks.window_place(R) + 100
 
 
 class Driver:
