@@ -71,7 +71,7 @@ pub use Rattle.fdc_core.specs.Drives.Heard.{AreHeard, IsHeard, IsHeardFrom, IsHe
 pub use Rattle.fdc_core.specs.Drives.Hearing.{IsCalm}
 pub use Rattle.fdc_core.specs.Drives.Spinning.{IsUnheard, led, turn_led, turns_led, unheard}
 pub use Rattle.laws_machine.specs.OnLead.Leads.{IsGuarded, IsLed, IsSpinning, IsTurningIn, WarmsUp}
-pub use Rattle.laws_machine.specs.OnOrders.Orders.{AtDrive, CanBegin, GoesOn, Identify, IsDoneBy, IsLast, IsSetFor, Laid, LaysOn, Leaves, May, MayIn, MayLay, MayLayIn, Order, Read, Shows, Track, Underway, Window, Write}
+pub use Rattle.laws_machine.specs.OnOrders.Orders.{AtDrive, CanBegin, IsUnderwayOn, Identify, IsDoneBy, IsLast, IsSetFor, Laid, LaysOn, Leaves, May, MayIn, MayLay, MayLayIn, Order, Read, Shows, Track, Underway, Window, Write}
 pub use Rattle.laws_machine.specs.OnOrders.Results.{IsFor, Only}
 pub use Rattle.laws_machine.specs.OnQuiet.Quiet.{GoesQuietly, HaveTurned, HoldsOn, IsHushed, IsQuiet, StandsStill, Turned, only_listens}
 pub use Rattle.laws_machine.specs.OnQuiet.Settings.{ChipsStand, Setting, Stands, setting_of}
@@ -79,11 +79,10 @@ pub use Rattle.laws_machine.specs.OnReads.Begins.{IsDriveOf}
 pub use Rattle.laws_machine.specs.OnReads.Ends.{IsSoonOver, ReadPrompt, ReadSoon, lingers, most_steps, most_steps_of, steps_taken, task_lingers, wait_left}
 pub use Rattle.laws_machine.specs.OnReads.Ids.{IdEnded, IdEndedIn}
 pub use Rattle.laws_machine.specs.OnReads.Late.{ends_late, is_late}
-pub use Rattle.laws_machine.specs.OnReads.Results.{EndedIn, ReadEnded, StaysOutside}
+pub use Rattle.laws_machine.specs.OnReads.Results.{ReadEndedIn, ReadEnded, StaysOutside}
 pub use Rattle.laws_machine.specs.OnReads.Scenes.{IsRecorded, IsScene, Scene, head_sent, track_met}
 pub use Rattle.laws_machine.specs.OnReads.Served.{IsRuled}
-pub use Rattle.laws_machine.specs.OnReads.Signals.{IsSignalling}
-pub use Rattle.laws_machine.specs.OnReads.Timely.{IsPunctual, ReadInTime, slack_of}
+pub use Rattle.laws_machine.specs.OnReads.Timely.{IsPunctualRead, ReadInTime, slack_of}
 pub use Rattle.laws_machine.specs.OnReads.Underway.{HasBytes, IsHearing, IsMoved, IsSet}
 pub use Rattle.laws_machine.specs.OnSteps.Ends.{Meets}
 pub use Rattle.laws_machine.specs.OnSteps.Moves.{Acts, Goes, Lasting, read_from}
@@ -93,7 +92,7 @@ pub use Rattle.laws_machine.specs.OnWrites.Begins.{write_of}
 pub use Rattle.laws_machine.specs.OnWrites.Drives.{IsAtDrive, IsAtWindow, IsThere, start_in}
 pub use Rattle.laws_machine.specs.OnWrites.Guards.{LeavesOthers}
 pub use Rattle.laws_machine.specs.OnWrites.Heads.{HasNoSeek, IsIdle, StaysIdle, StaysStill}
-pub use Rattle.laws_machine.specs.OnWrites.Timely.{IsFilling, IsOnTime, IsTimely, fills, fills_task}
+pub use Rattle.laws_machine.specs.OnWrites.Timely.{IsFilling, IsOnTime, IsFedInTime, fills, fills_task}
 pub use Rattle.laws_machine.specs.OnWrites.Underway.{IsTaken, range_of, refuses, refuses_as}
 pub use Rattle.irq_events.proofs.InTime.{in_time}
 pub use Rattle.irq_events.specs.Entries.{is_stray_due, next_entry, rest_of}

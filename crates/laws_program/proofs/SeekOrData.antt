@@ -33,7 +33,7 @@ use Rattle.fdc_core.specs.declared.controller.Fdc.{Fdc}
 use Rattle.fdc_core.specs.declared.controller.Lines.{Lines}
 use Rattle.pc_bus.specs.Boards.{Board, controller_of}
 use Rattle.pc_bus.specs.Steps.{Step}
-use Rattle.laws_machine.specs.OnSteps.Ends.{HasNoSeek}
+use Rattle.laws_machine.specs.OnSteps.Ends.{RunsNoSeek}
 use Rattle.laws_machine.specs.OnSteps.Moves.{Goes, Lasting}
 use Rattle.laws_machine.proofs.Facts.{idle_read, polled_phase, told_busy}
 use Rattle.laws_machine.proofs.OnAwaits.Words.{word_leaves}
@@ -123,7 +123,7 @@ between_seek old new step busy = controller (step.between.seeks.seek ≡ (contro
     (λ works. ap (λ (s : Seeking). s.seek) (alone_seeks (controller_of old).phase (polled (controller_of old)) step.between busy works.nowhere)
     ∙ polled_seek (controller_of old))
 
-step_none : (old new : Board) → Step old new → is_executing (controller_of old).phase ≡ true → HasNoSeek old → HasNoSeek new
+step_none : (old new : Board) → Step old new → is_executing (controller_of old).phase ≡ true → RunsNoSeek old → RunsNoSeek new
 step_none old new step busy none =
     let all : (controller_of new).seeks ≡ step.between.seeks =
     ap (λ bus. bus.chips.controller.seeks) step.bus

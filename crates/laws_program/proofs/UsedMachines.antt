@@ -16,7 +16,7 @@ use Rattle.pc_bus.specs.Boards.{Board, IsInRange, controller_of}
 use Rattle.pc_bus.specs.Calls.{AreCalled, IsCalled, ByEject, ByExchange, ByInb, ByInsert, ByOutb, ByRamSet, ByRefusal, ByTakeIrq, ByWait, ByWaitIrq}
 use Rattle.pc_bus.specs.Handling.{Touches}
 use Rattle.pc_bus.specs.declared.bus.Bus.{Bus}
-use Rattle.laws_machine.specs.OnSteps.Ends.{HasNoSeek, Meets, Recalibrates, pulses_left, seeks}
+use Rattle.laws_machine.specs.OnSteps.Ends.{RunsNoSeek, Meets, Recalibrates, pulses_left, seeks}
 use Rattle.laws_machine.specs.OnSteps.Moves.{Acts, Goes}
 use Rattle.laws_machine.proofs.OnSteps.Moves.{input_goes, meets_within, output_goes, wait_goes, waits_goes}
 use Rattle.laws_machine.proofs.OnSteps.SeekEnds.{recalibrate_left, seek_ends, seek_ends_in_time}
@@ -76,10 +76,10 @@ idle_while : (board : Board) → NotBoth (controller_of board) → seeks board �
 idle_while board (inl idle) runs = idle
 idle_while board (inr none) runs = absurd (false≢true (sym none ∙ runs))
 
-pub used_seek_ends : (old new : Board) (n : ℕ) → IsUsed old → Goes old n new → seeks old → pulses_left old ≤ n → Meets HasNoSeek (pulses_left old) old n new
+pub used_seek_ends : (old new : Board) (n : ℕ) → IsUsed old → Goes old n new → seeks old → pulses_left old ≤ n → Meets RunsNoSeek (pulses_left old) old n new
 used_seek_ends old new n used goes runs many = seek_ends old new n goes (idle_while old (used_apart old used) runs) runs many
 
-pub used_seek_in_time : (old new : Board) (n : ℕ) → IsUsed old → IsInRange old → Goes old n new → seeks old → 256 ≤ n → Meets HasNoSeek 256 old n new
+pub used_seek_in_time : (old new : Board) (n : ℕ) → IsUsed old → IsInRange old → Goes old n new → seeks old → 256 ≤ n → Meets RunsNoSeek 256 old n new
 used_seek_in_time old new n used range goes runs many = seek_ends_in_time old new n goes range (idle_while old (used_apart old used) runs) runs many
 
 recalibrate_runs : (seeking : Seeking) → IsSomeAnd seeking.seek (λ s. (pulses : ℕ) × (s.motion ≡ Outward pulses)) → is_seeking seeking ≡ true
@@ -89,10 +89,10 @@ recalibrate_runs seeking is = by_seek seeking.seek is
     by_seek None none = absurd none
     by_seek (Some seek) (pulses, moves) = ap (λ (motion : Motion). not (has_ended motion)) moves
 
-pub used_recalibrate : (old new : Board) (n : ℕ) → IsUsed old → IsInRange old → Goes old n new → Recalibrates old → 80 ≤ n → Meets HasNoSeek 80 old n new
+pub used_recalibrate : (old new : Board) (n : ℕ) → IsUsed old → IsInRange old → Goes old n new → Recalibrates old → 80 ≤ n → Meets RunsNoSeek 80 old n new
 used_recalibrate old new n used range goes is many =
     let few = recalibrate_left old range is in
-    meets_within HasNoSeek (pulses_left old) 80 n old new few
+    meets_within RunsNoSeek (pulses_left old) 80 n old new few
     (used_seek_ends old new n used goes (recalibrate_runs (controller_of old).seeks is) (omega arith))
 
 -- ---- lines of port accesses

@@ -3,7 +3,7 @@ use Rattle.std.specs.Prelude.{◌≡◌, ◌≤◌, ◌⊎◌, ℕ, false, List,
 use Rattle.fdc_core.specs.Listening.{is_executing}
 use Rattle.fdc_core.specs.declared.controller.Fdc.{Fdc}
 use Rattle.fdc_commands.specs.Seeking.{is_seeking}
-use Rattle.laws_machine.specs.OnSteps.Ends.{HasNoSeek, seeks}
+use Rattle.laws_machine.specs.OnSteps.Ends.{RunsNoSeek, seeks}
 use Rattle.machine_commands.specs.Started.{IsFreshBoard}
 use Rattle.pc_bus.specs.Boards.{Board}
 use Rattle.pc_bus.specs.Calls.{AreCalled}
@@ -23,7 +23,7 @@ NotBoth fdc = (is_executing fdc.phase ≡ false) ⊎ (is_seeking fdc.seeks ≡ f
 
 -- a seek that runs at the beginning of these lines ends in them, within 256 device steps, if they wait as many
 abbrev pub SeekEndsIn : Board → List Taken → Board → Type 0
-SeekEndsIn old course new = 256 ≤ waits_of course → seeks old → Comes HasNoSeek 256 (waits_of course) old new
+SeekEndsIn old course new = 256 ≤ waits_of course → seeks old → Comes RunsNoSeek 256 (waits_of course) old new
 
 -- so does one that runs before any of the lines
 abbrev pub SeeksEnd : Board → List Taken → Board → Type 0

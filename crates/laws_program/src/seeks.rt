@@ -6,7 +6,7 @@ ghost use Rattle.floppy_words.specs.Forms.{ports_file_of};
 ghost use Rattle.floppy_tools.specs.Performed.{Stand, Performed};
 ghost use Rattle.machine_commands.specs.Ready.{IsIdle};
 ghost use Rattle.machine_commands.specs.declared.motors.Motors.{Motors};
-ghost use Rattle.laws_machine.specs.OnSteps.Ends.{HasNoSeek, Meets, Recalibrates, pulses_left, seeks};
+ghost use Rattle.laws_machine.specs.OnSteps.Ends.{RunsNoSeek, Meets, Recalibrates, pulses_left, seeks};
 ghost use Rattle.laws_machine.specs.OnSteps.Moves.{Goes};
 ghost use Rattle.machine_commands.specs.Started.{IsFreshBoard};
 ghost use Rattle.pc_bus.specs.Boards.{Board, IsInRange, controller_of};
@@ -24,11 +24,11 @@ pub fn seeks_and_data_commands_stay_apart()
 /// calls come between: 256 at most, and 80 for a RECALIBRATE. A reset ends it too.
 pub fn a_seek_of_a_used_machine_ends()
     ensures ends { (old new : Board) (n : ℕ) → IsUsed old → Goes old n new → seeks old → pulses_left old ≤ n
-        → Meets HasNoSeek (pulses_left old) old n new }
+        → Meets RunsNoSeek (pulses_left old) old n new }
     ensures in_time { (old new : Board) (n : ℕ) → IsUsed old → IsInRange old → Goes old n new → seeks old → 256 ≤ n
-        → Meets HasNoSeek 256 old n new }
+        → Meets RunsNoSeek 256 old n new }
     ensures recalibrates { (old new : Board) (n : ℕ) → IsUsed old → IsInRange old → Goes old n new → Recalibrates old → 80 ≤ n
-        → Meets HasNoSeek 80 old n new }
+        → Meets RunsNoSeek 80 old n new }
 {}
 
 /// A law: in `ports FILE`, a seek that runs before some line has ended on the way, within 256 device steps, where the lines from there

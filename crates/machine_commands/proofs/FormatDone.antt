@@ -7,7 +7,7 @@ use Rattle.dma_8237.specs.Channel.{after_write}
 use Rattle.fdc_commands.specs.declared.command.Command.TheVariants.{FormatTrack}
 use Rattle.fdc_commands.proofs.WriteSpellings.{spells_format}
 use Rattle.fdc_phases.specs.declared.phases.Phase.TheVariants as phase
-use Rattle.laws_machine.specs.OnFormats.Results.{AreKeysOf, EndedIn}
+use Rattle.laws_machine.specs.OnFormats.Results.{AreKeysOf, FormatEndedIn}
 use Rattle.laws_machine.proofs.OnFormats.Results.{lays_disk}
 use Rattle.laws_machine.proofs.OnOrders.Ends.{ended}
 use Rattle.floppy_driver.specs.Rigs.{LastsFor}
@@ -75,8 +75,8 @@ format_done motors bay asked outcome old new idle small low spun unprotected key
       unprotected = sym (ap (λ m. option_map_or (λ d. d.protected) m false) (medium_before ran.run)) ∙ unprotected;
     } in
     let same : memory_of now ≡ memory_of ran.start = (only (Track numbers) scene the_keys now (all, are) over.goes.underway).memory in
-    let is : EndedIn scene numbers the_keys (drive_in now bay) (phase.Result (Long over.results.ending over.results.results 0)) =
-    subst (EndedIn scene numbers the_keys (drive_in now bay)) over.results.is (ended (Track numbers) scene the_keys now (all, are) over.goes.underway) in
+    let is : FormatEndedIn scene numbers the_keys (drive_in now bay) (phase.Result (Long over.results.ending over.results.results 0)) =
+    subst (FormatEndedIn scene numbers the_keys (drive_in now bay)) over.results.is (ended (Track numbers) scene the_keys now (all, are) over.goes.underway) in
     let after = over.results.results.key in
     let (laying, shown) = format_shown ran.run the_keys on same (λ laying after. lays_disk scene numbers the_keys laying after asked on.head refl refl refl refl) after over.results.ending is.1 (overruns ran.run) in
     let told : told_of outcome ≡ told_of (told_as over.results.ending after) =

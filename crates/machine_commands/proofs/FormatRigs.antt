@@ -8,7 +8,7 @@ use Rattle.sector_map.specs.Layings.{IsLaying}
 use Rattle.sector_map.proofs.MetTracks.{same_rates}
 use Rattle.track_model.specs.Layouts.{Fits}
 use Rattle.fdc_stages.specs.declared.ending.Ending.TheVariants as ending
-use Rattle.laws_machine.specs.OnFormats.Results.{EndsAs, FitsOn, HasLaying, LaysTo, LaysTurn}
+use Rattle.laws_machine.specs.OnFormats.Results.{FormatEndsAs, FitsOn, HasLaying, LaysTo, LaysTurn}
 use Rattle.laws_machine.specs.OnWrites.Drives.{IsThere}
 use Rattle.machine_commands.proofs.Beginning.{HasRun}
 use Rattle.machine_commands.proofs.Outcomes.{told_as}
@@ -150,7 +150,7 @@ module _ {numbers : Numbers} {scene : Scene} {motors : Motors} {format : Format}
   )
 
   -- the ways it ends
-  shows_as : (key : Chrn) (over : Ending) → EndsAs scene numbers keys (drive_in now scene.bay) over → (over ≡ ending.Overrun → Stalled start now) → (laying : Option Laying) × ShowsFormat laying (told_of (told_as over key))
+  shows_as : (key : Chrn) (over : Ending) → FormatEndsAs scene numbers keys (drive_in now scene.bay) over → (over ≡ ending.Overrun → Stalled start now) → (laying : Option Laying) × ShowsFormat laying (told_of (told_as over key))
   shows_as key (ending.Done marked) (turn, fits) stalls = turned (Ok tt) turn (λ ok. fits) tt
   shows_as key ending.NoField (turn, out) stalls = turned (Err code.NoMark) turn (λ ok. absurd (false≢true ok)) (record {
     coded = tt;
@@ -184,7 +184,7 @@ module _ {numbers : Numbers} {scene : Scene} {motors : Motors} {format : Format}
   shows_as key ending.Late none stalls = absurd none
 
   -- what the driver is told, and what was laid
-  pub format_shown : (key : Chrn) (over : Ending) → EndsAs scene numbers keys (drive_in now scene.bay) over → (over ≡ ending.Overrun → Stalled start now)
+  pub format_shown : (key : Chrn) (over : Ending) → FormatEndsAs scene numbers keys (drive_in now scene.bay) over → (over ≡ ending.Overrun → Stalled start now)
       → (laying : Option Laying) × FormatsTrack scene.bay format laying (rig_of old) (told_of (told_as over key)) (rig_of new)
   format_shown key over ends stalls =
       let (laying, shows) = shows_as key over ends stalls in

@@ -43,7 +43,7 @@ Tells scene faults memory Stall (Ok deleted) = (content : List ℕ) × heard.Fin
 Tells scene faults memory Stall (Err refusal) = Refuses scene faults Stall refusal
 
 -- a read never ends late, and overruns by a stall
-tells_by : (scene : Scene) (faults : ℕ) (memory : List ℕ) (Stall : Type 0) (ending : Ending) → heard.EndsAs scene faults memory ending → ends_late ending ≡ false → (ending ≡ Overrun → Stall)
+tells_by : (scene : Scene) (faults : ℕ) (memory : List ℕ) (Stall : Type 0) (ending : Ending) → heard.ReadEndsAs scene faults memory ending → ends_late ending ≡ false → (ending ≡ Overrun → Stall)
     → (key : Chrn) → Tells scene faults memory Stall (mark_told (told_as ending key))
 tells_by scene faults memory Stall (Finished deleted) says never overran key = says
 tells_by scene faults memory Stall NoMark says never overran key =
@@ -138,7 +138,7 @@ module _ (motors : Motors) (bay : ℕ) (key : Chrn) (rate : Rate) (address : ℕ
   tells : Tells scene faults (memory_of at) Stall (mark_told outcome)
   tells =
       let over = ran.run.over in
-      let (results, ends) = subst (heard.EndedIn scene faults (memory_of at)) over.results.is (read_ended scene at coded size_is over.goes.underway) in
+      let (results, ends) = subst (heard.ReadEndedIn scene faults (memory_of at)) over.results.is (read_ended scene at coded size_is over.goes.underway) in
       let after = key_after over.results.ending key key.r in
       subst (λ told. Tells scene faults (memory_of at) Stall (mark_told told)) (sym (outcome_is outcome over.results.ending over.results.results head_drive after (small_drive key.h bay low small) over.outcome_is results))
       (tells_by scene faults (memory_of at) Stall over.results.ending ends never_late overran after)

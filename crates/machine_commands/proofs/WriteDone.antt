@@ -7,7 +7,7 @@ use Rattle.fdc_commands.specs.Writes.{write_code, write_command}
 use Rattle.fdc_commands.proofs.WriteSpellings.{spells_write}
 use Rattle.fdc_phases.specs.declared.phases.Phase.TheVariants as phase
 use Rattle.laws_machine.specs.OnWrites.Begins.{write_of}
-use Rattle.laws_machine.specs.OnWrites.Results.{EndedIn}
+use Rattle.laws_machine.specs.OnWrites.Results.{WriteEndedIn}
 use Rattle.laws_machine.proofs.OnOrders.Ends.{ended}
 use Rattle.floppy_driver.specs.Rigs.{LastsFor}
 use Rattle.floppy_driver.proofs.Lasting.{write_turn}
@@ -66,8 +66,8 @@ write_done motors bay key rate address deleted outcome old new idle small low co
       unprotected = sym (ap (λ m. option_map_or (λ d. d.protected) m false) (medium_before ran.run)) ∙ unprotected;
     } in
     let same : memory_of now ≡ memory_of ran.start = (only (Window deleted) scene [] now all over.goes.underway).memory in
-    let is : EndedIn scene deleted (drive_in now bay) (phase.Result (Long over.results.ending over.results.results 0)) =
-    subst (EndedIn scene deleted (drive_in now bay)) over.results.is (ended (Window deleted) scene [] now all over.goes.underway) in
+    let is : WriteEndedIn scene deleted (drive_in now bay) (phase.Result (Long over.results.ending over.results.results 0)) =
+    subst (WriteEndedIn scene deleted (drive_in now bay)) over.results.is (ended (Window deleted) scene [] now all over.goes.underway) in
     let after = key_after over.results.ending key key.r in
     let (change, shown) = write_shown ran.run on same after over.results.ending is.1 (overruns ran.run) in
     let told : told_of outcome ≡ told_of (told_as over.results.ending after) =

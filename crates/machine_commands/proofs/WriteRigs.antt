@@ -14,7 +14,7 @@ use Rattle.fdc_phases.specs.declared.phases.Phase.TheVariants as phase
 use Rattle.fdc_stages.specs.Searches.{HasNoClear}
 use Rattle.fdc_stages.specs.declared.ending.Ending.TheVariants as ending
 use Rattle.laws_machine.specs.OnOrders.Orders.{Laid}
-use Rattle.laws_machine.specs.OnWrites.Results.{EndsAs, HasChanged, IsInsideTrack, IsWholeWindow, written_in}
+use Rattle.laws_machine.specs.OnWrites.Results.{WriteEndsAs, HasChanged, IsInsideTrack, IsWholeWindow, written_in}
 use Rattle.laws_machine.specs.OnWrites.Results as write
 use Rattle.laws_machine.proofs.OnWrites.Results.{changes_disk}
 use Rattle.floppy_driver.specs.Writing.{ChangesMedium, HasWindowOut, IsWriteMiss}
@@ -166,7 +166,7 @@ module _ {deleted : Bool} {scene : Scene} {motors : Motors} {rate : Rate} {start
   refuses change reason does missed = (change, record { does = does; done = λ ok none. absurd (false≢true ok); refused = missed })
 
   -- the ways it ends
-  shows_as : (key : Chrn) (over : Ending) → EndsAs scene deleted (drive_in now scene.bay) over → (over ≡ ending.Overrun → Stalled start now) → (change : Option Change) × ShowsWrite change (told_of (told_as over key))
+  shows_as : (key : Chrn) (over : Ending) → WriteEndsAs scene deleted (drive_in now scene.bay) over → (over ≡ ending.Overrun → Stalled start now) → (change : Option Change) × ShowsWrite change (told_of (told_as over key))
   shows_as key (ending.Done marked) whole stalls = (
     Some whole.changed.change,
     record {
@@ -221,7 +221,7 @@ module _ {deleted : Bool} {scene : Scene} {motors : Motors} {rate : Rate} {start
   shows_as key ending.Late none stalls = absurd none
 
   -- what the driver is told, and what it wrote
-  pub write_shown : (key : Chrn) (over : Ending) → EndsAs scene deleted (drive_in now scene.bay) over → (over ≡ ending.Overrun → Stalled start now)
+  pub write_shown : (key : Chrn) (over : Ending) → WriteEndsAs scene deleted (drive_in now scene.bay) over → (over ≡ ending.Overrun → Stalled start now)
       → (change : Option Change) × WritesData scene.bay rate asked change (rig_of old) (told_of (told_as over key)) (rig_of new)
   write_shown key over ends stalls =
       let (change, shows) = shows_as key over ends stalls in (

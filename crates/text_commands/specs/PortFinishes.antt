@@ -1,7 +1,7 @@
 -- How long commands last in a run of port accesses.
 use Rattle.std.specs.Prelude.{◌≡◌, ◌≤◌, ℕ, false, List, [], ◌∷◌}
 use Rattle.fdc_core.specs.Listening.{is_executing}
-use Rattle.laws_machine.specs.OnSteps.Ends.{HasNoSeek, IsOver, Meets, seeks}
+use Rattle.laws_machine.specs.OnSteps.Ends.{RunsNoSeek, IsOver, Meets, seeks}
 use Rattle.pc_bus.specs.Boards.{Board, controller_of}
 use Rattle.text_commands.specs.Benches.{Bench}
 use Rattle.text_commands.specs.PortCourses.{Taken, waits_of}
@@ -18,7 +18,7 @@ pub record Comes (P : Board → Type 0) (most waits : ℕ) (old new : Board) : T
 pub record FinishesIn (old : Bench) (course : List Taken) (new : Bench) : Type 0 where
   pub command : 65536 ≤ waits_of course → Comes (IsOver old.board) 65536 (waits_of course) old.board new.board
   pub seek : 256 ≤ waits_of course → is_executing (controller_of old.board).phase ≡ false → seeks old.board
-      → Comes HasNoSeek 256 (waits_of course) old.board new.board
+      → Comes RunsNoSeek 256 (waits_of course) old.board new.board
 
 -- so does whatever runs before any of the lines
 abbrev pub EndInTime : Bench → List Taken → Bench → Type 0

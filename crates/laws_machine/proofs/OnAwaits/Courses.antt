@@ -1,7 +1,7 @@
 -- A data command, from its beginning until its end is told: through device steps, waits, strays that are taken and reads of MSR.
 use Rattle.std.proofs.Common.{◌≡◌, ◌⊎◌, inl, inr, ℕ, ◌+◌, ◌≤◌, Bool, true, false, min, if◌then◌else◌, refl, sym, ◌∙◌, ap, subst, arith}
 use Rattle.std.proofs.lemmas.Bool.{false≢true}
-use Rattle.laws_machine.proofs.Common.{last_count, Rose, is_executing, takes_in, asks, data_commands_of, is_held, Phase, Command, Execute, Result, CountsGoOn, GoesQuietly, HoldsOn, Turned, only_listens, Scene, AreShort, counted, shown, LeavesOthers, IsTimely, IsOnTime, read_from, Stalled, Keeping, regapped, Steady, Order, Identify, Read, Write, CanBegin, IsAwaited, is_unread, Board, controller_of, holds_of, irq_taken, Inputs, Outputs, Waits, stirred, Chips}
+use Rattle.laws_machine.proofs.Common.{last_count, Rose, is_executing, takes_in, asks, data_commands_of, is_held, Phase, Command, Execute, Result, CountsGoOn, GoesQuietly, HoldsOn, Turned, only_listens, Scene, AreShort, counted, shown, LeavesOthers, IsFedInTime, IsOnTime, read_from, Stalled, Keeping, regapped, Steady, Order, Identify, Read, Write, CanBegin, IsAwaited, is_unread, Board, controller_of, holds_of, irq_taken, Inputs, Outputs, Waits, stirred, Chips}
 use Rattle.laws_machine.proofs.Facts.{shown_stalls}
 use Rattle.laws_machine.proofs.OnCounts.Counting.{counting, input_counts, output_counts}
 use Rattle.laws_machine.proofs.OnQuiet.Steps.{quietly, starts_quietly}
@@ -57,7 +57,7 @@ kept_up : (a b c most : ℕ) → min (a + 1) most ≤ b → min b most ≤ c →
 kept_up a b c most one two = omega arith
 
 -- while MSR is read
-shown_ready : (chips : Chips) → IsTimely chips → (line : Bool) → asks chips.controller ≡ line → IsTimely (record chips { holding = shown line chips.holding })
+shown_ready : (chips : Chips) → IsFedInTime chips → (line : Bool) → asks chips.controller ≡ line → IsFedInTime (record chips { holding = shown line chips.holding })
 shown_ready chips was true is = record { slack = was.slack; filling = filling_held was.slack chips (shown true chips.holding) was.filling; ready = was.ready }
 shown_ready chips was false is =
     record { slack = 9; filling = filling_held 9 chips (shown false chips.holding) (filling_low was.slack chips was.filling is); ready = λ _. omega arith }

@@ -12,7 +12,7 @@ use Rattle.fdc_phases.specs.declared.phases.Task.TheVariants.{Format as Formats}
 use Rattle.laws_machine.proofs.OnWrites.Content.{handed_rest}
 use Rattle.laws_machine.proofs.OnWrites.Results.{take_less}
 use Rattle.fdc_core.proofs.drives.WritingWords.{none_or_some}
-use Rattle.laws_machine.specs.OnFormats.Results.{EndedIn, EndsAs, FitsOn, HasLaying, IsSameOrLaid, LaysTo, LaysTurn, layout_in}
+use Rattle.laws_machine.specs.OnFormats.Results.{FormatEndedIn, FormatEndsAs, FitsOn, HasLaying, IsSameOrLaid, LaysTo, LaysTurn, layout_in}
 use Rattle.fdc_core.proofs.drives.Writing.{there_or_not}
 use Rattle.laws_machine.specs.OnReads.Scenes.{outset_of}
 
@@ -153,7 +153,7 @@ module _ (scene : Scene) (numbers : Numbers) (keys : List Chrn) (executes : Bool
             (subst (λ count. laid_words count numbers.n numbers.gap3 ≤ length past.words) same is.fits),
       )
 
-  ends : (handed : List ℕ) → IsContent past.counted past.taken handed → (ending : Ending) → (refuses_as ending ≡ true → scene.disk.protected ≡ true) → HasFormatted past numbers handed ending → EndsAs scene numbers keys drive ending
+  ends : (handed : List ℕ) → IsContent past.counted past.taken handed → (ending : Ending) → (refuses_as ending ≡ true → scene.disk.protected ≡ true) → HasFormatted past numbers handed ending → FormatEndsAs scene numbers keys drive ending
   ends handed content (Done marked) covered has =
       done_ends handed (of_laid scene numbers keys past memory channel handed whole taken size are content was.inside has.begun) has.cause.1.0 has.cause.1.1
   ends handed content NoField covered has =
@@ -170,7 +170,7 @@ module _ (scene : Scene) (numbers : Numbers) (keys : List Chrn) (executes : Bool
   ends handed content Protected covered has = (was.medium.quiet has.cause, covered refl)
   ends handed content Late covered has = late_ends has.cause
 
-  pub ended : (phase : Phase) (asking : Bool) (fifo : Fifo) → (refuses phase ≡ true → scene.disk.protected ≡ true) → MayFormatIn past scene.sent.head_drive numbers phase asking fifo → EndedIn scene numbers keys drive phase
+  pub ended : (phase : Phase) (asking : Bool) (fifo : Fifo) → (refuses phase ≡ true → scene.disk.protected ≡ true) → MayFormatIn past scene.sent.head_drive numbers phase asking fifo → FormatEndedIn scene numbers keys drive phase
   ended Command asking fifo covered may = tt
   ended (Execute execution) asking fifo covered may = tt
   ended (Result (Short next last)) asking fifo covered may = tt

@@ -1,6 +1,6 @@
 -- What IC 00 says, whatever the drive's speed was when the command began.
 use Rattle.std.proofs.Common.{◌≡◌, ℕ, Bool, true, sym, ◌∙◌, ap, subst, arith}
-use Rattle.laws_machine.proofs.Common.{IsSizeCode, content_size, Results, HasAddress, FindsSector, Past, Done, read_tells, id_tells, is_executing, ReadMeansIn, IdMeansIn, Long, Result, Board, controller_of, memory_of, channel_of, drive_in, WarmsUp, Identify, Read, IdEnded, IdEndedIn, ReadEnded, EndedIn, StaysOutside, Scene, IsMoved}
+use Rattle.laws_machine.proofs.Common.{IsSizeCode, content_size, Results, HasAddress, FindsSector, Past, Done, read_tells, id_tells, is_executing, ReadMeansIn, IdMeansIn, Long, Result, Board, controller_of, memory_of, channel_of, drive_in, WarmsUp, Identify, Read, IdEnded, IdEndedIn, ReadEnded, ReadEndedIn, StaysOutside, Scene, IsMoved}
 use Rattle.fdc_core.proofs.drives.LateFields.{address_late, found_late}
 use Rattle.laws_machine.proofs.OnLead.Listening.{led_over}
 use Rattle.laws_machine.proofs.OnReads.IdResults as ids
@@ -22,7 +22,7 @@ read_found scene board deleted results taken coded size (past, was) is =
     found_late was.drive.lead late scene.sent.key late.given deleted (subst (λ (p : Past). FindsSector p scene.sent.key p.given deleted) was.drive.past_is finds) in
     let all = subst (λ (p : Past). p.counted ≡ true) was.drive.past_is finds.0 in
     let moves = subst (λ (p : Past). IsMoved scene p.given p.counted (memory_of board) (channel_of board)) was.drive.past_is was.chips.moves in
-    subst (EndedIn scene faults (memory_of board)) (sym is) (
+    subst (ReadEndedIn scene faults (memory_of board)) (sym is) (
       results_are,
       reads.ends scene late faults (memory_of board) hears.heard hears.whole (Done deleted) coded moves.bytes (λ counted. (moves.over counted).1 ∙ size)
           (λ uncounted. let (left, sum, set) = moves.goes_on uncounted in omega arith) here,

@@ -76,7 +76,7 @@ window_found scene deleted board marked results read size (past, was) is =
     subst (λ p. MayWriteIn p scene.sent deleted (Result (Long (Done marked) results read)) fdc.asking fdc.fifo) was.drive.past_is
     (subst (λ phase. MayWriteIn past scene.sent deleted phase fdc.asking fdc.fifo) is was.chips.may) in
     let (q, whole) = whole_late lead late scene.sent.key deleted handed has.written.cause.2.0 has.written.cause.2.1 in
-    subst (write_says.EndedIn scene deleted drive) (sym is) (
+    subst (write_says.WriteEndedIn scene deleted drive) (sym is) (
       are,
       writes.done_ends scene deleted false late drive (memory_of board) (channel_of board) was.scene_is (over (Window deleted) scene board past was) (taken (Window deleted) scene board past was) size
           handed has.content q whole,
@@ -99,7 +99,7 @@ track_found scene numbers keys board marked results read size keys_are (past, wa
     subst (λ p. MayFormatIn p scene.sent.head_drive numbers (Result (Long (Done marked) results read)) fdc.asking fdc.fifo) was.drive.past_is
     (subst (λ phase. MayFormatIn past scene.sent.head_drive numbers phase fdc.asking fdc.fifo) is was.chips.may) in
     let either = formats.of_laid scene numbers keys late memory channel handed was.scene_is moved size keys_are has.content at.inside (laid_late lead late numbers handed has.formatted.begun) in
-    subst (format_says.EndedIn scene numbers keys drive) (sym is) (
+    subst (format_says.FormatEndedIn scene numbers keys drive) (sym is) (
       are,
       formats.done_ends scene numbers keys false late drive memory channel was.scene_is at moved size keys_are handed either has.formatted.cause.1.0
           (turn_late lead late numbers handed has.formatted.cause.1.0 has.formatted.cause.1.1),

@@ -1,6 +1,6 @@
 -- Port accesses of a data command: the write that begins it, and reads.
 use Rattle.std.proofs.Common.{◌≡◌, ◌⊎◌, inl, inr, ℕ, ◌+◌, ◌==◌, ◌||◌, nat_le, Bool, true, false, not, Option, List, if◌then◌else◌, refl, sym, ◌∙◌, subst}
-use Rattle.laws_machine.proofs.Common.{DriveState, Channel, Fifo, Past, Ending, Results, is_executing, given, phase_after, Short, Long, Fdc, Phase, Board, controller_of, drive_in, is_controllers, port_read, WritesPort, Inputs, Outputs, shown_again, Chips, drive_stays, IsScene, Scene, read_from, GoesOn, Window, Track, Order, Identify, Read, Write, MayIn, Shows, AtDrive, IsDoneBy, Underway, CanBegin, IsDriveOf}
+use Rattle.laws_machine.proofs.Common.{DriveState, Channel, Fifo, Past, Ending, Results, is_executing, given, phase_after, Short, Long, Fdc, Phase, Board, controller_of, drive_in, is_controllers, port_read, WritesPort, Inputs, Outputs, shown_again, Chips, drive_stays, IsScene, Scene, read_from, IsUnderwayOn, Window, Track, Order, Identify, Read, Write, MayIn, Shows, AtDrive, IsDoneBy, Underway, CanBegin, IsDriveOf}
 use Rattle.dma_8237.specs.Channel.{grants, after_read}
 use Rattle.fdc_stages.specs.History.{begun as new_past}
 use Rattle.fdc_phases.specs.declared.phases.Phase.TheVariants as phase
@@ -110,7 +110,7 @@ by_port order scene past port chips was false d =
 
 module _ (order : Order) (scene : Scene) (On : Past → Bool → DriveState → Type 0) (keeps : KeepsOn order scene On) where
   -- before the gap; or the controller takes commands behind it
-  pub between_goes : (port value : ℕ) (old new : Board) → Inputs port old value new → GoesOn On order scene old → GoesOn On order scene (read_from port old) ⊎ ((controller_of new).phase ≡ phase.Command)
+  pub between_goes : (port value : ℕ) (old new : Board) → Inputs port old value new → IsUnderwayOn On order scene old → IsUnderwayOn On order scene (read_from port old) ⊎ ((controller_of new).phase ≡ phase.Command)
   between_goes port value old new access (past, was) = elim (by_port order scene past port old.bus.chips was.chips (is_controllers port) (port == 0x3F5)) [
     | inl on ↦ inl (
       past,
@@ -123,9 +123,9 @@ module _ (order : Order) (scene : Scene) (On : Past → Bool → DriveState → 
     | inr over ↦ inr (gap (λ board. (controller_of board).phase ≡ phase.Command) (record { step = step_command; idle = λ old gaps fresh is. is }) (read_from port old) new access.gap over)
   ]
 
-  pub inputs_go : (port value : ℕ) (old new : Board) → Inputs port old value new → GoesOn On order scene old → GoesOn On order scene new ⊎ ((controller_of new).phase ≡ phase.Command)
+  pub inputs_go : (port value : ℕ) (old new : Board) → Inputs port old value new → IsUnderwayOn On order scene old → IsUnderwayOn On order scene new ⊎ ((controller_of new).phase ≡ phase.Command)
   inputs_go port value old new access was = elim (between_goes port value old new access was) [
-    | inl on ↦ inl (gap (GoesOn On order scene) (goes_on order scene On keeps) (read_from port old) new access.gap on)
+    | inl on ↦ inl (gap (IsUnderwayOn On order scene) (goes_on order scene On keeps) (read_from port old) new access.gap on)
     | inr over ↦ inr over
   ]
 
@@ -133,7 +133,7 @@ module _ (order : Order) (scene : Scene) (On : Past → Bool → DriveState → 
 
   module _ (At : Scene → DriveState → Type 0) (none_heard : (executes : Bool) (drive : DriveState) → IsScene scene → At scene drive → On new_past executes drive) where
     -- before the gap
-    pub between_begun : (byte : ℕ) (old between : Board) → WritesPort 0x3F5 byte old between → CanBeginAt At order scene byte old → GoesOn On order scene between
+    pub between_begun : (byte : ℕ) (old between : Board) → WritesPort 0x3F5 byte old between → CanBeginAt At order scene byte old → IsUnderwayOn On order scene between
     between_begun byte old between writes can =
         let (has, chips_are) = begun_at order scene byte old between writes can.last in
         let drive_is : drive_in between scene.bay ≡ drive_in old scene.bay =
@@ -146,8 +146,8 @@ module _ (order : Order) (scene : Scene) (On : Past → Bool → DriveState → 
           },
         )
 
-    pub begins_on : (byte : ℕ) (old new : Board) → Outputs 0x3F5 byte old new → CanBeginAt At order scene byte old → GoesOn On order scene new
-    begins_on byte old new access can = outputs (GoesOn On order scene) (goes_on order scene On keeps) 0x3F5 byte old new (λ between writes. between_begun byte old between writes can) access
+    pub begins_on : (byte : ℕ) (old new : Board) → Outputs 0x3F5 byte old new → CanBeginAt At order scene byte old → IsUnderwayOn On order scene new
+    begins_on byte old new access can = outputs (IsUnderwayOn On order scene) (goes_on order scene On keeps) 0x3F5 byte old new (λ between writes. between_begun byte old between writes can) access
 
 -- ---- of a drive at speed
 

@@ -2,7 +2,7 @@
 -- where nothing answers.
 use Rattle.std.proofs.Common.{inl, inr, ◌≡◌, ℕ, ◌==◌, Bool, true, false, refl, sym, ◌∙◌, ap, subst}
 use Rattle.std.proofs.lemmas.Bool.{false≢true}
-use Rattle.laws_machine.proofs.Common.{Channel, Past, is_executing, takes_in, is_held, Fdc, Phase, Board, controller_of, channel_of, drive_in, lines_of, is_controllers, sets_lines, WritesPort, Outputs, shown_again, drive_stays, Scene, GoesOn, Order, Identify, Read, Write, MayIn, May, AtDrive, IsDoneBy, Underway, Leaves, DriveState}
+use Rattle.laws_machine.proofs.Common.{Channel, Past, is_executing, takes_in, is_held, Fdc, Phase, Board, controller_of, channel_of, drive_in, lines_of, is_controllers, sets_lines, WritesPort, Outputs, shown_again, drive_stays, Scene, IsUnderwayOn, Order, Identify, Read, Write, MayIn, May, AtDrive, IsDoneBy, Underway, Leaves, DriveState}
 use Rattle.laws_machine.proofs.Facts.{either_is, number_is}
 use Rattle.dma_8237.specs.Channel.{after_write}
 use Rattle.fdc_core.specs.Ports.{Writes}
@@ -49,8 +49,8 @@ pub no_lines : (port value : ℕ) → (port == 0x3F2) ≡ false → (port == 0x3
 no_lines port value output select = rw (output, select) refl
 
 pub outputs_go : (order : Order) (scene : Scene) (On : Past → Bool → DriveState → Type 0) → KeepsOn order scene On → (port value : ℕ) (old new : Board) → Outputs port value old new → Leaves port value old
-    → GoesOn On order scene old → GoesOn On order scene new
-outputs_go order scene On keeps port value old new access leaves (past, was) = outputs (GoesOn On order scene) (goes_on order scene On keeps) port value old new (λ between writes.
+    → IsUnderwayOn On order scene old → IsUnderwayOn On order scene new
+outputs_go order scene On keeps port value old new access leaves (past, was) = outputs (IsUnderwayOn On order scene) (goes_on order scene On keeps) port value old new (λ between writes.
     let (chips, same) = same_chips order scene past port value old between leaves was.chips writes (is_controllers port) refl in
     let calm = no_lines port value leaves.output leaves.select in
     let drive_is : drive_in between scene.bay ≡ drive_in old scene.bay =

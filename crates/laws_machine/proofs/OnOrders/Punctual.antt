@@ -5,7 +5,7 @@ use Rattle.laws_machine.proofs.Facts.{shown_stalls}
 use Rattle.fdc_phases.specs.declared.phases.Task.TheVariants.{Write}
 use Rattle.laws_machine.specs.OnReads.Timely.{Stalled}
 use Rattle.laws_machine.proofs.OnReads.Accesses.{gapped}
-use Rattle.laws_machine.specs.OnWrites.Timely.{IsPunctual}
+use Rattle.laws_machine.specs.OnWrites.Timely.{IsPunctualWrite}
 use Rattle.laws_machine.proofs.OnWrites.OnTime.{begun_punctual, on_time}
 use Rattle.laws_machine.specs.OnOrders.Orders as order
 use Rattle.laws_machine.proofs.OnOrders.Beginning.{begun_at}
@@ -32,8 +32,8 @@ begins_on_time laid scene byte old new access can on threshold gated low =
     let from : Fdc = record (controller_of old) { command = [] } in
     let may = subst (order.May (order.Write laid) scene new_past) has.after has.may in
     let fills = filling_task laid scene new_past scene.sent.head_drive has.task _ (emptied from.fifo.on from.fifo.threshold) may in
-    let punctual : IsPunctual access.between.bus.chips = subst IsPunctual (sym at)
-    (subst (λ c. IsPunctual (shown_again (record old.bus.chips { controller = c }))) (sym has.after)
+    let punctual : IsPunctualWrite access.between.bus.chips = subst IsPunctualWrite (sym at)
+    (subst (λ c. IsPunctualWrite (shown_again (record old.bus.chips { controller = c }))) (sym has.after)
     (begun_punctual old.bus.chips scene.sent.head_drive has.task from fills has.waits on threshold gated (granting laid scene old.bus.chips.channel can.channel) low)) in
     let same : (holds_of access.between).stalls ≡ (holds_of old).stalls = ap (λ chips. chips.holding.stalls) at ∙ shown_stalls _ old.bus.chips.holding in
     let dor : dor_of (controller_of access.between) ≡ scene.dor = ap dor_of has.after ∙ can.dor in

@@ -1,7 +1,7 @@
 -- A device step of a data command.
 use Rattle.std.proofs.Common.{◌≡◌, ℕ, ◌+◌, ◌%◌, ◌≤◌, ◌==◌, Bool, true, false, List, length, [], ◌∷◌, ◌++◌, if◌then◌else◌, refl, sym, ◌∙◌, ap, subst}
 use Rattle.std.proofs.lemmas.Bool.{false≢true}
-use Rattle.laws_machine.proofs.Common.{DriveState, after_transfer, Past, taken_in, told_count, phase_told, told_in, is_executing, is_read, is_reading, asks, Fdc, Phase, Task, Answer, Short, Long, Fifo, Board, controller_of, drive_in, Step, can_move, moved_to_memory, moved_from_memory, byte_read, told_if, Chips, Scene, StandsStill, IsTaken, refuses, Steady, Moving, GoesOn, Laid, Window, Track, Order, Identify, Read, Write, MayLayIn, MayLay, AtDrive, IsDoneBy, Underway}
+use Rattle.laws_machine.proofs.Common.{DriveState, after_transfer, Past, taken_in, told_count, phase_told, told_in, is_executing, is_read, is_reading, asks, Fdc, Phase, Task, Answer, Short, Long, Fifo, Board, controller_of, drive_in, Step, can_move, moved_to_memory, moved_from_memory, byte_read, told_if, Chips, Scene, StandsStill, IsTaken, refuses, Steady, Moving, IsUnderwayOn, Laid, Window, Track, Order, Identify, Read, Write, MayLayIn, MayLay, AtDrive, IsDoneBy, Underway}
 use Rattle.laws_machine.proofs.Facts.{told_busy}
 use Rattle.dma_8237.specs.Channel.{grants}
 use Rattle.fdc_core.proofs.MayWrite.{in_writes, in_formats, told_writes, told_formats}
@@ -163,7 +163,7 @@ pub at_drive : (order : Order) (scene : Scene) → KeepsOn order scene (AtDrive 
 at_drive order scene = record { word_time = word_time order scene; bytes = at_bytes order scene; less = drive_on order scene }
 
 module _ (order : Order) (scene : Scene) (On : Past → Bool → DriveState → Type 0) (keeps : KeepsOn order scene On) where
-  step_goes : (old new : Board) → Step old new → GoesOn On order scene old → GoesOn On order scene new
+  step_goes : (old new : Board) → Step old new → IsUnderwayOn On order scene old → IsUnderwayOn On order scene new
   step_goes old new step (past, was) =
       let whole = was.scene_is in
       let works = selected scene.bay whole.bay old new (ap (λ byte. byte % 4) was.chips.dor ∙ whole.selects) step in
@@ -173,11 +173,11 @@ module _ (order : Order) (scene : Scene) (On : Past → Bool → DriveState → 
       (then_is.past, record { scene_is = whole; chips = then_is.known; drive = then_is.at })
 
   -- a call that leaves chips and drives is idle
-  pub goes_on : Steady (GoesOn On order scene)
+  pub goes_on : Steady (IsUnderwayOn On order scene)
   goes_on = record { step = step_goes; idle = λ old gaps fresh (past, was). (past, record { scene_is = was.scene_is; chips = was.chips; drive = was.drive }) }
 
   -- and one that takes the latch
-  pub still_goes : (old new : Board) → StandsStill old new → GoesOn On order scene old → GoesOn On order scene new
+  pub still_goes : (old new : Board) → StandsStill old new → IsUnderwayOn On order scene old → IsUnderwayOn On order scene new
   still_goes old new still (past, was) = (
     past,
     record {

@@ -1,11 +1,11 @@
 -- A READ DATA in time, through waits and port reads.
 use Rattle.std.proofs.Common.{◌≡◌, ◌⊎◌, inl, inr, ℕ, ◌-◌, ◌≤◌, ◌==◌, Bool, true, false, length, if◌then◌else◌, refl, sym, ◌∙◌, ap, subst}
 use Rattle.std.proofs.lemmas.Bool.{false≢true}
-use Rattle.laws_machine.proofs.Common.{Rose, phase_asks, is_executing, is_overrun, is_reading, given, phase_after, asks, is_gated, Fdc, Phase, Command, Execute, Result, next_entry, rest_of, Holds, IsReady, shown, Board, controller_of, holds_of, is_controllers, Inputs, shown_again, Chips, StandsStill, Scene, slack_of, IsPunctual, ReadInTime, read_from, Stalled}
+use Rattle.laws_machine.proofs.Common.{Rose, phase_asks, is_executing, is_overrun, is_reading, given, phase_after, asks, is_gated, Fdc, Phase, Command, Execute, Result, next_entry, rest_of, Holds, IsReady, shown, Board, controller_of, holds_of, is_controllers, Inputs, shown_again, Chips, StandsStill, Scene, slack_of, IsPunctualRead, ReadInTime, read_from, Stalled}
 use Rattle.laws_machine.proofs.Facts.{given_down, shown_stalls}
 use Rattle.dma_8237.specs.Channel.{after_read}
 use Rattle.fdc_core.specs.Ports.{after_read as controller_after}
-use Rattle.laws_machine.specs.OnReads.Timely.{IsTimely}
+use Rattle.laws_machine.specs.OnReads.Timely.{IsEmptiedInTime}
 use Rattle.laws_machine.proofs.OnReads.InTime.{in_time}
 use Rattle.laws_machine.proofs.OnSteps.Stalls.{runs_until}
 use Rattle.laws_machine.proofs.OnReads.Accesses.{read_board, grants_read, busy_before}
@@ -19,7 +19,7 @@ use Rattle.laws_machine.proofs.OnSteps.Controllers.{gated_same}
 -- ---- waits
 
 pub still_in_time : (old new : Board) → StandsStill old new → (scene : Scene) → ReadInTime scene old → ReadInTime scene new
-still_in_time old new still scene (under, punctual) = (still_keeps order.Read scene old new still under, subst IsPunctual (sym still.chips) punctual)
+still_in_time old new still scene (under, punctual) = (still_keeps order.Read scene old new still under, subst IsPunctualRead (sym still.chips) punctual)
 
 -- ---- port reads
 
@@ -37,7 +37,7 @@ ready_shown true holding slack low was = was
 ready_shown false holding slack low was = low refl
 
 timely_shown : (chips : Chips) (controller : Fdc) → is_reading chips.controller.phase ≡ true → controller.phase ≡ chips.controller.phase → controller.fifo ≡ chips.controller.fifo → controller.asking ≡ chips.controller.asking
-    → controller.dor ≡ chips.controller.dor → IsTimely chips → IsTimely (shown_again (record chips { controller = controller }))
+    → controller.dor ≡ chips.controller.dor → IsEmptiedInTime chips → IsEmptiedInTime (shown_again (record chips { controller = controller }))
 timely_shown chips controller reading phase fifo asking dor was = record {
   on = ap (λ f. f.on) fifo ∙ was.on;
   threshold = ap (λ f. f.threshold) fifo ∙ was.threshold;
@@ -59,8 +59,8 @@ timely_shown chips controller reading phase fifo asking dor was = record {
         (record { on = ap (λ f. f.on) fifo ∙ was.on; threshold = ap (λ f. f.threshold) fifo ∙ was.threshold; gated = gated })
         rule (ap is_reading phase ∙ reading) down
 
-read_punctual : (chips : Chips) (port : ℕ) → (is_executing chips.controller.phase ≡ true → is_reading chips.controller.phase ≡ true) → IsPunctual chips → (controllers data_port : Bool)
-    → IsPunctual (if controllers then shown_again (record chips { controller = if data_port then given chips.controller else chips.controller }) else record chips { channel = after_read port chips.channel })
+read_punctual : (chips : Chips) (port : ℕ) → (is_executing chips.controller.phase ≡ true → is_reading chips.controller.phase ≡ true) → IsPunctualRead chips → (controllers data_port : Bool)
+    → IsPunctualRead (if controllers then shown_again (record chips { controller = if data_port then given chips.controller else chips.controller }) else record chips { channel = after_read port chips.channel })
 read_punctual chips port reads was true true = record {
   timely = λ busy. let before = busy_before chips.controller.phase busy in
       timely_shown chips (given chips.controller) (reads before) (same_busy chips.controller.phase before) refl refl refl (was.timely before);

@@ -1,7 +1,7 @@
 -- A READ DATA in time, through device steps.
 use Rattle.std.proofs.Common.{◌≡◌, ◌⊎◌, inl, inr, ℕ, ◌%◌, ◌&&◌, Bool, true, false, [], ◌∷◌, ◌++◌, refl, sym, ◌∙◌, ap, subst, arith}
 use Rattle.std.proofs.lemmas.Bool.{and_right, false≢true}
-use Rattle.laws_machine.proofs.Common.{Rose, emptied, kept, Accepted, Ready, ReadData, TakesAs, begun, IsReadingData, Sent, is_gated, Fdc, Task, next_entry, rest_of, Holds, IsReady, shown, Low, Board, controller_of, drive_in, holds_of, selected_of, lines_of, Outputs, Step, shown_again, Chips, CanBegin, Scene, Keeping, Stalled, IsPunctual, ReadInTime}
+use Rattle.laws_machine.proofs.Common.{Rose, emptied, kept, Accepted, Ready, ReadData, TakesAs, begun, IsReadingData, Sent, is_gated, Fdc, Task, next_entry, rest_of, Holds, IsReady, shown, Low, Board, controller_of, drive_in, holds_of, selected_of, lines_of, Outputs, Step, shown_again, Chips, CanBegin, Scene, Keeping, Stalled, IsPunctualRead, ReadInTime}
 use Rattle.laws_machine.proofs.Facts.{quiet_task, shown_stalls}
 use Rattle.pc_bus.specs.Transfers.{dma_stepped}
 use Rattle.laws_machine.specs.OnOrders.Orders as order
@@ -26,7 +26,7 @@ step_in_time old new step scene ((past, was), punctual) =
     (word_time scene past chips (drive_in old scene.bay) step.between (drive_in new scene.bay) whole was.chips was.drive
     (selected scene.bay whole.bay old new at step)) punctual in
     elim result [
-      | inl on_time ↦ inl ((underway order.Read scene).step old new step (past, was), subst IsPunctual (sym chips_are) on_time)
+      | inl on_time ↦ inl ((underway order.Read scene).step old new step (past, was), subst IsPunctualRead (sym chips_are) on_time)
       | inr rose ↦ inr (subst (λ now. Rose chips.holding.stalls now.holding.stalls) (sym chips_are) rose)
     ]
 
@@ -45,7 +45,7 @@ shown_low true holding is = absurd (false≢true (sym is))
 shown_low false holding is = refl
 
 begun_punctual : (chips : Chips) (sent : Sent) (task : Task) (old : Fdc) → IsReadingData sent task → old.fifo.on ≡ true → old.fifo.threshold ≡ 8 → is_gated old ≡ true
-    → IsPunctual (shown_again (record chips { controller = begun sent.head_drive task old }))
+    → IsPunctualRead (shown_again (record chips { controller = begun sent.head_drive task old }))
 begun_punctual chips sent task old is on threshold gated = record {
   timely = λ _. record {
     on = on;
@@ -78,8 +78,8 @@ begun_in_time scene byte old new access can on threshold gated =
     let takes = subst (λ accepted. TakesAs accepted (lines_of old) (record fdc { command = kept accepted bytes }) controller) can.last.whole ((writes.bytes refl).0 can.last.taking) in
     let (task, is, waits, after) = (takes.0 can.last.no_seek).1 can.last.dma in
     let at : access.between.bus.chips ≡ shown_again (record old.bus.chips { controller = controller }) = ap (λ bus. bus.chips) access.writes.bus ∙ chips_are in
-    let punctual : IsPunctual access.between.bus.chips = subst IsPunctual (sym at)
-    (subst (λ c. IsPunctual (shown_again (record old.bus.chips { controller = c }))) (sym after) (begun_punctual old.bus.chips scene.sent task (record fdc { command = kept whole bytes }) is on threshold gated)) in
+    let punctual : IsPunctualRead access.between.bus.chips = subst IsPunctualRead (sym at)
+    (subst (λ c. IsPunctualRead (shown_again (record old.bus.chips { controller = c }))) (sym after) (begun_punctual old.bus.chips scene.sent task (record fdc { command = kept whole bytes }) is on threshold gated)) in
     record {
       head_drive = scene.sent.head_drive;
       task = task;

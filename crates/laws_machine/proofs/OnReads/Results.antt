@@ -1,7 +1,7 @@
 -- From the words that were heard to the track.
 use Rattle.std.proofs.Common.{◌≡◌, inl, inr, ℕ, ◌+◌, ◌*◌, ◌<◌, ◌≤◌, Bool, true, false, List, Some, length, refl, sym, ◌∙◌, subst, arith}
 use Rattle.std.proofs.lemmas.Bool.{false≢true}
-use Rattle.laws_machine.proofs.Common.{NoData, BadCrc, IsSizeCode, content_size, content_at, HasAddressMark, IsIntact, HasDataField, Past, HasNoClear, IsFoundAt, FindsNoSector, Ending, Done, NoMark, NoSector, NoField, BadCheck, Overrun, NoCount, Protected, Late, ReadMeansIn, Short, Long, Phase, Command, Execute, Result, IsHeardFrom, IsWholeFrom, intact_of, Scene, track_met, HasBytes, IsMoved, Channel, EndedIn, StaysOutside}
+use Rattle.laws_machine.proofs.Common.{NoData, BadCrc, IsSizeCode, content_size, content_at, HasAddressMark, IsIntact, HasDataField, Past, HasNoClear, IsFoundAt, FindsNoSector, Ending, Done, NoMark, NoSector, NoField, BadCheck, Overrun, NoCount, Protected, Late, ReadMeansIn, Short, Long, Phase, Command, Execute, Result, IsHeardFrom, IsWholeFrom, intact_of, Scene, track_met, HasBytes, IsMoved, Channel, ReadEndedIn, StaysOutside}
 use Rattle.sector_map.specs.Met.{HasLook}
 use Rattle.fdc_stages.specs.Findings.{FindsBadCheck, FindsNoField, FindsNoMark}
 use Rattle.fdc_core.specs.Meaning.{ReadMeans, FindsUncounted}
@@ -9,7 +9,7 @@ use Rattle.fdc_core.proofs.drives.Fields.{mark_heard, address_heard, data_mark_h
 use Rattle.fdc_core.proofs.drives.Looks.{bad_met, no_field_met}
 use Rattle.fdc_core.specs.Drives.Hearing.{IsCalm}
 use Rattle.fdc_core.proofs.drives.Turns.{between_is, turn_heard}
-use Rattle.laws_machine.specs.OnReads.Results.{FindsField, EndsAs}
+use Rattle.laws_machine.specs.OnReads.Results.{FindsField, ReadEndsAs}
 
 -- ---- the endings
 
@@ -63,7 +63,7 @@ module _ (scene : Scene) (past : Past) (faults : ℕ) (memory : List ℕ)
   count_ends few (uncounted, all, found) = let missing = few uncounted in omega arith
 
   pub ends : (ending : Ending) → IsSizeCode scene.sent.key.n → HasBytes scene.address past.given scene.memory memory
-      → (past.counted ≡ true → length past.given ≡ content_size scene.sent.key.n) → (past.counted ≡ false → length past.given < content_size scene.sent.key.n) → ReadMeans past scene.sent ending → EndsAs scene faults memory ending
+      → (past.counted ≡ true → length past.given ≡ content_size scene.sent.key.n) → (past.counted ≡ false → length past.given < content_size scene.sent.key.n) → ReadMeans past scene.sent ending → ReadEndsAs scene faults memory ending
   ends (Done deleted) coded bytes all few (counted, (turn, p, q, found)) = done_ends past.given deleted coded bytes (all counted) turn p q found
   ends NoMark coded bytes all few means = mark_ends means
   ends NoSector coded bytes all few means = sector_ends means
@@ -75,7 +75,7 @@ module _ (scene : Scene) (past : Past) (faults : ℕ) (memory : List ℕ)
   ends Late coded bytes all few means = tt
 
   pub ended : (phase : Phase) → IsSizeCode scene.sent.key.n → HasBytes scene.address past.given scene.memory memory
-      → (past.counted ≡ true → length past.given ≡ content_size scene.sent.key.n) → (past.counted ≡ false → length past.given < content_size scene.sent.key.n) → ReadMeansIn past scene.sent phase → EndedIn scene faults memory phase
+      → (past.counted ≡ true → length past.given ≡ content_size scene.sent.key.n) → (past.counted ≡ false → length past.given < content_size scene.sent.key.n) → ReadMeansIn past scene.sent phase → ReadEndedIn scene faults memory phase
   ended Command coded bytes all few means = tt
   ended (Execute execution) coded bytes all few means = tt
   ended (Result (Short next last)) coded bytes all few means = tt

@@ -2,7 +2,7 @@
 use Rattle.std.proofs.Common.{◌≡◌, ◌⊎◌, inl, inr, ℕ, ◌+◌, ◌<◌, ◌≤◌, ◌==◌, ◌&&◌, ◌||◌, not, nat_le, Bool, true, false, List, length, refl, sym, ◌∙◌, ap, subst, arith}
 use Rattle.std.proofs.lemmas.Bool.{false_from_ne_true, false≢true}
 use Rattle.std.proofs.lemmas.Bool.Decides.{nat_tests}
-use Rattle.laws_machine.proofs.Common.{Rose, DriveState, Fifo, room_of, worth_fetching, Past, task_asks, phase_asks, Sent, MayReadIn, MayReadTask, is_executing, is_reading, is_read, is_overrun, is_over, is_full, asks, is_gated, polled, RestsIn, FlowsIn, Fdc, Phase, Command, Execute, Result, Task, Holds, IsReady, IsInTime, is_due, shown, DmaRequest, Low, High, in_time, Works, looked_at, shown_again, Chips, Scene, IsDoneBy, IsRuled, slack_of, IsPunctual}
+use Rattle.laws_machine.proofs.Common.{Rose, DriveState, Fifo, room_of, worth_fetching, Past, task_asks, phase_asks, Sent, MayReadIn, MayReadTask, is_executing, is_reading, is_read, is_overrun, is_over, is_full, asks, is_gated, polled, RestsIn, FlowsIn, Fdc, Phase, Command, Execute, Result, Task, Holds, IsReady, IsInTime, is_due, shown, DmaRequest, Low, High, in_time, Works, looked_at, shown_again, Chips, Scene, IsDoneBy, IsRuled, slack_of, IsPunctualRead}
 use Rattle.laws_machine.proofs.Facts.{number_is, polled_phase, some_of}
 use Rattle.dma_8237.specs.Channel.{grants}
 use Rattle.fdc_core.specs.Listening.{OverrunsIn, OverrunsTask}
@@ -10,7 +10,7 @@ use Rattle.fdc_phases.specs.declared.phases.Task.TheVariants.{Read}
 use Rattle.pc_bus.specs.Transfers.{moved_up_to, dma_stepped}
 use Rattle.laws_machine.specs.OnOrders.Orders as order
 use Rattle.laws_machine.proofs.OnReads.Steps.{reads_there, IsBetween}
-use Rattle.laws_machine.specs.OnReads.Timely.{IsTimely}
+use Rattle.laws_machine.specs.OnReads.Timely.{IsEmptiedInTime}
 use Rattle.laws_machine.proofs.OnSteps.Stalls.{dma_stalls}
 use Rattle.laws_machine.proofs.OnReads.Served.{phase_again, served, left_reading, IsServed}
 use Rattle.laws_machine.proofs.OnSteps.Controllers.{dma_executing, dma_overrun, gated_same, polled_fifo}
@@ -113,7 +113,7 @@ first_low false b h is = refl
 -- a request that was granted is low
 timely_served : (chips : Chips) → HasMode chips.controller → IsRuled chips.controller → is_reading chips.controller.phase ≡ true
     → length chips.controller.fifo.bytes ≤ 16
-    → IsTimely (shown_again (moved_up_to 16 chips))
+    → IsEmptiedInTime (shown_again (moved_up_to 16 chips))
 timely_served chips mode ruled reading room =
     let then_chips = moved_up_to 16 chips in
     let then_mode = up_to_mode 16 chips mode in
@@ -132,8 +132,8 @@ timely_served chips mode ruled reading room =
 
 timely_dma : (chips : Chips) → grants chips.channel ≡ true → HasMode chips.controller → IsRuled chips.controller → is_reading chips.controller.phase ≡ true
     → length chips.controller.fifo.bytes ≤ 16
-    → IsInTime (looked_at chips).holding.request (slack_of chips.controller) → IsTimely (dma_stepped chips)
-timely_dma chips granting mode ruled reading room enough = by_request IsTimely chips
+    → IsInTime (looked_at chips).holding.request (slack_of chips.controller) → IsEmptiedInTime (dma_stepped chips)
+timely_dma chips granting mode ruled reading room enough = by_request IsEmptiedInTime chips
     (λ is. record {
       on = mode.on;
       threshold = mode.threshold;
@@ -146,8 +146,8 @@ timely_dma chips granting mode ruled reading room enough = by_request IsTimely c
 
 -- the channel doesn't grant
 timely_idle : (chips : Chips) → grants chips.channel ≡ false → HasMode chips.controller
-    → chips.controller.asking ≡ phase_asks chips.controller.phase chips.controller.asking chips.controller.fifo → IsTimely (dma_stepped chips)
-timely_idle chips masked mode rule = subst IsTimely (sym (idle_dma chips masked)) (record {
+    → chips.controller.asking ≡ phase_asks chips.controller.phase chips.controller.asking chips.controller.fifo → IsEmptiedInTime (dma_stepped chips)
+timely_idle chips masked mode rule = subst IsEmptiedInTime (sym (idle_dma chips masked)) (record {
   on = mode.on;
   threshold = mode.threshold;
   gated = mode.gated;
@@ -162,7 +162,7 @@ behind : (chips : Chips) (before : ℕ) → HasMode chips.controller → is_read
     → chips.controller.asking ≡ phase_asks chips.controller.phase chips.controller.asking chips.controller.fifo
     → before ≤ slack_of chips.controller + 1 → (grants chips.channel ≡ true → IsReady chips.holding.request before × (length chips.controller.fifo.bytes ≤ 16))
     → (granting : Bool) → grants chips.channel ≡ granting
-    → IsTimely (dma_stepped chips) ⊎ Rose chips.holding.stalls (dma_stepped chips).holding.stalls
+    → IsEmptiedInTime (dma_stepped chips) ⊎ Rose chips.holding.stalls (dma_stepped chips).holding.stalls
 behind chips before mode reading rule less ready false is = inl (timely_idle chips is mode rule)
 behind chips before mode reading rule less ready true is =
     let (was, room) = ready is in
@@ -174,8 +174,8 @@ behind chips before mode reading rule less ready true is =
     ]
 
 pub in_step : (scene : Scene) (past : Past) (chips : Chips) (drive : DriveState) (between : Fdc) (after : DriveState) → IsDoneBy order.Read scene past chips
-    → Works chips.controller drive between after → IsBetween scene chips between after → IsPunctual chips
-    → IsPunctual (dma_stepped (record chips { controller = between })) ⊎ Rose chips.holding.stalls (dma_stepped (record chips { controller = between })).holding.stalls
+    → Works chips.controller drive between after → IsBetween scene chips between after → IsPunctualRead chips
+    → IsPunctualRead (dma_stepped (record chips { controller = between })) ⊎ Rose chips.holding.stalls (dma_stepped (record chips { controller = between })).holding.stalls
 in_step scene past chips drive between after known works then_known was = by_busy (is_executing between.phase) refl
   where
     old : Fdc
@@ -196,7 +196,7 @@ in_step scene past chips drive between after known works then_known was = by_bus
         was.no_overrun
 
     by_busy : (busy : Bool) → is_executing between.phase ≡ busy
-        → IsPunctual (dma_stepped (record chips { controller = between })) ⊎ Rose chips.holding.stalls (dma_stepped (record chips { controller = between })).holding.stalls
+        → IsPunctualRead (dma_stepped (record chips { controller = between })) ⊎ Rose chips.holding.stalls (dma_stepped (record chips { controller = between })).holding.stalls
     by_busy false idle = inl (record {
       timely = λ busy. absurd (false≢true (sym (dma_executing false (record chips { controller = between }) idle) ∙ busy));
       no_overrun = dma_overrun false (record chips { controller = between }) over;

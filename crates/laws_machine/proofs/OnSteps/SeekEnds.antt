@@ -13,7 +13,7 @@ use Rattle.fdc_core.specs.Ports.{Writes}
 use Rattle.fdc_phases.specs.declared.phases.Phase.TheVariants as phase
 use Rattle.pc_bus.specs.Boards.{IsInRange}
 use Rattle.pc_bus.specs.Transfers.{moved}
-use Rattle.laws_machine.specs.OnSteps.Ends.{motion_left, seek_left, pulses_left, seeks, HasNoSeek, Recalibrates}
+use Rattle.laws_machine.specs.OnSteps.Ends.{motion_left, seek_left, pulses_left, seeks, RunsNoSeek, Recalibrates}
 use Rattle.laws_machine.proofs.OnSteps.Acts.{Touches, at_controller}
 use Rattle.laws_machine.proofs.OnSteps.DataEnds.{idle_answer, port_is, zero_of}
 use Rattle.laws_machine.proofs.OnSteps.Moves.{lasts, meets_act, meets_here, meets_step, meets_within}
@@ -223,11 +223,11 @@ touches_go old new idle runs (Touches.Takes port value lines last writes) = writ
 
 -- the seek ended on the way, or runs with so many fewer steps left
 data Runs (start : Board) (n : ℕ) (now : Board) : Type 0 where
-  Over : Meets HasNoSeek (pulses_left start) start n now → Runs start n now
+  Over : Meets RunsNoSeek (pulses_left start) start n now → Runs start n now
   On : Goes start n now → pulses_left now + n ≤ pulses_left start → is_executing (controller_of now).phase ≡ false → seeks now → Runs start n now
 
-over_here : (start : Board) (n : ℕ) (now : Board) → Goes start n now → n ≤ pulses_left start → HasNoSeek now → Runs start n now
-over_here start n now goes within over = Runs.Over (meets_here HasNoSeek (pulses_left start) n start now goes within over)
+over_here : (start : Board) (n : ℕ) (now : Board) → Goes start n now → n ≤ pulses_left start → RunsNoSeek now → Runs start n now
+over_here start n now goes within over = Runs.Over (meets_here RunsNoSeek (pulses_left start) n start now goes within over)
 
 -- here it may have ended
 here : (start : Board) (n : ℕ) (now : Board) → Goes start n now → pulses_left now + n ≤ pulses_left start → n ≤ pulses_left start → is_executing (controller_of now).phase ≡ false → Runs start n now
@@ -238,23 +238,23 @@ here start n now goes left within idle = by_run (is_seeking (controller_of now).
     by_run false is = over_here start n now goes within is
 
 step_on : (start : Board) (n : ℕ) (old new : Board) → Step old new → Runs start n old → Runs start (suc n) new
-step_on start n old new step (Runs.Over ends) = Runs.Over (meets_step HasNoSeek (pulses_left start) n start old new step ends)
+step_on start n old new step (Runs.Over ends) = Runs.Over (meets_step RunsNoSeek (pulses_left start) n start old new step ends)
 step_on start n old new step (Runs.On goes left idle runs) =
     let has = step_has old new step idle runs in let some = some_left (controller_of old).seeks runs in let fewer = has.left_is in
     here start (suc n) new (Goes.Steps n old new goes step) (omega arith) (omega arith) has.idle
 
 act_on : (start : Board) (n : ℕ) (old new : Board) → Acts old new → Runs start n old → Runs start n new
-act_on start n old new acts (Runs.Over ends) = Runs.Over (meets_act HasNoSeek (pulses_left start) n start old new acts ends)
+act_on start n old new acts (Runs.Over ends) = Runs.Over (meets_act RunsNoSeek (pulses_left start) n start old new acts ends)
 act_on start n old new acts (Runs.On goes left idle runs) = by_end (touches_go (controller_of old) (controller_of new) idle runs (at_controller old new acts))
   where
     by_end : Goes_on (controller_of old) (controller_of new) → Runs start n new
     by_end (Goes_on.Same seek rest) = let same = ap seek_left seek in here start n new (Goes.Does n old new goes acts) (omega arith) (omega arith) rest
     by_end (Goes_on.Forgets none) = over_here start n new (Goes.Does n old new goes acts) (omega arith) none
 
-pub seek_ends : (old new : Board) (n : ℕ) → Goes old n new → is_executing (controller_of old).phase ≡ false → seeks old → pulses_left old ≤ n → Meets HasNoSeek (pulses_left old) old n new
+pub seek_ends : (old new : Board) (n : ℕ) → Goes old n new → is_executing (controller_of old).phase ≡ false → seeks old → pulses_left old ≤ n → Meets RunsNoSeek (pulses_left old) old n new
 seek_ends old new n goes idle runs many = by_end (lasts (λ n now. Runs old n now) (record { step = step_on old; act = act_on old }) old new n goes (Runs.On Goes.Stays (omega arith) idle runs))
   where
-    by_end : Runs old n new → Meets HasNoSeek (pulses_left old) old n new
+    by_end : Runs old n new → Meets RunsNoSeek (pulses_left old) old n new
     by_end (Runs.Over ends) = ends
     by_end (Runs.On goes left rest on) = let some = some_left (controller_of new).seeks on in absurd (omega arith)
 
@@ -285,6 +285,6 @@ pub recalibrate_left : (board : Board) → IsInRange board → Recalibrates boar
 recalibrate_left board range is = outward_left (controller_of board).seeks.seek range.controller.seeks.motion is
 
 -- a seek that runs has ended in 256
-pub seek_ends_in_time : (old new : Board) (n : ℕ) → Goes old n new → IsInRange old → is_executing (controller_of old).phase ≡ false → seeks old → 256 ≤ n → Meets HasNoSeek 256 old n new
+pub seek_ends_in_time : (old new : Board) (n : ℕ) → Goes old n new → IsInRange old → is_executing (controller_of old).phase ≡ false → seeks old → 256 ≤ n → Meets RunsNoSeek 256 old n new
 seek_ends_in_time old new n goes range idle runs many = let few = most_left old range in
-    meets_within HasNoSeek (pulses_left old) 256 n old new few (seek_ends old new n goes idle runs (omega arith))
+    meets_within RunsNoSeek (pulses_left old) 256 n old new few (seek_ends old new n goes idle runs (omega arith))

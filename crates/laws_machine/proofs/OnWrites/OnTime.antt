@@ -2,14 +2,14 @@
 use Rattle.std.proofs.Common.{◌≡◌, ◌⊎◌, inl, inr, ℕ, ◌+◌, ◌-◌, ◌%◌, ◌≤◌, ◌==◌, Bool, true, false, length, if◌then◌else◌, refl, sym, ◌∙◌, ap, subst, arith}
 use Rattle.std.proofs.lemmas.Bool.{false≢true}
 use Rattle.std.proofs.lemmas.List.{length-drop}
-use Rattle.laws_machine.proofs.Common.{Rose, DriveState, Fifo, emptied, room_of, FormatNext, WriteNext, begun, WaitsAtFirst, asked, FormatDoes, after_laid, is_executing, is_overrun, is_reading, asks, is_gated, polled, WordTime, Saw, KeptOut, Wrote, Stopped, PhaseWaits, phase_counted, WritesIn, WritesTask, WriteDoes, after_next, without_byte, Fdc, Phase, Command, Execute, Result, Task, ReadId, Format, Formatting, Writing, IsInTime, IsReady, looked, DmaRequest, Low, in_time, IsRuled, Stalled, drive_in, Board, selected_of, Works, Step, can_move, looked_at, shown_again, Chips, fills, fills_task, IsFilling, IsTimely, IsOnTime, Keeping, Stalled}
+use Rattle.laws_machine.proofs.Common.{Rose, DriveState, Fifo, emptied, room_of, FormatNext, WriteNext, begun, WaitsAtFirst, asked, FormatDoes, after_laid, is_executing, is_overrun, is_reading, asks, is_gated, polled, WordTime, Saw, KeptOut, Wrote, Stopped, PhaseWaits, phase_counted, WritesIn, WritesTask, WriteDoes, after_next, without_byte, Fdc, Phase, Command, Execute, Result, Task, ReadId, Format, Formatting, Writing, IsInTime, IsReady, looked, DmaRequest, Low, in_time, IsRuled, Stalled, drive_in, Board, selected_of, Works, Step, can_move, looked_at, shown_again, Chips, fills, fills_task, IsFilling, IsFedInTime, IsOnTime, Keeping, Stalled}
 use Rattle.dma_8237.specs.Channel.{grants}
 use Rattle.fdc_stages.specs.declared.formatting.FormatNext.TheVariants as format_next
 use Rattle.fdc_stages.specs.declared.writing.WriteNext.TheVariants as write_next
 use Rattle.fdc_core.specs.Waiting.{Lasts, LastsIn}
 use Rattle.fdc_phases.specs.declared.phases.Task.TheVariants.{Read, Write}
 use Rattle.pc_bus.specs.Transfers.{moved_up_to, dma_stepped}
-use Rattle.laws_machine.specs.OnWrites.Timely.{IsPunctual}
+use Rattle.laws_machine.specs.OnWrites.Timely.{IsPunctualWrite}
 use Rattle.laws_machine.proofs.OnWrites.Filling.{counted_waits, filling_held, filling_low, filling_moved, not_reading, ruled_by}
 use Rattle.laws_machine.proofs.OnWrites.Guards.{step_leaves}
 use Rattle.laws_machine.proofs.OnSteps.Words.{some_drive}
@@ -81,7 +81,7 @@ left_filling true bytes room is wide = absurd (false≢true (sym is))
 left_filling false bytes room is wide = omega arith
 
 -- a request that was granted is low, or the terminal count came
-served_timely : (slack : ℕ) (chips : Chips) → IsFilling slack chips → IsTimely (shown_again (moved_up_to 16 chips))
+served_timely : (slack : ℕ) (chips : Chips) → IsFilling slack chips → IsFedInTime (shown_again (moved_up_to 16 chips))
 served_timely slack chips was = by_counted (phase_counted then_chips.controller.phase) refl
   where
     then_chips : Chips
@@ -97,7 +97,7 @@ served_timely slack chips was = by_counted (phase_counted then_chips.controller.
     quiet = (served 16 chips ruled (left_filling (is_reading chips.controller.phase) (length chips.controller.fifo.bytes) (room_of chips.controller.fifo.on)
         (not_reading chips.controller.phase was.fills_it) (ap room_of was.on))).falls
 
-    by_counted : (counted : Bool) → phase_counted (moved_up_to 16 chips).controller.phase ≡ counted → IsTimely (shown_again (moved_up_to 16 chips))
+    by_counted : (counted : Bool) → phase_counted (moved_up_to 16 chips).controller.phase ≡ counted → IsFedInTime (shown_again (moved_up_to 16 chips))
     by_counted true is = record {
       slack = slack;
       filling = filling_held slack (moved_up_to 16 chips) (shown_again (moved_up_to 16 chips)).holding then_is;
@@ -113,10 +113,10 @@ served_timely slack chips was = by_counted (phase_counted then_chips.controller.
 
 -- behind a look at the request
 dma_timely : (slack : ℕ) (chips : Chips) → IsFilling slack chips
-    → (phase_counted chips.controller.phase ≡ false → IsInTime (looked_at chips).holding.request slack) → IsTimely (dma_stepped chips)
+    → (phase_counted chips.controller.phase ≡ false → IsInTime (looked_at chips).holding.request slack) → IsFedInTime (dma_stepped chips)
 dma_timely slack chips was enough =
     let look = filling_held slack chips (looked_at chips).holding was in
-    by_request IsTimely chips (λ is. record {
+    by_request IsFedInTime chips (λ is. record {
       slack = slack;
       filling = look;
       ready = λ uncounted. not_due (looked_at chips).holding.request slack
@@ -129,7 +129,7 @@ dma_timely slack chips was enough =
 behind : (before slack : ℕ) (chips : Chips) → IsFilling slack chips → before ≤ slack + 1
     → (phase_counted chips.controller.phase ≡ false → IsReady chips.holding.request before)
     → (counted : Bool) → phase_counted chips.controller.phase ≡ counted → (line : Bool) → asks chips.controller ≡ line
-    → IsTimely (dma_stepped chips) ⊎ Rose chips.holding.stalls (looked_at chips).holding.stalls
+    → IsFedInTime (dma_stepped chips) ⊎ Rose chips.holding.stalls (looked_at chips).holding.stalls
 behind before slack chips was less ready true is line line_is = inl (dma_timely slack chips was (λ uncounted. absurd (false≢true (sym uncounted ∙ is))))
 behind before slack chips was less ready false is false line_is =
     let request : (looked_at chips).holding.request ≡ Low = ap (λ b. (looked b chips.holding).request) line_is in
@@ -155,7 +155,7 @@ pub record HasSlack (request : DmaRequest) (old : Fdc) : Type 0 where
   pub less : before ≤ after + 1
   pub ready : phase_counted old.phase ≡ false → IsReady request before
 
-slack_of : (chips : Chips) → IsTimely chips → (counted : Bool) → phase_counted chips.controller.phase ≡ counted → HasSlack chips.holding.request chips.controller
+slack_of : (chips : Chips) → IsFedInTime chips → (counted : Bool) → phase_counted chips.controller.phase ≡ counted → HasSlack chips.holding.request chips.controller
 slack_of chips was true is = record {
   after = 0;
   before = 0;
@@ -176,10 +176,10 @@ slack_of chips was false is =
     }
 
 module _ (chips : Chips) (drive : DriveState) (between : Fdc) (after : DriveState) (works : Works chips.controller drive between after)
-    (was : IsPunctual chips) where
+    (was : IsPunctualWrite chips) where
   -- the command was in execution
   busy_step : is_executing chips.controller.phase ≡ true → (busy : Bool) → is_executing between.phase ≡ busy
-      → IsPunctual (dma_stepped (record chips { controller = between })) ⊎ Rose chips.holding.stalls (dma_stepped (record chips { controller = between })).holding.stalls
+      → IsPunctualWrite (dma_stepped (record chips { controller = between })) ⊎ Rose chips.holding.stalls (dma_stepped (record chips { controller = between })).holding.stalls
   busy_step was_busy busy is =
       let timely = was.timely was_busy in
       let slack = slack_of chips timely (phase_counted chips.controller.phase) refl in
@@ -187,9 +187,9 @@ module _ (chips : Chips) (drive : DriveState) (between : Fdc) (after : DriveStat
       let over : is_overrun (dma_stepped (record chips { controller = between })).controller.phase ≡ false = dma_overrun false (record chips { controller = between }) lasts.no_overrun in
       by_busy timely slack lasts over busy is
     where
-      by_busy : (timely : IsTimely chips) (slack : HasSlack chips.holding.request chips.controller) (lasts : Lasts slack.after chips.controller between)
+      by_busy : (timely : IsFedInTime chips) (slack : HasSlack chips.holding.request chips.controller) (lasts : Lasts slack.after chips.controller between)
           → is_overrun (dma_stepped (record chips { controller = between })).controller.phase ≡ false → (busy : Bool) → is_executing between.phase ≡ busy
-          → IsPunctual (dma_stepped (record chips { controller = between })) ⊎ Rose chips.holding.stalls (dma_stepped (record chips { controller = between })).holding.stalls
+          → IsPunctualWrite (dma_stepped (record chips { controller = between })) ⊎ Rose chips.holding.stalls (dma_stepped (record chips { controller = between })).holding.stalls
       by_busy timely slack lasts over false idle =
           inl (record { timely = λ busy. absurd (false≢true (sym (dma_executing false (record chips { controller = between }) idle) ∙ busy)); no_overrun = over })
       by_busy timely slack lasts over true busy =
@@ -218,7 +218,7 @@ module _ (chips : Chips) (drive : DriveState) (between : Fdc) (after : DriveStat
           ]
 
   -- it was over
-  idle_step : is_executing chips.controller.phase ≡ false → IsPunctual (dma_stepped (record chips { controller = between }))
+  idle_step : is_executing chips.controller.phase ≡ false → IsPunctualWrite (dma_stepped (record chips { controller = between }))
   idle_step idle =
       let same : between.phase ≡ chips.controller.phase =
       (rested chips.controller between (drive.cylinder == 0) idle works.rests).phase in
@@ -228,7 +228,7 @@ module _ (chips : Chips) (drive : DriveState) (between : Fdc) (after : DriveStat
       }
 
   pub in_step : (busy : Bool) → is_executing chips.controller.phase ≡ busy
-      → IsPunctual (dma_stepped (record chips { controller = between })) ⊎ Rose chips.holding.stalls (dma_stepped (record chips { controller = between })).holding.stalls
+      → IsPunctualWrite (dma_stepped (record chips { controller = between })) ⊎ Rose chips.holding.stalls (dma_stepped (record chips { controller = between })).holding.stalls
   in_step true busy = busy_step busy (is_executing between.phase) refl
   in_step false idle = inl (idle_step idle)
 
@@ -239,11 +239,11 @@ step_on_time old new step was =
     let same : selected_of new ≡ selected_of old = ap (λ byte. byte % 4) leaves.dor in
     let selects = was.selects in
     let chips_are : new.bus.chips ≡ dma_stepped (record chips { controller = step.between }) = ap (λ bus. bus.chips) step.bus in
-    let result = some_drive (IsPunctual (dma_stepped (record chips { controller = step.between })) ⊎ Rose chips.holding.stalls
+    let result = some_drive (IsPunctualWrite (dma_stepped (record chips { controller = step.between })) ⊎ Rose chips.holding.stalls
     (dma_stepped (record chips { controller = step.between })).holding.stalls) old new was.selects step
     (λ bay works. in_step chips (drive_in old bay) step.between (drive_in new bay) works was.punctual (is_executing chips.controller.phase) refl) in
     elim result [
-      | inl on_time ↦ inl (record { selects = omega arith; punctual = subst IsPunctual (sym chips_are) on_time })
+      | inl on_time ↦ inl (record { selects = omega arith; punctual = subst IsPunctualWrite (sym chips_are) on_time })
       | inr rose ↦ inr (subst (λ now. Rose chips.holding.stalls now.holding.stalls) (sym chips_are) rose)
     ]
 
@@ -256,7 +256,7 @@ on_time = record { step = step_on_time; idle = λ old gaps fresh was. record { s
 
 -- a command that begins asks for bytes, and can wait nine device steps for them
 pub begun_punctual : (chips : Chips) (head_drive : ℕ) (task : Task) (old : Fdc) → fills_task task ≡ true → WaitsAtFirst task → old.fifo.on ≡ true → old.fifo.threshold ≡ 8 → is_gated old ≡ true
-    → grants chips.channel ≡ true → chips.holding.request ≡ Low → IsPunctual (shown_again (record chips { controller = asked (begun head_drive task old) }))
+    → grants chips.channel ≡ true → chips.holding.request ≡ Low → IsPunctualWrite (shown_again (record chips { controller = asked (begun head_drive task old) }))
 begun_punctual chips head_drive task old is waits on threshold gated granting low =
     let fifo = emptied old.fifo.on old.fifo.threshold in
     let new : Fdc = asked (begun head_drive task old) in

@@ -19,7 +19,7 @@ use Rattle.fdc_phases.specs.Phases.{overran}
 use Rattle.fdc_phases.specs.declared.phases.Task.TheVariants.{Write}
 use Rattle.fdc_core.proofs.drives.Fields.{address_heard, mark_heard}
 use Rattle.laws_machine.proofs.OnReads.Words.{length-met}
-use Rattle.laws_machine.specs.OnWrites.Results.{ChangesTo, ChangesWhole, EndedIn, EndsAs, HasChanged, IsUnchanged, WritesWell, window_in, written_in}
+use Rattle.laws_machine.specs.OnWrites.Results.{ChangesTo, ChangesWhole, WriteEndedIn, WriteEndsAs, HasChanged, IsUnchanged, WritesWell, window_in, written_in}
 use Rattle.laws_machine.proofs.OnWrites.Content.{handed_all, handed_rest, not_all}
 use Rattle.fdc_core.proofs.drives.WritingWords.{heard_met}
 use Rattle.laws_machine.specs.OnReads.Scenes.{outset_of}
@@ -202,7 +202,7 @@ module _ (scene : Scene) (deleted executes : Bool) (past : Past) (drive : DriveS
       let makes = made scene deleted executes past drive whole was of in
       record { changed = makes.changed; whole = λ calm. makes.whole calm ∙ lengths }
 
-  mark_ends : past.words ≡ [] → IsMissed past (Some scene.sent.key) NoMark → EndsAs scene deleted drive NoMark
+  mark_ends : past.words ≡ [] → IsMissed past (Some scene.sent.key) NoMark → WriteEndsAs scene deleted drive NoMark
   mark_ends none (missed, unmarked) = (
     was.at.medium.quiet none,
     λ calm mark.
@@ -210,7 +210,7 @@ module _ (scene : Scene) (deleted executes : Bool) (past : Past) (drive : DriveS
         unmarked (missed.between, among_between past.turns past.seen missed.between missed.is.first missed.is.turns, subst HasAddressMark (sym same) mark),
   )
 
-  sector_ends : past.words ≡ [] → IsMissed past (Some scene.sent.key) NoSector → EndsAs scene deleted drive NoSector
+  sector_ends : past.words ≡ [] → IsMissed past (Some scene.sent.key) NoSector → WriteEndsAs scene deleted drive NoSector
   sector_ends none (missed, (words, among, (p, mark))) =
       let (start, turned) = turn_heard (track_met scene) scene.from past.turns past.seen words was.at.hears.heard among in (
         was.at.medium.quiet none,
@@ -220,7 +220,7 @@ module _ (scene : Scene) (deleted executes : Bool) (past : Past) (drive : DriveS
             subst (HasNoClear (Some scene.sent.key)) same (missed.none missed.between (among_between past.turns past.seen missed.between missed.is.first missed.is.turns)),
       )
 
-  field_ends : (past.words ≡ []) ⊎ IsOfWindow scene deleted past → HasNoWindow past scene.sent.key → EndsAs scene deleted drive NoField
+  field_ends : (past.words ≡ []) ⊎ IsOfWindow scene deleted past → HasNoWindow past scene.sent.key → WriteEndsAs scene deleted drive NoField
   field_ends either (inl (none, (turn, p, behind))) =
       let heard_over : AreHeard (track_met scene) scene.from (turn ∷ behind.over.earlier) = subst (AreHeard (track_met scene) scene.from) behind.over.last was.at.hears.heard.over in
       let start = start_of scene.from behind.over.earlier in
@@ -247,7 +247,7 @@ module _ (scene : Scene) (deleted executes : Bool) (past : Past) (drive : DriveS
   late_ends last = let early = was.at.early in let few = whole.disk.words_per_track.1 in omega arith
 
   ends : (handed : List ℕ) → IsContent past.counted past.taken handed → (ending : Ending) → (refuses_as ending ≡ true → scene.disk.protected ≡ true) → HasWritten past scene.sent.key deleted handed ending
-      → EndsAs scene deleted drive ending
+      → WriteEndsAs scene deleted drive ending
   ends handed content (Done marked) covered has = done_ends handed content has.cause.2.0 has.cause.2.1
   ends handed content NoMark covered has = mark_ends has.cause.0 has.cause.1
   ends handed content NoSector covered has = sector_ends has.cause.0 has.cause.1
@@ -261,14 +261,14 @@ module _ (scene : Scene) (deleted executes : Bool) (past : Past) (drive : DriveS
   ends handed content Protected covered has = (was.at.medium.quiet has.cause, covered refl)
   ends handed content Late covered has = late_ends has.cause
 
-  pub ended : (phase : Phase) (asking : Bool) (fifo : Fifo) → (refuses phase ≡ true → scene.disk.protected ≡ true) → MayWriteIn past scene.sent deleted phase asking fifo → EndedIn scene deleted drive phase
+  pub ended : (phase : Phase) (asking : Bool) (fifo : Fifo) → (refuses phase ≡ true → scene.disk.protected ≡ true) → MayWriteIn past scene.sent deleted phase asking fifo → WriteEndedIn scene deleted drive phase
   ended Command asking fifo covered may = tt
   ended (Execute execution) asking fifo covered may = tt
   ended (Result (Short next last)) asking fifo covered may = tt
   ended (Result (Long ending results taken)) asking fifo covered (low, are, (handed, has)) = (are, ends handed has.content ending covered has.written)
 
 -- undisturbed, the whole window stands where it is inside the track
-pub well : (scene : Scene) (deleted : Bool) (drive : DriveState) (ending : Ending) → IsCalm scene.faults drive.faults → overran ending ≡ false → EndsAs scene deleted drive ending → WritesWell scene deleted drive
+pub well : (scene : Scene) (deleted : Bool) (drive : DriveState) (ending : Ending) → IsCalm scene.faults drive.faults → overran ending ≡ false → WriteEndsAs scene deleted drive ending → WritesWell scene deleted drive
 well scene deleted drive (Done marked) calm on_time says = inr (says.changed, λ inside. says.whole calm)
 well scene deleted drive NoMark calm on_time says = inl says.0
 well scene deleted drive NoSector calm on_time says = inl says.0
@@ -281,9 +281,9 @@ well scene deleted drive NoCount calm on_time says = absurd says
 well scene deleted drive Late calm on_time says = absurd says
 
 pub ended_well : (scene : Scene) (deleted : Bool) (drive : DriveState) (phase : Phase) (ending : Ending) (results : Results) (read : ℕ) → phase ≡ Result (Long ending results read)
-    → IsCalm scene.faults drive.faults → is_overrun phase ≡ false → EndedIn scene deleted drive phase → WritesWell scene deleted drive
+    → IsCalm scene.faults drive.faults → is_overrun phase ≡ false → WriteEndedIn scene deleted drive phase → WritesWell scene deleted drive
 ended_well scene deleted drive phase ending results read is calm on_time says =
-    well scene deleted drive ending calm (sym (ap is_overrun is) ∙ on_time) (subst (EndedIn scene deleted drive) is says).1
+    well scene deleted drive ending calm (sym (ap is_overrun is) ∙ on_time) (subst (WriteEndedIn scene deleted drive) is says).1
 
 -- ---- a change of the disk
 

@@ -70,22 +70,22 @@ FitsOn scene numbers keys = Fits keys numbers.n numbers.gap3 scene.disk.words_pe
 
 -- what an ending says: IC 00, that the turn was laid and the layout fits; MA with MD, that it was laid and the layout doesn't fit;
 -- MA alone, that the medium has another rate; NW, that it is protected. EN, ND, DE and the last step don't come
-abbrev pub EndsAs : Scene → Numbers → List Chrn → DriveState → Ending → Type 0
-EndsAs scene numbers keys drive (Done marked) = LaysTurn scene numbers keys drive × FitsOn scene numbers keys
-EndsAs scene numbers keys drive NoField = LaysTurn scene numbers keys drive × (FitsOn scene numbers keys → ⊥)
-EndsAs scene numbers keys drive NoMark = IsUnchanged scene drive × (rate_fits scene.rate scene.disk.rate ≡ false)
-EndsAs scene numbers keys drive Overrun = IsSameOrLaid scene numbers keys drive
-EndsAs scene numbers keys drive Protected = IsUnchanged scene drive × (scene.disk.protected ≡ true)
-EndsAs scene numbers keys drive _ = ⊥
+abbrev pub FormatEndsAs : Scene → Numbers → List Chrn → DriveState → Ending → Type 0
+FormatEndsAs scene numbers keys drive (Done marked) = LaysTurn scene numbers keys drive × FitsOn scene numbers keys
+FormatEndsAs scene numbers keys drive NoField = LaysTurn scene numbers keys drive × (FitsOn scene numbers keys → ⊥)
+FormatEndsAs scene numbers keys drive NoMark = IsUnchanged scene drive × (rate_fits scene.rate scene.disk.rate ≡ false)
+FormatEndsAs scene numbers keys drive Overrun = IsSameOrLaid scene numbers keys drive
+FormatEndsAs scene numbers keys drive Protected = IsUnchanged scene drive × (scene.disk.protected ≡ true)
+FormatEndsAs scene numbers keys drive _ = ⊥
 
 -- the result bytes are those of an ending, and that is what it says
-abbrev pub EndedIn : Scene → Numbers → List Chrn → DriveState → Phase → Type 0
-EndedIn scene numbers keys drive (Result (Long ending results _)) =
-    (results ≡ results_of ending scene.sent.head_drive results.key) × EndsAs scene numbers keys drive ending
-EndedIn scene numbers keys drive _ = Unit {0}
+abbrev pub FormatEndedIn : Scene → Numbers → List Chrn → DriveState → Phase → Type 0
+FormatEndedIn scene numbers keys drive (Result (Long ending results _)) =
+    (results ≡ results_of ending scene.sent.head_drive results.key) × FormatEndsAs scene numbers keys drive ending
+FormatEndedIn scene numbers keys drive _ = Unit {0}
 
 abbrev pub FormatEnded : Scene → Numbers → List Chrn → Board → Type 0
-FormatEnded scene numbers keys board = EndedIn scene numbers keys (drive_in board scene.bay) (controller_of board).phase
+FormatEnded scene numbers keys board = FormatEndedIn scene numbers keys (drive_in board scene.bay) (controller_of board).phase
 
 -- at any time: memory is as it was, and the medium is, or was laid
 pub record FormatsOnly (scene : Scene) (numbers : Numbers) (keys : List Chrn) (board : Board) : Type 0 where

@@ -5,7 +5,7 @@ use Rattle.fdc_stages.specs.History.{Past}
 use Rattle.fdc_core.specs.Drives.Spinning.{IsUnheard, led, IsTurningIn as IsTurningSince, IsSpinning as IsSpinningSince}
 use Rattle.pc_bus.specs.Boards.{Board}
 use Rattle.laws_machine.specs.OnReads.Scenes.{Scene, outset_of}
-use Rattle.laws_machine.specs.OnOrders.Orders.{Order, Write, AtDrive, GoesOn, CanBeginAt}
+use Rattle.laws_machine.specs.OnOrders.Orders.{Order, Write, AtDrive, IsUnderwayOn, CanBeginAt}
 
 -- ---- the drive
 
@@ -35,7 +35,7 @@ pub record IsLed (order : Order) (scene : Scene) (past : Past) (executes : Bool)
 
 -- it began in this scene, at whatever speed, and is in execution, or gives its results
 abbrev pub WarmsUp : Order → Scene → Board → Type 0
-WarmsUp order scene board = GoesOn (IsLed order scene) order scene board
+WarmsUp order scene board = IsUnderwayOn (IsLed order scene) order scene board
 
 -- all stands as in the scene, whatever the drive's speed is, and the last byte of the command is written
 abbrev pub CanWarm : Order → Scene → ℕ → Board → Type 0

@@ -89,12 +89,12 @@ pub record IsDoneOn (On : Past → Bool → DriveState → Type 0) (order : Orde
   pub chips : IsDoneBy order scene past board.bus.chips
   pub drive : On past (is_executing (controller_of board).phase) (drive_in board scene.bay)
 
-abbrev pub GoesOn : (Past → Bool → DriveState → Type 0) → Order → Scene → Board → Type 0
-GoesOn On order scene board = (past : Past) × IsDoneOn On order scene past board
+abbrev pub IsUnderwayOn : (Past → Bool → DriveState → Type 0) → Order → Scene → Board → Type 0
+IsUnderwayOn On order scene board = (past : Past) × IsDoneOn On order scene past board
 
 -- it is in execution, or gives its results
 abbrev pub Underway : Order → Scene → Board → Type 0
-Underway order scene board = GoesOn (AtDrive order scene) order scene board
+Underway order scene board = IsUnderwayOn (AtDrive order scene) order scene board
 
 -- ---- how it begins
 

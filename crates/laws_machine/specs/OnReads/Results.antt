@@ -29,24 +29,24 @@ pub record FindsField (scene : Scene) (faults : ℕ) (deleted : Bool) (content m
   pub looked : IsCalm scene.faults faults ⊎ IsLone (track_met scene) place → LookAt (track_met scene) place scene.sent.key.n (Found deleted (mark + 64))
 
 -- what an ending says of the track, where the drive's count of faults is now this
-abbrev pub EndsAs : Scene → ℕ → List ℕ → Ending → Type 0
-EndsAs scene faults memory (Done deleted) = (content : List ℕ) × FindsField scene faults deleted content memory
-EndsAs scene faults memory NoMark = IsCalm scene.faults faults → HasAddressMark (track_met scene) → ⊥
-EndsAs scene faults memory NoSector =
+abbrev pub ReadEndsAs : Scene → ℕ → List ℕ → Ending → Type 0
+ReadEndsAs scene faults memory (Done deleted) = (content : List ℕ) × FindsField scene faults deleted content memory
+ReadEndsAs scene faults memory NoMark = IsCalm scene.faults faults → HasAddressMark (track_met scene) → ⊥
+ReadEndsAs scene faults memory NoSector =
     HasAddressMark (track_met scene) × (IsCalm scene.faults faults → HasNoClear (Some scene.sent.key) (track_met scene))
-EndsAs scene faults memory NoField = IsCalm scene.faults faults → HasLook (track_met scene) scene.sent.key NoData
-EndsAs scene faults memory BadCheck = IsCalm scene.faults faults → HasLook (track_met scene) scene.sent.key BadCrc
-EndsAs scene faults memory NoCount = ⊥
-EndsAs scene faults memory Protected = ⊥
-EndsAs scene faults memory _ = Unit {0}
+ReadEndsAs scene faults memory NoField = IsCalm scene.faults faults → HasLook (track_met scene) scene.sent.key NoData
+ReadEndsAs scene faults memory BadCheck = IsCalm scene.faults faults → HasLook (track_met scene) scene.sent.key BadCrc
+ReadEndsAs scene faults memory NoCount = ⊥
+ReadEndsAs scene faults memory Protected = ⊥
+ReadEndsAs scene faults memory _ = Unit {0}
 
 -- the result bytes are those of an ending, and that is what it says
-abbrev pub EndedIn : Scene → ℕ → List ℕ → Phase → Type 0
-EndedIn scene faults memory (Result (Long ending results _)) = (results ≡ results_sent ending scene.sent) × EndsAs scene faults memory ending
-EndedIn scene faults memory _ = Unit {0}
+abbrev pub ReadEndedIn : Scene → ℕ → List ℕ → Phase → Type 0
+ReadEndedIn scene faults memory (Result (Long ending results _)) = (results ≡ results_sent ending scene.sent) × ReadEndsAs scene faults memory ending
+ReadEndedIn scene faults memory _ = Unit {0}
 
 abbrev pub ReadEnded : Scene → Board → Type 0
-ReadEnded scene board = EndedIn scene (drive_in board scene.bay).faults (memory_of board) (controller_of board).phase
+ReadEnded scene board = ReadEndedIn scene (drive_in board scene.bay).faults (memory_of board) (controller_of board).phase
 
 -- outside the range memory is as it was
 pub record StaysOutside (scene : Scene) (memory : List ℕ) : Type 0 where

@@ -19,7 +19,7 @@ slack_of controller = 16 - length controller.fifo.bytes
 
 -- the FIFO is on with threshold 8, DOR lets DRQ out, and DRQ goes by the rule; until the terminal count the request is granted
 -- before the FIFO is full
-pub record IsTimely (chips : Chips) : Type 0 where
+pub record IsEmptiedInTime (chips : Chips) : Type 0 where
   pub on : chips.controller.fifo.on ≡ true
   pub threshold : chips.controller.fifo.threshold ≡ 8
   pub gated : is_gated chips.controller ≡ true
@@ -27,10 +27,10 @@ pub record IsTimely (chips : Chips) : Type 0 where
   pub ready : grants chips.channel ≡ true → IsReady chips.holding.request (slack_of chips.controller)
 
 -- so it is in execution, and the results don't tell OR
-pub record IsPunctual (chips : Chips) : Type 0 where
-  pub timely : is_executing chips.controller.phase ≡ true → IsTimely chips
+pub record IsPunctualRead (chips : Chips) : Type 0 where
+  pub timely : is_executing chips.controller.phase ≡ true → IsEmptiedInTime chips
   pub no_overrun : is_overrun chips.controller.phase ≡ false
 
 -- a READ DATA is underway, and in time
 abbrev pub ReadInTime : Scene → Board → Type 0
-ReadInTime scene board = Underway Read scene board × IsPunctual board.bus.chips
+ReadInTime scene board = Underway Read scene board × IsPunctualRead board.bus.chips

@@ -62,8 +62,8 @@ abbrev pub seeks : Board → Type 0
 seeks board = is_seeking (controller_of board).seeks ≡ true
 
 -- none runs
-abbrev pub HasNoSeek : Board → Type 0
-HasNoSeek board = is_seeking (controller_of board).seeks ≡ false
+abbrev pub RunsNoSeek : Board → Type 0
+RunsNoSeek board = is_seeking (controller_of board).seeks ≡ false
 
 -- the seek is a RECALIBRATE's
 abbrev pub Recalibrates : Board → Type 0

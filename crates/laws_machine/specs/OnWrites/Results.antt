@@ -82,25 +82,25 @@ WritesWell scene deleted drive =
 
 -- what an ending says of the medium and of the track as it was: IC 00 that the whole window stands; MA and ND, that nothing was
 -- written; MA with MD that a window isn't inside the track; NW, that the medium is protected. EN, the last step and DE don't come
-abbrev pub EndsAs : Scene → Bool → DriveState → Ending → Type 0
-EndsAs scene deleted drive (Done marked) = ChangesWhole scene deleted drive
-EndsAs scene deleted drive NoMark = IsUnchanged scene drive × (IsCalm scene.faults drive.faults → HasAddressMark (track_met scene) → ⊥)
-EndsAs scene deleted drive NoSector =
+abbrev pub WriteEndsAs : Scene → Bool → DriveState → Ending → Type 0
+WriteEndsAs scene deleted drive (Done marked) = ChangesWhole scene deleted drive
+WriteEndsAs scene deleted drive NoMark = IsUnchanged scene drive × (IsCalm scene.faults drive.faults → HasAddressMark (track_met scene) → ⊥)
+WriteEndsAs scene deleted drive NoSector =
     IsUnchanged scene drive × HasAddressMark (track_met scene)
     × (IsCalm scene.faults drive.faults → HasNoClear (Some scene.sent.key) (track_met scene))
-EndsAs scene deleted drive NoField =
+WriteEndsAs scene deleted drive NoField =
     (IsUnchanged scene drive ⊎ ChangesOut scene deleted drive) × HasWindowOut (track_met scene) scene.sent.key
-EndsAs scene deleted drive Overrun = IsUnchanged scene drive ⊎ HasChanged scene deleted drive
-EndsAs scene deleted drive Protected = IsUnchanged scene drive × (scene.disk.protected ≡ true)
-EndsAs scene deleted drive _ = ⊥
+WriteEndsAs scene deleted drive Overrun = IsUnchanged scene drive ⊎ HasChanged scene deleted drive
+WriteEndsAs scene deleted drive Protected = IsUnchanged scene drive × (scene.disk.protected ≡ true)
+WriteEndsAs scene deleted drive _ = ⊥
 
 -- the result bytes are those of an ending, and that is what it says
-abbrev pub EndedIn : Scene → Bool → DriveState → Phase → Type 0
-EndedIn scene deleted drive (Result (Long ending results _)) = (results ≡ results_sent ending scene.sent) × EndsAs scene deleted drive ending
-EndedIn scene deleted drive _ = Unit {0}
+abbrev pub WriteEndedIn : Scene → Bool → DriveState → Phase → Type 0
+WriteEndedIn scene deleted drive (Result (Long ending results _)) = (results ≡ results_sent ending scene.sent) × WriteEndsAs scene deleted drive ending
+WriteEndedIn scene deleted drive _ = Unit {0}
 
 abbrev pub WriteEnded : Scene → Bool → Board → Type 0
-WriteEnded scene deleted board = EndedIn scene deleted (drive_in board scene.bay) (controller_of board).phase
+WriteEnded scene deleted board = WriteEndedIn scene deleted (drive_in board scene.bay) (controller_of board).phase
 
 -- at any time: memory is as it was, and the medium is, or was changed so
 pub record WritesOnly (scene : Scene) (deleted : Bool) (board : Board) : Type 0 where

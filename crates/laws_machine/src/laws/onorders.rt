@@ -20,7 +20,7 @@ ghost use Rattle.pc_bus.specs.Steps.{Runs};
 /// byte was read; and so does a write that leaves DOR, the rate and the channel, as a byte to the data port, or one that clears the
 /// channel's flip-flop.
 #[tactic(auto, using(crate::proofs::OnOrders::Steps::underway, crate::proofs::OnOrders::Steps::still_keeps, crate::proofs::OnOrders::Outputs::leaves_data))]
-pub fn a_data_command_goes_on()
+pub fn a_data_command_stays_underway()
     ensures steady { (order : Order) (scene : Scene) → Steady (Underway order scene) }
     ensures stands { (order : Order) (scene : Scene) (old new : Board) → StandsStill old new → Underway order scene old → Underway order scene new }
     ensures begins { (order : Order) (scene : Scene) (byte : ℕ) (old new : Board) → Outputs 0x3F5 byte old new → CanBegin order scene byte old → Underway order scene new }

@@ -23,14 +23,12 @@ ghost use Rattle.laws_machine.specs.OnReads.Underway.{IsSet};
 mod ending;
 mod holding;
 mod identifying;
-mod signalling;
 
 pub use ending::{
     a_missing_mark_is_not_on_the_track, a_read_ends_in_time, a_read_is_prompt_until_a_stall,
 };
 pub use holding::{a_read_overruns_only_by_a_stall, a_served_request_falls};
 pub use identifying::{a_read_id_begins, a_read_id_tells_of_the_track};
-pub use signalling::a_command_signals_its_end;
 
 /// A READ DATA can begin where port accesses set all that it needs on a machine at rest, and its last byte counts one data
 /// command.

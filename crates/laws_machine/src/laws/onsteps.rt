@@ -2,7 +2,7 @@
 ghost use Rattle.std.specs.Prelude.{◌≡◌, ◌≤◌, ◌+◌, ◌-◌, ℕ, Bool, false};
 ghost use Rattle.fdc_core.specs.Listening.{is_executing};
 ghost use Rattle.fdc_core.specs.Steps.{steps_left, IsCounted};
-ghost use Rattle.laws_machine.specs.OnSteps.Ends.{Counts, HasNoSeek, IsOver, Meets, Recalibrates, pulses_left, seeks};
+ghost use Rattle.laws_machine.specs.OnSteps.Ends.{Counts, RunsNoSeek, IsOver, Meets, Recalibrates, pulses_left, seeks};
 ghost use Rattle.laws_machine.specs.OnSteps.Lasts.{Lasts, clock_of};
 ghost use Rattle.laws_machine.specs.OnSteps.Moves.{Goes};
 ghost use Rattle.laws_machine.specs.OnSteps.Steady.{Marching, Steady};
@@ -40,7 +40,7 @@ pub fn a_data_command_ends()
 /// 80 for a RECALIBRATE. A reset ends it too.
 pub fn a_seek_ends()
     ensures ends { (old new : Board) (n : ℕ) → Goes old n new → is_executing (controller_of old).phase ≡ false → seeks old
-        → pulses_left old ≤ n → Meets HasNoSeek (pulses_left old) old n new }
+        → pulses_left old ≤ n → Meets RunsNoSeek (pulses_left old) old n new }
     ensures most { (board : Board) → IsInRange board → pulses_left board ≤ 256 }
     ensures recalibrates { (board : Board) → IsInRange board → Recalibrates board → pulses_left board ≤ 80 }
 {}
