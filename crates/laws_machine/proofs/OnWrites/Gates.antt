@@ -88,7 +88,7 @@ write_goes (Saw index word) rate head head_drive steps writing old before after 
 write_goes (KeptOut index word) rate head head_drive steps writing old before after new (other, is) does on = absurd (not_closed after (ap (λ s. s.gate) is.passes.becomes) on)
 write_goes (Wrote opened closed index word) rate head head_drive steps writing old before after new is does on =
     next_records does.next head_drive (steps + 1) writing _ new closed is.mid after does.after_is does.closed_is is.closes on
-write_goes Stopped rate head head_drive steps writing old before after new is does on = absurd (not_closed after (ap (λ s. s.gate) is.becomes) on)
+write_goes Stopped rate head head_drive steps writing old before after new is does on = absurd (not_closed after (ap (λ s. s.gate) is) on)
 
 format_goes : (time : WordTime) (rate : DataRate) (head head_drive steps : ℕ) (formatting : Formatting) (old : Fdc) (before after : DriveState) (new : Fdc) → IsTime time rate head before after
     → FormatDoes time head_drive steps formatting old before new → after.gate ≡ true → is_recording new.phase ≡ true
@@ -96,7 +96,7 @@ format_goes (Saw index word) rate head head_drive steps formatting old before af
 format_goes (KeptOut index word) rate head head_drive steps formatting old before after new (other, is) does on = absurd (not_closed after (ap (λ s. s.gate) is.passes.becomes) on)
 format_goes (Wrote opened closed index word) rate head head_drive steps formatting old before after new is does on =
     laid_records does.next head_drive (steps + 1) formatting _ new closed is.mid after does.after_is does.closed_is is.closes on
-format_goes Stopped rate head head_drive steps formatting old before after new is does on = absurd (not_closed after (ap (λ s. s.gate) is.becomes) on)
+format_goes Stopped rate head head_drive steps formatting old before after new is does on = absurd (not_closed after (ap (λ s. s.gate) is) on)
 
 -- ---- the selected drive
 

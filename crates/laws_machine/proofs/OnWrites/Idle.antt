@@ -27,7 +27,7 @@ step_idle old new step was =
     let is = ap (λ bus. bus.chips) step.bus ∙ idle_dma (record old.bus.chips { controller = step.between }) quiet in
     let (first, second) = drives (λ before after. after.medium ≡ before.medium) old new step
     (λ before after. idle_medium (controller_of old) step.between before after was.over)
-    (λ before after passes. ap (λ s. s.medium) passes.becomes) in
+    (λ before after passes. ap (λ s. s.medium) passes) in
     record {
       idle = record {
         over = ap (λ c. is_executing c.controller.phase) is ∙ (ap is_executing stayed.phase ∙ was.over);
