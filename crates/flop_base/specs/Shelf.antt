@@ -1,5 +1,6 @@
--- Named files as contracts see them, and what each answer of a shelf says.
-use Rattle.std.specs.Prelude.{◌≡◌, ◌<◌, ◌≤◌, ℕ, List, length, Option, Some, None, Result, Ok, Err, Vec, IsSomeAnd}
+-- Named files as contracts see them, with the stores that were made, and what each answer of a shelf says.
+use Rattle.std.specs.Prelude.{◌≡◌, ◌<◌, ◌≤◌, ℕ, List, [], ◌∷◌, ◌++◌, length, Option, Some, None, Result, Ok, Err, Vec, IsSomeAnd}
+use Rattle.std.specs.Option.{option_map}
 use Rattle.std.specs.Ordering.{nat_cmp}
 use Rattle.std.specs.Cmp.Lexicographic.{slice_cmp}
 use Rattle.std.specs.declared.alloc.Global.{Global}
@@ -7,22 +8,39 @@ use Rattle.std.specs.FinMap as fin
 use Rattle.flop_base.specs.declared.answers.LoadError.{LoadError}
 use Rattle.flop_base.specs.declared.answers.LoadError.TheVariants.{Absent, TooLong, Failed, NoMemory}
 
--- files by their names
-abbrev pub Files : Type 0
-Files = fin.FinMap (slice_cmp nat_cmp) (List ℕ)
+-- a store that was made: these bytes, under this name
+pub record Store : Type 0 where
+  pub name : List ℕ
+  pub bytes : List ℕ
 
--- no file
+-- what a shelf tells: its files by their names and, where it tells them too, the stores that were made, one after the other
+pub record Files : Type 0 where
+  pub held : fin.FinMap (slice_cmp nat_cmp) (List ℕ)
+  pub stores : Option (List Store)
+
+-- no file, and nothing told of stores
 abbrev pub no_files : Files
-no_files = fin.empty
+no_files = record { held = fin.empty; stores = None }
 
 -- the bytes of a named file, if it is there
 abbrev pub file_at : Files → List ℕ → Option (List ℕ)
-file_at files name = fin.get files name
+file_at files name = fin.get files.held name
 
--- the told files with these bytes under the name, and otherwise as before
+-- the stores with one more behind them
+abbrev pub one_more : List Store → List ℕ → List ℕ → List Store
+one_more made name bytes = made ++ record { name = name; bytes = bytes } ∷ []
+
+-- the files behind a store: these bytes are under the name, all others are as before, and one more store was made
+abbrev pub after_store : Files → List ℕ → List ℕ → Files
+after_store files name bytes = record {
+  held = fin.insert files.held name bytes;
+  stores = option_map (λ made. one_more made name bytes) files.stores;
+}
+
+-- so it is of a shelf that tells its files
 abbrev pub stored : Option Files → List ℕ → List ℕ → Option Files
 stored None name bytes = None
-stored (Some files) name bytes = Some (fin.insert files name bytes)
+stored (Some files) name bytes = Some (after_store files name bytes)
 
 -- what the answer of a load says of the files
 abbrev pub Loads : Files → List ℕ → ℕ → Result (Vec ℕ Global) LoadError → Type 0

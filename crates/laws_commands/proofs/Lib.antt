@@ -47,3 +47,5 @@ mod RescueSteps
 pub mod RescueEnds
 pub mod RescueFurther
 pub mod Order
+pub mod Storing
+pub mod ScriptStores

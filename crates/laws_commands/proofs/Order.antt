@@ -1,5 +1,5 @@
 -- What a rescue stores, however it ends, and in which order.
-use Rattle.std.proofs.Common.{◌≡◌, ◌∙◌, ℕ, Bool, true, false, List, [], ◌∷◌, ◌++◌, length, append-nil, append_assoc, sym, ap, subst, inl, inr, Option, Some, Result}
+use Rattle.std.proofs.Common.{◌≡◌, ◌∙◌, ℕ, Bool, true, false, List, [], ◌∷◌, ◌++◌, length, append-nil, append_assoc, refl, sym, ap, subst, inl, inr, Option, Some, Result}
 use Rattle.std.specs.Prelude.{is_some}
 use Rattle.flop_base.specs.Shelf.{Files, stored}
 use Rattle.flop_base.specs.declared.key.Chrn.{Chrn}
@@ -8,7 +8,7 @@ use Rattle.flop_base.specs.declared.answers.Rate.{Rate}
 use Rattle.flop_base.specs.declared.answers.Rate.TheVariants.{R500, R250}
 use Rattle.flop_base.specs.declared.answers.Status.{Status}
 use Rattle.flop_base.specs.declared.answers.Status.TheVariants as status
-use Rattle.raw_image.specs.Disk.{Disk}
+use Rattle.raw_image.specs.Disk.{Disk, blank_disk}
 use Rattle.raw_image.specs.Image.{file_of}
 use Rattle.flop_base.specs.Bays.{Two, in_bay}
 use Rattle.floppy_jobs.specs.declared.request.Request.{Request}
@@ -32,10 +32,29 @@ use Rattle.rescue.specs.Log.{log_text}
 use Rattle.rescue.specs.declared.line.LogLine.{LogLine}
 use Rattle.disk_commands.specs.Rescue.{follows, rescues, prepares, asked_keys, outcome_of, last_text, rescues_all, stores_log, rescue_found, rescue_rest, Rescues}
 use Rattle.disk_commands.proofs.RescueRests.{by_rest}
-use Rattle.laws_commands.specs.Rescued.{StoresInOrder, Nothing, DiskAlone, DiskThenLog, line_at, log_of}
+use Rattle.laws_commands.specs.Rescued.{line_at, log_of}
+use Rattle.laws_commands.specs.Stores.{store_of, StoresDiskThenLog}
+use Rattle.laws_commands.proofs.Storing.{nothing_first, all_first}
 use Rattle.laws_commands.proofs.Gone.{behind_step, line_of_refused, line_of_done, read_done, carries_all, FollowRun, Writes, Logs, GivesUp, Starves, follow_run}
 use Rattle.laws_commands.proofs.RescueOpening.{ready_requests, formats_for, second_request, prepares_carried, second_put}
 use Rattle.laws_commands.proofs.RescueRecords.{write_does}
+
+-- nothing was stored, or the other diskette alone, or that and then the new log
+data StoresInOrder (to log : List ℕ) (lines : List LogLine) (told after : Option Files) : Type 0 where
+  Nothing : after ≡ told → StoresInOrder to log lines told after
+  DiskAlone : (disk : Disk) → after ≡ stored told to (file_of disk) → StoresInOrder to log lines told after
+  DiskThenLog : (disk : Disk) → after ≡ stored (stored told to (file_of disk)) log (log_text lines)
+      → StoresInOrder to log lines told after
+
+-- as a list of stores
+in_order : (to log : List ℕ) (lines : List LogLine) (told after : Option Files) → StoresInOrder to log lines told after
+    → StoresDiskThenLog to log lines told after
+in_order to log lines told after (Nothing same) = (blank_disk 1 1 1 R500, nothing_first _ told after same)
+in_order to log lines told after (DiskAlone disk is) = (
+  disk,
+  record { made = store_of to (file_of disk) ∷ []; rest = store_of log (log_text lines) ∷ []; first = refl; files = is },
+)
+in_order to log lines told after (DiskThenLog disk is) = (disk, all_first _ told after is)
 
 -- whatever the state is
 abbrev Any : State → Type 0
@@ -236,11 +255,12 @@ module _ (to log : List ℕ) where
   found_in_order shape found old course new ended any (inr starved) = Nothing (ap (λ (w : World). w.files) starved.1)
 
 pub stores_in_order : (from to log : List ℕ) (old new : World) (course : List Taken) (ended : Status) → Rescues from to log old course new ended
-    → StoresInOrder to log (log_of course) old.files new.files
+    → StoresDiskThenLog to log (log_of course) old.files new.files
 unfolding opens
 stores_in_order from to log old new course ended (answers, are, runs) =
     let rest = λ (shape : Shape). rescue_rest to log shape (answers shape.rate) in
-    need_in_order to log Any Any (request.Insert 0 from) [] (λ answer after. rest (shape_at after 0))
+    in_order to log (log_of course) old.files new.files
+    (need_in_order to log Any Any (request.Insert 0 from) [] (λ answer after. rest (shape_at after 0))
     (λ before then told after answer step. either (refusal_of before (request.Insert 0 from)) step (λ does. does.1) (λ cause refused. refused.files))
     (λ before then told after answer step fine any. tt)
     (λ answer after.
@@ -248,4 +268,4 @@ stores_in_order from to log old new course ended (answers, are, runs) =
     by_rest old.files to log shape (InOrder to log Any []) (λ found there. found_in_order to log shape found)
     (λ line. ends_in_order to log line status.BadJob) (fails_in_order to log status.FileFault) (fails_in_order to log status.NoMemory)
     (answers shape.rate) (are shape.rate))
-    old course new ended tt runs
+    old course new ended tt runs)

@@ -8,7 +8,7 @@ use Rattle.std.specs.Cmp.Lexicographic.{slice_cmp, nat_list_cmp_total}
 use Rattle.std.specs.Ordering.{nat_cmp, eq_by_cmp}
 use Rattle.std.proofs.lemmas.Cmp.{eq_by_cmp_equiv}
 use Rattle.std.proofs.lemmas.Map.Views.{tells_apart}
-use Rattle.flop_base.specs.Shelf.{Files, file_at, stored}
+use Rattle.flop_base.specs.Shelf.{Files, file_at, after_store, stored}
 use Rattle.raw_image.specs.Disk.{Disk, IsDisk}
 use Rattle.raw_image.specs.Words.{bytes_of}
 use Rattle.raw_image.specs.Image.{image_of, file_of}
@@ -32,22 +32,22 @@ told_apart a b differ = go (same_name a b) (λ same. tells_apart (fin.slice_cmp-
     go false same = refl
 
 at_stored : (files : Files) (name bytes other : List ℕ)
-    → file_at (fin.insert files name bytes) other ≡ cond (same_name other name) (Some bytes) (file_at files other)
-at_stored files name bytes other = fin.get-insert nat_list_cmp_total files name bytes other
+    → file_at (after_store files name bytes) other ≡ cond (same_name other name) (Some bytes) (file_at files other)
+at_stored files name bytes other = fin.get-insert nat_list_cmp_total files.held name bytes other
 
 -- what was stored last stands there
-last_there : (files : Files) (name bytes : List ℕ) → file_at (fin.insert files name bytes) name ≡ Some bytes
+last_there : (files : Files) (name bytes : List ℕ) → file_at (after_store files name bytes) name ≡ Some bytes
 last_there files name bytes = at_stored files name bytes name ∙ ap (λ (t : Bool). cond t (Some bytes) (file_at files name)) ((eq_by_cmp_equiv nat_list_cmp_total).refl name)
 
 -- other names have what they had
-other_there : (files : Files) (name bytes other : List ℕ) → other ≢ name → file_at (fin.insert files name bytes) other ≡ file_at files other
+other_there : (files : Files) (name bytes other : List ℕ) → other ≢ name → file_at (after_store files name bytes) other ≡ file_at files other
 other_there files name bytes other differ = at_stored files name bytes other ∙ ap (λ (t : Bool). cond t (Some bytes) (file_at files other)) (told_apart other name differ)
 
 pub stores_both : (files : Files) (to log disk lines : List ℕ) (after : Option Files) → to ≢ log → after ≡ stored (stored (Some files) to disk) log lines
     → IfSome after (λ files. file_at files to ≡ Some disk) × IfSome after (λ files. file_at files log ≡ Some lines)
 stores_both files to log disk lines after differ is =
     subst (λ (f : Option Files). IfSome f (λ files. file_at files to ≡ Some disk) × IfSome f (λ files. file_at files log ≡ Some lines)) (sym is)
-    (other_there (fin.insert files to disk) log lines to differ ∙ last_there files to disk, last_there (fin.insert files to disk) log lines)
+    (other_there (after_store files to disk) log lines to differ ∙ last_there files to disk, last_there (after_store files to disk) log lines)
 
 -- what was stored last stands under its name
 pub stands_under : (before : Option Files) (name bytes : List ℕ) (after : Option Files) → after ≡ stored before name bytes

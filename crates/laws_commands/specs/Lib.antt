@@ -12,3 +12,4 @@ pub mod Imported
 pub mod Exported
 pub mod FlatComplete
 pub mod Rescued
+pub mod Stores

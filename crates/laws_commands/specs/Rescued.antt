@@ -230,10 +230,3 @@ pub record LogsNotFound (disk : Disk) (log : List ℕ) (files : Files) (course :
   pub exactly : (failed : List (Chrn × Look)) → AreFailing disk (asked_keys (shape_of disk) found) failed
       → log_of course ≡ failing_lines failed
   pub lost : All (IsNotFound disk) (logged_keys (log_of course))
-
--- nothing was stored, or the other diskette alone, or that and then the new log
-pub data StoresInOrder (to log : List ℕ) (lines : List LogLine) (told after : Option Files) : Type 0 where
-  Nothing : after ≡ told → StoresInOrder to log lines told after
-  DiskAlone : (disk : Disk) → after ≡ stored told to (file_of disk) → StoresInOrder to log lines told after
-  DiskThenLog : (disk : Disk) → after ≡ stored (stored told to (file_of disk)) log (log_text lines)
-      → StoresInOrder to log lines told after

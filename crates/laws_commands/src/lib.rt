@@ -1,5 +1,5 @@
 //! Laws over runs of the scripts of the program: what a format, a copy, an import, an export and a rescue store, what a verify tells, when
-//! they end well, and how often they access media past the driver.
+//! they end well, how often they access media past the driver, and which stores they make.
 #![tactic(auto)]
 
 mod accesses;
@@ -17,6 +17,7 @@ mod rescue_ends;
 mod rescue_logs;
 mod rescue_order;
 mod rescue_stores;
+mod stores;
 mod targets;
 mod verify_ends;
 mod verify_runs;
@@ -36,6 +37,11 @@ pub use rescue_ends::{further_rescue_ends_well, new_rescue_ends_well};
 pub use rescue_logs::rescue_logs_what_is_not_found;
 pub use rescue_order::rescue_stores_the_log_last;
 pub use rescue_stores::rescue_settles_each_record;
+pub use stores::{
+    a_run_stores_what_it_takes_out, copy_stores_a_disk_alone, exercise_stores_nothing,
+    export_stores_a_file_alone, format_stores_a_disk_alone, import_stores_a_disk_alone,
+    stores_are_listed, verify_stores_nothing,
+};
 pub use targets::{
     copied_disk_is_a_target, formatted_disk_is_a_target, imported_disk_is_a_target,
     target_takes_keys,

@@ -4,12 +4,13 @@ ghost use Rattle.flop_base.specs.declared.answers.Status.{Status};
 ghost use Rattle.sector_model.specs.Runs.{Taken};
 ghost use Rattle.sector_model.specs.Plays.{World};
 ghost use Rattle.disk_commands.specs.Rescue.{Rescues};
-ghost use Rattle.laws_commands.specs.Rescued.{log_of, StoresInOrder};
+ghost use Rattle.laws_commands.specs.Rescued.{log_of};
+ghost use Rattle.laws_commands.specs.Stores.{StoresDiskThenLog};
 
-/// A law: however a rescue ends, it has stored nothing, or the other diskette alone, or that and then the new log. So where the
+/// A law: however a rescue ends, the stores that it made are a first part of two: of the other diskette, and then of the new log. So where the
 /// log couldn't be stored, the diskette is the new one, and the log is as it was, so that the next run asks for the same records.
 pub fn rescue_stores_the_log_last(_from: &str, _to: &str, _log: &str)
     ensures { (old new : World) (course : List Taken) (ended : Status)
         → Rescues _from.now _to.now _log.now old course new ended
-        → StoresInOrder _to.now _log.now (log_of course) old.files new.files }
+        → StoresDiskThenLog _to.now _log.now (log_of course) old.files new.files }
 {}

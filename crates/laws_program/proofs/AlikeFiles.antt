@@ -6,7 +6,7 @@ use Rattle.std.proofs.lemmas.List.{length-take, length-drop}
 use Rattle.std.specs.Ordering.{nat_cmp, eq_by_cmp}
 use Rattle.std.specs.Cmp.Lexicographic.{slice_cmp, nat_list_cmp_total}
 use Rattle.std.specs.FinMap as fin
-use Rattle.flop_base.specs.Shelf.{Files, file_at, stored}
+use Rattle.flop_base.specs.Shelf.{Files, file_at, after_store, stored}
 use Rattle.raw_image.specs.Disk.{Disk, IsDisk}
 use Rattle.raw_image.specs.Words.{bytes_of}
 use Rattle.raw_image.specs.Image.{image_of, file_of}
@@ -47,6 +47,9 @@ AlikeTold None None = ⊥
 
 -- ---- the same files
 
+pub held_at : (files others : Files) (name : List ℕ) → others.held ≡ files.held → file_at others name ≡ file_at files name
+held_at files others name same = ap (λ (held : fin.FinMap (slice_cmp nat_cmp) (List ℕ)). fin.get held name) same
+
 image_itself : (bytes : List ℕ) → IsBytes bytes → AlikeImages (image_of bytes) (image_of bytes)
 image_itself bytes fits = go (image_of bytes) refl
   where
@@ -60,6 +63,10 @@ told_itself files bytes name = go (file_at files name) refl
     go : (o : Option (List ℕ)) → file_at files name ≡ o → AlikeFiles o o
     go None e = tt
     go (Some content) e = record { long = refl; images = image_itself content (bytes name content e) }
+
+pub held_alike : (files others : Files) → others.held ≡ files.held → AreBytes files → AlikeTold (Some files) (Some others)
+held_alike files others same bytes name =
+    subst (λ (o : Option (List ℕ)). AlikeFiles (file_at files name) o) (sym (held_at files others name same)) (told_itself files bytes name)
 
 -- ---- files of alike disks
 
@@ -88,8 +95,8 @@ disk_files one two same = record {
       (subst (λ (r : Result Disk ImageError). AlikeImages (Ok one) r) (sym (read_again two same.alike.valid)) same);
 }
 
-stored_at : (files : Files) (name bytes other : List ℕ) → file_at (fin.insert files name bytes) other ≡ cond (eq_by_cmp (slice_cmp nat_cmp) other name) (Some bytes) (file_at files other)
-stored_at files name bytes other = fin.get-insert nat_list_cmp_total files name bytes other
+stored_at : (files : Files) (name bytes other : List ℕ) → file_at (after_store files name bytes) other ≡ cond (eq_by_cmp (slice_cmp nat_cmp) other name) (Some bytes) (file_at files other)
+stored_at files name bytes other = fin.get-insert nat_list_cmp_total files.held name bytes other
 
 stored_on : (a b : Files) (bytes others q : List ℕ) → AlikeTold (Some a) (Some b) → AlikeBytes bytes others → (test : Bool) → AlikeFiles (cond test (Some bytes) (file_at a q)) (cond test (Some others) (file_at b q))
 stored_on a b bytes others q same alike true = alike
@@ -100,7 +107,7 @@ stored_same None None name bytes others same alike = absurd same
 stored_same None (Some b) name bytes others same alike = absurd same
 stored_same (Some a) None name bytes others same alike = absurd same
 stored_same (Some a) (Some b) name bytes others same alike = λ q.
-    subst (λ (o : Option (List ℕ)). AlikeFiles o (file_at (fin.insert b name others) q)) (sym (stored_at a name bytes q))
+    subst (λ (o : Option (List ℕ)). AlikeFiles o (file_at (after_store b name others) q)) (sym (stored_at a name bytes q))
     (subst (λ (o : Option (List ℕ)). AlikeFiles (cond (eq_by_cmp (slice_cmp nat_cmp) q name) (Some bytes) (file_at a q)) o) (sym (stored_at b name others q))
     (stored_on a b bytes others q same alike (eq_by_cmp (slice_cmp nat_cmp) q name)))
 

@@ -5,7 +5,7 @@ use Rattle.std.specs.Ordering.{nat_cmp, eq_by_cmp}
 use Rattle.std.proofs.lemmas.Cmp.{eq_by_cmp_equiv}
 use Rattle.std.specs.Cmp.Lexicographic.{slice_cmp, nat_list_cmp_total}
 use Rattle.std.specs.FinMap as fin
-use Rattle.flop_base.specs.Shelf.{Files, file_at, stored}
+use Rattle.flop_base.specs.Shelf.{Files, file_at, after_store, stored}
 use Rattle.flop_base.specs.declared.answers.Code.TheVariants as code
 use Rattle.raw_image.specs.Disk.{Disk, IsDisk}
 use Rattle.raw_image.specs.Image.{image_of, file_of}
@@ -30,14 +30,14 @@ pub file_text : (d : Disk) → IsDisk d → IsDiskText (file_of d) d
 file_text d valid = (file_fits d valid, (valid, inl refl))
 
 pub file_stored : (files : Files) (name bytes other : List ℕ)
-    → file_at (fin.insert files name bytes) other ≡ cond (eq_by_cmp (slice_cmp nat_cmp) other name) (Some bytes) (file_at files other)
-file_stored files name bytes other = fin.get-insert nat_list_cmp_total files name bytes other
+    → file_at (after_store files name bytes) other ≡ cond (eq_by_cmp (slice_cmp nat_cmp) other name) (Some bytes) (file_at files other)
+file_stored files name bytes other = fin.get-insert nat_list_cmp_total files.held name bytes other
 
 -- what is stored is the file of a disk
 pub stored_last : (told : Option Files) (name : List ℕ) (d : Disk) → IsDisk d → IsDiskFile (stored told name (file_of d)) name
 stored_last None name d valid = (d, tt)
 stored_last (Some files) name d valid =
-    let there : file_at (fin.insert files name (file_of d)) name ≡ Some (file_of d) =
+    let there : file_at (after_store files name (file_of d)) name ≡ Some (file_of d) =
     file_stored files name (file_of d) name
     ∙ ap (λ (t : Bool). cond t (Some (file_of d)) (file_at files name)) ((eq_by_cmp_equiv nat_list_cmp_total).refl name) in
     (d, subst (λ (o : Option (List ℕ)). IsSomeAnd o (λ bytes. IsDiskText bytes d)) (sym there) (file_text d valid))

@@ -52,7 +52,7 @@ free_counted old new status.Absent shelf sink free = free
 free_counted old new status.BadJob shelf sink free = free
 free_counted old new status.BadWords shelf sink free = free
 
-module _ (job : List ℕ) (spares other_spares : List DriveCounts) (old new other_old other_new : Stand) (ended other_ended : Status) (files : Files)
+module _ (job : List ℕ) (spares other_spares : List DriveCounts) (old new other_old other_new : Stand) (ended other_ended : Status) (files others : Files)
     (one : RanOver (Some (form.Play job)) spares old new ended) (two : RanOver (Some (form.Play job)) other_spares other_old other_new other_ended) where
   abbrev first : World
   first = world one.runs.start old.outside.outside.files old.outside.outside.report
@@ -73,12 +73,12 @@ module _ (job : List ℕ) (spares other_spares : List DriveCounts) (old new othe
       ∙ sym (ap (λ (d : List DriveCounts). length d) one.runs.set_up.starts.spares_are) ∙ one.runs.set_up.fresh.spares
 
   pub job_settled : IsSound old.board spares → IsSound other_old.board other_spares → length other_spares ≡ length spares
-      → old.outside.outside.files ≡ Some files → other_old.outside.outside.files ≡ Some files → AreBytes files
+      → old.outside.outside.files ≡ Some files → other_old.outside.outside.files ≡ Some others → others.held ≡ files.held → AreBytes files
       → AnswersAgree one.runs.start one.runs.runs.course two.runs.runs.course
       × (AreRegularBefore one.runs.start one.runs.runs.course
       → EndsOutside old new ended ⊎ EndsOutside other_old other_new other_ended
       ⊎ EndAlike first second one.runs.runs.course two.runs.runs.course first_after second_after ended other_ended)
-  job_settled sound other_sound many told told_too bytes =
+  job_settled sound other_sound many told told_too same bytes =
       let set_up = one.runs.set_up in
       let other_set_up = two.runs.set_up in
       let begins : BeginAlike first second = record {
@@ -93,8 +93,10 @@ module _ (job : List ℕ) (spares other_spares : List DriveCounts) (old new othe
         spares = same_spares many;
         names = other_set_up.names ∙ sym set_up.names;
         files = files;
+        others = others;
         told = told;
         told_too = told_too;
+        same = same;
         bytes = bytes;
       } in
       let both = both_settled job first first_after second second_after one.runs.runs.course two.runs.runs.course ended other_ended begins

@@ -48,3 +48,5 @@ pub mod Shown
 pub mod StepsAgree
 pub mod Takes
 pub mod WritesAgree
+mod StoresMade
+mod ReadJobs

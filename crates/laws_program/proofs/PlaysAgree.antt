@@ -27,7 +27,7 @@ use Rattle.sector_model.proofs.PlayTies.{play_ties}
 use Rattle.sector_model.specs.Ties.{AreUndisturbed}
 use Rattle.laws_program.specs.Determined.{BeginAlike, AreRegularBefore, AnswerAlike, AnswersAgree, IsFreeEnd, EndAlikeUnlessFree}
 use Rattle.laws_program.proofs.AlikeDisks.{AlikeBays}
-use Rattle.laws_program.proofs.AlikeFiles.{AlikeTold, told_itself, stop_by, stop_cases, same_stop}
+use Rattle.laws_program.proofs.AlikeFiles.{AlikeTold, held_at, held_alike, stop_by, stop_cases, same_stop}
 use Rattle.laws_program.proofs.StepsAgree.{AlikeStages}
 use Rattle.laws_program.proofs.RunsAgree.{AllAgree, while_agree, Parted, Together, FirstOn, SecondOn, IsPassed, passed_free, runs_agree}
 
@@ -61,7 +61,7 @@ begin_stages one two begin =
       };
       files =
           subst (λ (o : Option Files). AlikeTold o two.files) (sym begin.told)
-          (subst (λ (o : Option Files). AlikeTold (Some begin.files) o) (sym begin.told_too) (told_itself begin.files begin.bytes));
+          (subst (λ (o : Option Files). AlikeTold (Some begin.files) o) (sym begin.told_too) (held_alike begin.files begin.others begin.same begin.bytes));
     }
 
 -- ---- ends by the outside
@@ -336,19 +336,25 @@ module _ (one two one_after two_after : World) (course course_too : List Taken) 
       text_of text is = subst (λ (o : Option Files). IsText o job text) begin.told is
 
       text_too : (text : List ℕ) → IsText two.files job text → IsThere (file job) text
-      text_too text is = subst (λ (o : Option Files). IsText o job text) begin.told_too is
+      text_too text is =
+          subst (λ (o : Option (List ℕ)). IsThere o text) (held_at begin.files begin.others job begin.same)
+          (subst (λ (o : Option Files). IsText o job text) begin.told_too is)
 
       absent_of : IsAbsent one.files job → file job ≡ None
       absent_of is = subst (λ (o : Option Files). IsAbsent o job) begin.told is
 
       absent_too : IsAbsent two.files job → file job ≡ None
-      absent_too is = subst (λ (o : Option Files). IsAbsent o job) begin.told_too is
+      absent_too is =
+          subst (λ (o : Option (List ℕ)). o ≡ None) (held_at begin.files begin.others job begin.same)
+          (subst (λ (o : Option Files). IsAbsent o job) begin.told_too is)
 
       long_of : IsLonger one.files job most_job_bytes → IsTooLong (file job)
       long_of is = subst (λ (o : Option Files). IsLonger o job most_job_bytes) begin.told is
 
       long_too : IsLonger two.files job most_job_bytes → IsTooLong (file job)
-      long_too is = subst (λ (o : Option Files). IsLonger o job most_job_bytes) begin.told_too is
+      long_too is =
+          subst IsTooLong (held_at begin.files begin.others job begin.same)
+          (subst (λ (o : Option Files). IsLonger o job most_job_bytes) begin.told_too is)
 
       fault_first : course ≡ [] → IsFreeEnd ended → Alike
       fault_first none free = (none_first none, λ regular. inl free)

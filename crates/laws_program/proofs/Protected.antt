@@ -6,7 +6,7 @@ use Rattle.std.specs.Ordering.{nat_cmp, eq_by_cmp}
 use Rattle.std.specs.Cmp.Lexicographic.{slice_cmp}
 use Rattle.std.specs.FinMap as fin
 use Rattle.std.proofs.lemmas.Map.Views.{tells_apart}
-use Rattle.flop_base.specs.Shelf.{Files, file_at, stored}
+use Rattle.flop_base.specs.Shelf.{Files, file_at, after_store, stored}
 use Rattle.flop_base.specs.declared.answers.Status.{Status}
 use Rattle.raw_image.specs.Disk.{Disk, IsDisk}
 use Rattle.raw_image.specs.Image.{image_of, file_of}
@@ -46,7 +46,7 @@ own_image disk valid = let text = file_text disk valid in (text.0, image_again (
 
 -- the file of the same disk is stored under the name, or that of any under another
 image_stored : (files : Files) (name other : List ℕ) (disk put : Disk) → IsDisk disk → (other ≡ name → put ≡ disk) → IsImageOf (Some files) name disk
-    → IsImageOf (Some (fin.insert files other (file_of put))) name disk
+    → IsImageOf (Some (after_store files other (file_of put))) name disk
 image_stored files name other disk put valid same image =
     subst (λ (o : Option (List ℕ)). IsImageText o disk) (sym (file_stored files other (file_of put) name))
     (go (eq_by_cmp (slice_cmp nat_cmp) name other)
@@ -58,7 +58,7 @@ image_stored files name other disk put valid same image =
 
 -- ---- bays
 
-in_same : {T : Type 0} (two : Two T) (at bay : ℕ) (x : T) → is_same_bay at bay ≡ true → in_bay (with_bay two at x) bay ≡ x
+pub in_same : {T : Type 0} (two : Two T) (at bay : ℕ) (x : T) → is_same_bay at bay ≡ true → in_bay (with_bay two at x) bay ≡ x
 in_same two at bay x same = go (at == 0) (bay == 0) same
   where
     go : (s t : Bool) → (if s then t else not t) ≡ true
@@ -145,7 +145,7 @@ module _ (name : List ℕ) (disk : Disk) (valid : IsDisk disk) (guarded : disk.p
   stores_kept : (at : ℕ) (new : State) (after : Option Files) (put : Disk) (other : List ℕ) → (bay_of old.station at).medium ≡ Some put
       → in_bay old.names at ≡ Some other → ChangesMedium at None None old new → after ≡ stored told other (file_of put) → Keeps new after
   stores_kept at new after put other medium named changes stores = record {
-    files = fin.insert kept.files other (file_of put);
+    files = after_store kept.files other (file_of put);
     told_is = stores ∙ ap (λ (f : Option Files). stored f other (file_of put)) kept.told_is;
     image = image_stored kept.files name other disk put valid (λ is.
         let here = kept.held at (named ∙ ap (λ (n : List ℕ). Some n) is) in

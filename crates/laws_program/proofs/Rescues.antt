@@ -11,7 +11,11 @@ use Rattle.text_commands.specs.JobRounds.{world}
 use Rattle.floppy_tools.specs.Programs.{DoesOrStarves, AsAsked, StarvesWords}
 use Rattle.floppy_tools.specs.Machines.{RunsOver}
 use Rattle.rescue.specs.declared.line.LogLine.{LogLine}
-use Rattle.laws_commands.specs.Rescued.{log_of, StoresInOrder, Nothing}
+use Rattle.laws_commands.specs.Rescued.{log_of}
+use Rattle.laws_commands.specs.Stores.{StoresDiskThenLog}
+use Rattle.laws_commands.proofs.Storing.{nothing_first}
+use Rattle.raw_image.specs.Disk.{blank_disk}
+use Rattle.flop_base.specs.declared.answers.Rate.TheVariants.{R500}
 use Rattle.laws_commands.proofs.Order.{stores_in_order}
 use Rattle.laws_commands.proofs.Whole.{rescue_logs, rescue_stores}
 use Rattle.sector_map.specs.Disks.{IsRegularDisk}
@@ -39,13 +43,14 @@ use Rattle.laws_program.proofs.OnBoards.{undisturbed_first, faultless_second}
 use Rattle.laws_program.proofs.Unstopped.{rescue_unstopped}
 
 in_order : (from to log : List ℕ) (old new : World) (course : List Taken) (ended : Status) → DoesOrStarves (form.Rescue from to log) old course new ended
-    → (lines : List LogLine) × StoresInOrder to log lines old.files new.files
+    → (lines : List LogLine) × StoresDiskThenLog to log lines old.files new.files
 in_order from to log old new course ended (AsAsked does) = (log_of course, stores_in_order from to log old new course ended does)
-in_order from to log old new course ended (StarvesWords nothing idle) = ([], Nothing (ap (λ (w : World). w.files) idle.same))
+in_order from to log old new course ended (StarvesWords nothing idle) =
+    ([], (blank_disk 1 1 1 R500, nothing_first _ old.files new.files (ap (λ (w : World). w.files) idle.same)))
 
 pub rescue_orders : (from to log : List ℕ) (spares : List DriveCounts) (old new : Board) (before after : Outside) (ended : Status)
     → RunsOver (Some (form.Rescue from to log)) old spares before new after ended
-    → (lines : List LogLine) × StoresInOrder to log lines before.files after.files
+    → (lines : List LogLine) × StoresDiskThenLog to log lines before.files after.files
 rescue_orders from to log spares old new before after ended over =
     in_order from to log (world over.start before.files before.report) (world over.last after.files after.report) over.runs.course ended over.runs.does
 

@@ -4,7 +4,7 @@ use Rattle.std.specs.Prelude.{◌⊎◌, Contains, IfSome, IsSomeAnd, nat_lt, if
 use Rattle.std.specs.FinMap as fin
 use Rattle.std.proofs.lemmas.Bool.{cases_eq, ltb-false}
 use Rattle.std.proofs.lemmas.List.Elements.{All-contains, All-weaker, recursion_from_All}
-use Rattle.flop_base.specs.Shelf.{Files, file_at, stored}
+use Rattle.flop_base.specs.Shelf.{Files, file_at, after_store, stored}
 use Rattle.flop_base.specs.Standard.{sectors_at}
 use Rattle.flop_base.specs.declared.answers.Status.{Status}
 use Rattle.flop_base.specs.declared.answers.Status.TheVariants as status
@@ -98,7 +98,7 @@ some_parts P (first ∷ later) run (inr there) = elim (some_parts P later run th
 
 told_after : (after : Option Files) (files : Files) (to disk log text : List ℕ) → after ≡ stored (stored (Some files) to disk) log text
     → (left : Files) × (after ≡ Some left)
-told_after after files to disk log text is = (fin.insert (fin.insert files to disk) log text, is)
+told_after after files to disk log text is = (after_store (after_store files to disk) log text, is)
 
 at_told : (P : Files → Type 0) (told : Option Files) (files : Files) → told ≡ Some files → IfSome told P → P files
 at_told P told files is some = subst (λ (f : Option Files). IfSome f P) is some

@@ -50,7 +50,7 @@ same_bay bays at bay same = go (at == 0) (bay == 0) same
     go false true e = absurd (true≢false (sym e))
     go false false e = refl
 
-kept_medium : (bays : Two Bay) (at bay : ℕ) (x : Bay) → x.medium ≡ (in_bay bays at).medium → (in_bay (with_bay bays at x) bay).medium ≡ (in_bay bays bay).medium
+pub kept_medium : (bays : Two Bay) (at bay : ℕ) (x : Bay) → x.medium ≡ (in_bay bays at).medium → (in_bay (with_bay bays at x) bay).medium ≡ (in_bay bays bay).medium
 kept_medium bays at bay x is = go (at == 0) (bay == 0) is
   where
     go : (s t : Bool) → x.medium ≡ (if s then bays.first else bays.second).medium

@@ -25,15 +25,17 @@ pub record IsSound (station : StationState) : Type 0 where
 abbrev pub AreBytes : Files → Type 0
 AreBytes files = (name bytes : List ℕ) → file_at files name ≡ Some bytes → (k : ℕ) → slice_index bytes k < 2 ^ 8
 
--- two plays begin on such stations, with as many spare drives, the same names and the same told files
+-- two plays begin on such stations, with as many spare drives, the same names and the same told files, whatever was stored before
 pub record BeginAlike (one two : World) : Type 0 where
   pub first : IsSound one.state.station
   pub second : IsSound two.state.station
   pub spares : two.state.station.spares ≡ one.state.station.spares
   pub names : two.state.names ≡ one.state.names
   pub files : Files
+  pub others : Files
   pub told : one.files ≡ Some files
-  pub told_too : two.files ≡ Some files
+  pub told_too : two.files ≡ Some others
+  pub same : others.held ≡ files.held
   pub bytes : AreBytes files
 
 -- ---- the disks

@@ -10,3 +10,5 @@ pub mod InTurn
 pub mod Guarded
 pub mod Seeks
 pub mod Determined
+pub mod StoresMade
+pub mod StoredAgain

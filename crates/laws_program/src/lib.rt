@@ -20,6 +20,7 @@ mod seeks;
 mod settled;
 mod status;
 mod steps;
+mod stores;
 mod verify;
 mod words;
 
@@ -55,5 +56,6 @@ pub use steps::{
     course_is_a_run, steps_format_tracks, steps_keep_guarded_media, steps_keep_other_fields,
     steps_read_fields, steps_send_few_commands, steps_tell_causes, steps_write_fields,
 };
+pub use stores::{a_job_that_reads_stores_nothing_new, each_form_stores_its_own};
 pub use verify::{verify_finds_all, verify_of_a_disk};
 pub use words::form_of_words_ran;

@@ -16,14 +16,16 @@ ghost use Rattle.floppy_words.specs.declared.form.Form.TheVariants as form;
 ghost use Rattle.text_commands.specs.JobRounds.{world};
 ghost use Rattle.floppy_tools.specs.Machines.{RunsOver};
 ghost use Rattle.rescue.specs.declared.line.LogLine.{LogLine};
-ghost use Rattle.laws_commands.specs.Rescued.{StoresInOrder, BringsUpNoMark, IsRescue};
+ghost use Rattle.laws_commands.specs.Rescued.{BringsUpNoMark, IsRescue};
+ghost use Rattle.laws_commands.specs.Stores.{StoresDiskThenLog};
 ghost use Rattle.sector_map.specs.Disks.{IsRegularDisk};
 
-/// A law: however `rescue FROM TO LOG` ends, it has stored nothing, or a disk under TO alone, or that and then a log under LOG.
+/// A law: however `rescue FROM TO LOG` ends, the stores that it made are a first part of two: of a disk under TO, and then of a log under
+/// LOG.
 pub fn rescue_stores_in_order(_from: &str, _to: &str, _log: &str)
     ensures { (spares : List DriveCounts) (old new : Board) (before after : Outside) (ended : Status)
         → RunsOver (Some (form.Rescue _from.now _to.now _log.now)) old spares before new after ended
-        → (lines : List LogLine) × StoresInOrder _to.now _log.now lines before.files after.files }
+        → (lines : List LogLine) × StoresDiskThenLog _to.now _log.now lines before.files after.files }
 {}
 
 /// A law: where it ends with status 0 or 1, its report doesn't tell that a refusal stopped it, FROM is the image of a disk whose

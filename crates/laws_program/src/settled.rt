@@ -15,11 +15,12 @@ ghost use Rattle.laws_program.specs.Ends.{EndsOutside};
 /// regular whenever a request comes, the two end alike too, with the same status, unless memory couldn't be had in one of them, or its
 /// shelf or sink failed, and counted it. The bytes of a dump alone may differ: a refused read may leave anything in its range of memory.
 pub fn job_answers_are_settled(_job: &str)
-    ensures { (spares other_spares : List DriveCounts) (old new other_old other_new : Stand) (ended other_ended : Status) (files : Files)
+    ensures { (spares other_spares : List DriveCounts) (old new other_old other_new : Stand) (ended other_ended : Status) (files others : Files)
         (one : RanOver (Some (form.Play _job.now)) spares old new ended)
         (two : RanOver (Some (form.Play _job.now)) other_spares other_old other_new other_ended)
         → IsSound old.board spares → IsSound other_old.board other_spares → length other_spares ≡ length spares
-        → old.outside.outside.files ≡ Some files → other_old.outside.outside.files ≡ Some files → AreBytes files
+        → old.outside.outside.files ≡ Some files → other_old.outside.outside.files ≡ Some others
+        → others.held ≡ files.held → AreBytes files
         → AnswersAgree one.runs.start one.runs.runs.course two.runs.runs.course
         × (AreRegularBefore one.runs.start one.runs.runs.course
         → EndsOutside old new ended ⊎ EndsOutside other_old other_new other_ended

@@ -10,7 +10,6 @@ use Rattle.std.specs.BTreeMap.{insert_entry, is_at}
 use Rattle.std.specs.Map.{lookup}
 use Rattle.std.specs.FinMap as fin
 use Rattle.std.specs.FinMap.Entries.{find-put, put, by_order}
-use Rattle.flop_base.specs.Shelf.{file_at}
 use Rattle.memory_files.specs.MemShelf.{file_of}
 
 abbrev Entries : Type 0
@@ -24,7 +23,7 @@ find-file_of (entry ∷ entries) name =
     as (λ same. cond same (Some entry.1.items) (fin.find (slice_cmp nat_cmp) name (map file_of entries)) ≡ option_map (λ bytes. bytes.items) (cond same (Some entry.1) (lookup (is_at (λ key. slice_cmp nat_cmp name (string_bytes key))) entries)))
     [ true ↦ refl | false ↦ find-file_of entries name ]
 
-pub file_at-entries : (entries : Entries) (name : List ℕ) → file_at (fin.from_entries (map file_of entries)) name ≡ option_map (λ bytes. bytes.items) (lookup (is_at (λ key. slice_cmp nat_cmp name (string_bytes key))) entries)
+pub file_at-entries : (entries : Entries) (name : List ℕ) → fin.get (fin.from_entries {R = slice_cmp nat_cmp} (map file_of entries)) name ≡ option_map (λ bytes. bytes.items) (lookup (is_at (λ key. slice_cmp nat_cmp name (string_bytes key))) entries)
 file_at-entries entries name = fin.get-from_entries nat_list_cmp_total (map file_of entries) name ∙ find-file_of entries name
 
 -- an insertion into the tree map's entries

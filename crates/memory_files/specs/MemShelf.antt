@@ -1,5 +1,5 @@
 -- What a shelf in memory shows.
-use Rattle.std.specs.Prelude.{ℕ, List, map, Vec, String, string_bytes}
+use Rattle.std.specs.Prelude.{ℕ, List, map, None, Vec, String, string_bytes}
 use Rattle.std.specs.declared.alloc.Global.{Global}
 use Rattle.std.specs.FinMap as fin
 use Rattle.flop_base.specs.Shelf.{Files}
@@ -9,9 +9,9 @@ use Rattle.memory_files.specs.declared.memory.MemShelf.{MemShelf}
 abbrev pub file_of : String Global × Vec ℕ Global → List ℕ × List ℕ
 file_of entry = (string_bytes entry.0, entry.1.items)
 
--- its files
+-- its files; it keeps no list of the stores that were made
 abbrev pub files_of : MemShelf → Files
-files_of shelf = fin.from_entries (map file_of shelf.files.entries)
+files_of shelf = record { held = fin.from_entries (map file_of shelf.files.entries); stores = None }
 
 -- how many calls of load and store there were
 abbrev pub calls_of : MemShelf → ℕ

@@ -1,0 +1,32 @@
+-- Which stores each form makes, however it ends.
+use Rattle.std.specs.Prelude.{◌≡◌, List, Option, Some, None}
+use Rattle.flop_base.specs.Shelf.{Files}
+use Rattle.floppy_words.specs.declared.form.Form.{Form}
+use Rattle.floppy_words.specs.declared.form.Form.TheVariants as form
+use Rattle.sector_model.specs.States.{State}
+use Rattle.sector_model.specs.Runs.{Taken}
+use Rattle.laws_commands.specs.Rescued.{log_of}
+use Rattle.laws_commands.specs.Stores.{StoresRun, StoresDiskAlone, StoresFileAlone, StoresDiskThenLog}
+
+-- those of a form, whose requests were this course: a text of requests stores what is taken out, and what is left in at its end; a form
+-- that makes a file stores that one; a rescue the disk and then its log; and a form that reads stores nothing
+abbrev pub StoresFor : Form → State → List Taken → Option Files → Option Files → Type 0
+StoresFor (form.Play job) start course told after = StoresRun start course told after
+StoresFor (form.Int13 calls) start course told after = StoresRun start course told after
+StoresFor (form.Format name cylinders) start course told after = StoresDiskAlone name told after
+StoresFor (form.FormatDd name cylinders) start course told after = StoresDiskAlone name told after
+StoresFor (form.Copy from to) start course told after = StoresDiskAlone to told after
+StoresFor (form.Import flat name) start course told after = StoresDiskAlone name told after
+StoresFor (form.FromImd imd name) start course told after = StoresDiskAlone name told after
+StoresFor (form.Remaster from to) start course told after = StoresDiskAlone to told after
+StoresFor (form.Export name flat) start course told after = StoresFileAlone flat told after
+StoresFor (form.ToImd name imd) start course told after = StoresFileAlone imd told after
+StoresFor (form.Rescue from to log) start course told after = StoresDiskThenLog to log (log_of course) told after
+StoresFor (form.Verify name) start course told after = after ≡ told
+StoresFor (form.Survey name) start course told after = after ≡ told
+StoresFor (form.Exercise seed count) start course told after = after ≡ told
+
+-- and words that are no form store nothing
+abbrev pub StoresAsked : Option Form → State → List Taken → Option Files → Option Files → Type 0
+StoresAsked (Some asked) start course told after = StoresFor asked start course told after
+StoresAsked None start course told after = after ≡ told
