@@ -223,7 +223,7 @@ TELWYDDUS_CALL uint32_t telwyddus_controller_free(telwyddus_controller *controll
 TELWYDDUS_CALL uint32_t telwyddus_controller_strap_seeks(telwyddus_controller *controller, uint8_t on);
 
 /* Another: where `on` isn't 0, the pulses of SEEK, RELATIVE SEEK and RECALIBRATE come in the time that SPECIFY sets, so that heads can be
- * heard; else one in each word time. Off at first. DONE, EMPTY. */
+ * heard; else one in each word time. What is told of them is the same. Off at first. DONE, EMPTY. */
 TELWYDDUS_CALL uint32_t telwyddus_controller_strap_steps(telwyddus_controller *controller, uint8_t on);
 
 /* A port, 3F0 to 3F7, is read or written. A port that nothing answers gives FF. A read of any but 3F5 changes nothing.

@@ -1,5 +1,5 @@
 -- What a whole command does.
-use Rattle.std.specs.Prelude.{◌≡◌, ℕ, zero, suc, ◌+◌, ◌-◌, ◌*◌, ◌%◌, Bool, true, false, not, ◌==◌, ◌&&◌, ◌||◌, List, [], ◌∷◌, Option, Some, None, is_some, if◌then◌else◌, nat_le, bit_and, min}
+use Rattle.std.specs.Prelude.{◌≡◌, ℕ, zero, suc, ◌+◌, ◌-◌, ◌*◌, ◌%◌, Bool, true, false, not, ◌==◌, ◌&&◌, ◌||◌, List, [], ◌∷◌, Option, Some, None, is_none, is_some, if◌then◌else◌, nat_le, bit_and, min}
 use Rattle.std.specs.Int.RustNames.{bit_or}
 use Rattle.flop_base.specs.declared.key.Chrn.{Chrn}
 use Rattle.fdc_sequencer.specs.Fronts.{Front, WritesFront, after_reading, value_outside}
@@ -36,8 +36,7 @@ SendsOn bytes old new = Sends bytes old.front new.front × KeepsRest old new
 
 -- a result is to be told: while pulses come in the time that SPECIFY sets, what one of them came to isn't, and the poll is
 abbrev pub is_told : Option Pace → ℕ → Bool
-is_told None status = true
-is_told (Some _) status = bit_and status seek_end == 0
+is_told pace status = (bit_and status seek_end == 0) || is_none pace
 
 -- a result of a seek or poll that is pending behind is taken over, and INT rises where it is to be told
 abbrev pub kept : Option (ℕ × ℕ) → ChipState → ChipState

@@ -165,9 +165,13 @@ with_fault fault track = record track { st1 = record { 0 = bit_or track.st1.0 fa
 abbrev pub track_told : Track → ChipState → ChipState
 track_told track old = told_results (results_of_track track) old
 
--- no seek is implied for what follows, and this is then under way
+-- no seek is implied for what follows
+abbrev pub without_seeks : Front → Front
+without_seeks front = record front { strapped = false; configured = false }
+
+-- and this is then under way
 abbrev pub track_at : Track → ChipState → ChipState
-track_at track old = record old { front = record old.front { strapped = false }; stage = Busy (task.Track track) }
+track_at track old = record old { front = without_seeks old.front; stage = Busy (task.Track track) }
 
 -- it looks for the next address field
 abbrev pub LooksOn : Track → ChipState → ChipState → Type 0

@@ -85,10 +85,7 @@ impl<D: Inspect> Chip<D> {
     fn is_told(&self, status: u8) -> bool
         ensures { result ≡ is_told (chip_state D.state self.now).pace status }
     {
-        match self.pace {
-            None => true,
-            Some(_) => status & St0::SEEK_END.bits() == 0,
-        }
+        status & St0::SEEK_END.bits() == 0 || self.pace.is_none()
     }
 
     /// Takes over a result of a seek or poll that is pending behind, where it is to be told.

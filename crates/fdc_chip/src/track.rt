@@ -128,7 +128,7 @@ impl<D: Inspect> Chip<D> {
     fn go_on(&mut self, track: Track)
         ensures { chip_state D.state self.new ≡ track_at track (chip_state D.state self.old) }
     {
-        self.behind.strap_seeks(false);
+        self.behind.drop_seeks();
         self.stage = Stage::Busy {
             task: Task::Track { track },
         };

@@ -49,6 +49,15 @@ impl<D: Inspect> Sequencer<D> {
         self.strapped = on;
     }
 
+    /// Lets no command seek its cylinder first, whatever a strap or CONFIGURE set.
+    pub fn drop_seeks(&mut self)
+        ensures state { front_state D.state self.new ≡ record (front_state D.state self.old) { strapped = false; configured = false } }
+        ensures drives { SameDrives (adapter_of self.old) (adapter_of self.new) }
+    {
+        self.strapped = false;
+        self.configured = false;
+    }
+
     /// The interrupt line. It falls where a command of several sectors begins, and rises with its results.
     pub fn int(&self) -> bool
         ensures { result ≡ interrupts_outside (front_state D.state self.now) }

@@ -18,6 +18,7 @@ use Rattle.laws_sequencer.proofs.Whole.{command_served}
 use Rattle.fdc_chip.specs.Chips.{ChipState}
 use Rattle.fdc_chip.specs.Codes.{code_of}
 use Rattle.fdc_chip.specs.Doing.{Begins, Obeys, RemembersIf, Sends, TransfersIf, begun, implies, is_size, sought_if, with_last}
+use Rattle.fdc_chip.specs.Ending.{without_seeks}
 use Rattle.fdc_chip.specs.Orders.{order_bytes}
 use Rattle.fdc_chip.specs.Steps.{StepsChip}
 use Rattle.fdc_chip.specs.declared.code.Code.{Code}
@@ -57,6 +58,10 @@ configured_stands options precompensation start new stands obeyed =
 -- whether seeks are implied or not
 pub strapped_stands : (on : Bool) (front : Front) → Stands front → Stands (record front { strapped = on })
 strapped_stands on front stands =
+    record { through = stands.through; takes = stands.takes; none = stands.none; free = stands.free; rests = stands.rests; by_dma = stands.by_dma }
+
+pub unsought_stands : (front : Front) → Stands front → Stands (without_seeks front)
+unsought_stands front stands =
     record { through = stands.through; takes = stands.takes; none = stands.none; free = stands.free; rests = stands.rests; by_dma = stands.by_dma }
 
 -- ---- a command begins
@@ -136,7 +141,7 @@ transfer_begun opcode old new is size free obeys =
     let noted = with_last old.order.last_sector old in
     let begins : TransfersIf true true Sent (order_bytes old.order) noted new = subst (λ b. TransfersIf b true Sent (order_bytes old.order) noted new) size obeys in
     let sent = sought_sent (implies noted) Sent (implies noted) (order_bytes old.order) noted new (stands_free old.front free) begins in
-    let (serves, carried) = order_begins opcode old.order sent.set new.front sent.stands is size sent.sends in
+    let (serves, carried, starts) = order_begins opcode old.order sent.set new.front sent.stands is size sent.sends in
     record { begins = serves; serving = record { sent = sent.stage; under_way = carried.under_way } }
 
 -- from there to its results

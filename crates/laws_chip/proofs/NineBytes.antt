@@ -92,17 +92,22 @@ module _ (opcode : Opcode) (order : Order) (start old new : Front) (stands : Sta
     transfer = transfer_is opcode opcode.operation order;
   }
 
+  abbrev whole_at : Front
+  whole_at = record start { stage = Collecting opcode; bytes = [] }
+
+  begins_starts : Starts (Some spelled) whole_at new
+  begins_starts =
+      let from : WritesFront 0x3F5 order.length (collected opcode bytes start) new = subst (λ front. WritesFront 0x3F5 order.length front new) came writes in
+      let collects : Starts (transfer_of opcode (command_sent opcode.operation order)) whole_at new =
+      subst (λ accepted. CollectsAs opcode accepted (record start { stage = Collecting opcode; bytes = kept accepted (bytes ++ order.length ∷ []) }) new) whole (from.bytes refl) in
+      subst (λ transfer. Starts transfer whole_at new) (transfer_is opcode opcode.operation order) collects
+
   begins_carried : IsCarried start new
   begins_carried =
-      let from : WritesFront 0x3F5 order.length (collected opcode bytes start) new = subst (λ front. WritesFront 0x3F5 order.length front new) came writes in
-      let at : Front = record start { stage = Collecting opcode; bytes = [] } in
-      let collects : Starts (transfer_of opcode (command_sent opcode.operation order)) at new =
-      subst (λ accepted. CollectsAs opcode accepted (record start { stage = Collecting opcode; bytes = kept accepted (bytes ++ order.length ∷ []) }) new) whole (from.bytes refl) in
-      let starts : Starts (Some spelled) at new = subst (λ transfer. Starts transfer at new) (transfer_is opcode opcode.operation order) collects in
-      let carried = starts_carried (start.strapped || start.configured) spelled at new sized stands.takes (stands_idle start stands) (record { rests = stands.rests; by_dma = stands.by_dma }) starts in
+      let carried = starts_carried (start.strapped || start.configured) spelled whole_at new sized stands.takes (stands_idle start stands) (record { rests = stands.rests; by_dma = stands.by_dma }) begins_starts in
       record { under_way = carried.under_way; waits = carried.waits; base = carried.base }
 
-  pub last_begins : BeginsBehind spelled new × IsCarried start new
+  pub last_begins : BeginsBehind spelled new × IsCarried start new × Starts (Some spelled) whole_at new
   last_begins = (
     record {
       byte = order.length;
@@ -113,12 +118,13 @@ module _ (opcode : Opcode) (order : Order) (start old new : Front) (stands : Sta
       serves = begins_served order.length spelled old new is_last writes (not_through new begins_carried.under_way);
     },
     begins_carried,
+    begins_starts,
   )
 
 -- ---- all nine
 
 pub order_begins : (opcode : Opcode) (order : Order) (start new : Front) → Stands start → opcode_of order.code ≡ Some opcode → is_size order.key.n ≡ true → Sends (order_bytes order) start new
-    → BeginsBehind (transfer_sent opcode order) new × IsCarried start new
+    → BeginsBehind (transfer_sent opcode order) new × IsCarried start new × Starts (Some (transfer_sent opcode order)) (record start { stage = Collecting opcode; bytes = [] }) new
 order_begins opcode order start new stands is size
     (one, write_one, (two, write_two, (three, write_three, (four, write_four, (five, write_five, (six, write_six, (seven, write_seven, (eight, write_eight, (nine, write_nine, same))))))))) =
     let sized = sized_by order.key.n size in
@@ -133,5 +139,5 @@ order_begins opcode order start new stands is size
     let at_six = more_collected opcode (code ∷ order.unit ∷ key.c ∷ key.h ∷ key.r ∷ []) key.n start five six at_five bytes.n write_six in
     let at_seven = more_collected opcode (code ∷ order.unit ∷ key.c ∷ key.h ∷ key.r ∷ key.n ∷ []) order.last_sector start six seven at_six bytes.last write_seven in
     let at_eight = more_collected opcode (code ∷ order.unit ∷ key.c ∷ key.h ∷ key.r ∷ key.n ∷ order.last_sector ∷ []) order.gap start seven eight at_seven bytes.gap write_eight in
-    subst (λ front. BeginsBehind (transfer_sent opcode order) front × IsCarried start front) (sym same)
+    subst (λ front. BeginsBehind (transfer_sent opcode order) front × IsCarried start front × Starts (Some (transfer_sent opcode order)) (record start { stage = Collecting opcode; bytes = [] }) front) (sym same)
     (last_begins opcode order start eight nine stands sized (code ∷ order.unit ∷ key.c ∷ key.h ∷ key.r ∷ key.n ∷ order.last_sector ∷ order.gap ∷ []) at_eight bytes.whole write_nine)

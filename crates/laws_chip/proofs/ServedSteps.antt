@@ -42,7 +42,7 @@ use Rattle.laws_chip.proofs.UnderWay.{not_through}
 pub order_serves : (opcode : Opcode) (order : Order) (start new : Front) → Stands start → opcode_of order.code ≡ Some opcode → is_size order.key.n ≡ true → Sends (order_bytes order) start new
     → ServesBehind new × IsBase start.adapter.controller new.adapter.controller
 order_serves opcode order start new stands is size sends =
-    let (begins, carried) = order_begins opcode order start new stands is size sends in (
+    let (begins, carried, starts) = order_begins opcode order start new stands is size sends in (
       record {
         under_way = carried.under_way;
         first = transfer_sent opcode order;

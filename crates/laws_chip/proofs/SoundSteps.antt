@@ -27,7 +27,7 @@ use Rattle.fdc_chip.specs.declared.stage.Track.{Track}
 use Rattle.laws_chip.specs.Sound.{ExecutesBehind, IsBusyAt, IsBusyWith, IsSound, RestsBehind, ServesBehind}
 use Rattle.laws_chip.proofs.Attended.{attended_sound, done_sound, given_moves, one_order, recalibrated_rests, some_of}
 use Rattle.laws_chip.proofs.Channels.{IsOverBehind, counts_busy, counts_front_base, counts_over, takes_busy, takes_front_base, takes_over}
-use Rattle.laws_chip.proofs.CommandsBegun.{strapped_stands}
+use Rattle.laws_chip.proofs.CommandsBegun.{unsought_stands}
 use Rattle.laws_chip.proofs.FirstSectors.{IsBase}
 use Rattle.laws_chip.proofs.PassedOn.{none_wait}
 use Rattle.laws_chip.proofs.Rests.{IsResting, base_on, base_same, drained_rests, front_rests, stands_rests}
@@ -70,12 +70,12 @@ track_basis track old basis = record { by_dma = basis.by_dma; whole = basis.whol
 looks_sound : (track : Track) (old new : ChipState) → IsBasis old → Stands old.front → LooksOn track old new → IsSound new
 looks_sound track old new basis stands looks =
     let next : Track = record track { place = Address } in
-    id_given (task.Track next) track.unit (track_at next old) new (track_basis next old basis) (strapped_stands false old.front stands) refl (λ executes. executes) looks
+    id_given (task.Track next) track.unit (track_at next old) new (track_basis next old basis) (unsought_stands old.front stands) refl (λ executes. executes) looks
 
 reads_sound : (track : Track) (key : Chrn) (old new : ChipState) → IsBasis old → Stands old.front → is_size key.n ≡ true → ReadsOn track key old new → IsSound new
 reads_sound track key old new basis stands sized reads =
     sector_given (task.Track (met_key key track)) track.unit key old.order.gap old.order.length (track_at (met_key key track) old) new (track_basis (met_key key track) old basis)
-    (strapped_stands false old.front stands) refl sized (λ serves. serves) reads
+    (unsought_stands old.front stands) refl sized (λ serves. serves) reads
 
 sent_sound : (b : Bool) (results : Results) (old new : ChipState) → IsBasis old → Stands old.front → EndsSent b results old new → IsSound new
 sent_sound true results old new basis stands looks =

@@ -20,10 +20,10 @@ use Rattle.laws_sequencer.specs.Calls as behind
 use Rattle.laws_sequencer.specs.Lasting as lasting
 use Rattle.laws_sequencer.specs.Lasting.{HasRecords, is_under_way, most_steps}
 use Rattle.laws_sequencer.specs.Serving.{ServesAt, nothing_moved}
-use Rattle.laws_sequencer.proofs.Lasted.{Lasts, call_lasts, calls_last, first_lasts, lasts_some}
+use Rattle.laws_sequencer.proofs.Lasted.{Lasts, call_lasts, calls_last, first_lasts, lasts_some, unsought_last}
 use Rattle.fdc_chip.specs.Chips.{ChipState, is_data, passes_by_channel, passes_by_port, with_front}
 use Rattle.fdc_chip.specs.Doing.{Obeys, Sends, TransfersIf, absent_key, implies, is_size, reading_one, track_begun, with_last}
-use Rattle.fdc_chip.specs.Ending.{EndsAddress, EndsAddressIf, EndsAt, EndsData, EndsIf, EndsIndex, LooksOn, ReadsOn, has_results, is_over, met_key, results_behind, results_taken, without_one}
+use Rattle.fdc_chip.specs.Ending.{EndsAddress, EndsAddressIf, EndsAt, EndsData, EndsIf, EndsIndex, LooksOn, ReadsOn, has_results, is_over, met_key, results_behind, results_taken, without_one, without_seeks}
 use Rattle.fdc_chip.specs.Ports.{GivesChipIf, GivesIf, ReadsAt, ReadsChip, ReadsIf, TakesByte, TakesIf, count_told, counted_if, gated_by, reset_if, value_behind}
 use Rattle.fdc_chip.specs.Steps.{Follows, StepsChip}
 use Rattle.fdc_chip.specs.declared.code.Code.TheVariants.{ReadTrack}
@@ -39,7 +39,7 @@ use Rattle.laws_chip.specs.Calls.{Call, Does, is_step, steps_in, steps_of}
 use Rattle.laws_chip.specs.Lasting.{AreTracked, IsTracking, most_track_steps}
 use Rattle.laws_chip.specs.Sound.{IsBusyAt, IsSound, ServesBehind}
 use Rattle.laws_chip.proofs.Attended.{one_order}
-use Rattle.laws_chip.proofs.CommandsBegun.{sought_sent, strapped_stands}
+use Rattle.laws_chip.proofs.CommandsBegun.{sought_sent, unsought_stands}
 use Rattle.laws_chip.proofs.FirstSectors.{base_held}
 use Rattle.laws_chip.proofs.NineBytes.{order_begins}
 use Rattle.laws_chip.proofs.ServedSteps.{serves_step, tells_shown}
@@ -134,14 +134,24 @@ same_number n = either_way (n == n) (λ same. same) (λ other. absurd (eqb-false
 one_last : (unit : ℕ) (key : Chrn) (gap length : ℕ) → is_last (transfer_sent read_one (one_order unit key gap length)) ≡ true
 one_last unit key gap length = ap (λ b. b && true) (same_number key.r)
 
-sector_lasts : (unit : ℕ) (key : Chrn) (gap length : ℕ) (set new : Front) → Stands set → is_size key.n ≡ true → Sends (reading_one unit key gap length) set new
-    → IsInRange new.adapter.controller → Lasts 65792 new
-sector_lasts unit key gap length set new stands sized sends range =
+one_records : (unit : ℕ) (key : Chrn) (gap length : ℕ) → HasRecords (transfer_sent read_one (one_order unit key gap length))
+one_records unit key gap length = λ more. clash (is_last (transfer_sent read_one (one_order unit key gap length))) more (one_last unit key gap length)
+
+-- the first, for which a seek may be implied
+first_sector : (unit : ℕ) (key : Chrn) (gap length : ℕ) (set new : Front) → Stands set → is_size key.n ≡ true → Sends (reading_one unit key gap length) set new → IsInRange new.adapter.controller → Lasts 65792 new
+first_sector unit key gap length set new stands sized sends range =
     let order = one_order unit key gap length in
-    let (begins, carried) = order_begins read_one order set new stands refl sized sends in
+    let (begins, carried, starts) = order_begins read_one order set new stands refl sized sends in
     let first = transfer_sent read_one order in
-    let records : HasRecords first = λ more. clash (is_last first) more (one_last unit key gap length) in
-    subst (λ n. Lasts n new) (one_sector unit key gap length) (first_lasts begins.byte first begins.start new begins.last records begins.writes begins.stays range)
+    subst (λ n. Lasts n new) (one_sector unit key gap length) (first_lasts begins.byte first begins.start new begins.last (one_records unit key gap length) begins.writes begins.stays range)
+
+-- one for which none is
+sector_lasts : (unit : ℕ) (key : Chrn) (gap length : ℕ) (set new : Front) → Stands set → (set.strapped || set.configured) ≡ false → is_size key.n ≡ true → Sends (reading_one unit key gap length) set new → Lasts 65792 new
+sector_lasts unit key gap length set new stands none sized sends =
+    let order = one_order unit key gap length in
+    let (begins, carried, starts) = order_begins read_one order set new stands refl sized sends in
+    let whole : Front = record set { stage = Collecting read_one; bytes = [] } in
+    subst (λ n. Lasts n new) (one_sector unit key gap length) (unsought_last (transfer_sent read_one order) whole new (one_records unit key gap length) none begins.stays starts)
 
 -- ---- what comes of results
 
@@ -167,7 +177,7 @@ reads_leave n track key old new stands sized some spent tracks (sends, rest) = r
   some = some;
   leaves = (
     65792,
-    sector_lasts track.unit key old.order.gap old.order.length (record old.front { strapped = false }) new.front (strapped_stands false old.front stands) sized sends tracks.range,
+    sector_lasts track.unit key old.order.gap old.order.length (without_seeks old.front) new.front (unsought_stands old.front stands) refl sized sends,
     spent,
   );
 }
@@ -448,8 +458,8 @@ all_left last = by_none (last == 0) refl
 at_most : (n : ℕ) → n ≤ n
 at_most n = omega arith
 
-track_leaves : (old begun : ChipState) → is_size old.order.key.n ≡ true → IsFreeBehind old.front → Obeys (ReadTrack true) old begun → IsTracking begun → Leaves (most_track_steps old.order) begun
-track_leaves old begun size free obeys tracks =
+track_leaves : (old begun : ChipState) → is_size old.order.key.n ≡ true → IsFreeBehind old.front → Obeys (ReadTrack true) old begun → IsInRange begun.front.adapter.controller → Leaves (most_track_steps old.order) begun
+track_leaves old begun size free obeys range =
     let order = old.order in
     let noted = with_last order.last_sector old in
     let what : Task = task.Track (track_begun order) in
@@ -463,12 +473,12 @@ track_leaves old begun size free obeys tracks =
       some = all_left order.last_sector;
       leaves = (
         65792,
-        sector_lasts order.unit key order.gap order.length sent.set begun.front sent.stands refl sent.sends tracks.range,
+        first_sector order.unit key order.gap order.length sent.set begun.front sent.stands refl sent.sends range,
         at_most (65792 + 131328 * (track_begun order).left),
       );
     }
 
-pub track_last : (calls : List Call) (old begun new : ChipState) → is_size old.order.key.n ≡ true → IsFreeBehind old.front → Obeys (ReadTrack true) old begun → IsSound begun → IsTracking begun
+pub track_last : (calls : List Call) (old begun new : ChipState) → is_size old.order.key.n ≡ true → IsFreeBehind old.front → Obeys (ReadTrack true) old begun → IsSound begun → IsInRange begun.front.adapter.controller
     → AreTracked calls begun new → steps_in calls < most_track_steps old.order
-track_last calls old begun new size free obeys sound tracks are =
-    tracks_last calls (most_track_steps old.order) begun new sound (track_leaves old begun size free obeys tracks) are
+track_last calls old begun new size free obeys sound range are =
+    tracks_last calls (most_track_steps old.order) begun new sound (track_leaves old begun size free obeys range) are

@@ -60,7 +60,7 @@ verify_sent opcode old new is size free obeys =
     let left = sectors_verified old.order * size_of old.order.key.n in
     let begins : TransfersIf true true (Verify left) (order_bytes order) noted new = subst (λ b. TransfersIf b true (Verify left) (order_bytes order) noted new) size obeys in
     let sent = sought_sent (implies noted) (Verify left) (implies noted) (order_bytes order) noted new (stands_free old.front free) begins in
-    let (serves, carried) = order_begins opcode order sent.set new.front sent.stands is size sent.sends in
+    let (serves, carried, starts) = order_begins opcode order sent.set new.front sent.stands is size sent.sends in
     (serves, record { left = left; verifies = sent.stage; under_way = carried.under_way })
 
 pub verify_begins : (opcode : Opcode) (old new : ChipState) → opcode_of (verifying old.order).code ≡ Some opcode → is_size old.order.key.n ≡ true → IsFreeBehind old.front → Obeys (VerifyCode true) old new

@@ -1,6 +1,5 @@
 -- How long a command lasts, in device steps.
 use Rattle.std.specs.Prelude.{◌≡◌, ℕ, ◌+◌, ◌*◌, true, List, [], ◌∷◌}
-use Rattle.fdc_core.specs.Ranges.{IsInRange}
 use Rattle.laws_sequencer.specs.Lasting.{is_under_way}
 use Rattle.fdc_chip.specs.Chips.{ChipState}
 use Rattle.fdc_chip.specs.Doing.{track_begun}
@@ -31,11 +30,10 @@ AreVerified (made ∷ calls) old new = (between : ChipState) × Does made old be
 
 -- ---- READ TRACK
 
--- it is under way, and the numbers behind are those that registers hold
+-- it is under way
 pub record IsTracking (chip : ChipState) : Type 0 where
   pub track : Track
   pub reads : chip.stage ≡ Busy (task.Track track)
-  pub range : IsInRange chip.front.adapter.controller
 
 -- these calls, behind each of which it is
 abbrev pub AreTracked : List Call → ChipState → ChipState → Type 0

@@ -12,7 +12,7 @@ ghost use Rattle.fdc_chip.specs.declared.stage.Stage.TheVariants.{Busy};
 ghost use Rattle.fdc_chip.specs.declared.stage.Task.{Task};
 ghost use Rattle.laws_chip.specs.Beginning.{BeginsBehind, IsBegun, IsFreeBehind, transfer_sent};
 ghost use Rattle.laws_chip.specs.Calls.{AreServed, Call, steps_in};
-ghost use Rattle.laws_chip.specs.Lasting.{AreAt, AreTracked, AreVerified, IsTracking, IsVerifying, most_track_steps};
+ghost use Rattle.laws_chip.specs.Lasting.{AreAt, AreTracked, AreVerified, IsVerifying, most_track_steps};
 ghost use Rattle.laws_chip.specs.Sound.{ExecutesBehind, IsSound};
 
 /// A READ ID or a FORMAT TRACK that is executed behind, also to look which cylinder passes or in place of a command that this medium
@@ -39,6 +39,6 @@ pub fn a_verify_ends()
 /// A READ TRACK ends in 65,792 device steps for the index, and 131,328 for each of its sectors, READ ID before it among them, whatever
 /// calls come between.
 pub fn a_read_track_ends()
-    ensures { (calls : List Call) (old begun new : ChipState) → is_size old.order.key.n ≡ true → IsFreeBehind old.front → Obeys (ReadTrack true) old begun → IsSound begun → IsTracking begun
+    ensures { (calls : List Call) (old begun new : ChipState) → is_size old.order.key.n ≡ true → IsFreeBehind old.front → Obeys (ReadTrack true) old begun → IsSound begun → IsInRange begun.front.adapter.controller
         → AreTracked calls begun new → steps_in calls < most_track_steps old.order }
 {}

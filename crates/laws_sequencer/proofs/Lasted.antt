@@ -405,6 +405,11 @@ starts_last first old new bytes range stays starts = by_seek (old.strapped || ol
     by_seek true seeks = by_idle seeks (is_idle seeks.between.controller) refl seeks.begun
     by_seek false begins = begins_lasts (most_steps first) first false false old new bytes (moved_first (sectors_from first)) stays begins
 
+-- where no seek is implied the controller's numbers aren't asked for
+pub unsought_last : (first : Transfer) (old new : Front) → HasRecords first → (old.strapped || old.configured) ≡ false → (new.stage ≡ Through → ⊥) → Starts (Some first) old new → Lasts (most_steps first) new
+unsought_last first old new bytes none stays starts =
+    begins_lasts (most_steps first) first false false old new bytes (moved_first (sectors_from first)) stays (subst (λ b. StartsIf b first old new) none starts)
+
 -- its last byte starts it
 first_starts : (byte : ℕ) (first : Transfer) (start begun : Front) → IsLastByte byte first start → WritesFront 0x3F5 byte start begun → Starts (Some first) (record start { bytes = [] }) begun
 first_starts byte first start begun last writes =
