@@ -3,6 +3,7 @@ use Rattle.std.proofs.Common.{◌≡◌, ◌⊎◌, inl, inr, ℕ, zero, suc, �
 use Rattle.std.proofs.lemmas.Bool.{false_from_ne_true, false≢true}
 use Rattle.raw_image.specs.Disk.{IsDisk}
 use Rattle.track_separator.specs.Parts.{with_word}
+use Rattle.drive_model.proofs.Passing.{becomes_at}
 use Rattle.drive_model.specs.Drive.{DriveState, is_protected, rate_of}
 use Rattle.fdc_stages.specs.History.{Past, heard, turns_after, wrote}
 use Rattle.fdc_stages.specs.Writings.{is_due}
