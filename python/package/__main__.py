@@ -1,6 +1,6 @@
 """The program floppy on the files of the current folder: python -m telwyddus WORD..
 
-Its words, what it prints and its exit status are those of the program; README and its page have them. It runs on files in memory: on those
+Its words, what it prints and its exit status are those of the program; docs/USING.md and its page have them. It runs on files in memory: on those
 of the folder that its words name, and for `play`, `int13` and `ports` also those that words of the text name. What it stored is written
 to the folder once it has ended, each file whole, in place of the old one. A file that may not be written isn't replaced, nor one in a folder
 that may not: status 6, and standard error says why. There are no planned faults: with FLOPPY_PLAN set nothing is run.
