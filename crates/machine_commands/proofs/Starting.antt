@@ -73,8 +73,8 @@ module _ (made : Board) (fresh : IsFreshBoard made) (driver : Driver) (new : Rig
   free_bays : (spares : ℕ) (waiting : List DriveCounts) → (shown driver new spares waiting).bays ≡ both (fresh_bay None)
   free_bays spares waiting =
       two_alike (bay_shown driver.first new.media.first new.changes.first) (bay_shown driver.second new.media.second new.changes.second) (fresh_bay None)
-      (free_bay driver.first new.media.first new.changes.first is_fresh_driver.first (ap (λ (t : Two (Option Disk)). t.first) reset.media ∙ ap (λ (d : DriveState). d.medium) fresh.new.first.becomes ∙ fresh.first.medium))
-      (free_bay driver.second new.media.second new.changes.second is_fresh_driver.second (ap (λ (t : Two (Option Disk)). t.second) reset.media ∙ ap (λ (d : DriveState). d.medium) fresh.new.second.becomes ∙ fresh.second.medium))
+      (free_bay driver.first new.media.first new.changes.first is_fresh_driver.first (ap (λ (t : Two (Option Disk)). t.first) reset.media ∙ ap (λ (d : DriveState). d.medium) fresh.new.first ∙ fresh.first.medium))
+      (free_bay driver.second new.media.second new.changes.second is_fresh_driver.second (ap (λ (t : Two (Option Disk)). t.second) reset.media ∙ ap (λ (d : DriveState). d.medium) fresh.new.second ∙ fresh.second.medium))
 
   pub flags_free : (spares : ℕ) (waiting : List DriveCounts) → flags_of_both (shown driver new spares waiting).bays ≡ flags_of_both (both (fresh_bay None))
   flags_free spares waiting = ap flags_of_both (free_bays spares waiting)
