@@ -1,5 +1,5 @@
 -- Seeks whose pulses come in the time that SPECIFY sets.
-use Rattle.std.specs.Prelude.{◌≡◌, ℕ, ◌+◌, ◌-◌, ◌%◌, Bool, true, false, not, ◌==◌, ◌&&◌, ◌||◌, List, [], ◌∷◌, Option, Some, None, is_none, if◌then◌else◌, nat_le, nat_lt, unwrap_or}
+use Rattle.std.specs.Prelude.{◌≡◌, ℕ, ◌+◌, ◌-◌, Bool, true, false, not, ◌==◌, ◌&&◌, ◌||◌, Option, Some, None, is_none, if◌then◌else◌, nat_le, nat_lt, unwrap_or}
 use Rattle.fdc_sequencer.specs.Senses.{is_ready, recalibrated_outside}
 use Rattle.fdc_chip.specs.Chips.{ChipState, with_front}
 use Rattle.fdc_chip.specs.Doing.{SendsOn, drained, moving, moves_heads}

@@ -1,8 +1,8 @@
 -- Pulses that come in the time that SPECIFY sets: results that are taken over, and how many are left.
-use Rattle.std.proofs.Common.{◌≡◌, ℕ, zero, suc, ◌+◌, ◌-◌, ◌<◌, Bool, true, false, ◌&&◌, ◌||◌, ◌==◌, Option, None, Some, is_none, refl, sym, ◌∙◌, ap, arith}
+use Rattle.std.proofs.Common.{◌≡◌, ℕ, zero, suc, ◌+◌, ◌-◌, ◌<◌, Bool, true, false, ◌&&◌, ◌==◌, Option, None, Some, is_none, refl, sym, ◌∙◌, ap, arith}
 use Rattle.std.proofs.lemmas.Bool.{eqb-false, or_parts}
 use Rattle.fdc_chip.specs.Chips.{ChipState}
-use Rattle.fdc_chip.specs.Doing.{drained, is_told, pace_begun}
+use Rattle.fdc_chip.specs.Doing.{drained, is_told}
 use Rattle.fdc_chip.specs.Paces.{EndsAt, GoesOnIf, Paces, PulsesIf, is_due, is_over, stepped, target_of}
 use Rattle.fdc_chip.specs.declared.pace.Pace.{Pace}
 

@@ -7,19 +7,15 @@ use Rattle.fdc_commands.specs.declared.results.Results.{Results}
 use Rattle.fdc_core.specs.Ports.{resets}
 use Rattle.fdc_core.specs.Ranges.{IsInRange}
 use Rattle.fdc_core.specs.Steps.{steps_left}
-use Rattle.fdc_core.specs.declared.controller.Fdc.{Fdc}
 use Rattle.fdc_sequencer.specs.Fronts.{Front, WritesFront}
 use Rattle.fdc_sequencer.specs.Moves.{StepsFront}
 use Rattle.fdc_sequencer.specs.Transfers.{is_last}
 use Rattle.fdc_sequencer.specs.declared.opcode.Opcode.{Opcode}
 use Rattle.fdc_sequencer.specs.declared.opcode.Operation.TheVariants.{Read}
-use Rattle.fdc_sequencer.specs.declared.stage.Stage.{Stage as FrontStage}
-use Rattle.fdc_sequencer.specs.declared.stage.Stage.TheVariants.{Through, Collecting, Seeking, Moving, Telling}
-use Rattle.fdc_sequencer.specs.declared.transfer.Transfer.{Transfer}
+use Rattle.fdc_sequencer.specs.declared.stage.Stage.TheVariants.{Collecting}
 use Rattle.laws_sequencer.specs.Calls as behind
 use Rattle.laws_sequencer.specs.Lasting as lasting
 use Rattle.laws_sequencer.specs.Lasting.{HasRecords, is_under_way, most_steps}
-use Rattle.laws_sequencer.specs.Serving.{ServesAt, nothing_moved}
 use Rattle.laws_sequencer.proofs.Lasted.{Lasts, call_lasts, calls_last, first_lasts, lasts_some, unsought_last}
 use Rattle.fdc_chip.specs.Chips.{ChipState, is_data, passes_by_channel, passes_by_port, with_front}
 use Rattle.fdc_chip.specs.Doing.{Obeys, Sends, TransfersIf, absent_key, implies, is_size, reading_one, track_begun, with_last}

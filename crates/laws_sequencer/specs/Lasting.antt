@@ -1,5 +1,5 @@
 -- How long a command of several sectors lasts, in device steps.
-use Rattle.std.specs.Prelude.{◌≡◌, ◌<◌, ◌+◌, ◌-◌, ◌*◌, ◌%◌, ℕ, Bool, true, false, not, ◌&&◌, List, [], ◌∷◌, if◌then◌else◌}
+use Rattle.std.specs.Prelude.{◌≡◌, ◌+◌, ◌-◌, ◌*◌, ◌%◌, ℕ, Bool, true, false, not, ◌&&◌, List, [], ◌∷◌, if◌then◌else◌}
 use Rattle.fdc_commands.specs.declared.results.Results.{Results}
 use Rattle.fdc_sequencer.specs.Fronts.{Front}
 pub use Rattle.fdc_sequencer.specs.Ranges.{HasByteRecords, HasByteNumbers}
