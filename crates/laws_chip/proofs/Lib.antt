@@ -20,3 +20,4 @@ mod SinglesLast
 mod VerifiesLast
 mod TracksLast
 mod Edging
+mod Polled

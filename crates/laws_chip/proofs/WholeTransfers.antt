@@ -148,6 +148,7 @@ byte_attends code byte old new sound few heads completes writes =
         whole = sound.whole;
         free = comes_free old sound comes;
         none = refl;
+        gated = sound.lets_out (comes_free old sound comes);
         code = code_few old.count byte old.order few sound.code;
       };
       rests = at_rest old.stage old.front (ap is_busy at) sound.now;

@@ -4,3 +4,4 @@ pub mod Beginning
 pub mod Sound
 pub mod Lasting
 pub mod Edges
+pub mod Resets

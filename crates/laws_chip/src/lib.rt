@@ -5,5 +5,6 @@
 pub mod edges;
 pub mod endings;
 pub mod media;
+pub mod resets;
 pub mod soundness;
 pub mod transfers;
