@@ -21,3 +21,7 @@ mod VerifiesLast
 mod TracksLast
 mod Edging
 mod Polled
+mod Identified
+mod HeadsGoing
+mod SeeksBegun
+mod SeeksHeld

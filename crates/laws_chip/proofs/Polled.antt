@@ -105,7 +105,7 @@ front_fresh due old new step was quiet =
     let fdc = old.adapter.controller in
     let waits = ap (λ b. b && not (is_held fdc)) was.poll ∙ quiet in
     let now : IsFresh due step.between.controller = by_drive (IsFresh due) old.adapter step.between step.steps
-        (λ track0 rests. stays_fresh due track0 fdc step.between.controller (fresh_of due old was) waits rests) in
+    (λ track0 rests. stays_fresh due track0 fdc step.between.controller (fresh_of due old was) waits rests) in
     let stays = adapter_stays old.adapter step.between step.steps in
     subst (StaysFresh due old) (sym is) (record {
       fresh = record { through = was.through; takes = now.takes; whole = now.whole; seeks = now.seeks; poll = now.poll; down = now.down };
@@ -138,13 +138,13 @@ awaits_on old new was step held =
 
 -- ---- the results are taken over
 
-abbrev build : Front → FrontStage → Phase → List ℕ → Seeking → Bool → Bool → Front
+abbrev pub build : Front → FrontStage → Phase → List ℕ → Seeking → Bool → Bool → Front
 build front stage phase command seeks due up = record front {
   stage = stage;
   adapter = record front.adapter { controller = record front.adapter.controller { phase = phase; command = command; seeks = seeks; poll_due = due; interrupt = up } };
 }
 
-built : (front : Front) (stage : FrontStage) (phase : Phase) (command : List ℕ) (seeks : Seeking) (due up : Bool) → front.stage ≡ stage → front.adapter.controller.phase ≡ phase
+pub built : (front : Front) (stage : FrontStage) (phase : Phase) (command : List ℕ) (seeks : Seeking) (due up : Bool) → front.stage ≡ stage → front.adapter.controller.phase ≡ phase
     → front.adapter.controller.command ≡ command → front.adapter.controller.seeks ≡ seeks → front.adapter.controller.poll_due ≡ due → front.adapter.controller.interrupt ≡ up
     → front ≡ build front stage phase command seeks due up
 built front stage phase command seeks due up a b c d e f =
@@ -196,7 +196,7 @@ poll_step old new sound was free step =
     let front = step.between in
     let through = through_step old.front front step.steps was.behind.through in
     let now : IsPolled step.steps.between.controller = by_drive IsPolled old.front.adapter step.steps.between step.steps.steps
-        (λ track0 rests. polls_now track0 fdc step.steps.between.controller (fresh_of true old.front was.behind) free rests) in
+    (λ track0 rests. polls_now track0 fdc step.steps.between.controller (fresh_of true old.front was.behind) free rests) in
     let stays = adapter_stays old.front.adapter step.steps.between step.steps.steps in
     let at : front.stage ≡ Through = ap (λ (f : Front). f.stage) through ∙ was.behind.through in
     let controller : front.adapter.controller ≡ step.steps.between.controller = ap (λ (f : Front). f.adapter.controller) through in
@@ -230,12 +230,12 @@ polls_come old new sound was free step = (poll_step old new sound was free step)
 no_passes : (chip : ChipState) → chip.stage ≡ Ready → passes chip ≡ false
 no_passes chip at = ap (λ stage. passes_at stage && not (is_format chip.order && (chip.keys == 0))) at
 
-and_true : (b : Bool) → (b && true) ≡ b
+pub and_true : (b : Bool) → (b && true) ≡ b
 and_true true = refl
 and_true false = refl
 
 -- where nothing is under way it is that of results, or of what stands behind
-ready_interrupts : (chip : ChipState) → chip.stage ≡ Ready → interrupts_chip chip ≡ (chip.gated && (chip.interrupts.line || interrupts_outside chip.front))
+pub ready_interrupts : (chip : ChipState) → chip.stage ≡ Ready → interrupts_chip chip ≡ (chip.gated && (chip.interrupts.line || interrupts_outside chip.front))
 ready_interrupts chip at =
     ap (λ b. chip.gated && (if b then asks_outside chip.front else (chip.interrupts.line || shows_behind chip.stage chip.front))) (and_right (is_by_port chip.settings) (passes chip) (no_passes chip at))
     ∙ ap (λ stage. chip.gated && (chip.interrupts.line || shows_behind stage chip.front)) at

@@ -5,3 +5,5 @@ pub mod Sound
 pub mod Lasting
 pub mod Edges
 pub mod Resets
+pub mod Identifying
+pub mod Seeks

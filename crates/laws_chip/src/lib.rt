@@ -4,7 +4,9 @@
 
 pub mod edges;
 pub mod endings;
+pub mod identifying;
 pub mod media;
 pub mod resets;
+pub mod seeks;
 pub mod soundness;
 pub mod transfers;

@@ -9,7 +9,7 @@ mod Outcome
 pub mod Called
 pub mod Whole
 mod LateLooks
-mod LateHearing
+pub mod LateHearing
 mod LateWriting
 pub mod Medium
 mod Silent
