@@ -25,3 +25,4 @@ mod Identified
 mod HeadsGoing
 mod SeeksBegun
 mod SeeksHeld
+mod Prompt

@@ -28,8 +28,8 @@ use Rattle.fdc_chip.specs.declared.order.Order.{Order}
 use Rattle.fdc_chip.specs.declared.pace.Pace.{Pace}
 use Rattle.fdc_chip.specs.declared.stage.Stage.TheVariants.{Ready}
 use Rattle.laws_chip.specs.Beginning.{Completes, completed, still_moves}
-use Rattle.laws_chip.specs.Seeks.{GoesTo, HeadsGo, SeeksBehind, goal_of, steps_left}
-use Rattle.laws_chip.specs.Sound.{IsSound, RestsBehind}
+use Rattle.laws_chip.specs.Seeks.{HeadsGo, IsSoundInRange, SeeksBehind, goal_of, most_of, steps_left}
+use Rattle.laws_chip.specs.Sound.{RestsBehind}
 use Rattle.laws_chip.proofs.Attended.{free_stands}
 use Rattle.laws_chip.proofs.Rests.{IsResting, drained_rests}
 use Rattle.laws_chip.proofs.Sending.{recalibrate_obeyed, seek_obeyed}
@@ -224,7 +224,7 @@ motion_within (Toward cylinder target) (first, second) = omega arith
 motion_within Ended few = omega arith
 
 given_seeks : (unit : ℕ) (goal : Option ℕ) (start new : Front) → Stands start → start.adapter.controller.seeks.pending ≡ none_pending → start.adapter.controller.poll_due ≡ false → IsInRange new.adapter.controller
-    → Sends (moving unit goal) start new → SeeksBehind 256 (unit % 4) goal new
+    → Sends (moving unit goal) start new → SeeksBehind (most_of goal) (unit % 4) goal new
 given_seeks unit None start new stands none polled range sends =
     let obeyed = recalibrate_obeyed unit start new stands sends in
     let is : new.adapter.controller ≡ recalibrating unit (record start.adapter.controller { command = [] }) = obeyed.obeys.0 stands.rests in
@@ -270,13 +270,13 @@ of_four n = omega arith
 
 -- ---- its last byte
 
-pub seek_comes : (code : Code) (goal : Option ℕ) (byte : ℕ) (old new : ChipState) → IsSound old → IsInRange old.front.adapter.controller → IsInRange new.front.adapter.controller → byte < 256
+pub seek_comes : (code : Code) (goal : Option ℕ) (byte : ℕ) (old new : ChipState) → IsSoundInRange old → IsSoundInRange new → byte < 256
     → Completes code byte old → goal_of code (completed byte old) (drained old).interrupts ≡ Some goal → WritesChip 0x3F5 byte old new → still_moves old ≡ false → old.paced ≡ false
-    → old.front.adapter.controller.poll_due ≡ false → HeadsGo 256 ((completed byte old).unit % 4) goal Ready new
-seek_comes code goal byte old new sound range range_after few completes is writes still unpaced polled =
+    → old.front.adapter.controller.poll_due ≡ false → HeadsGo (most_of goal) ((completed byte old).unit % 4) goal Ready new
+seek_comes code goal byte old new was is_after few completes is writes still unpaced polled =
     let heads = goal_heads code (completed byte old) (drained old).interrupts goal is in
     let start = attending byte old in
-    let attended = byte_attends code byte old new sound few heads completes writes in
+    let attended = byte_attends code byte old new was.sound few heads completes writes in
     let set = drained start in
     let resting : IsResting start set = drained_rests 4 start attended.basis.whole attended.rests in
     let stays : still_moves start ≡ false = same_moves start old refl refl ∙ still in
@@ -287,10 +287,10 @@ seek_comes code goal byte old new sound range range_after few completes is write
     ∙ (ap (λ (i : Interrupting). goal_of code (completed byte old) i) (drained_interrupts 4 start old refl refl) ∙ is) in
     let moves : MovesIf set.paced goal set new = goal_moves code goal set new same obeys in
     let (sends, rest) = subst (λ b. MovesIf b goal set new) (drained_paced 4 start ∙ unpaced) moves in
-    let taken = all_taken start (record { through = attended.rests.through; takes = attended.rests.takes; whole = attended.basis.whole; free = attended.basis.free }) range.seeks.pending in
-    subst (λ (order : Order). HeadsGo 256 (order.unit % 4) goal Ready new) resting.order (record {
+    let taken = all_taken start (record { through = attended.rests.through; takes = attended.rests.takes; whole = attended.basis.whole; free = attended.basis.free }) was.range.seeks.pending in
+    subst (λ (order : Order). HeadsGo (most_of goal) (order.unit % 4) goal Ready new) resting.order (record {
       at = ap (λ (chip : ChipState). chip.stage) rest;
       unpaced = ap (λ (chip : ChipState). chip.pace) rest ∙ none_of set.pace (or_parts (is_some set.pace) (moves_heads set.front) stays).0;
       few = of_four set.order.unit;
-      going = given_seeks set.order.unit goal set.front new.front stands taken.pending (taken.taken.poll ∙ polled) range_after sends;
+      going = given_seeks set.order.unit goal set.front new.front stands taken.pending (taken.taken.poll ∙ polled) is_after.range sends;
     })

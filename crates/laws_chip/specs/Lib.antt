@@ -7,3 +7,4 @@ pub mod Edges
 pub mod Resets
 pub mod Identifying
 pub mod Seeks
+pub mod InTime

@@ -4,6 +4,7 @@ use Rattle.fdc_commands.specs.Seeking.{recalibrated, sought}
 use Rattle.fdc_commands.specs.declared.motion.Motion.{Motion}
 use Rattle.fdc_commands.specs.declared.motion.Motion.TheVariants.{Outward, Toward, Ended}
 use Rattle.fdc_phases.specs.declared.phases.Phase.TheVariants.{Command as Taking}
+use Rattle.fdc_core.specs.Ranges.{IsInRange}
 use Rattle.fdc_core.specs.State.{is_held}
 use Rattle.fdc_adapter.specs.Adapters.{lines_at}
 use Rattle.fdc_sequencer.specs.Fronts.{Front}
@@ -16,6 +17,12 @@ use Rattle.fdc_chip.specs.declared.code.Code.TheVariants.{Recalibrate, RelativeS
 use Rattle.fdc_chip.specs.declared.order.Order.{Order}
 use Rattle.fdc_chip.specs.declared.stage.Stage.{Stage}
 use Rattle.fdc_chip.specs.declared.stage.Stage.TheVariants.{Ready, Held}
+use Rattle.laws_chip.specs.Sound.{IsSound}
+
+-- a sound chip, with numbers in the controller that its registers hold
+pub record IsSoundInRange (chip : ChipState) : Type 0 where
+  pub sound : IsSound chip
+  pub range : IsInRange chip.front.adapter.controller
 
 -- ---- where heads go
 
@@ -36,6 +43,11 @@ abbrev pub steps_left : Motion → ℕ
 steps_left (Outward pulses) = pulses + 1
 steps_left (Toward cylinder target) = (cylinder - target) + (target - cylinder) + 1
 steps_left Ended = 0
+
+-- and those of a whole one: 79 pulses of a RECALIBRATE, or those over 255 cylinders, and one step more
+abbrev pub most_of : Option ℕ → ℕ
+most_of None = 80
+most_of (Some target) = 256
 
 -- ST0 at its end, by the track 0 line: 20 with the drive, and 70 for a RECALIBRATE that doesn't reach track 0
 abbrev pub status_at_end : Option ℕ → ℕ → Bool → ℕ

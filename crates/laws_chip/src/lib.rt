@@ -9,4 +9,5 @@ pub mod media;
 pub mod resets;
 pub mod seeks;
 pub mod soundness;
+pub mod timing;
 pub mod transfers;

@@ -1,6 +1,5 @@
 // Seeks and their end. The bodies are empty: the contracts say what follows from what each call does.
 ghost use Rattle.std.specs.Prelude.{◌≡◌, ◌⊎◌, ◌+◌, ◌<◌, ◌%◌, ℕ, Option, Some, true, false};
-ghost use Rattle.fdc_core.specs.Ranges.{IsInRange};
 ghost use Rattle.fdc_chip.specs.Chips.{ChipState, interrupts_chip};
 ghost use Rattle.fdc_chip.specs.Codes.{code_of};
 ghost use Rattle.fdc_chip.specs.Doing.{drained, needs_heads};
@@ -13,16 +12,15 @@ ghost use Rattle.fdc_chip.specs.declared.stage.Stage.TheVariants.{Ready, Held};
 ghost use Rattle.laws_chip.specs.Beginning.{Completes, IsDoneFree, IsHeldFor, completed, still_moves};
 ghost use Rattle.laws_chip.specs.Calls.{Call, Does, is_reset, is_step};
 ghost use Rattle.laws_chip.specs.Resets.{is_of_data_port};
-ghost use Rattle.laws_chip.specs.Seeks.{EndsBySignal, HeadsGo, goal_of, waits_for_heads};
+ghost use Rattle.laws_chip.specs.Seeks.{EndsBySignal, HeadsGo, IsSoundInRange, goal_of, most_of, waits_for_heads};
 ghost use Rattle.laws_chip.specs.Sound.{IsSound};
 
-/// The last byte of a SEEK, RECALIBRATE or RELATIVE SEEK lets the heads of its drive go, for 256 device steps at most, where heads stand and the
+/// The last byte of a SEEK, RECALIBRATE or RELATIVE SEEK lets the heads of its drive go, for 256 device steps at most, and 80 of a RECALIBRATE, where heads stand and the
 /// strap for the time of step pulses is off. They go on through all other calls but a reset, also while a command is held.
 pub fn a_seek_begins()
-    ensures comes { (code : Code) (goal : Option ℕ) (byte : ℕ) (old new : ChipState) → IsSound old → IsInRange old.front.adapter.controller
-        → IsInRange new.front.adapter.controller → byte < 256 → Completes code byte old → goal_of code (completed byte old) (drained old).interrupts ≡ Some goal
+    ensures comes { (code : Code) (goal : Option ℕ) (byte : ℕ) (old new : ChipState) → IsSoundInRange old → IsSoundInRange new → byte < 256 → Completes code byte old → goal_of code (completed byte old) (drained old).interrupts ≡ Some goal
         → WritesChip 0x3F5 byte old new → still_moves old ≡ false → old.paced ≡ false → old.front.adapter.controller.poll_due ≡ false
-        → HeadsGo 256 ((completed byte old).unit % 4) goal Ready new }
+        → HeadsGo (most_of goal) ((completed byte old).unit % 4) goal Ready new }
     ensures stays { (left drive : ℕ) (goal : Option ℕ) (stage : Stage) (made : Call) (old new : ChipState) → waits_for_heads stage ≡ true → HeadsGo left drive goal stage old
         → Does made old new → is_step made ≡ false → is_reset made ≡ false → is_of_data_port made ≡ false → HeadsGo left drive goal stage new }
 {}

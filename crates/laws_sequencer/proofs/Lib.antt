@@ -1,6 +1,6 @@
 mod Marks
 pub mod Known
-mod Started
+pub mod Started
 pub mod Free
 mod Courses
 mod Judged
