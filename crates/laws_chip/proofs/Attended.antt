@@ -176,10 +176,10 @@ read_id_sound false old new basis stands begins = id_sound (task.Refused old.ord
 
 -- what DUMPREG gives is noted
 noted_basis : (last_sector : ℕ) (old : ChipState) → IsBasis old → IsBasis (with_last last_sector old)
-noted_basis last_sector old basis = record { by_dma = basis.by_dma; whole = basis.whole; free = basis.free; none = basis.none; code = basis.code }
+noted_basis last_sector old basis = record { by_dma = basis.by_dma; whole = basis.whole; free = basis.free; none = basis.none; gated = basis.gated; code = basis.code }
 
 keyed_basis : (sectors : ℕ) (old : ChipState) → IsBasis old → IsBasis (with_keys sectors old)
-keyed_basis sectors old basis = record { by_dma = basis.by_dma; whole = basis.whole; free = basis.free; none = basis.none; code = basis.code }
+keyed_basis sectors old basis = record { by_dma = basis.by_dma; whole = basis.whole; free = basis.free; none = basis.none; gated = basis.gated; code = basis.code }
 
 -- FORMAT TRACK
 formats_sound : (b mfm : Bool) (old new : ChipState) → IsBasis old → Stands old.front → (mfm && is_size old.order.key.c) ≡ b → FormatsIf b mfm old new → IsSound new

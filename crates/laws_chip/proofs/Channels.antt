@@ -288,6 +288,8 @@ pub record IsLeft (old new : Fdc) : Type 0 where
   pub seeks : new.seeks ≡ old.seeks
   pub non_dma : new.non_dma ≡ old.non_dma
   pub command : new.command ≡ old.command
+  pub poll : new.poll_due ≡ old.poll_due
+  pub interrupt : new.interrupt ≡ old.interrupt
   pub free : is_held new ≡ true → is_held old ≡ true
 
 left_as : (old set new : Fdc) → IsLeft old set → new ≡ set → IsLeft old new
@@ -305,18 +307,18 @@ pub port_left : (port value : ℕ) (lines : Lines) (old new : Fdc) → Writes po
 port_left port value lines old new writes no_byte no_reset = either_way (port == 0x3F2)
     (λ output.
     let quiet : dor_resets value ≡ false = sym (ap (λ b. if b then dor_resets value else (if port == 0x3F4 then dsr_resets value else false)) output) ∙ no_reset in
-    left_as old _ new (unreset (dor_resets value) old (record old { dor = record { 0 = value } }) quiet (record { phase = refl; seeks = refl; non_dma = refl; command = refl; free = dor_free value old quiet }))
+    left_as old _ new (unreset (dor_resets value) old (record old { dor = record { 0 = value } }) quiet (record { phase = refl; seeks = refl; non_dma = refl; command = refl; poll = refl; interrupt = refl; free = dor_free value old quiet }))
     (writes.output (eqb-true port 0x3F2 output)))
     (λ no_output. either_way (port == 0x3F4)
     (λ select.
     let quiet : dsr_resets value ≡ false =
     sym (ap (λ b. if b then dsr_resets value else false) select)
     ∙ (sym (ap (λ b. if b then dor_resets value else (if port == 0x3F4 then dsr_resets value else false)) no_output) ∙ no_reset) in
-    left_as old _ new (unreset (dsr_resets value) old (record old { rate = rate_chosen value }) quiet (record { phase = refl; seeks = refl; non_dma = refl; command = refl; free = λ held. held }))
+    left_as old _ new (unreset (dsr_resets value) old (record old { rate = rate_chosen value }) quiet (record { phase = refl; seeks = refl; non_dma = refl; command = refl; poll = refl; interrupt = refl; free = λ held. held }))
     (writes.select (eqb-true port 0x3F4 select)))
     (λ no_select. either_way (port == 0x3F7)
-    (λ control. left_as old _ new (record { phase = refl; seeks = refl; non_dma = refl; command = refl; free = λ held. held }) (writes.control (eqb-true port 0x3F7 control)))
-    (λ no_control. left_as old _ new (record { phase = refl; seeks = refl; non_dma = refl; command = refl; free = λ held. held }) (writes.others no_output no_select no_byte no_control))))
+    (λ control. left_as old _ new (record { phase = refl; seeks = refl; non_dma = refl; command = refl; poll = refl; interrupt = refl; free = λ held. held }) (writes.control (eqb-true port 0x3F7 control)))
+    (λ no_control. left_as old _ new (record { phase = refl; seeks = refl; non_dma = refl; command = refl; poll = refl; interrupt = refl; free = λ held. held }) (writes.others no_output no_select no_byte no_control))))
 
 pub front_left : (port value : ℕ) (old new : Front) → WritesFront port value old new → (port == 0x3F5) ≡ false → resets port value ≡ false → IsLeft old.adapter.controller new.adapter.controller
 front_left port value old new writes no_byte no_reset =

@@ -12,7 +12,7 @@ use Rattle.fdc_commands.specs.declared.command.Command.TheVariants.{ReadData, Wr
 use Rattle.fdc_phases.specs.declared.phases.Phase.TheVariants.{Command as Taking}
 use Rattle.fdc_core.specs.Commands.{BeginsData, Obeys, TakesAs, seeking}
 use Rattle.fdc_core.specs.Ports.{is_taking}
-use Rattle.fdc_core.specs.State.{is_held}
+use Rattle.fdc_core.specs.State.{is_gated, is_held}
 use Rattle.fdc_core.specs.Whole.{TakesWhole, is_idle}
 use Rattle.fdc_core.specs.declared.controller.Fdc.{Fdc}
 use Rattle.fdc_core.specs.declared.controller.Lines.{Lines}
@@ -39,6 +39,9 @@ pub record IsBase (old new : Fdc) : Type 0 where
 
 pub base_held : (old new : Fdc) → IsBase old new → is_held new ≡ is_held old
 base_held old new base = ap (λ (dor : Dor). is_held (record old { dor = dor })) base.dor
+
+pub base_gated : (old new : Fdc) → IsBase old new → is_gated new ≡ is_gated old
+base_gated old new base = ap (λ (dor : Dor). is_gated (record old { dor = dor })) base.dor
 
 base_as : (old set new : Fdc) → IsBase old set → new ≡ set → IsBase old new
 base_as old set new base is = subst (IsBase old) (sym is) base

@@ -21,3 +21,9 @@ mod VerifiesLast
 mod TracksLast
 mod Edging
 mod Paced
+mod Polled
+mod Identified
+mod HeadsGoing
+mod SeeksBegun
+mod SeeksHeld
+mod Prompt

@@ -1,12 +1,12 @@
 -- A sound chip through each call.
-use Rattle.std.proofs.Common.{◌≡◌, inl, inr, ℕ, ◌+◌, ◌<◌, nat_le, Bool, true, false, not, ◌&&◌, ◌==◌, if◌then◌else◌, Option, List, [], ◌∷◌, length, refl, sym, ◌∙◌, ap, subst, arith}
-use Rattle.std.proofs.lemmas.Bool.{and_parts, eqb-true, false≢true, not-true, or_cases}
+use Rattle.std.proofs.Common.{◌≡◌, inl, inr, ℕ, ◌+◌, ◌<◌, nat_le, Bool, true, false, not, ◌&&◌, ◌==◌, if◌then◌else◌, Option, List, [], ◌∷◌, length, bit_and, bit_or, refl, sym, ◌∙◌, ap, subst, arith}
+use Rattle.std.proofs.lemmas.Bool.{agree_below_at, and_parts, eqb-true, false≢true, not-true, or_cases}
 use Rattle.drive_model.specs.Drive.{DriveState}
 use Rattle.fdc_commands.specs.Seeking.{Seeking, at_rest}
 use Rattle.fdc_phases.specs.Rates.{rate_chosen}
 use Rattle.fdc_phases.specs.declared.phases.Phase.TheVariants.{Command as Taking}
 use Rattle.fdc_core.specs.Ports.{Writes, dor_resets, dsr_resets, resets}
-use Rattle.fdc_core.specs.State.{is_held, reset}
+use Rattle.fdc_core.specs.State.{is_gated, is_held, reset}
 use Rattle.fdc_core.specs.declared.controller.Fdc.{Fdc}
 use Rattle.fdc_core.specs.declared.controller.Lines.{Lines}
 use Rattle.fdc_adapter.specs.Adapters.{lines_at}
@@ -51,7 +51,7 @@ busy_sound what old new at sound rest busy base =
 
 -- of a FORMAT TRACK one byte fewer is left
 given_sound : (was : Bool) (old : ChipState) → IsSound old → IsSound (given_one was old)
-given_sound was old sound = record { by_dma = sound.by_dma; whole = sound.whole; held = sound.held; comes = sound.comes; code = sound.code; now = sound.now }
+given_sound was old sound = record { by_dma = sound.by_dma; whole = sound.whole; held = sound.held; lets_out = sound.lets_out; comes = sound.comes; code = sound.code; now = sound.now }
 
 takes_sound : (b : Bool) (byte : Option ℕ) (old new : ChipState) → passes_by_channel old ≡ b → IsSound old → TakesIf b old byte new → IsSound new
 takes_sound true byte old new shown sound (takes, rest) =
@@ -100,7 +100,7 @@ counts_at (Busy (task.Track track)) old new at sound is =
     let told : Task = task.Track (record track { counted = true }) in
     let basis = sound_basis old (ap parts.is_ready at) sound in
     counted_sound (is_data track.place) told (record old { stage = Busy told }) new
-    (record { by_dma = basis.by_dma; whole = basis.whole; free = basis.free; none = basis.none; code = basis.code }) (busy_at old (task.Track track) at sound) refl is
+    (record { by_dma = basis.by_dma; whole = basis.whole; free = basis.free; none = basis.none; gated = basis.gated; code = basis.code }) (busy_at old (task.Track track) at sound) refl is
 
 -- ---- reads
 
@@ -185,12 +185,14 @@ collects_sound true byte old new at few sound free attends =
       whole = sound.whole;
       free = free;
       none = refl;
+      gated = sound.lets_out free;
       code = code_few old.count byte old.order few sound.code;
     }) (parts.at_rest old.stage old.front (ap is_busy at) sound.now) refl attends
 collects_sound false byte old new at few sound free is = subst IsSound (sym is) (record {
   by_dma = sound.by_dma;
   whole = sound.whole;
   held = λ held. clash (is_held old.front.adapter.controller) free held;
+  lets_out = sound.lets_out;
   comes = λ some. at;
   code = code_few old.count byte old.order few sound.code;
   now = sound.now;
@@ -210,17 +212,19 @@ data_write (Telling answer read) value old new at few sound gives = write_sound 
 -- ---- a reset
 
 -- the controller takes commands, or is held in reset, and no seek bit is set
-record IsAnew (old new : Fdc) : Type 0 where
-  takes : new.phase ≡ Taking
-  command : new.command ≡ []
-  seeks : new.seeks ≡ at_rest
-  non_dma : new.non_dma ≡ old.non_dma
+pub record IsAnew (old new : Fdc) : Type 0 where
+  pub takes : new.phase ≡ Taking
+  pub command : new.command ≡ []
+  pub seeks : new.seeks ≡ at_rest
+  pub non_dma : new.non_dma ≡ old.non_dma
+  pub poll : new.poll_due ≡ true
+  pub down : new.interrupt ≡ false
 
 anew_as : (old set new : Fdc) → IsAnew old set → new ≡ set → IsAnew old new
 anew_as old set new anew is = subst (IsAnew old) (sym is) anew
 
 reset_anew : (b : Bool) (old set : Fdc) → b ≡ true → set.non_dma ≡ old.non_dma → IsAnew old (if b then reset set else set)
-reset_anew true old set is same = record { takes = refl; command = refl; seeks = refl; non_dma = same }
+reset_anew true old set is same = record { takes = refl; command = refl; seeks = refl; non_dma = same; poll = refl; down = refl }
 reset_anew false old set is same = absurd (false≢true is)
 
 port_anew : (port value : ℕ) (lines : Lines) (old new : Fdc) → Writes port value lines old new → (port == 0x3F5) ≡ false → resets port value ≡ true → IsAnew old new
@@ -238,27 +242,54 @@ port_anew port value lines old new writes no_byte anew = either_way (port == 0x3
     (sym (ap (λ b. if b then dsr_resets value else false) no_select)
     ∙ (sym (ap (λ b. if b then dor_resets value else (if port == 0x3F4 then dsr_resets value else false)) no_output) ∙ anew)))))
 
-front_anew : (port value : ℕ) (old new : Front) → WritesFront port value old new → (port == 0x3F5) ≡ false → resets port value ≡ true → IsAnew old.adapter.controller new.adapter.controller × (new.stage ≡ Through)
+pub front_anew : (port value : ℕ) (old new : Front) → WritesFront port value old new → (port == 0x3F5) ≡ false → resets port value ≡ true → IsAnew old.adapter.controller new.adapter.controller × (new.stage ≡ Through)
 front_anew port value old new writes no_byte anew =
     let (wrote, is) = writes.others no_byte in (
       port_anew port value (lines_at old.adapter) old.adapter.controller new.adapter.controller wrote.writes no_byte anew,
       ap (λ (front : Front). front.stage) (subst (λ b. new ≡ record (fronts.reset_if b old) { adapter = new.adapter }) anew is),
     )
 
-port_write : (b : Bool) (port value : ℕ) (old new : ChipState) → resets port value ≡ b → (port == 0x3F5) ≡ false → IsSound old → WritesFront port value old.front new.front
+-- DOR is told to let INT and DRQ out, whatever is written
+abbrev LetsOut : Fdc → Type 0
+LetsOut fdc = is_held fdc ≡ false → is_gated fdc ≡ true
+
+gated_byte : (value : ℕ) → value < 256 → (bit_and (bit_or value 8) 8 == 8) ≡ true
+gated_byte value few = agree_below_at (λ n. bit_and (bit_or n 8) 8 == 8) (λ _. true) 256 value refl few
+
+reset_out : (b : Bool) (set : Fdc) → LetsOut set → LetsOut (if b then reset set else set)
+reset_out true set out = out
+reset_out false set out = out
+
+port_lets_out : (port value : ℕ) (lines : Lines) (old new : Fdc) → value < 256 → Writes port (value_behind port value) lines old new → (port == 0x3F5) ≡ false → LetsOut old → LetsOut new
+port_lets_out port value lines old new few writes no_byte out = either_way (port == 0x3F2)
+    (λ output.
+    let given = value_behind port value in
+    let is : given ≡ bit_or value 8 = ap (λ b. if b then bit_or value 8 else value) output in
+    subst LetsOut (sym (writes.output (eqb-true port 0x3F2 output)))
+    (reset_out (dor_resets given) (record old { dor = record { 0 = given } }) (λ free. ap (λ v. bit_and v 8 == 8) is ∙ gated_byte value few)))
+    (λ no_output. either_way (port == 0x3F4)
+    (λ select.
+    let given = value_behind port value in
+    subst LetsOut (sym (writes.select (eqb-true port 0x3F4 select))) (reset_out (dsr_resets given) (record old { rate = rate_chosen given }) out))
+    (λ no_select. either_way (port == 0x3F7)
+    (λ control. subst LetsOut (sym (writes.control (eqb-true port 0x3F7 control))) out)
+    (λ no_control. subst LetsOut (sym (writes.others no_output no_select no_byte no_control)) out)))
+
+port_write : (b : Bool) (port value : ℕ) (old new : ChipState) → resets port value ≡ b → (port == 0x3F5) ≡ false → IsSound old → LetsOut new.front.adapter.controller → WritesFront port value old.front new.front
     → new ≡ with_front new.front (reset_if b old) → IsSound new
-port_write true port value old new anew no_data sound writes rest =
+port_write true port value old new anew no_data sound out writes rest =
     let (is, through) = front_anew port value old.front new.front writes no_data anew in
     record {
       by_dma = is.non_dma ∙ sound.by_dma;
       whole = is.command;
       held = λ held. (ap (λ (chip : ChipState). chip.stage) rest, ap (λ (chip : ChipState). chip.count) rest);
+      lets_out = out;
       comes = λ some. ap (λ (chip : ChipState). chip.stage) rest;
       code = subst (λ (order : Order). order.code < 256) (sym (ap (λ (chip : ChipState). chip.order) rest)) sound.code;
       now = subst (λ stage. IsSoundAt stage new.front) (sym (ap (λ (chip : ChipState). chip.stage) rest))
           (record { through = through; takes = is.takes; seek = subst (λ (seeks : Seeking). IsOfFour seeks.seek) (sym is.seeks) tt });
     }
-port_write false port value old new quiet no_data sound writes rest =
+port_write false port value old new quiet no_data sound out writes rest =
     let left = front_left port value old.front new.front writes no_data quiet in
     let stage : new.stage ≡ old.stage = ap (λ (chip : ChipState). chip.stage) rest in
     let count : new.count ≡ old.count = ap (λ (chip : ChipState). chip.count) rest in
@@ -266,6 +297,7 @@ port_write false port value old new quiet no_data sound writes rest =
       by_dma = left.non_dma ∙ sound.by_dma;
       whole = left.command ∙ sound.whole;
       held = λ held. let was = sound.held (left.free held) in (stage ∙ was.0, count ∙ was.1);
+      lets_out = out;
       comes = λ some. stage ∙ sound.comes (sym (ap (λ n. n == 0) count) ∙ some);
       code = subst (λ (order : Order). order.code < 256) (sym (ap (λ (chip : ChipState). chip.order) rest)) sound.code;
       now = subst (λ s. IsSoundAt s new.front) (sym stage) (by_stage old.stage sound.now);
@@ -286,7 +318,7 @@ port_write false port value old new quiet no_data sound writes rest =
 
 -- INT and DRQ are let out or kept in
 gated_sound : (port value : ℕ) (old : ChipState) → IsSound old → IsSound (gated_by port value old)
-gated_sound port value old sound = record { by_dma = sound.by_dma; whole = sound.whole; held = sound.held; comes = sound.comes; code = sound.code; now = sound.now }
+gated_sound port value old sound = record { by_dma = sound.by_dma; whole = sound.whole; held = sound.held; lets_out = sound.lets_out; comes = sound.comes; code = sound.code; now = sound.now }
 
 writes_sound : (port value : ℕ) (old new : ChipState) → value < 256 → IsSound old → WritesChip port value old new → IsSound new
 writes_sound port value old new few sound writes = either_way (port == 0x3F5)
@@ -294,7 +326,8 @@ writes_sound port value old new few sound writes = either_way (port == 0x3F5)
     (λ no_data.
     let (front, rest) = writes.others no_data in
     let given = value_behind port value in
-    port_write (resets port given) port given (gated_by port value old) new refl no_data (gated_sound port value old sound) front rest)
+    port_write (resets port given) port given (gated_by port value old) new refl no_data (gated_sound port value old sound)
+    (port_lets_out port value (lines_at old.front.adapter) old.front.adapter.controller new.front.adapter.controller few (front.others no_data).0.writes no_data sound.lets_out) front rest)
 
 -- ---- media, and the straps
 
@@ -324,11 +357,11 @@ changes_sound old new keeps sound =
 
 straps_sound : (on : Bool) (old new : ChipState) → new ≡ record old { strapped = on } → IsSound old → IsSound new
 straps_sound on old new is sound =
-    subst IsSound (sym is) (record { by_dma = sound.by_dma; whole = sound.whole; held = sound.held; comes = sound.comes; code = sound.code; now = sound.now })
+    subst IsSound (sym is) (record { by_dma = sound.by_dma; whole = sound.whole; held = sound.held; lets_out = sound.lets_out; comes = sound.comes; code = sound.code; now = sound.now })
 
 steps_sound : (on : Bool) (old new : ChipState) → new ≡ record old { paced = on } → IsSound old → IsSound new
 steps_sound on old new is sound =
-    subst IsSound (sym is) (record { by_dma = sound.by_dma; whole = sound.whole; held = sound.held; comes = sound.comes; code = sound.code; now = sound.now })
+    subst IsSound (sym is) (record { by_dma = sound.by_dma; whole = sound.whole; held = sound.held; lets_out = sound.lets_out; comes = sound.comes; code = sound.code; now = sound.now })
 
 -- ---- all calls
 
@@ -352,6 +385,7 @@ new_sound bay0 bay1 new is =
       by_dma = ap (λ (fdc : Fdc). fdc.non_dma) controller;
       whole = ap (λ (fdc : Fdc). fdc.command) controller;
       held = λ held. (is.stage, is.count);
+      lets_out = λ free. clash (is_held new.front.adapter.controller) free (ap is_held controller);
       comes = λ some. is.stage;
       code = subst (λ (order : Order). order.code < 256) (sym is.order) (omega arith);
       now = subst (λ stage. IsSoundAt stage new.front) (sym is.stage) (record {
@@ -379,6 +413,7 @@ with_settings chip other sound = record {
   by_dma = sound.by_dma;
   whole = sound.whole;
   held = sound.held;
+  lets_out = sound.lets_out;
   comes = sound.comes;
   code = sound.code;
   now = sound.now;

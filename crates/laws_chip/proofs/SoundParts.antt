@@ -1,7 +1,7 @@
 -- What makes a chip sound, from what it was.
 use Rattle.std.proofs.Common.{◌≡◌, ◌<◌, Bool, true, false, not, ◌&&◌, ◌==◌, [], refl, sym, ◌∙◌, ap, subst}
 use Rattle.std.proofs.lemmas.Bool.{and_parts, eqb-true, false≢true}
-use Rattle.fdc_core.specs.State.{is_held}
+use Rattle.fdc_core.specs.State.{is_gated, is_held}
 use Rattle.fdc_sequencer.specs.Fronts.{Front}
 use Rattle.fdc_chip.specs.Chips.{ChipState, passes, passes_at, with_front}
 use Rattle.fdc_chip.specs.Orders.{is_format}
@@ -10,7 +10,7 @@ use Rattle.fdc_chip.specs.declared.stage.Stage.{Stage}
 use Rattle.fdc_chip.specs.declared.stage.Stage.TheVariants.{Ready, Held, Busy, Telling}
 use Rattle.fdc_chip.specs.declared.stage.Task.{Task}
 use Rattle.laws_chip.specs.Sound.{IsBusyWith, IsSound, IsSoundAt, RestsBehind}
-use Rattle.laws_chip.proofs.FirstSectors.{IsBase, base_held}
+use Rattle.laws_chip.proofs.FirstSectors.{IsBase, base_gated, base_held}
 use Rattle.laws_chip.proofs.Rests.{stands_rests}
 use Rattle.laws_chip.proofs.Standing.{Stands}
 use Rattle.laws_chip.proofs.UnderWay.{clash, either_way}
@@ -62,14 +62,16 @@ pub record IsBasis (chip : ChipState) : Type 0 where
   pub whole : chip.front.adapter.controller.command ≡ []
   pub free : is_held chip.front.adapter.controller ≡ false
   pub none : chip.count ≡ 0
+  pub gated : is_gated chip.front.adapter.controller ≡ true
   pub code : chip.order.code < 256
 
 -- so it is where something is under way
 pub sound_basis : (chip : ChipState) → is_ready chip.stage ≡ false → IsSound chip → IsBasis chip
-sound_basis chip other sound = record {
+sound_basis chip other sound = let unheld : is_held chip.front.adapter.controller ≡ false = either_way (is_held chip.front.adapter.controller) (λ held. absurd (not_ready chip.stage other (sound.held held).0)) (λ free. free) in record {
   by_dma = sound.by_dma;
   whole = sound.whole;
-  free = either_way (is_held chip.front.adapter.controller) (λ held. absurd (not_ready chip.stage other (sound.held held).0)) (λ free. free);
+  free = unheld;
+  gated = sound.lets_out unheld;
   none = either_way (chip.count == 0) (λ none. eqb-true chip.count 0 none) (λ some. absurd (not_ready chip.stage other (sound.comes some)));
   code = sound.code;
 }
@@ -80,6 +82,7 @@ basis_front front old basis base = record {
   by_dma = base.non_dma ∙ basis.by_dma;
   whole = base.command;
   free = base_held old.front.adapter.controller front.adapter.controller base ∙ basis.free;
+  gated = base_gated old.front.adapter.controller front.adapter.controller base ∙ basis.gated;
   none = basis.none;
   code = basis.code;
 }
@@ -89,6 +92,7 @@ basis_same old new basis base count order = record {
   by_dma = base.non_dma ∙ basis.by_dma;
   whole = base.command;
   free = base_held old.front.adapter.controller new.front.adapter.controller base ∙ basis.free;
+  gated = base_gated old.front.adapter.controller new.front.adapter.controller base ∙ basis.gated;
   none = count ∙ basis.none;
   code = subst (λ (o : Order). o.code < 256) (sym order) basis.code;
 }
@@ -99,6 +103,7 @@ basis_sound chip basis now = record {
   by_dma = basis.by_dma;
   whole = basis.whole;
   held = λ held. clash (is_held chip.front.adapter.controller) basis.free held;
+  lets_out = λ free. basis.gated;
   comes = λ some. clash (chip.count == 0) some (ap (λ n. n == 0) basis.none);
   code = basis.code;
   now = now;
@@ -118,6 +123,7 @@ stays_sound old new sound base stage count order now = record {
   by_dma = base.non_dma ∙ sound.by_dma;
   whole = base.command;
   held = λ held. let was = sound.held (sym (base_held old.front.adapter.controller new.front.adapter.controller base) ∙ held) in (stage ∙ was.0, count ∙ was.1);
+  lets_out = λ free. base_gated old.front.adapter.controller new.front.adapter.controller base ∙ sound.lets_out (sym (base_held old.front.adapter.controller new.front.adapter.controller base) ∙ free);
   comes = λ some. stage ∙ sound.comes (sym (ap (λ n. n == 0) count) ∙ some);
   code = subst (λ (o : Order). o.code < 256) (sym order) sound.code;
   now = subst (λ s. IsSoundAt s new.front) (sym stage) now;

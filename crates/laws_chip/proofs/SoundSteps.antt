@@ -62,10 +62,10 @@ sector_given what unit key gap length set new basis stands at sized busy (sends,
 
 -- what is then under way
 set_basis : (stage : Stage) (old : ChipState) → IsBasis old → IsBasis (record old { stage = stage })
-set_basis stage old basis = record { by_dma = basis.by_dma; whole = basis.whole; free = basis.free; none = basis.none; code = basis.code }
+set_basis stage old basis = record { by_dma = basis.by_dma; whole = basis.whole; free = basis.free; none = basis.none; gated = basis.gated; code = basis.code }
 
 track_basis : (track : Track) (old : ChipState) → IsBasis old → IsBasis (track_at track old)
-track_basis track old basis = record { by_dma = basis.by_dma; whole = basis.whole; free = basis.free; none = basis.none; code = basis.code }
+track_basis track old basis = record { by_dma = basis.by_dma; whole = basis.whole; free = basis.free; none = basis.none; gated = basis.gated; code = basis.code }
 
 looks_sound : (track : Track) (old new : ChipState) → IsBasis old → Stands old.front → LooksOn track old new → IsSound new
 looks_sound track old new basis stands looks =

@@ -57,7 +57,7 @@ no_seek : (seek : Option Seek) → IsOfFour seek → (bit_and (bit_or 0x80 (opti
 no_seek None few none = refl
 no_seek (Some seek) few none = absurd (no_drive seek.drive few none)
 
-status_free : (fdc : Fdc) → is_held fdc ≡ false → fdc.phase ≡ Taking → fdc.command ≡ [] → main_status fdc ≡ bit_or 0x80 (seek_bits fdc.seeks)
+pub status_free : (fdc : Fdc) → is_held fdc ≡ false → fdc.phase ≡ Taking → fdc.command ≡ [] → main_status fdc ≡ bit_or 0x80 (seek_bits fdc.seeks)
 status_free fdc free takes none =
     ap (λ held. if held then 0 else bit_or (phase_bits (is_begun fdc.command) fdc.phase) (seek_bits fdc.seeks)) free
     ∙ (ap (λ phase. bit_or (phase_bits (is_begun fdc.command) phase) (seek_bits fdc.seeks)) takes

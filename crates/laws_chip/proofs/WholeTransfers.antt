@@ -33,7 +33,7 @@ use Rattle.laws_chip.proofs.UnderWay.{either_way}
 
 -- ---- results that are taken over leave what stands behind by what it was
 
-kept_front : (result : Option (ℕ × ℕ)) (old : ChipState) → (kept result old).front ≡ old.front
+pub kept_front : (result : Option (ℕ × ℕ)) (old : ChipState) → (kept result old).front ≡ old.front
 kept_front None old = refl
 kept_front (Some (status, cylinder)) old = by_told (is_told old.pace status)
   where
@@ -41,7 +41,7 @@ kept_front (Some (status, cylinder)) old = by_told (is_told old.pace status)
     by_told true = refl
     by_told false = refl
 
-drained_front : (n : ℕ) (one other : ChipState) → one.front ≡ other.front → (drained_by n one).front ≡ (drained_by n other).front
+pub drained_front : (n : ℕ) (one other : ChipState) → one.front ≡ other.front → (drained_by n one).front ≡ (drained_by n other).front
 unfolding drained_by
 drained_front zero one other same = same
 drained_front (suc n) one other same =
@@ -59,14 +59,14 @@ kept_pace (Some (status, cylinder)) old = by_told (is_told old.pace status)
     by_told true = refl
     by_told false = refl
 
-drained_pace : (n : ℕ) (chip : ChipState) → (drained_by n chip).pace ≡ chip.pace
+pub drained_pace : (n : ℕ) (chip : ChipState) → (drained_by n chip).pace ≡ chip.pace
 unfolding drained_by
 drained_pace zero chip = refl
 drained_pace (suc n) chip =
     let before = drained_by n chip in
     kept_pace (pending_outside before.front) (with_front (sensed_outside before.front) before) ∙ drained_pace n chip
 
-same_moves : (one other : ChipState) → one.front ≡ other.front → one.pace ≡ other.pace → still_moves one ≡ still_moves other
+pub same_moves : (one other : ChipState) → one.front ≡ other.front → one.pace ≡ other.pace → still_moves one ≡ still_moves other
 same_moves one other same paced =
     ap (λ b. b || moves_heads (drained one).front) (ap is_some (drained_pace 4 one ∙ (paced ∙ sym (drained_pace 4 other))))
     ∙ ap (λ (front : Front). is_some (drained other).pace || moves_heads front) (drained_front 4 one other same)
@@ -74,10 +74,10 @@ same_moves one other same paced =
 -- ---- a whole command
 
 -- it is attended to by a chip where nothing is under way
-record IsAttended (code : Code) (set new : ChipState) : Type 0 where
-  basis : IsBasis set
-  rests : RestsBehind set.front
-  attends : Attends code set new
+pub record IsAttended (code : Code) (set new : ChipState) : Type 0 where
+  pub basis : IsBasis set
+  pub rests : RestsBehind set.front
+  pub attends : Attends code set new
 
 free_of : (front : Front) → Stands front → RestsBehind front → moves_heads front ≡ false → IsFreeBehind front
 free_of front stands rests still = record {
@@ -87,7 +87,7 @@ free_of front stands rests still = record {
   by_dma = stands.by_dma;
 }
 
-attended_free : (code : Code) (old new : ChipState) → IsAttended code old new → still_moves old ≡ false → IsDoneFree code old.order new
+pub attended_free : (code : Code) (old new : ChipState) → IsAttended code old new → still_moves old ≡ false → IsDoneFree code old.order new
 attended_free code old new attended still =
     let set = drained old in
     let resting : IsResting old set = drained_rests 4 old attended.basis.whole attended.rests in
@@ -117,7 +117,7 @@ attended_begins false opcode old new still whole attended =
 -- ---- its last byte
 
 -- the chip that attends to it: none of its bytes waits
-abbrev attending : ℕ → ChipState → ChipState
+abbrev pub attending : ℕ → ChipState → ChipState
 attending byte old = record (with_next byte old) { count = 0 }
 
 -- it isn't the first byte, and no more are wanted
@@ -139,7 +139,7 @@ last_bytes (Transfer mfm) heads = (refl, refl)
 last_bytes (Verify mfm) heads = (refl, refl)
 last_bytes (ReadTrack mfm) heads = (refl, refl)
 
-byte_attends : (code : Code) (byte : ℕ) (old new : ChipState) → IsSound old → byte < 256 → needs_heads code ≡ true → Completes code byte old → WritesChip 0x3F5 byte old new → IsAttended code (attending byte old) new
+pub byte_attends : (code : Code) (byte : ℕ) (old new : ChipState) → IsSound old → byte < 256 → needs_heads code ≡ true → Completes code byte old → WritesChip 0x3F5 byte old new → IsAttended code (attending byte old) new
 byte_attends code byte old new sound few heads completes writes =
     let (some, enough) = last_bytes code heads in
     let begun : (old.count == 0) ≡ false = ap (λ n. n == 0) completes.others ∙ some in
@@ -157,6 +157,7 @@ byte_attends code byte old new sound few heads completes writes =
         whole = sound.whole;
         free = comes_free old sound comes;
         none = refl;
+        gated = sound.lets_out (comes_free old sound comes);
         code = code_few old.count byte old.order few sound.code;
       };
       rests = at_rest old.stage old.front (ap is_busy at) sound.now;
@@ -176,7 +177,7 @@ byte_begins opcode byte old new sound few completes writes =
 
 -- ---- a device step of one that is held
 
-step_attends : (code : Code) (old paced new : ChipState) → IsSound old → old.stage ≡ Held → code_of old.order.code ≡ Some code → IsResting old paced → AttendsTo (code_of paced.order.code) paced new → IsAttended code paced new
+pub step_attends : (code : Code) (old paced new : ChipState) → IsSound old → old.stage ≡ Held → code_of old.order.code ≡ Some code → IsResting old paced → AttendsTo (code_of paced.order.code) paced new → IsAttended code paced new
 step_attends code old paced new sound at is was attends = record {
   basis = basis_same old paced (sound_basis old (ap parts.is_ready at) sound) was.base was.count was.order;
   rests = was.rests;
@@ -184,10 +185,10 @@ step_attends code old paced new sound at is was attends = record {
 }
 
 -- what follows it
-follows_held : (old new : ChipState) (step : StepsChip old new) → old.stage ≡ Held → Follows Held (with_front step.between old) new
+pub follows_held : (old new : ChipState) (step : StepsChip old new) → old.stage ≡ Held → Follows Held (with_front step.between old) new
 follows_held old new step at = subst (λ stage. Follows stage (with_front step.between old) new) at step.follows
 
-step_rests : (old paced new : ChipState) (step : StepsChip old new) → IsSound old → old.stage ≡ Held → Paces old.pace (with_front step.between old) paced → IsResting old paced
+pub step_rests : (old paced new : ChipState) (step : StepsChip old new) → IsSound old → old.stage ≡ Held → Paces old.pace (with_front step.between old) paced → IsResting old paced
 step_rests old paced new step sound at paces = stepped_rests old step.between paced sound (ap is_busy at) step.steps paces
 
 of_order : (code : Code) (one other : Order) (new : ChipState) → one ≡ other → IsDoneFree code one new → IsDoneFree code other new

@@ -4,3 +4,7 @@ pub mod Beginning
 pub mod Sound
 pub mod Lasting
 pub mod Edges
+pub mod Resets
+pub mod Identifying
+pub mod Seeks
+pub mod InTime

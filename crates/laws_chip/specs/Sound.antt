@@ -5,7 +5,7 @@ use Rattle.fdc_phases.specs.declared.phases.Phase.{Phase}
 use Rattle.fdc_phases.specs.declared.phases.Phase.TheVariants.{Command as Taking, Execute}
 use Rattle.fdc_phases.specs.declared.phases.Task.{Task}
 use Rattle.fdc_phases.specs.declared.phases.Task.TheVariants.{ReadId, Format}
-use Rattle.fdc_core.specs.State.{is_held}
+use Rattle.fdc_core.specs.State.{is_gated, is_held}
 use Rattle.fdc_core.specs.Steps.{IsCounted}
 use Rattle.fdc_sequencer.specs.Fronts.{Front}
 use Rattle.fdc_sequencer.specs.declared.stage.Stage.{Stage}
@@ -87,6 +87,8 @@ pub record IsSound (chip : ChipState) : Type 0 where
   pub whole : chip.front.adapter.controller.command ≡ []
   -- held in reset nothing is under way, and no byte of a command came
   pub held : is_held chip.front.adapter.controller ≡ true → (chip.stage ≡ Ready) × (chip.count ≡ 0)
+  -- where DOR doesn't, INT and DRQ are let out behind
+  pub lets_out : is_held chip.front.adapter.controller ≡ false → is_gated chip.front.adapter.controller ≡ true
   -- bytes of a command come while nothing is under way
   pub comes : (chip.count == 0) ≡ false → chip.stage ≡ Ready
   -- its code is a byte

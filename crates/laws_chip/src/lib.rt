@@ -4,7 +4,11 @@
 
 pub mod edges;
 pub mod endings;
+pub mod identifying;
 pub mod media;
 pub mod paces;
+pub mod resets;
+pub mod seeks;
 pub mod soundness;
+pub mod timing;
 pub mod transfers;

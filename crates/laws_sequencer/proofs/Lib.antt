@@ -1,6 +1,6 @@
 mod Marks
 pub mod Known
-mod Started
+pub mod Started
 pub mod Free
 mod Courses
 mod Judged
@@ -9,7 +9,7 @@ mod Outcome
 pub mod Called
 pub mod Whole
 mod LateLooks
-mod LateHearing
+pub mod LateHearing
 mod LateWriting
 pub mod Medium
 mod Silent

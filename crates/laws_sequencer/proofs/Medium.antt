@@ -113,7 +113,7 @@ told_on_track track from past key given heard whole (told, inr (turn, among, (p,
 -- ---- what is known of what was heard
 
 -- how the drive stood when the search for a sector began, at this word and with so many faults
-abbrev outset_at : Place → Transfer → ℕ → ℕ → Outset
+abbrev pub outset_at : Place → Transfer → ℕ → ℕ → Outset
 outset_at place at from since = record {
   head = head_of at.head_drive;
   rate = place.rate;
@@ -137,7 +137,7 @@ AreHeardAt place [] = Unit {0}
 AreHeardAt place (part ∷ parts) = IsHeardAt place part.at part.past × AreHeardAt place parts
 
 -- and of the sector under way, which is where the drive is
-abbrev IsHearingAt : Place → Transfer → Past → DriveState → Type 0
+abbrev pub IsHearingAt : Place → Transfer → Past → DriveState → Type 0
 IsHearingAt place at past drive =
     (from : ℕ) × (since : ℕ) × IsHearingLed (outset_at place at from since) past drive × (place.clean ≡ true → since ≡ place.faults)
 
@@ -191,7 +191,7 @@ heard_more place [] part were is = (is, tt)
 heard_more place (other ∷ parts) part (one, were) is = (one, heard_more place parts part were is)
 
 -- a search that begins where the drive is
-fresh_hearing : (place : Place) (front : Front) (at : Transfer) (past : Past) → IsAt place front → IsUnheard past → IsHearingAt place at past (drive_at front.adapter place.bay)
+pub fresh_hearing : (place : Place) (front : Front) (at : Transfer) (past : Past) → IsAt place front → IsUnheard past → IsHearingAt place at past (drive_at front.adapter place.bay)
 fresh_hearing place front at past is none =
     let drive = drive_at front.adapter place.bay in
     let outset = outset_at place at drive.place drive.faults in
@@ -204,7 +204,7 @@ fresh_hearing place front at past is none =
     )
 
 -- a drive that turns on over the same medium
-kept_hearing : (place : Place) (front : Front) (at : Transfer) (past : Past) (drive : DriveState) → IsAt place front → TurnsOn drive (drive_at front.adapter place.bay) → IsHearingAt place at past drive
+pub kept_hearing : (place : Place) (front : Front) (at : Transfer) (past : Past) (drive : DriveState) → IsAt place front → TurnsOn drive (drive_at front.adapter place.bay) → IsHearingAt place at past drive
     → IsHearingAt place at past (drive_at front.adapter place.bay)
 kept_hearing place front at past drive is turns (from, since, was, began) =
     let now = drive_at front.adapter place.bay in
@@ -503,7 +503,7 @@ module _ (place : Place) (first : Transfer) (wanted skip : Bool) (reads : first.
       let then_falls = closes.never_falls in
       record { place = closes.place ∙ turns.place; never_falls = omega arith; keeps_speed = λ fast. closes.keeps_speed (turns.keeps_speed fast) }
 
-  adapter_turns : (port value bay : ℕ) (old new : AdapterState) → WritesAdapter port value old new → (drive_at new bay).motor ≡ true → TurnsOn (drive_at old bay) (drive_at new bay)
+  pub adapter_turns : (port value bay : ℕ) (old new : AdapterState) → WritesAdapter port value old new → (drive_at new bay).motor ≡ true → TurnsOn (drive_at old bay) (drive_at new bay)
   adapter_turns port value bay old new writes = by_bay (bay == 0)
     where
       by_bay : (b : Bool) → (if b then new.first else new.second).motor ≡ true → TurnsOn (if b then old.first else old.second) (if b then new.first else new.second)

@@ -1,0 +1,480 @@
+-- READ ID over a medium that stays in: what it heard, and the key that it tells.
+use Rattle.std.proofs.Common.{◌≡◌, ◌⊎◌, inl, inr, ℕ, zero, suc, ◌+◌, ◌*◌, ◌<◌, ◌≤◌, Bool, true, false, not, ◌&&◌, ◌||◌, ◌==◌, if◌then◌else◌, Option, Some, None, List, [], ◌∷◌, bit_and, refl, sym, ◌∙◌, ap, subst, arith}
+use Rattle.std.proofs.lemmas.Bool.{agree_below_at, false≢true, eqb-true}
+use Rattle.flop_base.specs.declared.key.Chrn.{Chrn}
+use Rattle.track_model.specs.Fields.{IsAddressAt}
+use Rattle.raw_image.specs.Disk.{Disk, IsDisk}
+use Rattle.drive_model.specs.Drive.{Becomes, DriveState, at_index}
+use Rattle.fdc_commands.specs.declared.command.Command.TheVariants.{ReadId}
+use Rattle.fdc_commands.specs.declared.results.Results.{Results}
+use Rattle.fdc_stages.specs.Findings.{HasAddress, HasIdentified}
+use Rattle.fdc_stages.specs.History.{Past, begun as new_past, heard}
+use Rattle.fdc_stages.specs.declared.ending.Ending.{Ending}
+use Rattle.fdc_stages.specs.declared.ending.Ending.TheVariants.{Done, NoMark, NoSector, NoField, BadCheck, Overrun, NoCount, Protected, Late}
+use Rattle.fdc_phases.specs.Answers.{results_of}
+use Rattle.fdc_phases.specs.Commands.{IsReadingId}
+use Rattle.fdc_phases.specs.Dma.{phase_told}
+use Rattle.fdc_phases.specs.Heard.{MayReadIdIn, MayReadIdTask, key_met, stepped}
+use Rattle.fdc_phases.specs.Phases.{head_of, is_listening}
+use Rattle.fdc_phases.specs.declared.answers.Answer.TheVariants.{Long}
+use Rattle.fdc_phases.specs.declared.phases.Phase.{Phase}
+use Rattle.fdc_phases.specs.declared.phases.Phase.TheVariants.{Command as Taking, Execute, Result}
+use Rattle.fdc_phases.specs.declared.phases.Task.{Task as PhaseTask}
+use Rattle.fdc_phases.specs.declared.phases.Task.TheVariants as phase_task
+use Rattle.fdc_phases.specs.declared.rates.DataRate.{DataRate}
+use Rattle.fdc_core.specs.Commands.{BeginsData}
+use Rattle.fdc_core.specs.Courses.{Works}
+use Rattle.fdc_core.specs.Listening.{SeesTask, SeesUnder, SeesWord, after_step, is_executing}
+use Rattle.fdc_core.specs.Ports.{resets}
+use Rattle.fdc_core.specs.State.{is_held}
+use Rattle.fdc_core.specs.Steps.{MovesIn, MovesTask, let_pass, polled}
+use Rattle.fdc_core.specs.declared.controller.Fdc.{Fdc}
+use Rattle.fdc_core.specs.Drives.Heard.{IsHeardFrom}
+use Rattle.fdc_core.proofs.drives.Fields.{address_heard}
+use Rattle.fdc_core.proofs.drives.LateFields.{address_late}
+use Rattle.fdc_core.proofs.drives.Turns.{turn_heard}
+use Rattle.fdc_adapter.specs.Adapters.{AdapterState, StepsAdapter, drive_at, selected_at}
+use Rattle.fdc_sequencer.specs.Fronts.{Front, GivesAt, GivesFront, KeepsFront, TakesAt, TakesFront, WritesFront, count_told, reset_if as reset_front, told_front, told_if}
+use Rattle.fdc_sequencer.specs.Moves.{StepsFront}
+use Rattle.fdc_sequencer.specs.declared.opcode.Operation.TheVariants.{Read}
+use Rattle.fdc_sequencer.specs.declared.stage.Stage.TheVariants.{Through}
+use Rattle.fdc_sequencer.specs.declared.transfer.Transfer.{Transfer}
+use Rattle.laws_sequencer.specs.Media.{IsAt, Place, TurnsOn, track_at}
+use Rattle.laws_sequencer.proofs.LateHearing.{IsHearingLed, hearing_led}
+use Rattle.laws_sequencer.proofs.Medium.{IsHearingAt, adapter_turns, fresh_hearing, kept_hearing, outset_at}
+use Rattle.laws_sequencer.proofs.Resting.{polled_phase}
+use Rattle.fdc_chip.specs.Chips.{ChipState, passes_by_channel, passes_by_port, with_front}
+use Rattle.fdc_chip.specs.Codes.{code_of}
+use Rattle.fdc_chip.specs.Doing.{Obeys, identifying}
+use Rattle.fdc_chip.specs.Ending.{EndsIf, EndsSent, MayEnd, has_results, is_not_found, looks_for_cylinder, results_behind, results_taken, told_results}
+use Rattle.fdc_chip.specs.Ports as ports
+use Rattle.fdc_chip.specs.Ports.{GivesChipIf, GivesIf, ReadsAt, ReadsIf, TakesByte, TakesIf, gated_by, given_one, value_behind}
+use Rattle.fdc_chip.specs.Steps.{Follows, StepsChip}
+use Rattle.fdc_chip.specs.declared.answer.Answer.{Answer}
+use Rattle.fdc_chip.specs.declared.answer.Answer.TheVariants as answer
+use Rattle.fdc_chip.specs.declared.code.Code.{Code}
+use Rattle.fdc_chip.specs.declared.code.Code.TheVariants as code
+use Rattle.fdc_chip.specs.declared.order.Order.{Order}
+use Rattle.fdc_chip.specs.declared.stage.Stage.{Stage}
+use Rattle.fdc_chip.specs.declared.stage.Stage.TheVariants.{Busy, Ready, Telling}
+use Rattle.fdc_chip.specs.declared.stage.Task.{Task}
+use Rattle.fdc_chip.specs.declared.stage.Task.TheVariants.{Sent}
+use Rattle.laws_chip.specs.Beginning.{IsFreeBehind}
+use Rattle.laws_chip.specs.Calls as made
+use Rattle.laws_chip.specs.Calls.{Call, Does, WritesByte, is_step}
+use Rattle.laws_chip.specs.Identifying.{IsIdBegun, StaysUnder, TurnsOnBy, is_read_id}
+use Rattle.laws_chip.specs.Lasting.{AreAt}
+use Rattle.laws_chip.specs.Sound.{ExecutesBehind, IsSound, executes_single}
+use Rattle.laws_chip.specs.Told.{Tells}
+use Rattle.laws_chip.proofs.Channels.{counts_executes, front_gives, front_left, front_takes, gives_executes, keeps_executes, port_executes, takes_executes}
+use Rattle.laws_chip.proofs.CommandsBegun.{begins_sent}
+use Rattle.laws_chip.proofs.FirstSectors.{IsBase, base_held}
+use Rattle.laws_chip.proofs.PassedOn.{other_read}
+use Rattle.laws_chip.proofs.Rests.{through_step}
+use Rattle.laws_chip.proofs.Sending.{id_obeyed}
+use Rattle.laws_chip.proofs.Singles.{WaitsBehind, executes_none, executes_step, id_executes, waits_shown}
+use Rattle.laws_chip.proofs.SoundCalls.{call_sound}
+use Rattle.laws_chip.proofs.SoundParts as parts
+use Rattle.laws_chip.proofs.SoundParts.{sound_basis}
+use Rattle.laws_chip.proofs.Standing.{stands_free}
+use Rattle.laws_chip.proofs.UnderWay.{either_way}
+
+-- the head that listens, as that of a sector is told
+abbrev id_at : ℕ → Transfer
+id_at unit = record {
+  opcode = record { operation = Read false false; multitrack = false };
+  head_drive = unit;
+  key = record { c = 0; h = 0; r = 0; n = 0 };
+  last_sector = 0;
+  gap = 0;
+  length = 0;
+}
+
+-- ---- it is executed
+
+record Identifying (place : Place) (unit : ℕ) (chip : ChipState) : Type 0 where
+  stage : chip.stage ≡ Busy Sent
+  order : is_read_id chip.order ≡ true
+  executes : ExecutesBehind chip.front
+  past : Past
+  known : MayReadIdIn past unit chip.front.adapter.controller.phase
+  hearing : IsHearingAt place (id_at unit) past (drive_at chip.front.adapter place.bay)
+
+-- it begins
+begun_known : (unit : ℕ) (chosen : PhaseTask) → IsReadingId unit chosen → MayReadIdIn new_past unit (Execute (record { head_drive = unit; steps = 0; task = chosen }))
+begun_known unit chosen is = is
+
+begun_identifies : (place : Place) (unit : ℕ) (chip : ChipState) → IsIdBegun unit chip → IsAt place chip.front → Identifying place unit chip
+begun_identifies place unit chip is at =
+    let sent = begins_sent Sent false (identifying unit) is.set chip (stands_free is.set.front is.free) is.begins in
+    let obeyed = id_obeyed unit sent.set chip.front sent.stands sent.sends in
+    let begins : BeginsData (ReadId unit) (record sent.set.adapter.controller { command = [] }) chip.front.adapter.controller = (obeyed.obeys.0 sent.stands.rests).1 sent.stands.by_dma in
+    record {
+      stage = sent.stage;
+      order = is.order;
+      executes = (id_executes unit sent.set chip.front sent.stands obeyed).0;
+      past = new_past;
+      known = subst (λ (fdc : Fdc). MayReadIdIn new_past unit fdc.phase) (sym begins.3) (begun_known unit begins.0 begins.1);
+      hearing = fresh_hearing place chip.front (id_at unit) new_past at refl;
+    }
+
+-- ---- a device step hears a word
+
+-- what was executed sees it under its head
+record HearsWord (past : Past) (unit : ℕ) (phase : Phase) (rate : DataRate) (before : DriveState) (word : ℕ) (after : DriveState) : Type 0 where
+  sees : SeesUnder rate (head_of unit) before word after
+  passes : Becomes (let_pass before) before after
+  executing : is_executing phase ≡ true
+
+task_hears : (past : Past) (unit head_drive steps : ℕ) (chosen : PhaseTask) (rate : DataRate) (before : DriveState) (word : ℕ) (after : DriveState) → MayReadIdTask past unit head_drive steps chosen
+    → SeesTask (is_listening chosen) (head_of head_drive) rate before word after → MovesTask (is_listening chosen) before after → SeesUnder rate (head_of unit) before word after × Becomes (let_pass before) before after
+task_hears past unit head_drive steps (phase_task.ReadId search) rate before word after known sees moves =
+    (subst (λ h. SeesUnder rate (head_of h) before word after) known.sent_is sees, moves)
+task_hears past unit head_drive steps (phase_task.Read reading) rate before word after known sees moves = absurd known
+task_hears past unit head_drive steps (phase_task.Write writing) rate before word after known sees moves = absurd known
+task_hears past unit head_drive steps (phase_task.Format formatting) rate before word after known sees moves = absurd known
+
+phase_hears : (past : Past) (unit : ℕ) (phase : Phase) (rate : DataRate) (polls : Fdc) (before : DriveState) (word : ℕ) (after : DriveState) → executes_single phase ≡ true → MayReadIdIn past unit phase
+    → SeesWord phase rate before word after → MovesIn phase polls before after → HearsWord past unit phase rate before word after
+phase_hears past unit Taking rate polls before word after single known sees moves = absurd (false≢true single)
+phase_hears past unit (Result told) rate polls before word after single known sees moves = absurd (false≢true single)
+phase_hears past unit (Execute execution) rate polls before word after single known sees moves =
+    let (saw, passed) = task_hears past unit execution.head_drive execution.steps execution.task rate before word after known sees moves in
+    record { sees = saw; passes = passed; executing = refl }
+
+-- what is then known
+record HeardMore (place : Place) (unit : ℕ) (between : AdapterState) : Type 0 where
+  past : Past
+  known : MayReadIdIn past unit between.controller.phase
+  hearing : IsHearingAt place (id_at unit) past (drive_at between place.bay)
+
+works_hear : (place : Place) (unit : ℕ) (past : Past) (old : Fdc) (before : DriveState) (new : Fdc) (after : DriveState) → IsDisk place.disk → old.rate ≡ place.rate → executes_single old.phase ≡ true
+    → MayReadIdIn past unit old.phase → IsHearingAt place (id_at unit) past before → Works old before new after
+    → (now : Past) × MayReadIdIn now unit new.phase × IsHearingAt place (id_at unit) now after
+works_hear place unit past old before new after valid rate single known (from, since, led, began) works =
+    let reads = works.reads in
+    let moves : MovesIn old.phase (polled old) before after = subst (λ phase. MovesIn phase (polled old) before after) (polled_phase old) works.drive in
+    let hears = phase_hears past unit old.phase old.rate (polled old) before reads.word after single known reads.sees moves in
+    let now = heard (at_index before) reads.word (stepped past) in
+    let knows = reads.follows.identifies past unit known in (
+      now,
+      subst (λ b. MayReadIdIn (after_step b (at_index before) reads.word past) unit new.phase) hears.executing knows,
+      (from, since, hearing_led (outset_at place (id_at unit) from since) past before after reads.word valid led (subst (λ r. SeesUnder r (head_of unit) before reads.word after) rate hears.sees) hears.passes, began),
+    )
+
+-- in the bay that is selected
+bay_hears : (place : Place) (unit bay : ℕ) (past : Past) (old new : AdapterState) → bay ≤ 1 → selected_at old ≡ bay → IsDisk place.disk → old.controller.rate ≡ place.rate → executes_single old.controller.phase ≡ true
+    → MayReadIdIn past unit old.controller.phase → IsHearingAt place (id_at unit) past (drive_at old bay) → StepsAdapter old new
+    → (now : Past) × MayReadIdIn now unit new.controller.phase × IsHearingAt place (id_at unit) now (drive_at new bay)
+bay_hears place unit zero past old new few at valid rate single known hearing steps =
+    works_hear place unit past old.controller old.first new.controller new.first valid rate single known hearing (steps.at_first at).0
+bay_hears place unit (suc zero) past old new few at valid rate single known hearing steps =
+    works_hear place unit past old.controller old.second new.controller new.second valid rate single known hearing (steps.at_second at).0
+bay_hears place unit (suc (suc bay)) past old new few at valid rate single known hearing steps = absurd (omega (arith, few))
+
+step_hears : (place : Place) (unit : ℕ) (chip : ChipState) (new : Front) (step : StepsFront chip.front new) → Identifying place unit chip → IsAt place chip.front → HeardMore place unit new.adapter
+step_hears place unit chip new step was at =
+    let heard_now = bay_hears place unit place.bay was.past chip.front.adapter step.between at.bay at.selects at.disk at.rate was.executes.executes was.known was.hearing step.steps in
+    let is = through_step chip.front new step was.executes.through in
+    subst (λ (front : Front). HeardMore place unit front.adapter) (sym is) (record { past = heard_now.0; known = heard_now.1; hearing = heard_now.2 })
+
+-- ---- what comes of it
+
+free_of : (chip : ChipState) → IsSound chip → chip.stage ≡ Busy Sent → is_held chip.front.adapter.controller ≡ false
+free_of chip sound at = (sound_basis chip (ap parts.is_ready at) sound).free
+
+results_are : (front : Front) (ending : Ending) (results : Results) → front.stage ≡ Through → front.adapter.controller.phase ≡ Result (Long ending results 0) → results_behind front ≡ results
+results_are front ending results through at =
+    let fdc = front.adapter.controller in
+    ap (λ stage. results_behind (record front { stage = stage })) through
+    ∙ ap (λ phase. results_behind (record front { stage = Through; adapter = record front.adapter { controller = record fdc { phase = phase } } })) at
+
+abbrev is_telling : Stage → Bool
+is_telling (Telling told read) = true
+is_telling _ = false
+
+-- READ ID has no key, and so no cylinder is looked for
+no_look : (order : Order) (results : Results) → is_read_id order ≡ true → looks_for_cylinder order results ≡ false
+no_look order results is = ap (λ b. not b && is_not_found results) is
+
+-- it goes on, or its results are told
+record TellsId (place : Place) (unit : ℕ) (between : Front) (new : ChipState) : Type 0 where
+  ending : Ending
+  results : Results
+  at : between.adapter.controller.phase ≡ Result (Long ending results 0)
+  told : new.stage ≡ Telling (answer.Results results) 0
+
+step_goes : (place : Place) (unit : ℕ) (old new : ChipState) (step : StepsChip old new) → IsSound old → Identifying place unit old → IsAt place old.front
+    → (new ≡ with_front step.between old × ExecutesBehind step.between) ⊎ TellsId place unit step.between new
+step_goes place unit old new step sound was at =
+    let set = with_front step.between old in
+    let (goes, base) = executes_step old.front step.between step.steps sound.whole was.executes in
+    let free = base_free base in
+    let may : MayEnd Sent set new = subst (λ stage. Follows stage set new) was.stage step.follows in
+    elim goes [
+      | inl executes ↦ inl (subst (λ b. EndsIf b Sent set new) (executes_none step.between free executes) may, executes)
+      | inr waits ↦
+          let ends : EndsSent (looks_for_cylinder old.order (results_behind step.between)) (results_behind step.between) (with_front (results_taken step.between) set) new =
+          subst (λ b. EndsIf b Sent set new) (waits_shown step.between free waits) may in
+          let is : new ≡ told_results (results_behind step.between) (with_front (results_taken step.between) set) =
+          subst (λ b. EndsSent b (results_behind step.between) (with_front (results_taken step.between) set) new) (no_look old.order (results_behind step.between) was.order) ends in
+          inr (record {
+            ending = waits.ending;
+            results = waits.results;
+            at = waits.at;
+            told = ap (λ (chip : ChipState). chip.stage) is ∙ ap (λ r. Telling (answer.Results r) 0) (results_are step.between waits.ending waits.results waits.through waits.at);
+          })
+    ]
+  where
+    base_free : IsBase old.front.adapter.controller step.between.adapter.controller → is_held step.between.adapter.controller ≡ false
+    base_free base = base_held old.front.adapter.controller step.between.adapter.controller base ∙ free_of old sound was.stage
+
+step_identifies : (place : Place) (unit : ℕ) (old new : ChipState) → StepsChip old new → IsSound old → Identifying place unit old → IsAt place old.front → new.stage ≡ Busy Sent → Identifying place unit new
+step_identifies place unit old new step sound was at stays = elim (step_goes place unit old new step sound was at) [
+  | inl (is, executes) ↦
+      let more = step_hears place unit old step.between step.steps was at in
+      subst (Identifying place unit) (sym is) (record { stage = was.stage; order = was.order; executes = executes; past = more.past; known = more.known; hearing = more.hearing })
+  | inr tells ↦ absurd (false≢true (sym (ap is_telling stays) ∙ ap is_telling tells.told))
+]
+
+-- ---- other calls
+
+-- what is executed goes on, and the medium turns on
+record KeepsId (place : Place) (old new : Front) : Type 0 where
+  executes : ExecutesBehind new
+  known : (past : Past) (unit : ℕ) → MayReadIdIn past unit old.adapter.controller.phase → MayReadIdIn past unit new.adapter.controller.phase
+  turns : IsAt place new → TurnsOn (drive_at old.adapter place.bay) (drive_at new.adapter place.bay)
+
+turns_as : (place : Place) (old new : DriveState) → new ≡ old → TurnsOn old new
+turns_as place old new is = subst (TurnsOn old) (sym is) (record { place = refl; never_falls = omega arith; keeps_speed = λ fast. fast })
+
+known_as : (old new : Phase) → new ≡ old → (past : Past) (unit : ℕ) → MayReadIdIn past unit old → MayReadIdIn past unit new
+known_as old new is past unit known = subst (MayReadIdIn past unit) (sym is) known
+
+same_keeps : (place : Place) (old new : Front) → new ≡ old → ExecutesBehind old → KeepsId place old new
+same_keeps place old new is was = subst (KeepsId place old) (sym is)
+    (record { executes = was; known = λ past unit known. known; turns = λ at. turns_as place (drive_at old.adapter place.bay) (drive_at old.adapter place.bay) refl })
+
+takes_keeps : (place : Place) (old : Front) (byte : Option ℕ) (new : Front) → TakesFront old byte new → ExecutesBehind old → KeepsId place old new
+takes_keeps place old byte new takes was =
+    let (stage, alike) = front_takes old byte new was.through takes in
+    let is = (subst (λ s. TakesAt s old byte new) was.through takes).1 in
+    record {
+      executes = takes_executes old byte new takes was;
+      known = known_as old.adapter.controller.phase new.adapter.controller.phase alike.phase;
+      turns = λ at. turns_as place (drive_at old.adapter place.bay) (drive_at new.adapter place.bay) (ap (λ (front : Front). drive_at front.adapter place.bay) is);
+    }
+
+gives_keeps : (place : Place) (byte : ℕ) (old : Front) (given : Bool) (new : Front) → GivesFront byte old given new → ExecutesBehind old → KeepsId place old new
+gives_keeps place byte old given new gives was =
+    let (stage, alike) = front_gives byte old given new was.through gives in
+    let is = (subst (λ s. GivesAt s byte old given new) was.through gives).1 in
+    record {
+      executes = gives_executes byte old given new gives was;
+      known = known_as old.adapter.controller.phase new.adapter.controller.phase alike.phase;
+      turns = λ at. turns_as place (drive_at old.adapter place.bay) (drive_at new.adapter place.bay) (ap (λ (front : Front). drive_at front.adapter place.bay) is);
+    }
+
+told_known : (phase : Phase) (past : Past) (unit : ℕ) → MayReadIdIn past unit phase → MayReadIdIn past unit (phase_told phase)
+told_known Taking past unit known = known
+told_known (Result told) past unit known = known
+told_known (Execute execution) past unit known = by_task execution.task known
+  where
+    by_task : (chosen : PhaseTask) → MayReadIdTask past unit execution.head_drive execution.steps chosen → MayReadIdIn past unit (phase_told (Execute (record execution { task = chosen })))
+    by_task (phase_task.ReadId search) known = known
+    by_task (phase_task.Read reading) known = absurd known
+    by_task (phase_task.Write writing) known = absurd known
+    by_task (phase_task.Format formatting) known = absurd known
+
+counts_keep : (place : Place) (old new : Front) → new ≡ told_front old → ExecutesBehind old → KeepsId place old new
+counts_keep place old new is was =
+    let at : new ≡ record old { adapter = told_if true old.adapter } = subst (λ stage. new ≡ count_told stage old) was.through is in
+    record {
+      executes = counts_executes old new is was;
+      known = λ past unit known. subst (λ (front : Front). MayReadIdIn past unit front.adapter.controller.phase) (sym at) (told_known old.adapter.controller.phase past unit known);
+      turns = λ there. turns_as place (drive_at old.adapter place.bay) (drive_at new.adapter place.bay) (ap (λ (front : Front). drive_at front.adapter place.bay) at);
+    }
+
+port_keeps : (place : Place) (port value : ℕ) (old new : Front) → WritesFront port value old new → (port == 0x3F5) ≡ false → resets port value ≡ false → ExecutesBehind old → KeepsId place old new
+port_keeps place port value old new writes no_data quiet was = record {
+  executes = port_executes port value old new writes no_data quiet was;
+  known = known_as old.adapter.controller.phase new.adapter.controller.phase (front_left port value old new writes no_data quiet).phase;
+  turns = λ at. adapter_turns place (id_at 0) false false refl port value place.bay old.adapter new.adapter (writes.others no_data).0 at.motor;
+}
+
+-- the chip besides
+record KeepsOn (place : Place) (old new : ChipState) : Type 0 where
+  front : KeepsId place old.front new.front
+  order : new.order ≡ old.order
+
+same_on : (place : Place) (old new : ChipState) → new ≡ old → ExecutesBehind old.front → KeepsOn place old new
+same_on place old new is was = record { front = same_keeps place old.front new.front (ap (λ (chip : ChipState). chip.front) is) was; order = ap (λ (chip : ChipState). chip.order) is }
+
+takes_on : (b : Bool) (place : Place) (byte : Option ℕ) (old new : ChipState) → TakesIf b old byte new → ExecutesBehind old.front → KeepsOn place old new
+takes_on true place byte old new (takes, rest) was = record { front = takes_keeps place old.front byte new.front takes was; order = ap (λ (chip : ChipState). chip.order) rest }
+takes_on false place byte old new (none, is) was = same_on place old new is was
+
+gives_on : (b : Bool) (place : Place) (byte : ℕ) (given : Bool) (old new : ChipState) → GivesChipIf b byte old given new → ExecutesBehind old.front → KeepsOn place old new
+gives_on true place byte given old new (gives, rest) was = record { front = gives_keeps place byte old.front given new.front gives was; order = ap (λ (chip : ChipState). chip.order) rest }
+gives_on false place byte given old new (none, is) was = same_on place old new is was
+
+read_on : (b : Bool) (place : Place) (value : ℕ) (old new : ChipState) → ReadsIf b old value new → ExecutesBehind old.front → KeepsOn place old new
+read_on true place value old new reads was = record { front = takes_keeps place old.front reads.byte new.front reads.takes was; order = ap (λ (chip : ChipState). chip.order) reads.rest }
+read_on false place value old new (none, is) was = same_on place old new is was
+
+write_on : (b : Bool) (place : Place) (value : ℕ) (old new : ChipState) → GivesIf b value old new → ExecutesBehind old.front → KeepsOn place old new
+write_on true place value old new gives was = record { front = gives_keeps place value old.front gives.was new.front gives.gives was; order = ap (λ (chip : ChipState). chip.order) gives.rest }
+write_on false place value old new is was = same_on place old new is was
+
+port_on : (b : Bool) (place : Place) (port value : ℕ) (old new : ChipState) → resets port (value_behind port value) ≡ b → (port == 0x3F5) ≡ false → WritesFront port (value_behind port value) old.front new.front
+    → new ≡ with_front new.front (ports.reset_if b (gated_by port value old)) → new.stage ≡ Busy Sent → ExecutesBehind old.front → KeepsOn place old new
+port_on true place port value old new anew no_data writes rest stays was = absurd (false≢true (sym (ap parts.is_ready stays) ∙ ap (λ (chip : ChipState). parts.is_ready chip.stage) rest))
+port_on false place port value old new quiet no_data writes rest stays was =
+    record { front = port_keeps place port (value_behind port value) old.front new.front writes no_data quiet was; order = ap (λ (chip : ChipState). chip.order) rest }
+
+call_on : (place : Place) (call : Call) (old new : ChipState) → is_step call ≡ false → Does call old new → TurnsOnBy call (drive_at old.front.adapter place.bay) (drive_at new.front.adapter place.bay) → old.stage ≡ Busy Sent
+    → new.stage ≡ Busy Sent → ExecutesBehind old.front → KeepsOn place old new
+call_on place made.Steps old new other does turns at stays was = absurd (false≢true (sym other))
+call_on place (made.Takes byte) old new other does turns at stays was = takes_on (passes_by_channel old) place byte old new does was
+call_on place (made.Gives byte given) old new other does turns at stays was = gives_on (passes_by_channel old) place byte given old new does was
+call_on place made.Counts old new other does turns at stays was =
+    let is : new ≡ with_front (told_front old.front) old = subst (λ stage. new ≡ ports.count_told stage old) at does in
+    record { front = counts_keep place old.front new.front (ap (λ (chip : ChipState). chip.front) is) was; order = ap (λ (chip : ChipState). chip.order) is }
+call_on place (made.Reads port value) old new other does turns at stays was = either_way (port == 0x3F5)
+    (λ here. read_on (passes_by_port old) place value old new (subst (λ stage. ReadsAt stage old value new) at (does.byte (eqb-true port 0x3F5 here))) was)
+    (λ no_data. same_on place old new (other_read port value old new no_data does) was)
+call_on place (made.Writes port value) old new other does turns at stays was = either_way (port == 0x3F5)
+    (λ here. write_on (passes_by_port old) place value old new (subst (λ stage. TakesByte stage value old new) at (does.bytes (eqb-true port 0x3F5 here))) was)
+    (λ no_data. let (front, rest) = does.others no_data in port_on (resets port (value_behind port value)) place port value old new refl no_data front rest stays was)
+call_on place made.Changes old new other does turns at stays was = record {
+  front = record {
+    executes = keeps_executes old.front new.front does.front was;
+    known = known_as old.front.adapter.controller.phase new.front.adapter.controller.phase (ap (λ (fdc : Fdc). fdc.phase) does.front.controller);
+    turns = λ there. turns;
+  };
+  order = ap (λ (chip : ChipState). chip.order) does.rest;
+}
+call_on place (made.Straps on) old new other does turns at stays was =
+    record { front = same_keeps place old.front new.front (ap (λ (chip : ChipState). chip.front) does) was; order = ap (λ (chip : ChipState). chip.order) does }
+call_on place (made.StrapsSteps on) old new other does turns at stays was =
+    record { front = same_keeps place old.front new.front (ap (λ (chip : ChipState). chip.front) does) was; order = ap (λ (chip : ChipState). chip.order) does }
+
+as_step : (call : Call) (old new : ChipState) → is_step call ≡ true → Does call old new → StepsChip old new
+as_step made.Steps old new is does = does
+as_step (made.Takes byte) old new is does = absurd (false≢true is)
+as_step (made.Gives byte given) old new is does = absurd (false≢true is)
+as_step made.Counts old new is does = absurd (false≢true is)
+as_step (made.Reads port value) old new is does = absurd (false≢true is)
+as_step (made.Writes port value) old new is does = absurd (false≢true is)
+as_step made.Changes old new is does = absurd (false≢true is)
+as_step (made.Straps on) old new is does = absurd (false≢true is)
+as_step (made.StrapsSteps on) old new is does = absurd (false≢true is)
+
+call_identifies : (place : Place) (unit : ℕ) (call : Call) (old new : ChipState) → Does call old new → TurnsOnBy call (drive_at old.front.adapter place.bay) (drive_at new.front.adapter place.bay) → IsSound old
+    → Identifying place unit old → IsAt place old.front → IsAt place new.front → new.stage ≡ Busy Sent → Identifying place unit new
+call_identifies place unit call old new does turns sound was at after stays = either_way (is_step call)
+    (λ steps. step_identifies place unit old new (as_step call old new steps does) sound was at stays)
+    (λ other.
+    let keeps = call_on place call old new other does turns was.stage stays was.executes in
+    record {
+      stage = stays;
+      order = ap is_read_id keeps.order ∙ was.order;
+      executes = keeps.front.executes;
+      past = was.past;
+      known = keeps.front.known was.past unit was.known;
+      hearing = kept_hearing place new.front (id_at unit) was.past (drive_at old.front.adapter place.bay) after (keeps.front.turns after) was.hearing;
+    })
+
+-- ---- all of them
+
+calls_identify : (place : Place) (unit : ℕ) (calls : List Call) (old new : ChipState) (at : AreAt (Busy Sent) calls old new) → IsSound old → StaysUnder place (Busy Sent) calls old new at → Identifying place unit old
+    → IsSound new × Identifying place unit new × IsAt place new.front
+calls_identify place unit [] old new same sound at was = subst (λ chip. IsSound chip × Identifying place unit chip × IsAt place chip.front) (sym same) (sound, was, at)
+calls_identify place unit (call ∷ calls) old new (between, does, few, stays, rest) sound (at, turns, under) was =
+    calls_identify place unit calls between new rest (call_sound call old between does few sound) under
+    (call_identifies place unit call old between does turns sound was at (first_under place calls between new rest under) stays)
+  where
+    first_under : (place : Place) (calls : List Call) (old new : ChipState) (at : AreAt (Busy Sent) calls old new) → StaysUnder place (Busy Sent) calls old new at → IsAt place old.front
+    first_under place [] old new at is = is
+    first_under place (call ∷ calls) old new at is = is.0
+
+-- ---- the key that is told
+
+-- where nothing is wrong an address field was found
+found_key : (unit : ℕ) (past : Past) (ending : Ending) (results : Results) → results ≡ results_of ending unit (key_met ending results.key) → HasIdentified past results.key ending → results.st1.0 ≡ 0
+    → HasAddress past results.key
+found_key unit past (Done deleted) results are has none = has
+found_key unit past NoMark results are has none = absurd (wrong (sym (ap (λ (r : Results). r.st1.0) are) ∙ none))
+  where
+    wrong : ◌≡◌ {A = ℕ} 1 0 → ⊥
+    wrong is = absurd (omega arith)
+found_key unit past NoSector results are has none = absurd (wrong (sym (ap (λ (r : Results). r.st1.0) are) ∙ none))
+  where
+    wrong : ◌≡◌ {A = ℕ} 4 0 → ⊥
+    wrong is = absurd (omega arith)
+found_key unit past NoField results are has none = absurd has
+found_key unit past BadCheck results are has none = absurd has
+found_key unit past Overrun results are has none = absurd has
+found_key unit past NoCount results are has none = absurd has
+found_key unit past Protected results are has none = absurd has
+found_key unit past Late results are has none = absurd (wrong (sym (ap (λ (r : Results). r.st1.0) are) ∙ none))
+  where
+    wrong : ◌≡◌ {A = ℕ} 1 0 → ⊥
+    wrong is = absurd (omega arith)
+
+on_track : (track : List ℕ) (from : ℕ) (late : Past) (key : Chrn) → IsHeardFrom track from late.turns late.seen → HasAddress late key → (spot : ℕ) × IsAddressAt track spot key
+on_track track from late key heard (turn, p, has) =
+    let (start, turned, whole) = turn_heard track from late.turns late.seen turn heard has.among in
+    (p + 16 * start, address_heard track start turn turned p key has.address)
+
+heard_none : (track : List ℕ) → IsHeardFrom track 0 [] []
+heard_none track = record { over = tt; now = record { inside = omega arith; each = λ i below. absurd (omega arith) } }
+
+key_on_track : (place : Place) (unit : ℕ) (past : Past) (key : Chrn) (drive : DriveState) → IsHearingAt place (id_at unit) past drive → HasAddress past key → (spot : ℕ) × IsAddressAt (track_at place (head_of unit)) spot key
+key_on_track place unit past key drive (from, since, led, began) has =
+    let track = track_at place (head_of unit) in
+    let late = address_late led.lead led.late key (subst (λ (p : Past). HasAddress p key) led.past_is has) in
+    elim led.drive_is [
+      | inl (none, spins) ↦ on_track track 0 led.late key (subst (λ (p : Past). IsHeardFrom track 0 p.turns p.seen) (sym none) (heard_none track)) late
+      | inr hears ↦ on_track track from led.late key hears.heard late
+    ]
+
+same_answer : (one other : Results) → Telling (answer.Results one) 0 ≡ Telling (answer.Results other) 0 → one ≡ other
+same_answer one other is = cc
+
+pub id_tells : (place : Place) (unit : ℕ) (calls : List Call) (begun last new : ChipState) (results : Results) (at : AreAt (Busy Sent) calls begun last) → IsSound begun → IsIdBegun unit begun
+    → StaysUnder place (Busy Sent) calls begun last at → StepsChip last new → Tells results new → results.st1.0 ≡ 0 → (spot : ℕ) × IsAddressAt (track_at place (head_of unit)) spot results.key
+id_tells place unit calls begun last new results at sound is under step tells none =
+    let (then_sound, was, there) = calls_identify place unit calls begun last at sound under (begun_identifies place unit begun is (first_of calls begun last at under)) in
+    elim (step_goes place unit last new step then_sound was there) [
+      | inl (same, executes) ↦ absurd (false≢true (sym (ap is_telling (ap (λ (chip : ChipState). chip.stage) same ∙ was.stage)) ∙ ap is_telling tells.stage))
+      | inr told ↦
+          let more = step_hears place unit last step.between step.steps was there in
+          let same : told.results ≡ results = same_answer told.results results (sym told.told ∙ tells.stage) in
+          let (are, has) = subst (MayReadIdIn more.past unit) told.at more.known in
+          let found = found_key unit more.past told.ending told.results are has (ap (λ (r : Results). r.st1.0) same ∙ none) in
+          key_on_track place unit more.past results.key (drive_at step.between.adapter place.bay) more.hearing (subst (λ (r : Results). HasAddress more.past r.key) same found)
+    ]
+  where
+    first_of : (calls : List Call) (old new : ChipState) (at : AreAt (Busy Sent) calls old new) → StaysUnder place (Busy Sent) calls old new at → IsAt place old.front
+    first_of [] old new at is = is
+    first_of (call ∷ calls) old new at is = is.0
+
+-- ---- it begins
+
+-- its code says so
+abbrev is_id : Option Code → Bool
+is_id (Some (code.ReadId mfm)) = true
+is_id _ = false
+
+id_code : (byte : ℕ) → byte < 256 → code_of byte ≡ Some (code.ReadId true) → (bit_and byte 0x1F == 0x0A) ≡ true
+id_code byte few is = by_bool (is_id (code_of byte)) (bit_and byte 0x1F == 0x0A) (agree_below_at (λ n. not (is_id (code_of n)) || (bit_and n 0x1F == 0x0A)) (λ _. true) 256 byte refl few) (ap is_id is)
+  where
+    by_bool : (first second : Bool) → (not first || second) ≡ true → first ≡ true → second ≡ true
+    by_bool true second either is = either
+    by_bool false second either is = absurd (false≢true is)
+
+pub id_begins : (old new : ChipState) → IsSound new → code_of old.order.code ≡ Some (code.ReadId true) → IsFreeBehind old.front → Obeys (code.ReadId true) old new → IsIdBegun old.order.unit new
+id_begins old new sound is free begins =
+    let sent = begins_sent Sent false (identifying old.order.unit) old new (stands_free old.front free) begins in
+    record { order = id_code new.order.code sound.code (ap (λ (order : Order). code_of order.code) sent.order ∙ is); set = old; free = free; begins = begins }

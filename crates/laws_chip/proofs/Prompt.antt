@@ -1,0 +1,666 @@
+-- A transfer whose bytes pass in time: no byte finds the FIFO full, or is missing.
+use Rattle.std.proofs.Common.{◌≡◌, ◌⊎◌, inl, inr, ℕ, zero, suc, ◌+◌, ◌-◌, ◌<◌, ◌≤◌, nat_lt, nat_le, max, Bool, true, false, not, ◌&&◌, ◌||◌, ◌==◌, if◌then◌else◌, Option, Some, None, List, [], ◌∷◌, ◌++◌, length, bit_and, refl, sym, ◌∙◌, ap, subst, arith}
+use Rattle.std.proofs.lemmas.Bool.{eqb-true, false≢true, and_parts}
+use Rattle.std.proofs.lemmas.Bool.Decides.{nat_tests}
+use Rattle.flop_base.specs.declared.key.Chrn.{Chrn}
+use Rattle.track_model.specs.Fields.{IsSizeCode}
+use Rattle.drive_model.specs.Drive.{DriveState}
+use Rattle.fdc_registers.specs.Fifo.{Fifo, emptied, low_level, room_of, wants, worth_fetching}
+use Rattle.fdc_registers.specs.St1.{overrun}
+use Rattle.fdc_registers.specs.declared.drive_lines.Dor.{Dor}
+use Rattle.fdc_commands.specs.Seeking.{has_ended_seek, seek_bits}
+use Rattle.fdc_commands.specs.Table.{answer, kept}
+use Rattle.fdc_commands.specs.declared.bytes.Accepted.{Accepted}
+use Rattle.fdc_commands.specs.declared.bytes.Accepted.TheVariants.{Invalid, Ready}
+use Rattle.fdc_commands.specs.declared.command.Command.{Command}
+use Rattle.fdc_commands.specs.declared.command.Command.TheVariants.{ReadData, WriteData, WriteDeleted}
+use Rattle.fdc_commands.specs.declared.results.Results.{Results}
+use Rattle.fdc_stages.specs.History.{Past}
+use Rattle.fdc_stages.specs.declared.ending.Ending.{Ending}
+use Rattle.fdc_stages.specs.declared.ending.Ending.TheVariants.{Done, NoMark, NoSector, NoField, BadCheck, Overrun, NoCount, Protected, Late}
+use Rattle.fdc_phases.specs.Commands.{IsReadingData, IsWritingData}
+use Rattle.fdc_phases.specs.Dma.{phase_asks, phase_told, task_asks, task_told}
+use Rattle.fdc_phases.specs.Heard.{MayReadIn, Sent}
+use Rattle.fdc_phases.specs.Phases.{ending_of_phase, is_moving, is_over, is_overrun, is_read, is_reading, moves_bytes, overran}
+use Rattle.fdc_phases.specs.Waiting.{PhaseWaits, TaskWaits, phase_counted, task_counted}
+use Rattle.fdc_phases.specs.Written.{MayWriteIn}
+use Rattle.fdc_phases.specs.declared.answers.Answer.{Answer}
+use Rattle.fdc_phases.specs.declared.answers.Answer.TheVariants.{Long, Short}
+use Rattle.fdc_phases.specs.declared.phases.Phase.{Phase}
+use Rattle.fdc_phases.specs.declared.phases.Phase.TheVariants.{Command as Taking, Execute, Result}
+use Rattle.fdc_phases.specs.declared.phases.Task.{Task}
+use Rattle.fdc_phases.specs.declared.phases.Task.TheVariants as task
+use Rattle.fdc_core.specs.Commands.{Begins, BeginsData, Obeys, TakesAs, answered}
+use Rattle.fdc_core.specs.Courses.{Works}
+use Rattle.fdc_core.specs.Dma.{asking_told, fifo_told, taken_in, taken_out, told_count}
+use Rattle.fdc_core.specs.Listening.{is_executing}
+use Rattle.fdc_core.specs.Ports.{resets}
+use Rattle.fdc_core.specs.State.{asks, is_gated, is_held}
+use Rattle.fdc_core.specs.Steps.{FlowsIn}
+use Rattle.fdc_core.specs.Waiting.{Lasts, LastsIn}
+use Rattle.fdc_core.specs.Whole.{TakesWhole, ending_told, given_up, mark_of, without_seek}
+use Rattle.fdc_core.specs.declared.controller.Fdc.{Fdc}
+use Rattle.fdc_core.specs.declared.controller.Lines.{Lines}
+use Rattle.fdc_adapter.specs.Adapters.{AdapterState, Gives, StepsAdapter, Takes, lines_at, selected_at}
+use Rattle.fdc_sequencer.specs.Fronts.{BeginsSector, CollectsAs, Front, GivesAt, GivesFront, KeepsFront, SeeksFirst, Starts, StartsIf, TakesAt, TakesByte, TakesFront, WritesFront, asks_at, asks_outside, begun_if, count_told, moving_of, passed_one, told_front, told_if, with_controller}
+use Rattle.fdc_sequencer.specs.Moves.{EndsIf, EndsSector, FollowsStep, MovesOn, SeeksOn, StepsFront, goes_on, has_met_other, is_unwanted, judged, judged_if, passed_over_if, results_behind, results_failed, would_go_on}
+use Rattle.fdc_sequencer.specs.Transfers.{command_for, next_of, results_told, size_of, transfer_of}
+use Rattle.fdc_sequencer.specs.declared.opcode.Operation.{Operation}
+use Rattle.fdc_sequencer.specs.declared.opcode.Operation.TheVariants.{Read, Write}
+use Rattle.fdc_sequencer.specs.declared.stage.Moving.{Moving as MovingSector}
+use Rattle.fdc_sequencer.specs.declared.stage.Stage.{Stage}
+use Rattle.fdc_sequencer.specs.declared.stage.Stage.TheVariants.{Through, Collecting, Seeking, Moving, Telling}
+use Rattle.fdc_sequencer.specs.declared.transfer.Transfer.{Transfer}
+use Rattle.fdc_chip.specs.Chips.{ChipState, asks_chip, interrupts_chip, passes_by_channel, passes_by_port, shows_behind, with_front}
+use Rattle.fdc_chip.specs.Ports as ports
+use Rattle.fdc_chip.specs.Ports.{GivesChipIf, GivesIf, ReadsAt, ReadsIf, TakesByte as TakesByteChip, TakesIf, gated_by, value_behind}
+use Rattle.fdc_chip.specs.Steps.{StepsChip}
+use Rattle.fdc_chip.specs.declared.stage.Stage.TheVariants.{Busy}
+use Rattle.fdc_chip.specs.declared.stage.Task.TheVariants.{Sent as SentTask}
+use Rattle.laws_sequencer.specs.Calls.{IsLastByte}
+use Rattle.laws_sequencer.specs.Lasting.{is_under_way}
+use Rattle.laws_sequencer.specs.Serving.{MayMove, Serves, ServesAt, sent_of}
+use Rattle.laws_sequencer.proofs.Free.{next_size}
+use Rattle.laws_sequencer.proofs.Known.{port_same, which_drive}
+use Rattle.laws_sequencer.proofs.Started.{size_some}
+use Rattle.laws_chip.specs.Beginning.{IsBegun}
+use Rattle.laws_chip.specs.Calls as made
+use Rattle.laws_chip.specs.Calls.{Call, Does, IsServing, WritesByte}
+use Rattle.laws_chip.specs.InTime.{AreInTime, IsPrompt, PromptAt}
+use Rattle.laws_chip.specs.Sound.{ExecutesBehind, IsSound, ServesBehind}
+use Rattle.laws_chip.proofs.PassedOn.{other_read, step_same}
+use Rattle.laws_chip.proofs.SoundCalls.{call_sound}
+use Rattle.laws_chip.proofs.SoundParts as parts
+use Rattle.laws_chip.proofs.SoundParts.{busy_at, sound_basis}
+use Rattle.laws_chip.proofs.UnderWay.{clash, either_way, not_through, port_stage}
+
+-- ---- while no byte is asked for there is time for one more step
+
+below : (m n : ℕ) → nat_le m n ≡ false → n < m
+below m n is = grind (arith, nat_tests)
+
+fetch_low : (none before ended many : Bool) → (not none && (before || ended || many)) ≡ false → (none ≡ true) ⊎ (many ≡ false)
+fetch_low true before ended many is = inl refl
+fetch_low false true ended many is = absurd (false≢true (sym is))
+fetch_low false false true many is = absurd (false≢true (sym is))
+fetch_low false false false true is = absurd (false≢true (sym is))
+fetch_low false false false false is = inr refl
+
+fill_low : (counted full before few : Bool) → counted ≡ false → (not (counted || full) && (before || few)) ≡ false → (full ≡ true) ⊎ (few ≡ false)
+fill_low true full before few none is = absurd (false≢true (sym none))
+fill_low false true before few none is = inl refl
+fill_low false false true few none is = absurd (false≢true (sym is))
+fill_low false false false true none is = absurd (false≢true (sym is))
+fill_low false false false false none is = inr refl
+
+room_some : (on : Bool) → 1 ≤ room_of on
+room_some true = omega arith
+room_some false = omega arith
+
+worth_few : (fifo : Fifo) → worth_fetching fifo ≤ room_of fifo.on
+worth_few fifo = by_on fifo.on
+  where
+    by_on : (on : Bool) → (if on then max 1 (16 - fifo.threshold) else 1) ≤ room_of on
+    by_on true = grind (arith, nat_tests)
+    by_on false = omega arith
+
+-- a read has room for a byte
+fetched : (before ended : Bool) (fifo : Fifo) → wants true before ended fifo ≡ false → 1 + length fifo.bytes ≤ room_of fifo.on
+fetched before ended fifo low = let n = length fifo.bytes in
+    elim (fetch_low (n == 0) before ended (nat_le (worth_fetching fifo) n) low) [
+      | inl none ↦ let is = eqb-true n 0 none in let some = room_some fifo.on in omega arith
+      | inr few ↦ let fewer = below (worth_fetching fifo) n few in let most = worth_few fifo in omega arith
+    ]
+
+-- and a write has a byte
+filled : (counted before : Bool) (fifo : Fifo) → counted ≡ false → wants false before counted fifo ≡ false → 1 ≤ length fifo.bytes
+filled counted before fifo none low = let n = length fifo.bytes in
+    elim (fill_low counted (n == room_of fifo.on) before (nat_le n (low_level fifo)) none low) [
+      | inl full ↦ let same = eqb-true n (room_of fifo.on) full in let some = room_some fifo.on in omega arith
+      | inr many ↦ let more = below n (low_level fifo) many in omega arith
+    ]
+
+-- a command for a sector is a read or a write
+abbrev is_transfer : Task → Bool
+is_transfer (task.Read reading) = true
+is_transfer (task.Write writing) = true
+is_transfer _ = false
+
+abbrev transfers : Phase → Bool
+transfers (Execute execution) = is_transfer execution.task
+transfers _ = true
+
+task_waits : (chosen : Task) (before : Bool) (fifo : Fifo) → is_transfer chosen ≡ true → task_asks chosen before fifo ≡ false → TaskWaits 1 chosen fifo
+task_waits (task.Read reading) before fifo is low = λ none. fetched before (is_over reading.stage) fifo low
+task_waits (task.Write writing) before fifo is low = λ none. let some = filled writing.counted before fifo none low in omega arith
+task_waits (task.ReadId search) before fifo is low = absurd (false≢true is)
+task_waits (task.Format formatting) before fifo is low = absurd (false≢true is)
+
+phase_waits : (phase : Phase) (before : Bool) (fifo : Fifo) → transfers phase ≡ true → phase_asks phase before fifo ≡ false → PhaseWaits 1 phase fifo
+phase_waits Taking before fifo is low = tt
+phase_waits (Result told) before fifo is low = tt
+phase_waits (Execute execution) before fifo is low = task_waits execution.task before fifo is low
+
+-- once the terminal count came there is always time
+counted_task : (chosen : Task) (fifo : Fifo) → is_transfer chosen ≡ true → task_counted chosen ≡ true → TaskWaits 1 chosen fifo
+counted_task (task.Read reading) fifo is counted = λ none. absurd (false≢true (sym none ∙ counted))
+counted_task (task.Write writing) fifo is counted = λ none. absurd (false≢true (sym none ∙ counted))
+counted_task (task.ReadId search) fifo is counted = absurd (false≢true is)
+counted_task (task.Format formatting) fifo is counted = absurd (false≢true is)
+
+counted_phase : (phase : Phase) (fifo : Fifo) → transfers phase ≡ true → phase_counted phase ≡ true → PhaseWaits 1 phase fifo
+counted_phase Taking fifo is counted = tt
+counted_phase (Result told) fifo is counted = tt
+counted_phase (Execute execution) fifo is counted = counted_task execution.task fifo is counted
+
+moves_transfer : (operation : Operation) (past : Past) (sent : Sent) (fdc : Fdc) → MayMove operation past sent fdc → transfers fdc.phase ≡ true
+moves_transfer (Read wanted skip) past sent fdc was = by_phase fdc.phase was
+  where
+    by_phase : (phase : Phase) → MayReadIn past sent phase fdc.asking fdc.fifo.bytes → transfers phase ≡ true
+    by_phase Taking was = refl
+    by_phase (Result told) was = refl
+    by_phase (Execute execution) was = by_task execution.task was
+      where
+        by_task : (chosen : Task) → MayReadIn past sent (Execute (record execution { task = chosen })) fdc.asking fdc.fifo.bytes → is_transfer chosen ≡ true
+        by_task (task.Read reading) was = refl
+        by_task (task.Write writing) was = refl
+        by_task (task.ReadId search) was = absurd was
+        by_task (task.Format formatting) was = absurd was
+moves_transfer (Write deleted) past sent fdc was = by_phase fdc.phase was
+  where
+    by_phase : (phase : Phase) → MayWriteIn past sent deleted phase fdc.asking fdc.fifo → transfers phase ≡ true
+    by_phase Taking was = refl
+    by_phase (Result told) was = refl
+    by_phase (Execute execution) was = by_task execution.task was
+      where
+        by_task : (chosen : Task) → MayWriteIn past sent deleted (Execute (record execution { task = chosen })) fdc.asking fdc.fifo → is_transfer chosen ≡ true
+        by_task (task.Read reading) was = refl
+        by_task (task.Write writing) was = refl
+        by_task (task.ReadId search) was = absurd was
+        by_task (task.Format formatting) was = absurd was
+
+-- ---- DRQ goes by the FIFO's rule, and where all bytes of a sector passed the terminal count came
+
+abbrev GoesByRule : Fdc → Type 0
+GoesByRule fdc = (before : Bool) × (fdc.asking ≡ phase_asks fdc.phase before fdc.fifo)
+
+record IsFed (moving : MovingSector) (fdc : Fdc) : Type 0 where
+  rule : GoesByRule fdc
+  last : moving.left ≡ 0 → phase_counted fdc.phase ≡ true
+
+abbrev FedAt : Stage → Fdc → Type 0
+FedAt (Moving moving) fdc = IsFed moving fdc
+FedAt _ fdc = Unit {0}
+
+abbrev IsFedFront : Front → Type 0
+IsFedFront front = FedAt front.stage front.adapter.controller
+
+fed_as : (moving : MovingSector) (front : Front) → front.stage ≡ Moving moving → IsFed moving front.adapter.controller → IsFedFront front
+fed_as moving front is fed = subst (λ stage. FedAt stage front.adapter.controller) (sym is) fed
+
+free_as : (stage : Stage) (front : Front) → front.stage ≡ stage → FedAt stage front.adapter.controller → IsFedFront front
+free_as stage front is fed = subst (λ s. FedAt s front.adapter.controller) (sym is) fed
+
+-- the terminal count
+told_task : (chosen : Task) (before asking : Bool) (fifo : Fifo) → asking ≡ task_asks chosen before fifo → asking_told (moves_bytes chosen) asking ≡ task_asks (task_told chosen) before (fifo_told (is_read chosen) fifo)
+told_task (task.ReadId search) before asking fifo is = is
+told_task (task.Read reading) before asking fifo is = refl
+told_task (task.Write writing) before asking fifo is = refl
+told_task (task.Format formatting) before asking fifo is = refl
+
+told_phase : (phase : Phase) (before asking : Bool) (fifo : Fifo) → asking ≡ phase_asks phase before fifo → asking_told (is_moving phase) asking ≡ phase_asks (phase_told phase) before (fifo_told (is_reading phase) fifo)
+told_phase Taking before asking fifo is = is
+told_phase (Result told) before asking fifo is = is
+told_phase (Execute execution) before asking fifo is = told_task execution.task before asking fifo is
+
+told_rule : (fdc : Fdc) → GoesByRule fdc → GoesByRule (told_count fdc)
+told_rule fdc (before, is) = (before, told_phase fdc.phase before fdc.asking fdc.fifo is)
+
+told_task_counted : (chosen : Task) → task_counted (task_told chosen) ≡ true
+told_task_counted (task.ReadId search) = refl
+told_task_counted (task.Read reading) = refl
+told_task_counted (task.Write writing) = refl
+told_task_counted (task.Format formatting) = refl
+
+told_counted : (phase : Phase) → phase_counted (phase_told phase) ≡ true
+told_counted Taking = refl
+told_counted (Result told) = refl
+told_counted (Execute execution) = told_task_counted execution.task
+
+told_fed : (moving : MovingSector) (fdc : Fdc) → GoesByRule fdc → IsFed moving (told_count fdc)
+told_fed moving fdc rule = record { rule = told_rule fdc rule; last = λ none. told_counted fdc.phase }
+
+-- ---- a sector begins
+
+not_executing : {A : Type 0} (old new : Fdc) → new ≡ answered 0x80 None old → is_executing new.phase ≡ true → A
+not_executing old new is busy = absurd (false≢true (sym (ap (λ (fdc : Fdc). is_executing fdc.phase) is) ∙ busy))
+
+begins_of : {B : Type 0} (old new : Fdc) → (seek_bits old.seeks ≡ 0 → (old.non_dma ≡ true → new ≡ answered 0x80 None old) × (old.non_dma ≡ false → B)) × ((seek_bits old.seeks == 0) ≡ false → new ≡ answered 0x80 None old)
+    → is_executing new.phase ≡ true → B
+begins_of old new (rests, moves) busy = either_way (seek_bits old.seeks == 0)
+    (λ none. let begins = rests (eqb-true (seek_bits old.seeks) 0 none) in either_way old.non_dma
+    (λ set. not_executing old new (begins.0 set) busy)
+    (λ clear. begins.1 clear))
+    (λ some. not_executing old new (moves some) busy)
+
+read_rule : (sent : Sent) (chosen : Task) (on : Bool) (threshold : ℕ) → IsReadingData sent chosen → false ≡ task_asks chosen false (emptied on threshold)
+read_rule sent (task.Read reading) on threshold is = refl
+read_rule sent (task.ReadId search) on threshold is = absurd is
+read_rule sent (task.Write writing) on threshold is = absurd is
+read_rule sent (task.Format formatting) on threshold is = absurd is
+
+sized_of : (b : Bool) (command : Command) (lines : Lines) (old new : Fdc) → TakesAs (if b then Ready command else Invalid) lines old new → is_executing new.phase ≡ true → Obeys command lines old new
+sized_of true command lines old new takes busy = takes
+sized_of false command lines old new takes busy = not_executing old new takes busy
+
+begun_rule : (operation : Operation) (head_drive : ℕ) (key : Chrn) (last_sector gap code : ℕ) (lines : Lines) (old new : Fdc)
+    → TakesWhole (Ready (command_for operation head_drive key last_sector gap code)) lines old new → is_executing new.phase ≡ true → GoesByRule new
+begun_rule (Read wanted skip) head_drive key last_sector gap code lines old new takes busy =
+    let set : Fdc = record old { command = [] } in
+    let command = ReadData head_drive key last_sector gap code in
+    let begins : BeginsData command set new = begins_of set new (sized_of (nat_le 1 key.n && nat_le key.n 6) command lines set new takes busy) busy in (
+      false,
+      ap (λ (fdc : Fdc). fdc.asking) begins.3 ∙ (read_rule (record { head_drive = head_drive; key = key; last_sector = last_sector }) begins.0 old.fifo.on old.fifo.threshold begins.1
+          ∙ sym (ap (λ (fdc : Fdc). phase_asks fdc.phase false fdc.fifo) begins.3)),
+    )
+begun_rule (Write false) head_drive key last_sector gap code lines old new takes busy =
+    let set : Fdc = record old { command = [] } in
+    let command = WriteData head_drive key last_sector gap code in
+    let begins : BeginsData command set new = begins_of set new (sized_of (nat_le 1 key.n && nat_le key.n 6) command lines set new takes busy) busy in
+    subst GoesByRule (sym begins.3) (false, refl)
+begun_rule (Write true) head_drive key last_sector gap code lines old new takes busy =
+    let set : Fdc = record old { command = [] } in
+    let command = WriteDeleted head_drive key last_sector gap code in
+    let begins : BeginsData command set new = begins_of set new (sized_of (nat_le 1 key.n && nat_le key.n 6) command lines set new takes busy) busy in
+    subst GoesByRule (sym begins.3) (false, refl)
+
+sector_fed : (at : Transfer) (counted passed_over : Bool) (old new : Front) → IsSizeCode at.key.n → BeginsSector at counted passed_over old new → IsFedFront new
+sector_fed at counted passed_over old new sized begins = by_busy (is_executing begins.between.controller.phase) refl begins.begun
+  where
+    some_left : (n : ℕ) → n ≡ 0 → (n == 0) ≡ false → ⊥
+    some_left n none some = false≢true (sym some ∙ ap (λ m. m == 0) none)
+
+    told_or : (b : Bool) → GoesByRule begins.between.controller → IsFed (moving_of at b passed_over) (told_if b begins.between).controller
+    told_or true rule = told_fed (moving_of at true passed_over) begins.between.controller rule
+    told_or false rule = record { rule = rule; last = λ none. absurd (some_left (size_of at.key.n) none (size_some at.key.n sized)) }
+
+    by_busy : (b : Bool) → is_executing begins.between.controller.phase ≡ b → new ≡ begun_if b at counted passed_over begins.between old → IsFedFront new
+    by_busy false quiet is = free_as Through new (ap (λ (f : Front). f.stage) is) tt
+    by_busy true busy is =
+        let op = at.opcode.operation in
+        let rule = begun_rule op at.head_drive at.key at.last_sector at.gap at.length (lines_at old.adapter) old.adapter.controller begins.between.controller begins.takes.takes busy in
+        subst IsFedFront (sym is) (told_or counted rule)
+
+-- ---- the channel
+
+fed_moving : (moving : MovingSector) (front : Front) → front.stage ≡ Moving moving → IsFedFront front → IsFed moving front.adapter.controller
+fed_moving moving front is fed = subst (λ stage. FedAt stage front.adapter.controller) is fed
+
+passed_fed : (moving : MovingSector) (fdc : Fdc) (old new : Front) → GoesByRule fdc → new ≡ passed_one moving fdc old → IsFedFront new
+passed_fed moving fdc old new rule is = subst IsFedFront (sym is) (by_last (moving.left - 1 == 0) refl)
+  where
+    by_last : (b : Bool) → (moving.left - 1 == 0) ≡ b → IsFed (record moving { left = moving.left - 1 }) (if b then told_count fdc else fdc)
+    by_last true over = told_fed (record moving { left = moving.left - 1 }) fdc rule
+    by_last false more = record { rule = rule; last = λ none. absurd (false≢true (sym more ∙ ap (λ m. m == 0) none)) }
+
+same_fed : (old new : Front) → new ≡ old → IsFedFront old → IsFedFront new
+same_fed old new is fed = subst IsFedFront (sym is) fed
+
+takes_fed : (stage : Stage) (byte : Option ℕ) (old new : Front) → old.stage ≡ stage → is_under_way stage ≡ true → TakesAt stage old byte new → IsFedFront old → IsFedFront new
+takes_fed (Moving moving) (Some byte) old new at under (up, byte_is, is) fed = passed_fed moving (taken_out old.adapter.controller) old new (old.adapter.controller.asking, refl) is
+takes_fed (Moving moving) None old new at under (quiet, is) fed = same_fed old new is fed
+takes_fed (Seeking transfer counted) byte old new at under (none, is) fed = same_fed old new is fed
+takes_fed Through byte old new at under takes fed = absurd (false≢true under)
+takes_fed (Collecting opcode) byte old new at under takes fed = absurd (false≢true under)
+takes_fed (Telling results read) byte old new at under takes fed = absurd (false≢true under)
+
+gives_fed : (stage : Stage) (byte : ℕ) (was : Bool) (old new : Front) → old.stage ≡ stage → is_under_way stage ≡ true → GivesAt stage byte old was new → IsFedFront old → IsFedFront new
+gives_fed (Moving moving) byte true old new at under (up, is) fed = passed_fed moving (taken_in byte old.adapter.controller) old new (old.adapter.controller.asking, refl) is
+gives_fed (Moving moving) byte false old new at under (quiet, is) fed = same_fed old new is fed
+gives_fed (Seeking transfer counted) byte was old new at under (none, is) fed = same_fed old new is fed
+gives_fed Through byte was old new at under gives fed = absurd (false≢true under)
+gives_fed (Collecting opcode) byte was old new at under gives fed = absurd (false≢true under)
+gives_fed (Telling results read) byte was old new at under gives fed = absurd (false≢true under)
+
+counts_fed : (stage : Stage) (old new : Front) → old.stage ≡ stage → is_under_way stage ≡ true → new ≡ count_told stage old → IsFedFront old → IsFedFront new
+counts_fed (Moving moving) old new at under is fed = subst IsFedFront (sym is) (told_fed (record moving { counted = true }) old.adapter.controller (fed_moving moving old at fed).rule)
+counts_fed (Seeking transfer counted) old new at under is fed = free_as (Seeking transfer true) new (ap (λ (f : Front). f.stage) is) tt
+counts_fed Through old new at under is fed = absurd (false≢true under)
+counts_fed (Collecting opcode) old new at under is fed = absurd (false≢true under)
+counts_fed (Telling results read) old new at under is fed = absurd (false≢true under)
+
+-- ---- ports and media
+
+-- what it goes by stays
+alike_fed : (stage : Stage) (old new : Front) → new.stage ≡ old.stage → old.stage ≡ stage → new.adapter.controller.phase ≡ old.adapter.controller.phase → new.adapter.controller.asking ≡ old.adapter.controller.asking
+    → new.adapter.controller.fifo ≡ old.adapter.controller.fifo → IsFedFront old → IsFedFront new
+alike_fed (Moving moving) old new stays at phase asking fifo fed =
+    let was = fed_moving moving old at fed in
+    let (before, is) = was.rule in
+    fed_as moving new (stays ∙ at) (record {
+      rule = (before, asking ∙ (is ∙ sym (ap (λ p. phase_asks p before new.adapter.controller.fifo) phase ∙ ap (phase_asks old.adapter.controller.phase before) fifo)));
+      last = λ none. ap phase_counted phase ∙ was.last none;
+    })
+alike_fed Through old new stays at phase asking fifo fed = free_as Through new (stays ∙ at) tt
+alike_fed (Collecting opcode) old new stays at phase asking fifo fed = free_as (Collecting opcode) new (stays ∙ at) tt
+alike_fed (Seeking transfer counted) old new stays at phase asking fifo fed = free_as (Seeking transfer counted) new (stays ∙ at) tt
+alike_fed (Telling results read) old new stays at phase asking fifo fed = free_as (Telling results read) new (stays ∙ at) tt
+
+port_fed : (port value : ℕ) (old new : Front) → WritesFront port value old new → (port == 0x3F5) ≡ false → resets port value ≡ false → IsFedFront old → IsFedFront new
+port_fed port value old new writes no_data quiet fed =
+    let same = port_same port value (lines_at old.adapter) old.adapter.controller new.adapter.controller (writes.others no_data).0.writes no_data quiet in
+    alike_fed old.stage old new (port_stage port value old new writes no_data quiet) refl same.phase same.asking same.fifo fed
+
+-- ---- a device step
+
+-- the rule goes on, and no byte was too late
+record IsCalmStep (old new : Fdc) : Type 0 where
+  rule : GoesByRule new
+  no_overrun : is_overrun new.phase ≡ false
+  uncounted : phase_counted new.phase ≡ false → phase_counted old.phase ≡ false
+
+calm_step : (phase : Phase) (old new : Fdc) → is_executing phase ≡ true → FlowsIn phase old.asking new → LastsIn phase old new → PhaseWaits 1 phase old.fifo → phase ≡ old.phase → IsCalmStep old new
+calm_step Taking old new busy flows lasts waits is = absurd (false≢true busy)
+calm_step (Result told) old new busy flows lasts waits is = absurd (false≢true busy)
+calm_step (Execute execution) old new busy flows lasts waits is =
+    let after : Lasts 0 old new = lasts 0 waits in
+    record { rule = (old.asking, flows); no_overrun = after.no_overrun; uncounted = after.uncounted }
+
+works_calm : (old : Fdc) (before : DriveState) (new : Fdc) (after : DriveState) → is_executing old.phase ≡ true → PhaseWaits 1 old.phase old.fifo → Works old before new after → IsCalmStep old new
+works_calm old before new after busy waits works = calm_step old.phase old new busy works.flows works.lasts waits refl
+
+adapter_calm : (old new : AdapterState) → StepsAdapter old new → selected_at old ≤ 1 → is_executing old.controller.phase ≡ true → PhaseWaits 1 old.controller.phase old.controller.fifo → IsCalmStep old.controller new.controller
+adapter_calm old new steps few busy waits = elim (which_drive (selected_at old)) [
+  | inl at ↦ works_calm old.controller old.first new.controller new.first busy waits (steps.at_first at).0
+  | inr (inl at) ↦ works_calm old.controller old.second new.controller new.second busy waits (steps.at_second at).0
+  | inr (inr at) ↦ absurd (omega arith)
+]
+
+and_low : (first second : Bool) → first ≡ true → (first && second) ≡ false → second ≡ false
+and_low true second is low = low
+and_low false second is low = absurd (false≢true is)
+
+-- there is time for it
+moving_waits : (moving : MovingSector) (fdc : Fdc) → IsFed moving fdc → transfers fdc.phase ≡ true → is_gated fdc ≡ true → asks_at (Moving moving) fdc ≡ false → PhaseWaits 1 fdc.phase fdc.fifo
+moving_waits moving fdc fed kind gated low = either_way (nat_lt 0 moving.left)
+    (λ some.
+    let quiet : fdc.asking ≡ false = and_low (is_gated fdc) fdc.asking gated (and_low (nat_lt 0 moving.left) (asks fdc) some low) in
+    let (before, is) = fed.rule in
+    phase_waits fdc.phase before fdc.fifo kind (sym is ∙ quiet))
+    (λ none. counted_phase fdc.phase fdc.fifo kind (fed.last (none_left moving.left none)))
+  where
+    none_left : (left : ℕ) → nat_lt 0 left ≡ false → left ≡ 0
+    none_left left none = grind (arith, nat_tests)
+
+passed_over : (b : Bool) (moving : MovingSector) (front new : Front) → front.stage ≡ Moving moving → IsFed moving front.adapter.controller → new ≡ passed_over_if b moving front → IsFedFront new
+passed_over true moving front new at fed is = subst IsFedFront (sym is) (told_fed (record moving { left = 0; passed_over = true; skipped = true }) front.adapter.controller fed.rule)
+passed_over false moving front new at fed is = subst IsFedFront (sym is) (fed_as moving front at fed)
+
+next_fed : (ending : Ending) (moving : MovingSector) (old new : Front) → IsSizeCode moving.transfer.key.n → EndsSector moving ending old new → IsFedFront new
+next_fed (Done marked) moving old new sized ends = by_next (goes_on moving marked) ends
+  where
+    by_next : (b : Bool) → EndsIf b moving marked old new → IsFedFront new
+    by_next true begins = sector_fed (next_of moving.transfer) false (has_met_other moving marked) old new (subst IsSizeCode (sym (next_size moving.transfer)) sized) begins
+    by_next false is = free_as (Telling (results_behind moving marked) 0) new (ap (λ (f : Front). f.stage) is) tt
+next_fed NoMark moving old new sized is = free_as (Telling (results_failed moving NoMark) 0) new (ap (λ (f : Front). f.stage) is) tt
+next_fed NoSector moving old new sized is = free_as (Telling (results_failed moving NoSector) 0) new (ap (λ (f : Front). f.stage) is) tt
+next_fed NoField moving old new sized is = free_as (Telling (results_failed moving NoField) 0) new (ap (λ (f : Front). f.stage) is) tt
+next_fed BadCheck moving old new sized is = free_as (Telling (results_failed moving BadCheck) 0) new (ap (λ (f : Front). f.stage) is) tt
+next_fed Overrun moving old new sized is = free_as (Telling (results_failed moving Overrun) 0) new (ap (λ (f : Front). f.stage) is) tt
+next_fed NoCount moving old new sized is = free_as (Telling (results_failed moving NoCount) 0) new (ap (λ (f : Front). f.stage) is) tt
+next_fed Protected moving old new sized is = free_as (Telling (results_failed moving Protected) 0) new (ap (λ (f : Front). f.stage) is) tt
+next_fed Late moving old new sized is = free_as (Telling (results_failed moving Late) 0) new (ap (λ (f : Front). f.stage) is) tt
+
+-- ---- results without OR
+
+abbrev is_telling : Stage → Bool
+is_telling (Telling results read) = true
+is_telling _ = false
+
+abbrev IsCalm : Results → Type 0
+IsCalm results = bit_and results.st1.0 overrun ≡ 0
+
+told_calm : (ending : Ending) (head_drive : ℕ) (key : Chrn) (met : Bool) → overran ending ≡ false → IsCalm (results_told ending head_drive key met)
+told_calm Overrun head_drive key met calm = absurd (false≢true (sym calm))
+told_calm (Done marked) head_drive key true calm = refl
+told_calm (Done marked) head_drive key false calm = refl
+told_calm NoMark head_drive key true calm = refl
+told_calm NoMark head_drive key false calm = refl
+told_calm NoSector head_drive key true calm = refl
+told_calm NoSector head_drive key false calm = refl
+told_calm NoField head_drive key true calm = refl
+told_calm NoField head_drive key false calm = refl
+told_calm BadCheck head_drive key true calm = refl
+told_calm BadCheck head_drive key false calm = refl
+told_calm NoCount head_drive key true calm = refl
+told_calm NoCount head_drive key false calm = refl
+told_calm Protected head_drive key true calm = refl
+told_calm Protected head_drive key false calm = refl
+told_calm Late head_drive key true calm = refl
+told_calm Late head_drive key false calm = refl
+
+same_results : (one other : Results) → Telling one 0 ≡ Telling other 0 → one ≡ other
+same_results one other is = cc
+
+as_told : (told results : Results) (old new : Front) → IsCalm told → new ≡ record old { stage = Telling told 0 } → new.stage ≡ Telling results 0 → IsCalm results
+as_told told results old new calm is tells = subst IsCalm (same_results told results (sym (ap (λ (f : Front). f.stage) is) ∙ tells)) calm
+
+behind_calm : (moving : MovingSector) (marked : Bool) → IsCalm (results_behind moving marked)
+behind_calm moving marked = by_more (would_go_on moving marked)
+  where
+    by_more : (b : Bool) → IsCalm (if b then results_told NoCount moving.transfer.head_drive moving.transfer.key (has_met_other moving marked)
+        else results_told (Done false) moving.transfer.head_drive (next_of moving.transfer).key (has_met_other moving marked))
+    by_more true = told_calm NoCount moving.transfer.head_drive moving.transfer.key (has_met_other moving marked) refl
+    by_more false = told_calm (Done false) moving.transfer.head_drive (next_of moving.transfer).key (has_met_other moving marked) refl
+
+begins_silent : (at : Transfer) (counted passed_over : Bool) (old new : Front) (results : Results) → BeginsSector at counted passed_over old new → new.stage ≡ Telling results 0 → IsCalm results
+begins_silent at counted passed_over old new results begins tells = by_busy (is_executing begins.between.controller.phase) begins.begun
+  where
+    by_busy : (b : Bool) → new ≡ begun_if b at counted passed_over begins.between old → IsCalm results
+    by_busy true is = absurd (false≢true (sym (ap (λ (f : Front). is_telling f.stage) is) ∙ ap is_telling tells))
+    by_busy false is = absurd (false≢true (sym (ap (λ (f : Front). is_telling f.stage) is) ∙ ap is_telling tells))
+
+ends_calm : (ending : Ending) (moving : MovingSector) (old new : Front) (results : Results) → overran ending ≡ false → EndsSector moving ending old new → new.stage ≡ Telling results 0 → IsCalm results
+ends_calm (Done marked) moving old new results calm ends tells = by_next (goes_on moving marked) ends
+  where
+    by_next : (b : Bool) → EndsIf b moving marked old new → IsCalm results
+    by_next true begins = begins_silent (next_of moving.transfer) false (has_met_other moving marked) old new results begins tells
+    by_next false is = as_told (results_behind moving marked) results old new (behind_calm moving marked) is tells
+ends_calm Overrun moving old new results calm is tells = absurd (false≢true (sym calm))
+ends_calm NoMark moving old new results calm is tells = as_told _ results old new (told_calm NoMark moving.transfer.head_drive moving.transfer.key moving.passed_over calm) is tells
+ends_calm NoSector moving old new results calm is tells = as_told _ results old new (told_calm NoSector moving.transfer.head_drive moving.transfer.key moving.passed_over calm) is tells
+ends_calm NoField moving old new results calm is tells = as_told _ results old new (told_calm NoField moving.transfer.head_drive moving.transfer.key moving.passed_over calm) is tells
+ends_calm BadCheck moving old new results calm is tells = as_told _ results old new (told_calm BadCheck moving.transfer.head_drive moving.transfer.key moving.passed_over calm) is tells
+ends_calm NoCount moving old new results calm is tells = as_told _ results old new (told_calm NoCount moving.transfer.head_drive moving.transfer.key moving.passed_over calm) is tells
+ends_calm Protected moving old new results calm is tells = as_told _ results old new (told_calm Protected moving.transfer.head_drive moving.transfer.key moving.passed_over calm) is tells
+ends_calm Late moving old new results calm is tells = as_told _ results old new (told_calm Late moving.transfer.head_drive moving.transfer.key moving.passed_over calm) is tells
+
+-- the controller's ending isn't OR, nor is it as it is judged
+same_ending : (one other : Ending) → Some one ≡ Some other → one ≡ other
+same_ending one other is = cc
+
+answer_calm : (told : Answer) (ending : Ending) → is_overrun (Result told) ≡ false → ending_of_phase (Result told) ≡ Some ending → overran ending ≡ false
+answer_calm (Long found results read) ending calm is = sym (ap overran (same_ending found ending is)) ∙ calm
+answer_calm (Short next last) ending calm is = absurd (cc)
+
+phase_calm : (phase : Phase) (ending : Ending) → is_overrun phase ≡ false → ending_of_phase phase ≡ Some ending → overran ending ≡ false
+phase_calm Taking ending calm is = absurd (cc)
+phase_calm (Execute execution) ending calm is = absurd (cc)
+phase_calm (Result told) ending calm is = answer_calm told ending calm is
+
+judged_calm : (moving : MovingSector) (ending : Ending) → overran ending ≡ false → overran (judged moving ending) ≡ false
+judged_calm moving BadCheck calm = by_skipped moving.skipped
+  where
+    by_skipped : (b : Bool) → overran (judged (record moving { skipped = b }) BadCheck) ≡ false
+    by_skipped true = refl
+    by_skipped false = refl
+judged_calm moving (Done marked) calm = refl
+judged_calm moving NoMark calm = refl
+judged_calm moving NoSector calm = refl
+judged_calm moving NoField calm = refl
+judged_calm moving Overrun calm = calm
+judged_calm moving NoCount calm = refl
+judged_calm moving Protected calm = refl
+judged_calm moving Late calm = refl
+
+-- ---- the front in a device step
+
+record IsStepped (new : Front) : Type 0 where
+  fed : IsFedFront new
+  calm : (results : Results) → new.stage ≡ Telling results 0 → IsCalm results
+
+moves_stepped : (ending : Option Ending) (moving : MovingSector) (old : Fdc) (front new : Front) → front.stage ≡ Moving moving → IsFed moving old → IsCalmStep old front.adapter.controller
+    → ending_told front.adapter.controller ≡ ending → IsSizeCode moving.transfer.key.n → MovesOn (judged_if moving ending) moving front new → IsStepped new
+moves_stepped None moving old front new at fed calm is sized follows =
+    let fdc = front.adapter.controller in
+    let now : IsFed moving fdc = record {
+      rule = calm.rule;
+      last = λ none. either_way (phase_counted fdc.phase) (λ yes. yes) (λ no. clash (phase_counted old.phase) (calm.uncounted no) (fed.last none));
+    } in
+    record {
+      fed = passed_over (is_unwanted moving (mark_of fdc)) moving front new at now follows;
+      calm = λ results tells. by_over (is_unwanted moving (mark_of fdc)) results follows tells;
+    }
+  where
+    by_over : (b : Bool) (results : Results) → new ≡ passed_over_if b moving front → new.stage ≡ Telling results 0 → IsCalm results
+    by_over true results is tells = absurd (false≢true (sym (ap (λ (f : Front). is_telling f.stage) is) ∙ ap is_telling tells))
+    by_over false results is tells = absurd (false≢true (sym (ap (λ (f : Front). is_telling f.stage) is ∙ ap is_telling at) ∙ ap is_telling tells))
+moves_stepped (Some ending) moving old front new at fed calm is sized ends =
+    let fdc = front.adapter.controller in
+    let given : Front = record front { adapter = with_controller (given_up fdc) front.adapter } in
+    record {
+      fed = next_fed (judged moving ending) moving given new sized ends;
+      calm = λ results tells. ends_calm (judged moving ending) moving given new results (judged_calm moving ending (phase_calm fdc.phase ending calm.no_overrun is)) ends tells;
+    }
+
+seeks_stepped : (b : Bool) (at : Transfer) (counted : Bool) (front new : Front) → front.stage ≡ Seeking at counted → IsSizeCode at.key.n → SeeksOn b at counted front new → IsStepped new
+seeks_stepped true at counted front new is sized begins =
+    let sought : Front = record front { adapter = with_controller (without_seek front.adapter.controller) front.adapter } in
+    record { fed = sector_fed at counted false sought new sized begins; calm = λ results tells. begins_silent at counted false sought new results begins tells }
+seeks_stepped false at counted front new is sized same =
+    let stage = ap (λ (f : Front). f.stage) same ∙ is in
+    record { fed = free_as (Seeking at counted) new stage tt; calm = λ results tells. absurd (false≢true (sym (ap is_telling stage) ∙ ap is_telling tells)) }
+
+front_stepped : (stage : Stage) (old new : Front) (step : StepsFront old new) → old.stage ≡ stage → is_under_way stage ≡ true → (was : ServesBehind old) → IsFedFront old → is_gated old.adapter.controller ≡ true → asks_outside old ≡ false → selected_at old.adapter ≤ 1
+    → IsStepped new
+front_stepped Through old new step at under was fed gated low few = absurd (false≢true under)
+front_stepped (Collecting opcode) old new step at under was fed gated low few = absurd (false≢true under)
+front_stepped (Telling results read) old new step at under was fed gated low few = absurd (false≢true under)
+front_stepped (Seeking transfer counted) old new step at under was fed gated low few =
+    let serves : ServesAt (Seeking transfer counted) was.first was.history old.adapter.controller = subst (λ s. ServesAt s was.first was.history old.adapter.controller) at was.serves.now in
+    let front : Front = record old { adapter = step.between } in
+    seeks_stepped (has_ended_seek step.between.controller.seeks) transfer counted front new at (subst (λ (t : Transfer). IsSizeCode t.key.n) (sym serves.0) was.serves.sized)
+    (subst (λ s. FollowsStep s front new) at step.follows)
+front_stepped (Moving moving) old new step at under was fed gated low few =
+    let fdc = old.adapter.controller in
+    let serves : ServesAt (Moving moving) was.first was.history fdc = subst (λ s. ServesAt s was.first was.history fdc) at was.serves.now in
+    let carries = serves.2 in
+    let now = fed_moving moving old at fed in
+    let kind = moves_transfer was.first.opcode.operation was.history.past (sent_of moving.transfer) fdc carries.moves in
+    let waits = moving_waits moving fdc now kind gated (sym (ap (λ s. asks_at s fdc) at) ∙ low) in
+    let calm = adapter_calm old.adapter step.between step.steps few carries.busy waits in
+    let front : Front = record old { adapter = step.between } in
+    moves_stepped (ending_told step.between.controller) moving fdc front new at now calm refl carries.accounts.sized (subst (λ s. FollowsStep s front new) at step.follows)
+
+-- ---- the chip
+
+record InTimeSoFar (chip : ChipState) : Type 0 where
+  sound : IsSound chip
+  serving : IsServing chip
+  fed : IsFedFront chip.front
+
+served_of : (chip : ChipState) → IsSound chip → IsServing chip → ServesBehind chip.front
+served_of chip sound serving = elim (busy_at chip SentTask serving.sent sound) [
+  | inl serves ↦ serves
+  | inr executes ↦ absurd (not_through chip.front serving.under_way executes.through)
+]
+
+chip_stepped : (old new : ChipState) (step : StepsChip old new) → InTimeSoFar old → IsPrompt old → IsStepped step.between
+chip_stepped old new step was prompt =
+    let basis = sound_basis old (ap parts.is_ready was.serving.sent) was.sound in
+    front_stepped old.front.stage old.front step.between step.steps refl was.serving.under_way (served_of old was.sound was.serving) was.fed basis.gated prompt.served prompt.drive
+
+takes_on : (b : Bool) (byte : Option ℕ) (old new : ChipState) → InTimeSoFar old → TakesIf b old byte new → IsFedFront new.front
+takes_on true byte old new was (takes, rest) = takes_fed old.front.stage byte old.front new.front refl was.serving.under_way takes was.fed
+takes_on false byte old new was (none, is) = same_fed old.front new.front (ap (λ (chip : ChipState). chip.front) is) was.fed
+
+gives_on : (b : Bool) (byte : ℕ) (given : Bool) (old new : ChipState) → InTimeSoFar old → GivesChipIf b byte old given new → IsFedFront new.front
+gives_on true byte given old new was (gives, rest) = gives_fed old.front.stage byte given old.front new.front refl was.serving.under_way gives was.fed
+gives_on false byte given old new was (none, is) = same_fed old.front new.front (ap (λ (chip : ChipState). chip.front) is) was.fed
+
+read_on : (b : Bool) (value : ℕ) (old new : ChipState) → InTimeSoFar old → ReadsIf b old value new → IsFedFront new.front
+read_on true value old new was reads = takes_fed old.front.stage reads.byte old.front new.front refl was.serving.under_way reads.takes was.fed
+read_on false value old new was (none, is) = same_fed old.front new.front (ap (λ (chip : ChipState). chip.front) is) was.fed
+
+write_on : (b : Bool) (value : ℕ) (old new : ChipState) → InTimeSoFar old → GivesIf b value old new → IsFedFront new.front
+write_on true value old new was gives = gives_fed old.front.stage value gives.was old.front new.front refl was.serving.under_way gives.gives was.fed
+write_on false value old new was is = same_fed old.front new.front (ap (λ (chip : ChipState). chip.front) is) was.fed
+
+port_on : (b : Bool) (port value : ℕ) (old new : ChipState) → resets port (value_behind port value) ≡ b → (port == 0x3F5) ≡ false → InTimeSoFar old → IsServing new → WritesFront port (value_behind port value) old.front new.front
+    → new ≡ with_front new.front (ports.reset_if b (gated_by port value old)) → IsFedFront new.front
+port_on true port value old new anew no_data was serving writes rest = absurd (false≢true (sym (ap parts.is_ready serving.sent) ∙ ap (λ (chip : ChipState). parts.is_ready chip.stage) rest))
+port_on false port value old new quiet no_data was serving writes rest = port_fed port (value_behind port value) old.front new.front writes no_data quiet was.fed
+
+call_on : (call : Call) (old new : ChipState) → InTimeSoFar old → Does call old new → PromptAt call old → IsServing new → IsFedFront new.front
+call_on made.Steps old new was step prompt serving =
+    subst (λ (chip : ChipState). IsFedFront chip.front) (sym (step_same old new step was.serving.sent serving.sent)) (chip_stepped old new step was prompt).fed
+call_on (made.Takes byte) old new was does prompt serving = takes_on (passes_by_channel old) byte old new was does
+call_on (made.Gives byte given) old new was does prompt serving = gives_on (passes_by_channel old) byte given old new was does
+call_on made.Counts old new was does prompt serving =
+    let is : new ≡ with_front (told_front old.front) old = subst (λ stage. new ≡ ports.count_told stage old) was.serving.sent does in
+    counts_fed old.front.stage old.front new.front refl was.serving.under_way (ap (λ (chip : ChipState). chip.front) is) was.fed
+call_on (made.Reads port value) old new was does prompt serving = either_way (port == 0x3F5)
+    (λ here. read_on (passes_by_port old) value old new was (subst (λ stage. ReadsAt stage old value new) was.serving.sent (does.byte (eqb-true port 0x3F5 here))))
+    (λ no_data. same_fed old.front new.front (ap (λ (chip : ChipState). chip.front) (other_read port value old new no_data does)) was.fed)
+call_on (made.Writes port value) old new was does prompt serving = either_way (port == 0x3F5)
+    (λ here. write_on (passes_by_port old) value old new was (subst (λ stage. TakesByteChip stage value old new) was.serving.sent (does.bytes (eqb-true port 0x3F5 here))))
+    (λ no_data. let (front, rest) = does.others no_data in port_on (resets port (value_behind port value)) port value old new refl no_data was serving front rest)
+call_on made.Changes old new was does prompt serving =
+    let same = does.front.controller in
+    alike_fed old.front.stage old.front new.front does.front.stage refl (ap (λ (fdc : Fdc). fdc.phase) same) (ap (λ (fdc : Fdc). fdc.asking) same) (ap (λ (fdc : Fdc). fdc.fifo) same) was.fed
+call_on (made.Straps on) old new was does prompt serving = same_fed old.front new.front (ap (λ (chip : ChipState). chip.front) does) was.fed
+call_on (made.StrapsSteps on) old new was does prompt serving = same_fed old.front new.front (ap (λ (chip : ChipState). chip.front) does) was.fed
+
+calls_on : (calls : List Call) (old new : ChipState) → AreInTime calls old new → InTimeSoFar old → InTimeSoFar new
+calls_on [] old new same was = subst InTimeSoFar (sym same) was
+calls_on (call ∷ calls) old new (between, does, few, prompt, serving, rest) was =
+    calls_on calls between new rest (record { sound = call_sound call old between does few was.sound; serving = serving; fed = call_on call old between was does prompt serving })
+
+-- ---- it begins
+
+starts_fed : (b : Bool) (first : Transfer) (old new : Front) → IsSizeCode first.key.n → StartsIf b first old new → IsFedFront new
+starts_fed false first old new sized begins = sector_fed first false false old new sized begins
+starts_fed true first old new sized seeks = by_idle _ seeks.begun
+  where
+    by_idle : (b : Bool) → new ≡ record old { adapter = seeks.between; stage = if b then Seeking first false else Through } → IsFedFront new
+    by_idle true is = free_as (Seeking first false) new (ap (λ (f : Front). f.stage) is) tt
+    by_idle false is = free_as Through new (ap (λ (f : Front). f.stage) is) tt
+
+begun_fed : (first : Transfer) (chip : ChipState) → IsBegun first chip → IsFedFront chip.front
+begun_fed first chip is =
+    let begins = is.begins in
+    let start = begins.start in
+    let last = begins.last in
+    let bytes = start.bytes ++ begins.byte ∷ [] in
+    let taken : TakesByte (Collecting last.opcode) begins.byte start chip.front = subst (λ s. TakesByte s begins.byte start chip.front) last.collects (begins.writes.bytes refl) in
+    let whole : CollectsAs last.opcode (Ready last.command) (record start { bytes = kept (Ready last.command) bytes }) chip.front =
+    subst (λ (a : Accepted). CollectsAs last.opcode a (record start { bytes = kept a bytes }) chip.front) last.whole taken in
+    let starts : Starts (Some first) (record start { bytes = kept (Ready last.command) bytes }) chip.front =
+    subst (λ t. Starts t (record start { bytes = kept (Ready last.command) bytes }) chip.front) last.transfer whole in
+    starts_fed (start.strapped || start.configured) first (record start { bytes = kept (Ready last.command) bytes }) chip.front begins.serves.sized starts
+
+pub prompt_calm : (first : Transfer) (calls : List Call) (begun last new : ChipState) (step : StepsChip last new) (results : Results) → IsSound begun → IsBegun first begun → AreInTime calls begun last → IsPrompt last
+    → step.between.stage ≡ Telling results 0 → bit_and results.st1.0 overrun ≡ 0
+prompt_calm first calls begun last new step results sound is calls_are prompt tells =
+    let was = calls_on calls begun last calls_are (record { sound = sound; serving = is.serving; fed = begun_fed first begun is }) in
+    (chip_stepped last new step was prompt).calm results tells
+
+-- ---- the lines
+
+pub channel_asks : (chip : ChipState) → passes_by_channel chip ≡ true → asks_chip chip ≡ asks_outside chip.front
+channel_asks chip passes = ap (λ b. b && asks_outside chip.front) passes
+
+pub port_asks : (chip : ChipState) → passes_by_port chip ≡ true → chip.gated ≡ true → interrupts_chip chip ≡ asks_outside chip.front
+port_asks chip passes gated =
+    ap (λ b. b && (if passes_by_port chip then asks_outside chip.front else (chip.interrupts.line || shows_behind chip.stage chip.front))) gated
+    ∙ ap (λ b. if b then asks_outside chip.front else (chip.interrupts.line || shows_behind chip.stage chip.front)) passes

@@ -1,0 +1,296 @@
+-- A seek begins: its last byte comes to a chip whose heads stand, with the strap for the time of step pulses off.
+use Rattle.std.proofs.Common.{◌≡◌, inl, inr, ℕ, zero, suc, ◌+◌, ◌-◌, ◌%◌, ◌<◌, ◌≤◌, Bool, true, false, not, ◌&&◌, ◌||◌, ◌==◌, if◌then◌else◌, Option, Some, None, is_some, List, [], ◌∷◌, length, option_map, position, slice_index, slice_set, refl, sym, ◌∙◌, ap, subst, arith}
+use Rattle.std.specs.Option.{option_map_or}
+use Rattle.std.proofs.lemmas.Bool.{and_from, and_right, false≢true, or_parts}
+use Rattle.fdc_commands.specs.Seeking.{IsMotion, Seeking, after_sense}
+use Rattle.fdc_commands.specs.Seeking as seeking
+use Rattle.fdc_commands.specs.Table.{is_begun}
+use Rattle.fdc_commands.specs.declared.motion.Motion.{Motion}
+use Rattle.fdc_commands.specs.declared.motion.Motion.TheVariants.{Outward, Toward, Ended}
+use Rattle.fdc_phases.specs.declared.phases.Phase.TheVariants.{Command as Taking}
+use Rattle.fdc_core.specs.Commands.{recalibrating, seeking as seeking_to}
+use Rattle.fdc_core.specs.Ports.{is_taking, takes_in}
+use Rattle.fdc_core.specs.Ranges.{IsInRange}
+use Rattle.fdc_core.specs.State.{is_held}
+use Rattle.fdc_core.specs.Whole.{is_idle}
+use Rattle.fdc_core.specs.declared.controller.Fdc.{Fdc}
+use Rattle.fdc_adapter.specs.Senses.{after_result, without_result}
+use Rattle.fdc_sequencer.specs.Fronts.{Front, with_controller}
+use Rattle.fdc_sequencer.specs.Senses.{pending_outside, sensed_at, sensed_outside}
+use Rattle.fdc_sequencer.specs.declared.stage.Stage.TheVariants.{Through}
+use Rattle.fdc_chip.specs.Chips.{ChipState, with_front}
+use Rattle.fdc_chip.specs.Doing.{AttendsIf, Moves, MovesIf, Obeys, Sends, SendsOn, drained, drained_by, drained_one, is_moving, kept, moves_heads, moving, needs_heads, ready, relative_target}
+use Rattle.fdc_chip.specs.Interrupts.{Interrupting, cylinder_of, with_result}
+use Rattle.fdc_chip.specs.Ports.{WritesChip}
+use Rattle.fdc_chip.specs.declared.code.Code.{Code}
+use Rattle.fdc_chip.specs.declared.code.Code.TheVariants.{ReadTrack, Specify, SenseDrive, Transfer, Recalibrate, SenseInterrupt, ReadId, FormatTrack, DumpRegisters, Seek, RelativeSeek, Version, Perpendicular, Configure, Lock, Verify}
+use Rattle.fdc_chip.specs.declared.order.Order.{Order}
+use Rattle.fdc_chip.specs.declared.pace.Pace.{Pace}
+use Rattle.fdc_chip.specs.declared.stage.Stage.TheVariants.{Ready}
+use Rattle.laws_chip.specs.Beginning.{Completes, completed, still_moves}
+use Rattle.laws_chip.specs.Seeks.{HeadsGo, IsSoundInRange, SeeksBehind, goal_of, most_of, steps_left}
+use Rattle.laws_chip.specs.Sound.{RestsBehind}
+use Rattle.laws_chip.proofs.Attended.{free_stands}
+use Rattle.laws_chip.proofs.Rests.{IsResting, drained_rests}
+use Rattle.laws_chip.proofs.Sending.{recalibrate_obeyed, seek_obeyed}
+use Rattle.laws_chip.proofs.SoundParts.{basis_same}
+use Rattle.laws_chip.proofs.Standing.{Stands}
+use Rattle.laws_chip.proofs.WholeTransfers.{IsAttended, attending, byte_attends, drained_front, drained_pace, kept_front, same_moves}
+
+-- ---- results that are taken over
+
+abbrev none_pending : List (Option ℕ)
+none_pending = None ∷ None ∷ None ∷ None ∷ []
+
+-- that of the lowest drive is
+abbrev without_first : List (Option ℕ) → List (Option ℕ)
+without_first pending = option_map_or (λ p. slice_set pending p None) (position is_some pending) pending
+
+all_clear : (w x y z : Option ℕ) → without_first (without_first (without_first (without_first (w ∷ x ∷ y ∷ z ∷ [])))) ≡ none_pending
+all_clear None None None None = refl
+all_clear None None None (Some z) = refl
+all_clear None None (Some y) None = refl
+all_clear None None (Some y) (Some z) = refl
+all_clear None (Some x) None None = refl
+all_clear None (Some x) None (Some z) = refl
+all_clear None (Some x) (Some y) None = refl
+all_clear None (Some x) (Some y) (Some z) = refl
+all_clear (Some w) None None None = refl
+all_clear (Some w) None None (Some z) = refl
+all_clear (Some w) None (Some y) None = refl
+all_clear (Some w) None (Some y) (Some z) = refl
+all_clear (Some w) (Some x) None None = refl
+all_clear (Some w) (Some x) None (Some z) = refl
+all_clear (Some w) (Some x) (Some y) None = refl
+all_clear (Some w) (Some x) (Some y) (Some z) = refl
+
+four_clear : (pending : List (Option ℕ)) → length pending ≡ 4 → without_first (without_first (without_first (without_first pending))) ≡ none_pending
+four_clear (w ∷ x ∷ y ∷ z ∷ []) four = all_clear w x y z
+four_clear [] four = absurd (omega arith)
+four_clear (w ∷ []) four = absurd (omega arith)
+four_clear (w ∷ x ∷ []) four = absurd (omega arith)
+four_clear (w ∷ x ∷ y ∷ []) four = absurd (omega arith)
+four_clear (w ∷ x ∷ y ∷ z ∷ v ∷ rest) four = absurd (omega arith)
+
+-- the controller takes commands
+record IsIdleAt (front : Front) : Type 0 where
+  through : front.stage ≡ Through
+  takes : front.adapter.controller.phase ≡ Taking
+  whole : front.adapter.controller.command ≡ []
+  free : is_held front.adapter.controller ≡ false
+
+-- and so it does once a result was taken
+record IsTaken (old new : Fdc) : Type 0 where
+  takes : new.phase ≡ Taking
+  whole : new.command ≡ []
+  held : is_held new ≡ is_held old
+  poll : new.poll_due ≡ old.poll_due
+  pending : new.seeks.pending ≡ without_first old.seeks.pending
+
+result_taken : (fdc : Fdc) → IsTaken fdc (without_result (seeking.sensed fdc.seeks) fdc)
+result_taken fdc = by_first (position is_some s.pending) refl
+  where
+    s : Seeking
+    s = fdc.seeks
+
+    by_first : (first : Option ℕ) → position is_some fdc.seeks.pending ≡ first
+        → IsTaken fdc (without_result (option_map (λ drive. (seeking.status_of fdc.seeks drive, slice_index fdc.seeks.cylinders drive)) first) fdc)
+    by_first None is = record { takes = refl; whole = refl; held = refl; poll = refl; pending = sym (ap (λ f. option_map_or (λ p. slice_set fdc.seeks.pending p None) f fdc.seeks.pending) is) }
+    by_first (Some drive) is = record {
+      takes = refl;
+      whole = refl;
+      held = refl;
+      poll = refl;
+      pending = ap (λ f. (option_map_or (seeking.without_result fdc.seeks) f fdc.seeks).pending) is ∙ sym (ap (λ f. option_map_or (λ p. slice_set fdc.seeks.pending p None) f fdc.seeks.pending) is);
+    }
+
+idle_takes : (front : Front) → IsIdleAt front → is_idle front.adapter.controller ≡ true
+idle_takes front idle =
+    let fdc = front.adapter.controller in
+    and_from (is_taking fdc) (not (is_begun fdc.command)) (ap (λ phase. takes_in phase (is_held fdc)) idle.takes ∙ ap not idle.free) (ap (λ command. not (is_begun command)) idle.whole)
+
+-- so many were
+record AreTaken (old new : Front) : Type 0 where
+  idle : IsIdleAt new
+  poll : new.adapter.controller.poll_due ≡ old.adapter.controller.poll_due
+
+one_taken : (chip : ChipState) → IsIdleAt chip.front → AreTaken chip.front (drained_one chip).front × ((drained_one chip).front.adapter.controller.seeks.pending ≡ without_first chip.front.adapter.controller.seeks.pending)
+one_taken chip idle =
+    let front = chip.front in
+    let fdc = front.adapter.controller in
+    let taken = result_taken fdc in
+    let over : after_result fdc ≡ without_result (seeking.sensed fdc.seeks) fdc = ap (λ b. if b then without_result (seeking.sensed fdc.seeks) fdc else fdc) (idle_takes front idle) in
+    let is : (drained_one chip).front ≡ record front { adapter = with_controller (without_result (seeking.sensed fdc.seeks) fdc) front.adapter } =
+    kept_front (pending_outside front) (with_front (sensed_outside front) chip)
+    ∙ (ap (λ stage. sensed_at stage front) idle.through ∙ ap (λ (c : Fdc). record front { adapter = with_controller c front.adapter }) over) in
+    subst (λ (f : Front). AreTaken front f × (f.adapter.controller.seeks.pending ≡ without_first fdc.seeks.pending)) (sym is) (
+      record { idle = record { through = idle.through; takes = taken.takes; whole = taken.whole; free = taken.held ∙ idle.free }; poll = taken.poll },
+      taken.pending,
+    )
+
+-- all of them
+record AreAllTaken (old new : Front) : Type 0 where
+  taken : AreTaken old new
+  pending : new.adapter.controller.seeks.pending ≡ none_pending
+
+all_taken : (chip : ChipState) → IsIdleAt chip.front → length chip.front.adapter.controller.seeks.pending ≡ 4 → AreAllTaken chip.front (drained chip).front
+unfolding drained_by
+all_taken chip idle four =
+    let first = drained_one chip in
+    let second = drained_one first in
+    let third = drained_one second in
+    let (one, a) = one_taken chip idle in
+    let (two, b) = one_taken first one.idle in
+    let (three, c) = one_taken second two.idle in
+    let (last, d) = one_taken third three.idle in
+    record {
+      taken = record { idle = last.idle; poll = last.poll ∙ (three.poll ∙ (two.poll ∙ one.poll)) };
+      pending = d ∙ (ap without_first c ∙ (ap (λ p. without_first (without_first p)) b ∙ (ap (λ p. without_first (without_first (without_first p))) a ∙ four_clear chip.front.adapter.controller.seeks.pending four)));
+    }
+
+-- what they leave of the chip is by its front and what was kept of them
+kept_interrupts : (result : Option (ℕ × ℕ)) (one other : ChipState) → one.interrupts ≡ other.interrupts → (kept result one).interrupts ≡ (kept result other).interrupts
+kept_interrupts None one other same = same
+kept_interrupts (Some (status, cylinder)) one other same = ap (with_result status cylinder) same
+
+drained_interrupts : (n : ℕ) (one other : ChipState) → one.front ≡ other.front → one.interrupts ≡ other.interrupts → (drained_by n one).interrupts ≡ (drained_by n other).interrupts
+unfolding drained_by
+drained_interrupts zero one other front same = same
+drained_interrupts (suc n) one other front same =
+    let first = drained_by n one in
+    let second = drained_by n other in
+    let after = with_front (sensed_outside second.front) second in
+    kept_interrupts (pending_outside first.front) (with_front (sensed_outside first.front) first) after (drained_interrupts n one other front same)
+    ∙ ap (λ (f : Front). (kept (pending_outside f) after).interrupts) (drained_front n one other front)
+
+kept_paced : (result : Option (ℕ × ℕ)) (old : ChipState) → (kept result old).paced ≡ old.paced
+kept_paced None old = refl
+kept_paced (Some (status, cylinder)) old = refl
+
+drained_paced : (n : ℕ) (chip : ChipState) → (drained_by n chip).paced ≡ chip.paced
+unfolding drained_by
+drained_paced zero chip = refl
+drained_paced (suc n) chip =
+    let before = drained_by n chip in
+    kept_paced (pending_outside before.front) (with_front (sensed_outside before.front) before) ∙ drained_paced n chip
+
+-- ---- the command
+
+goal_heads : (code : Code) (order : Order) (interrupts : Interrupting) (goal : Option ℕ) → goal_of code order interrupts ≡ Some goal → needs_heads code ≡ true
+goal_heads Specify order interrupts goal is = absurd (cc)
+goal_heads SenseInterrupt order interrupts goal is = absurd (cc)
+goal_heads Version order interrupts goal is = absurd (cc)
+goal_heads Perpendicular order interrupts goal is = absurd (cc)
+goal_heads DumpRegisters order interrupts goal is = absurd (cc)
+goal_heads (Lock on) order interrupts goal is = absurd (cc)
+goal_heads SenseDrive order interrupts goal is = refl
+goal_heads Recalibrate order interrupts goal is = refl
+goal_heads Seek order interrupts goal is = refl
+goal_heads (RelativeSeek inward) order interrupts goal is = refl
+goal_heads Configure order interrupts goal is = refl
+goal_heads (ReadId mfm) order interrupts goal is = refl
+goal_heads (FormatTrack mfm) order interrupts goal is = refl
+goal_heads (Transfer mfm) order interrupts goal is = refl
+goal_heads (Verify mfm) order interrupts goal is = refl
+goal_heads (ReadTrack mfm) order interrupts goal is = refl
+
+same_some : (one other : Option ℕ) → Some one ≡ Some other → one ≡ other
+same_some one other is = cc
+
+goal_moves : (code : Code) (goal : Option ℕ) (set new : ChipState) → goal_of code set.order set.interrupts ≡ Some goal → Obeys code set new → Moves goal set new
+goal_moves Recalibrate goal set new is obeys = subst (λ g. Moves g set new) (same_some None goal is) obeys
+goal_moves Seek goal set new is obeys = subst (λ g. Moves g set new) (same_some (Some set.order.key.c) goal is) obeys
+goal_moves (RelativeSeek inward) goal set new is obeys =
+    subst (λ g. Moves g set new) (same_some (Some (relative_target inward (cylinder_of set.order.unit set.interrupts) set.order.key.c)) goal is) obeys
+goal_moves Specify goal set new is obeys = absurd (cc)
+goal_moves SenseInterrupt goal set new is obeys = absurd (cc)
+goal_moves Version goal set new is obeys = absurd (cc)
+goal_moves Perpendicular goal set new is obeys = absurd (cc)
+goal_moves DumpRegisters goal set new is obeys = absurd (cc)
+goal_moves (Lock on) goal set new is obeys = absurd (cc)
+goal_moves SenseDrive goal set new is obeys = absurd (cc)
+goal_moves Configure goal set new is obeys = absurd (cc)
+goal_moves (ReadId mfm) goal set new is obeys = absurd (cc)
+goal_moves (FormatTrack mfm) goal set new is obeys = absurd (cc)
+goal_moves (Transfer mfm) goal set new is obeys = absurd (cc)
+goal_moves (Verify mfm) goal set new is obeys = absurd (cc)
+goal_moves (ReadTrack mfm) goal set new is obeys = absurd (cc)
+
+-- ---- what is then under way behind
+
+motion_within : (motion : Motion) → IsMotion motion → steps_left motion ≤ 256
+motion_within (Outward pulses) few = omega arith
+motion_within (Toward cylinder target) (first, second) = omega arith
+motion_within Ended few = omega arith
+
+given_seeks : (unit : ℕ) (goal : Option ℕ) (start new : Front) → Stands start → start.adapter.controller.seeks.pending ≡ none_pending → start.adapter.controller.poll_due ≡ false → IsInRange new.adapter.controller
+    → Sends (moving unit goal) start new → SeeksBehind (most_of goal) (unit % 4) goal new
+given_seeks unit None start new stands none polled range sends =
+    let obeyed = recalibrate_obeyed unit start new stands sends in
+    let is : new.adapter.controller ≡ recalibrating unit (record start.adapter.controller { command = [] }) = obeyed.obeys.0 stands.rests in
+    let seek = ap (λ (fdc : Fdc). fdc.seeks.seek) is in
+    record {
+      through = obeyed.through;
+      takes = ap (λ (fdc : Fdc). fdc.phase) is ∙ stands.takes;
+      whole = ap (λ (fdc : Fdc). fdc.command) is;
+      free = ap is_held is ∙ stands.free;
+      polled = ap (λ (fdc : Fdc). fdc.poll_due) is ∙ polled;
+      motion = Outward 79;
+      seek = seek;
+      goes = tt;
+      within = omega arith;
+      pending = ap (λ (fdc : Fdc). fdc.seeks.pending) is ∙ none;
+      four = range.seeks.cylinders;
+    }
+given_seeks unit (Some target) start new stands none polled range sends =
+    let obeyed = seek_obeyed unit target start new stands sends in
+    let is : new.adapter.controller ≡ seeking_to unit target (record start.adapter.controller { command = [] }) = obeyed.obeys.0 stands.rests in
+    let seek = ap (λ (fdc : Fdc). fdc.seeks.seek) is in
+    let motion : Motion = Toward (slice_index start.adapter.controller.seeks.cylinders (unit % 4)) target in
+    record {
+      through = obeyed.through;
+      takes = ap (λ (fdc : Fdc). fdc.phase) is ∙ stands.takes;
+      whole = ap (λ (fdc : Fdc). fdc.command) is;
+      free = ap is_held is ∙ stands.free;
+      polled = ap (λ (fdc : Fdc). fdc.poll_due) is ∙ polled;
+      motion = motion;
+      seek = seek;
+      goes = refl;
+      within = motion_within motion (range.seeks.motion (record { drive = unit % 4; motion = motion }) seek);
+      pending = ap (λ (fdc : Fdc). fdc.seeks.pending) is ∙ none;
+      four = range.seeks.cylinders;
+    }
+
+none_of : (pace : Option Pace) → is_some pace ≡ false → pace ≡ None
+none_of None is = refl
+none_of (Some pace) is = absurd (false≢true (sym is))
+
+of_four : (n : ℕ) → n % 4 ≤ 3
+of_four n = omega arith
+
+-- ---- its last byte
+
+pub seek_comes : (code : Code) (goal : Option ℕ) (byte : ℕ) (old new : ChipState) → IsSoundInRange old → IsSoundInRange new → byte < 256
+    → Completes code byte old → goal_of code (completed byte old) (drained old).interrupts ≡ Some goal → WritesChip 0x3F5 byte old new → still_moves old ≡ false → old.paced ≡ false
+    → old.front.adapter.controller.poll_due ≡ false → HeadsGo (most_of goal) ((completed byte old).unit % 4) goal Ready new
+seek_comes code goal byte old new was is_after few completes is writes still unpaced polled =
+    let heads = goal_heads code (completed byte old) (drained old).interrupts goal is in
+    let start = attending byte old in
+    let attended = byte_attends code byte old new was.sound few heads completes writes in
+    let set = drained start in
+    let resting : IsResting start set = drained_rests 4 start attended.basis.whole attended.rests in
+    let stays : still_moves start ≡ false = same_moves start old refl refl ∙ still in
+    let stands = free_stands set (basis_same start set attended.basis resting.base resting.count resting.order) resting.rests stays in
+    let obeys : Obeys code set new = subst (λ b. AttendsIf b code set new) (and_right (needs_heads code) (is_moving set) stays) attended.attends in
+    let same : goal_of code set.order set.interrupts ≡ Some goal =
+    ap (λ (order : Order). goal_of code order set.interrupts) resting.order
+    ∙ (ap (λ (i : Interrupting). goal_of code (completed byte old) i) (drained_interrupts 4 start old refl refl) ∙ is) in
+    let moves : MovesIf set.paced goal set new = goal_moves code goal set new same obeys in
+    let (sends, rest) = subst (λ b. MovesIf b goal set new) (drained_paced 4 start ∙ unpaced) moves in
+    let taken = all_taken start (record { through = attended.rests.through; takes = attended.rests.takes; whole = attended.basis.whole; free = attended.basis.free }) was.range.seeks.pending in
+    subst (λ (order : Order). HeadsGo (most_of goal) (order.unit % 4) goal Ready new) resting.order (record {
+      at = ap (λ (chip : ChipState). chip.stage) rest;
+      unpaced = ap (λ (chip : ChipState). chip.pace) rest ∙ none_of set.pace (or_parts (is_some set.pace) (moves_heads set.front) stays).0;
+      few = of_four set.order.unit;
+      going = given_seeks set.order.unit goal set.front new.front stands taken.pending (taken.taken.poll ∙ polled) is_after.range sends;
+    })

@@ -1,0 +1,23 @@
+-- A host that serves each request in time.
+use Rattle.std.specs.Prelude.{◌≡◌, ◌≤◌, ℕ, false, List, [], ◌∷◌}
+use Rattle.fdc_adapter.specs.Adapters.{selected_at}
+use Rattle.fdc_sequencer.specs.Fronts.{asks_outside}
+use Rattle.fdc_chip.specs.Chips.{ChipState}
+use Rattle.laws_chip.specs.Calls as call
+use Rattle.laws_chip.specs.Calls.{Call, Does, IsServing, WritesByte}
+
+-- no byte is asked for, and DOR selects one of the two drives
+pub record IsPrompt (chip : ChipState) : Type 0 where
+  pub served : asks_outside chip.front ≡ false
+  pub drive : selected_at chip.front.adapter ≤ 1
+
+-- a device step is made only so
+abbrev pub PromptAt : Call → ChipState → Type 0
+PromptAt call.Steps old = IsPrompt old
+PromptAt _ old = Unit {0}
+
+-- these calls, behind each of which the command is under way, each device step so
+abbrev pub AreInTime : List Call → ChipState → ChipState → Type 0
+AreInTime [] old new = new ≡ old
+AreInTime (made ∷ calls) old new =
+    (between : ChipState) × Does made old between × WritesByte made × PromptAt made old × IsServing between × AreInTime calls between new

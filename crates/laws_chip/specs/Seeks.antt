@@ -1,0 +1,103 @@
+-- Seeks that give a pulse in each device step.
+use Rattle.std.specs.Prelude.{◌≡◌, ◌≤◌, ℕ, ◌+◌, ◌-◌, Bool, true, false, ◌==◌, Option, Some, None, List, [], ◌∷◌, length, unwrap_or}
+use Rattle.fdc_commands.specs.Seeking.{recalibrated, sought}
+use Rattle.fdc_commands.specs.declared.motion.Motion.{Motion}
+use Rattle.fdc_commands.specs.declared.motion.Motion.TheVariants.{Outward, Toward, Ended}
+use Rattle.fdc_phases.specs.declared.phases.Phase.TheVariants.{Command as Taking}
+use Rattle.fdc_core.specs.Ranges.{IsInRange}
+use Rattle.fdc_core.specs.State.{is_held}
+use Rattle.fdc_adapter.specs.Adapters.{lines_at}
+use Rattle.fdc_sequencer.specs.Fronts.{Front}
+use Rattle.fdc_sequencer.specs.declared.stage.Stage.TheVariants.{Through}
+use Rattle.fdc_chip.specs.Chips.{ChipState}
+use Rattle.fdc_chip.specs.Doing.{moves_heads, relative_target}
+use Rattle.fdc_chip.specs.Interrupts.{Interrupting, cylinder_of, with_result}
+use Rattle.fdc_chip.specs.declared.code.Code.{Code}
+use Rattle.fdc_chip.specs.declared.code.Code.TheVariants.{Recalibrate, RelativeSeek, Seek}
+use Rattle.fdc_chip.specs.declared.order.Order.{Order}
+use Rattle.fdc_chip.specs.declared.stage.Stage.{Stage}
+use Rattle.fdc_chip.specs.declared.stage.Stage.TheVariants.{Ready, Held}
+use Rattle.laws_chip.specs.Sound.{IsSound}
+
+-- a sound chip, with numbers in the controller that its registers hold
+pub record IsSoundInRange (chip : ChipState) : Type 0 where
+  pub sound : IsSound chip
+  pub range : IsInRange chip.front.adapter.controller
+
+-- ---- where heads go
+
+-- a RECALIBRATE, or the cylinder of a SEEK or RELATIVE SEEK, with these cylinder numbers
+abbrev pub goal_of : Code → Order → Interrupting → Option (Option ℕ)
+goal_of Recalibrate order interrupts = Some None
+goal_of Seek order interrupts = Some (Some order.key.c)
+goal_of (RelativeSeek inward) order interrupts = Some (Some (relative_target inward (cylinder_of order.unit interrupts) order.key.c))
+goal_of _ order interrupts = None
+
+abbrev pub GoesTo : Option ℕ → Motion → Type 0
+GoesTo None (Outward pulses) = Unit {0}
+GoesTo (Some target) (Toward cylinder to) = to ≡ target
+GoesTo _ _ = ⊥
+
+-- the device steps that it still takes at most
+abbrev pub steps_left : Motion → ℕ
+steps_left (Outward pulses) = pulses + 1
+steps_left (Toward cylinder target) = (cylinder - target) + (target - cylinder) + 1
+steps_left Ended = 0
+
+-- and those of a whole one: 79 pulses of a RECALIBRATE, or those over 255 cylinders, and one step more
+abbrev pub most_of : Option ℕ → ℕ
+most_of None = 80
+most_of (Some target) = 256
+
+-- ST0 at its end, by the track 0 line: 20 with the drive, and 70 for a RECALIBRATE that doesn't reach track 0
+abbrev pub status_at_end : Option ℕ → ℕ → Bool → ℕ
+status_at_end None drive track0 = recalibrated drive track0
+status_at_end (Some target) drive track0 = sought drive
+
+-- ---- while they go
+
+-- no command is under way, or one is held
+abbrev pub waits_for_heads : Stage → Bool
+waits_for_heads Ready = true
+waits_for_heads Held = true
+waits_for_heads _ = false
+
+-- nothing but a seek of this drive is under way behind, of so many device steps more at most; no result is pending there, and no poll is
+-- to come
+pub record SeeksBehind (left drive : ℕ) (goal : Option ℕ) (front : Front) : Type 0 where
+  pub through : front.stage ≡ Through
+  pub takes : front.adapter.controller.phase ≡ Taking
+  pub whole : front.adapter.controller.command ≡ []
+  pub free : is_held front.adapter.controller ≡ false
+  pub polled : front.adapter.controller.poll_due ≡ false
+  pub motion : Motion
+  pub seek : front.adapter.controller.seeks.seek ≡ Some (record { drive = drive; motion = motion })
+  pub goes : GoesTo goal motion
+  pub within : steps_left motion ≤ left
+  pub pending : front.adapter.controller.seeks.pending ≡ None ∷ None ∷ None ∷ None ∷ []
+  pub four : length front.adapter.controller.seeks.cylinders ≡ 4
+
+-- and the chip is at this stage, with no pulses that come in the time that SPECIFY sets
+pub record HeadsGo (left drive : ℕ) (goal : Option ℕ) (stage : Stage) (chip : ChipState) : Type 0 where
+  pub at : chip.stage ≡ stage
+  pub unpaced : chip.pace ≡ None
+  pub few : drive ≤ 3
+  pub going : SeeksBehind left drive goal chip.front
+
+-- ---- they stand
+
+-- nothing is under way behind, and heads stand
+pub record HeadsStand (front : Front) : Type 0 where
+  pub through : front.stage ≡ Through
+  pub takes : front.adapter.controller.phase ≡ Taking
+  pub whole : front.adapter.controller.command ≡ []
+  pub polled : front.adapter.controller.poll_due ≡ false
+  pub seek : front.adapter.controller.seeks.seek ≡ None
+  pub stand : moves_heads front ≡ false
+
+-- their seek ended in a device step: its result is pending, in place of an older one of the drive, and INT is up
+pub record EndsBySignal (drive : ℕ) (goal : Option ℕ) (old new : ChipState) : Type 0 where
+  pub stage : new.stage ≡ old.stage
+  pub unpaced : new.pace ≡ None
+  pub results : new.interrupts ≡ with_result (status_at_end goal drive (lines_at old.front.adapter).track0) (unwrap_or goal 0) old.interrupts
+  pub standing : HeadsStand new.front

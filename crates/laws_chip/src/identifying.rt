@@ -1,0 +1,29 @@
+// What READ ID tells of the medium. The bodies are empty: the contracts say what follows from what each call does.
+ghost use Rattle.std.specs.Prelude.{◌≡◌, ℕ, true, Some, List};
+ghost use Rattle.track_model.specs.Fields.{IsAddressAt};
+ghost use Rattle.fdc_commands.specs.declared.results.Results.{Results};
+ghost use Rattle.fdc_phases.specs.Phases.{head_of};
+ghost use Rattle.fdc_chip.specs.Chips.{ChipState};
+ghost use Rattle.fdc_chip.specs.Codes.{code_of};
+ghost use Rattle.fdc_chip.specs.Doing.{Obeys};
+ghost use Rattle.fdc_chip.specs.Steps.{StepsChip};
+ghost use Rattle.fdc_chip.specs.declared.code.Code.TheVariants.{ReadId};
+ghost use Rattle.fdc_chip.specs.declared.stage.Stage.TheVariants.{Busy};
+ghost use Rattle.fdc_chip.specs.declared.stage.Task.TheVariants.{Sent};
+ghost use Rattle.laws_sequencer.specs.Media.{Place, track_at};
+ghost use Rattle.laws_chip.specs.Beginning.{IsFreeBehind};
+ghost use Rattle.laws_chip.specs.Calls.{Call};
+ghost use Rattle.laws_chip.specs.Identifying.{IsIdBegun, StaysUnder};
+ghost use Rattle.laws_chip.specs.Lasting.{AreAt};
+ghost use Rattle.laws_chip.specs.Sound.{IsSound};
+ghost use Rattle.laws_chip.specs.Told.{Tells};
+
+/// A READ ID begins where what stands behind is free. Where it tells results in which nothing is wrong, and a medium stayed in from its
+/// last byte on, the key that they tell stands in an address field of the track under its head.
+pub fn a_read_id_tells_a_key_of_the_track()
+    ensures begins { (old new : ChipState) → IsSound new → code_of old.order.code ≡ Some (ReadId true) → IsFreeBehind old.front → Obeys (ReadId true) old new
+        → IsIdBegun old.order.unit new }
+    ensures tells { (place : Place) (unit : ℕ) (calls : List Call) (begun last new : ChipState) (results : Results) (at : AreAt (Busy Sent) calls begun last) → IsSound begun
+        → IsIdBegun unit begun → StaysUnder place (Busy Sent) calls begun last at → StepsChip last new → Tells results new → results.st1.0 ≡ 0
+        → (spot : ℕ) × IsAddressAt (track_at place (head_of unit)) spot results.key }
+{}

@@ -1,0 +1,22 @@
+// A host that serves each request in time. The bodies are empty: the contracts say what follows from what each call does.
+ghost use Rattle.std.specs.Prelude.{◌≡◌, ◌&&◌, not, true, false, List, bit_and};
+ghost use Rattle.fdc_registers.specs.St1.{overrun};
+ghost use Rattle.fdc_commands.specs.declared.results.Results.{Results};
+ghost use Rattle.fdc_sequencer.specs.Fronts.{asks_outside};
+ghost use Rattle.fdc_sequencer.specs.declared.stage.Stage.TheVariants as behind;
+ghost use Rattle.fdc_sequencer.specs.declared.transfer.Transfer.{Transfer};
+ghost use Rattle.fdc_chip.specs.Chips.{ChipState, asks_chip, interrupts_chip, passes_by_channel, passes_by_port};
+ghost use Rattle.fdc_chip.specs.Steps.{StepsChip};
+ghost use Rattle.laws_chip.specs.Beginning.{IsBegun};
+ghost use Rattle.laws_chip.specs.Calls.{Call};
+ghost use Rattle.laws_chip.specs.InTime.{AreInTime, IsPrompt};
+ghost use Rattle.laws_chip.specs.Sound.{IsSound};
+
+/// A host that makes a device step only where no byte is asked for, and so takes or gives each before the next step, never gets OR in a transfer,
+/// however the FIFO is set. By the channel a byte is asked for while DRQ is up; by the data port, while INT is.
+pub fn a_host_in_time_gets_no_overrun()
+    ensures channel { (chip : ChipState) → passes_by_channel chip ≡ true → asks_chip chip ≡ asks_outside chip.front }
+    ensures port { (chip : ChipState) → passes_by_port chip ≡ true → chip.gated ≡ true → interrupts_chip chip ≡ asks_outside chip.front }
+    ensures calm { (first : Transfer) (calls : List Call) (begun last new : ChipState) (step : StepsChip last new) (results : Results) → IsSound begun → IsBegun first begun
+        → AreInTime calls begun last → IsPrompt last → step.between.stage ≡ behind.Telling results 0 → bit_and results.st1.0 overrun ≡ 0 }
+{}
