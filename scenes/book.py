@@ -170,9 +170,9 @@ class Book:
         self.want(line)
 
 
-def whole_book():
-    """The book with the scenes of all parts."""
+def whole_book(parts=PARTS):
+    """The book with the scenes of all parts, or of these."""
     book = Book()
-    for part in PARTS:
+    for part in parts:
         importlib.import_module(part).scenes(book)
     return book
