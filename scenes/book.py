@@ -2,7 +2,10 @@
 
 A part of the book is a module with a function `scenes(book)`. Lines of jobs and reports are separated by `;`.
 """
+import importlib
 import zlib
+
+PARTS = ["worked", "jobs", "whole", "archives", "driver", "commands", "failing", "ports", "controller", "vectors", "bench"]
 
 
 class Made:
@@ -165,3 +168,11 @@ class Book:
     def both(self, line):
         self.give(line)
         self.want(line)
+
+
+def whole_book(parts=PARTS):
+    """The book with the scenes of all parts, or of these."""
+    book = Book()
+    for part in parts:
+        importlib.import_module(part).scenes(book)
+    return book
