@@ -1,3 +1,4 @@
 pub mod Bays
+pub mod Joined
 pub mod WithMedium
 pub mod Saving

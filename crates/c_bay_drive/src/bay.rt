@@ -31,6 +31,7 @@ fn either(first: bool, second: bool) -> bool
 impl BayDrive {
     ghost use Rattle.drive_model.specs.Fault.{total_left};
     ghost use Rattle.drive_model.specs.ScriptDrive.{told};
+    ghost use Rattle.c_bay_drive.specs.Joined.{with_writes};
     ghost use Rattle.c_bay_drive.specs.Bays.{bay_state, new_in_bay, drive_within, is_attached, drive_in_bay, faults_in_bay, tracks_in_bay, without_tracks, state_replanned, state_with_cable};
 
     /// A drive with these faults, attached, with no medium, at cylinder 0, its motor off, its change line set.
@@ -88,5 +89,14 @@ impl BayDrive {
         ensures left { self.new ≡ without_tracks self.old }
     {
         std::mem::replace(&mut self.tracks, TrackMap::new())
+    }
+
+    /// Tells besides what another drive tells of writes: whether a word of the medium was replaced, and which tracks were written. All else
+    /// stays.
+    pub fn join_writes(&mut self, from: &BayDrive)
+        ensures { self.new ≡ with_writes from.now self.old }
+    {
+        self.replaced = either(from.replaced, self.replaced);
+        self.tracks.join(&from.tracks);
     }
 }

@@ -2,6 +2,7 @@
 ghost use Rattle.std.specs.Prelude.{◌≡◌, ⊤, length};
 ghost use Rattle.drive_model.specs.Maps.{no_tracks, bit_of as bit_of_place, marked, marked_if};
 ghost use Rattle.saved_state.specs.Saved.{spelled_bytes};
+ghost use Rattle.c_bay_drive.specs.Joined.{joined};
 
 use saved_state::{Saved, Sink, Source, load_bytes, save_bytes};
 use std::marker::Model;
@@ -75,6 +76,17 @@ impl TrackMap {
         if on {
             self.mark(c, h);
         }
+    }
+
+    /// The tracks of another map besides.
+    pub fn join(&mut self, other: &TrackMap)
+        ensures { self.new ≡ joined other.now self.old }
+    {
+        let mut bits = [0; MAP_BYTES];
+        for at in 0..MAP_BYTES {
+            bits[at] = other.bits[at] | self.bits[at];
+        }
+        self.bits = bits;
     }
 
     /// The bytes as an array.
