@@ -12,6 +12,7 @@ use Rattle.fdc_phases.specs.Rates.{rate_fits}
 use Rattle.fdc_phases.specs.Written.{IsWritingOn}
 use Rattle.fdc_phases.specs.declared.transfers.Writing.{Writing}
 use Rattle.fdc_core.specs.Listening.{is_executing}
+use Rattle.fdc_core.specs.Steps.{let_pass}
 use Rattle.fdc_core.specs.Times.{WordTime, Saw, KeptOut, Wrote, Stopped, IsTime, after_time}
 use Rattle.fdc_core.specs.Writing.{WriteDoes}
 use Rattle.fdc_core.specs.Written.{MayWrite}
