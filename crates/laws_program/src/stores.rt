@@ -16,7 +16,6 @@ ghost use Rattle.laws_program.specs.StoredAgain.{AllRead, StoresAgainAtEnd};
 /// file that they read isn't stored again. `format`, `formatdd`, `copy`, `import`, `fromimd`, `remaster`, `export` and `toimd` make one, of what
 /// they made, under its name, or none; so FROM isn't stored. `rescue` stores the disk, and then the log. `play` and `int13` store what their
 /// requests take out, and at their end what was left in, bay 0 first.
-#[tactic(auto, using(crate::proofs::StoresMade::each_form_stores))]
 pub fn each_form_stores_its_own()
     ensures { (asked : Option Form) (spares : List DriveCounts) (old new : Board) (before after : Outside) (ended : Status)
         (over : RunsOver asked old spares before new after ended)
@@ -25,7 +24,6 @@ pub fn each_form_stores_its_own()
 
 /// A law: `play JOB`, where JOB is a job none of whose requests writes to a medium, makes one or takes one out, stores nothing before its end,
 /// however it ends. There it stores a first part of what was left in, bay 0 first: under each name the disk that the file of the name had.
-#[tactic(auto, using(crate::proofs::ReadJobs::reading_stores))]
 pub fn a_job_that_reads_stores_nothing_new(_job: &str)
     ensures { (spares : List DriveCounts) (old new : Board) (before after : Outside) (ended : Status) (requests : List Request)
         (over : RunsOver (Some (form.Play _job.now)) old spares before new after ended) → IsJob before.files _job.now requests
