@@ -26,3 +26,4 @@ mod HeadsGoing
 mod SeeksBegun
 mod SeeksHeld
 mod Prompt
+mod FormatLays
