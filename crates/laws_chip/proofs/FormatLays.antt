@@ -1,5 +1,5 @@
 -- FORMAT TRACK over a medium at speed: the keys that were given are laid.
-use Rattle.std.proofs.Common.{◌≡◌, ◌⊎◌, inl, inr, ℕ, zero, suc, ◌+◌, ◌%◌, ◌<◌, ◌≤◌, nat_le, Bool, true, false, not, ◌&&◌, ◌||◌, ◌==◌, if◌then◌else◌, Option, Some, None, List, [], ◌∷◌, ◌++◌, length, refl, sym, ◌∙◌, ap, subst, arith, length-append}
+use Rattle.std.proofs.Common.{◌≡◌, inl, inr, ℕ, zero, suc, ◌+◌, ◌%◌, ◌≤◌, nat_le, Bool, true, false, not, ◌&&◌, ◌==◌, if◌then◌else◌, Option, Some, None, List, [], ◌∷◌, ◌++◌, length, refl, sym, ◌∙◌, ap, subst, arith, length-append}
 use Rattle.std.proofs.lemmas.Bool.{and_parts, eqb-true, false≢true, leb-true}
 use Rattle.raw_image.specs.Disk.{IsDisk}
 use Rattle.drive_model.specs.Drive.{DriveState, is_protected, rate_of}
@@ -8,12 +8,11 @@ use Rattle.fdc_registers.specs.Fifo.{Fifo, emptied}
 use Rattle.fdc_commands.specs.Seeking.{with_polls}
 use Rattle.fdc_commands.specs.declared.command.Command.TheVariants.{FormatTrack}
 use Rattle.fdc_stages.specs.Formats.{IsAtPart, Numbers, is_first, is_next}
-use Rattle.fdc_stages.specs.History.{Past, begun as new_past, heard, kept_out, turns_after, wrote}
+use Rattle.fdc_stages.specs.History.{Past, begun as new_past, heard, kept_out, wrote}
 use Rattle.fdc_stages.specs.declared.formatting.FormatNext.{FormatNext}
 use Rattle.fdc_stages.specs.declared.formatting.FormatNext.TheVariants as next
 use Rattle.fdc_stages.specs.declared.formatting.FormatPart.{FormatPart}
 use Rattle.fdc_stages.specs.declared.formatting.FormatPart.TheVariants.{Await, Due, Lay, Barred}
-use Rattle.track_separator.specs.Parts.{with_word}
 use Rattle.fdc_phases.specs.Commands.{IsFormattingTrack}
 use Rattle.fdc_phases.specs.Dma.{task_asks}
 use Rattle.fdc_phases.specs.Formatting.{is_ended}
@@ -21,7 +20,6 @@ use Rattle.fdc_phases.specs.Heard.{stepped, told_in}
 use Rattle.fdc_phases.specs.Phases.{head_of, is_reading}
 use Rattle.fdc_phases.specs.Rates.{rate_fits}
 use Rattle.fdc_phases.specs.Written.{IsFormattingOn, MayFormatIn, MayFormatTask, took}
-use Rattle.fdc_phases.specs.declared.answers.Answer.{Answer}
 use Rattle.fdc_phases.specs.declared.phases.Phase.{Phase}
 use Rattle.fdc_phases.specs.declared.phases.Phase.TheVariants.{Command as Taking, Execute, Result}
 use Rattle.fdc_phases.specs.declared.phases.Task.{Task}
@@ -29,11 +27,10 @@ use Rattle.fdc_phases.specs.declared.phases.Task.TheVariants as task
 use Rattle.fdc_phases.specs.declared.rates.DataRate.{DataRate}
 use Rattle.fdc_phases.specs.declared.transfers.Formatting.{Formatting}
 use Rattle.fdc_core.specs.Commands.{BeginsData}
-use Rattle.fdc_core.specs.Courses.{Works}
 use Rattle.fdc_core.specs.Dma.{taken_in, to_memory_of, told_count}
 use Rattle.fdc_core.specs.Drives.Hearing.{Outset}
 use Rattle.fdc_core.specs.Drives.Spinning.{IsTurningIn}
-use Rattle.fdc_core.specs.Drives.Writing.{HasMedium, IsAtDrive, start_in}
+use Rattle.fdc_core.specs.Drives.Writing.{IsAtDrive}
 use Rattle.fdc_core.specs.Formatting.{FormatDoes, after_laid}
 use Rattle.fdc_core.specs.Listening.{is_executing}
 use Rattle.fdc_core.specs.State.{asks, is_gated, is_held}
@@ -43,9 +40,9 @@ use Rattle.fdc_core.specs.Writes.{WritesIn, WritesTask}
 use Rattle.fdc_core.specs.Written.{MayFormat}
 use Rattle.fdc_core.specs.declared.controller.Fdc.{Fdc}
 use Rattle.fdc_core.proofs.MayWrite.{in_formats, told_formats}
-use Rattle.fdc_core.proofs.Tellings.{lays_track}
+use Rattle.fdc_core.proofs.Tellings.{format_tells, lays_track}
 use Rattle.fdc_core.proofs.drives.Writing.{drive_less, kept_on, saw_on, still_unprotected, stopped_on, wrote_on}
-use Rattle.fdc_adapter.specs.Adapters.{AdapterState, Gives, StepsAdapter, Takes, drive_at, selected_at}
+use Rattle.fdc_adapter.specs.Adapters.{AdapterState, StepsAdapter, drive_at, selected_at}
 use Rattle.fdc_sequencer.specs.Fronts.{Front, GivesAt, GivesFront, TakesAt, TakesFront, told_front, told_if, with_controller}
 use Rattle.fdc_sequencer.specs.Fronts as fronts
 use Rattle.fdc_sequencer.specs.Moves.{StepsFront}
@@ -56,19 +53,17 @@ use Rattle.fdc_chip.specs.Ports as ports
 use Rattle.fdc_chip.specs.Ports.{GivesChipIf, GivesIf, ReadsAt, ReadsIf, TakesByte, TakesIf}
 use Rattle.fdc_chip.specs.Steps.{StepsChip}
 use Rattle.fdc_chip.specs.declared.code.Code.TheVariants as code
-use Rattle.fdc_chip.specs.declared.stage.Stage.{Stage}
 use Rattle.fdc_chip.specs.declared.stage.Stage.TheVariants.{Busy}
 use Rattle.fdc_chip.specs.declared.stage.Task.TheVariants.{Sent}
 use Rattle.laws_sequencer.specs.Serving.{passed_in}
 use Rattle.laws_sequencer.proofs.LateWriting.{window_none}
-use Rattle.laws_sequencer.proofs.Resting.{polled_phase}
 use Rattle.laws_chip.specs.Beginning.{IsFreeBehind}
 use Rattle.laws_chip.specs.Calls as made
 use Rattle.laws_chip.specs.Calls.{Call, Does}
 use Rattle.laws_chip.specs.FormatTracks.{GiveAll, GivesAs, GivesByte, IsFormatBegun, LaysKeys, LetDrives, TurnsAtSpeed, lets_drives, numbers_of}
 use Rattle.laws_chip.specs.Lasting.{AreAt}
 use Rattle.laws_chip.specs.Sound.{ExecutesBehind, IsSound, executes_single}
-use Rattle.laws_chip.proofs.Channels.{counts_executes, gives_executes, takes_executes}
+use Rattle.laws_chip.proofs.Channels.{counts_executes, gives_executes}
 use Rattle.laws_chip.proofs.CommandsBegun.{begins_sent}
 use Rattle.laws_chip.proofs.PassedOn.{no_results, other_read, step_same}
 use Rattle.laws_chip.proofs.FirstSectors.{base_held}
@@ -279,8 +274,14 @@ front_steps outset bay unit numbers given old new step few valid head was =
     subst (λ (f : Front). Stepped outset unit numbers given f.adapter.controller (drive_at f.adapter bay)) (sym (through_step old new step was.executes.through))
     (bay_steps outset bay unit numbers given old step.between few valid head was step.steps)
 
-stepped_lays : (outset : Outset) (unit : ℕ) (numbers : Numbers) (given : List ℕ) (new : Fdc) (drive : DriveState) → Stepped outset unit numbers given new drive → LaysKeys outset numbers given drive
-stepped_lays outset unit numbers given new drive is = record { past = is.past; taken = is.taken; lays = lays_track is.past unit numbers new is.known; stands = is.at.medium }
+stepped_lays : (outset : Outset) (unit : ℕ) (numbers : Numbers) (given : List ℕ) (new : Fdc) (drive : DriveState) → Stepped outset unit numbers given new drive → LaysKeys outset unit numbers given new drive
+stepped_lays outset unit numbers given new drive is = record {
+  past = is.past;
+  taken = is.taken;
+  lays = lays_track is.past unit numbers new is.known;
+  stands = is.at.medium;
+  tells = format_tells is.past unit numbers new is.known;
+}
 
 -- where the chip is busy behind the step too, it goes on
 still_executes : (old new : ChipState) (step : StepsChip old new) → IsSound old → old.stage ≡ Busy Sent → new.stage ≡ Busy Sent → ExecutesBehind old.front → ExecutesBehind step.between
@@ -491,7 +492,7 @@ begun_going outset bay unit numbers chip is turns =
 
 pub format_lays : (outset : Outset) (bay unit : ℕ) (numbers : Numbers) (calls : List Call) (begun last new : ChipState) (at : AreAt (Busy Sent) calls begun last) (step : StepsChip last new) → IsSound begun
     → IsFormatBegun unit numbers begun → TurnsAtSpeed outset bay unit begun → LetDrives calls
-    → (given : List ℕ) × GiveAll (Busy Sent) calls begun last at given × LaysKeys outset numbers given (drive_at step.between.adapter bay)
+    → (given : List ℕ) × GiveAll (Busy Sent) calls begun last at given × LaysKeys outset unit numbers given step.between.adapter.controller (drive_at step.between.adapter bay)
 format_lays outset bay unit numbers calls begun last new at step sound is turns lets =
     let (going, stage) = begun_going outset bay unit numbers begun is turns in
     let all = calls_on outset bay unit numbers calls [] begun last at turns.bay_is turns.disk turns.head lets sound stage going in

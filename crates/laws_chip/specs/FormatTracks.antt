@@ -7,7 +7,8 @@ use Rattle.fdc_stages.specs.History.{Past}
 use Rattle.fdc_phases.specs.Phases.{head_of}
 use Rattle.fdc_core.specs.Drives.Hearing.{Outset}
 use Rattle.fdc_core.specs.Drives.Writing.{HasMedium, start_in}
-use Rattle.fdc_core.specs.Tellings.{LaysTrack}
+use Rattle.fdc_core.specs.Tellings.{FormatTells, LaysTrack}
+use Rattle.fdc_core.specs.declared.controller.Fdc.{Fdc}
 use Rattle.fdc_adapter.specs.Adapters.{drive_at, selected_at}
 use Rattle.fdc_sequencer.specs.Fronts.{GivesFront}
 use Rattle.fdc_chip.specs.Chips.{ChipState, passes_by_port}
@@ -79,9 +80,10 @@ pub record TurnsAtSpeed (outset : Outset) (bay unit : ℕ) (chip : ChipState) : 
   pub inside : outset.from + 1 ≤ outset.disk.words_per_track
 
 -- the words that were written are the first of the layout of keys whose bytes begin with those that were given; they stand on the track under
--- the head, and nothing else of the medium changed
-pub record LaysKeys (outset : Outset) (numbers : Numbers) (given : List ℕ) (drive : DriveState) : Type 0 where
+-- the head, and nothing else of the medium changed; and what the results of an ending behind say of them: of IC 00, that all words of the layout were
+pub record LaysKeys (outset : Outset) (unit : ℕ) (numbers : Numbers) (given : List ℕ) (fdc : Fdc) (drive : DriveState) : Type 0 where
   pub past : Past
   pub taken : past.taken ≡ given
   pub lays : LaysTrack past numbers
   pub stands : HasMedium outset (start_in outset past) past.words drive
+  pub tells : FormatTells past unit numbers fdc

@@ -22,5 +22,5 @@ pub fn a_format_lays_the_keys_given()
         → IsFormatBegun old.order.unit (numbers_of old.order) new }
     ensures lays { (outset : Outset) (bay unit : ℕ) (numbers : Numbers) (calls : List Call) (begun last new : ChipState) (at : AreAt (Busy Sent) calls begun last) (step : StepsChip last new)
         → IsSound begun → IsFormatBegun unit numbers begun → TurnsAtSpeed outset bay unit begun → LetDrives calls
-        → (given : List ℕ) × GiveAll (Busy Sent) calls begun last at given × LaysKeys outset numbers given (drive_at step.between.adapter bay) }
+        → (given : List ℕ) × GiveAll (Busy Sent) calls begun last at given × LaysKeys outset unit numbers given step.between.adapter.controller (drive_at step.between.adapter bay) }
 {}
