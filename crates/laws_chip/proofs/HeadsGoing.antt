@@ -1,12 +1,11 @@
 -- Seeks that give a pulse in each device step: they go on, and end by INT.
-use Rattle.std.proofs.Common.{◌≡◌, ◌⊎◌, inl, inr, ℕ, zero, suc, ◌+◌, ◌-◌, ◌%◌, ◌<◌, ◌≤◌, nat_lt, Bool, true, false, not, ◌&&◌, ◌||◌, ◌==◌, if◌then◌else◌, Option, Some, None, is_some, List, [], ◌∷◌, length, position, slice_index, slice_set, unwrap_or, bit_and, refl, sym, ◌∙◌, ap, subst, arith}
+use Rattle.std.proofs.Common.{◌≡◌, ◌⊎◌, inl, inr, ℕ, zero, suc, ◌+◌, ◌-◌, ◌≤◌, nat_lt, Bool, true, false, not, ◌&&◌, ◌||◌, ◌==◌, if◌then◌else◌, Option, Some, None, List, [], ◌∷◌, length, slice_index, slice_set, unwrap_or, refl, sym, ◌∙◌, ap, subst, arith}
 use Rattle.std.specs.Option.{option_map_or}
-use Rattle.std.proofs.lemmas.Bool.{and_from, and_right, false≢true, or_parts, or_right}
+use Rattle.std.proofs.lemmas.Bool.{and_from, or_parts, or_right}
 use Rattle.std.proofs.lemmas.Bool.Decides.{nat_tests}
 use Rattle.drive_model.specs.Drive.{DriveState}
 use Rattle.fdc_registers.specs.declared.drive_lines.Dor.{Dor}
-use Rattle.fdc_commands.specs.Seeking.{IsMotion, Seeking, after_sense, ended, first_pending, has_ended, is_seeking, neighbour, recalibrated, sought, stepped, stepped_seek, with_motion, with_polls}
-use Rattle.fdc_commands.specs.Seeking as seeking
+use Rattle.fdc_commands.specs.Seeking.{Seeking, ended, has_ended, is_seeking, neighbour, recalibrated, sought, stepped, stepped_seek, with_motion, with_polls}
 use Rattle.fdc_commands.specs.declared.motion.Motion.{Motion}
 use Rattle.fdc_commands.specs.declared.motion.Motion.TheVariants.{Outward, Toward, Ended}
 use Rattle.fdc_commands.specs.declared.motion.Seek.{Seek as DriveSeek}

@@ -1,9 +1,9 @@
 -- READ ID over a medium that stays in: what it heard, and the key that it tells.
-use Rattle.std.proofs.Common.{◌≡◌, ◌⊎◌, inl, inr, ℕ, zero, suc, ◌+◌, ◌*◌, ◌<◌, ◌≤◌, Bool, true, false, not, ◌&&◌, ◌||◌, ◌==◌, if◌then◌else◌, Option, Some, None, List, [], ◌∷◌, bit_and, refl, sym, ◌∙◌, ap, subst, arith}
+use Rattle.std.proofs.Common.{◌≡◌, ◌⊎◌, inl, inr, ℕ, zero, suc, ◌+◌, ◌*◌, ◌<◌, ◌≤◌, Bool, true, false, not, ◌&&◌, ◌||◌, ◌==◌, Option, Some, List, [], ◌∷◌, bit_and, refl, sym, ◌∙◌, ap, subst, arith}
 use Rattle.std.proofs.lemmas.Bool.{agree_below_at, false≢true, eqb-true}
 use Rattle.flop_base.specs.declared.key.Chrn.{Chrn}
 use Rattle.track_model.specs.Fields.{IsAddressAt}
-use Rattle.raw_image.specs.Disk.{Disk, IsDisk}
+use Rattle.raw_image.specs.Disk.{IsDisk}
 use Rattle.drive_model.specs.Drive.{Becomes, DriveState, at_index}
 use Rattle.fdc_commands.specs.declared.command.Command.TheVariants.{ReadId}
 use Rattle.fdc_commands.specs.declared.results.Results.{Results}
@@ -34,34 +34,32 @@ use Rattle.fdc_core.proofs.drives.Fields.{address_heard}
 use Rattle.fdc_core.proofs.drives.LateFields.{address_late}
 use Rattle.fdc_core.proofs.drives.Turns.{turn_heard}
 use Rattle.fdc_adapter.specs.Adapters.{AdapterState, StepsAdapter, drive_at, selected_at}
-use Rattle.fdc_sequencer.specs.Fronts.{Front, GivesAt, GivesFront, KeepsFront, TakesAt, TakesFront, WritesFront, count_told, reset_if as reset_front, told_front, told_if}
+use Rattle.fdc_sequencer.specs.Fronts.{Front, GivesAt, GivesFront, TakesAt, TakesFront, WritesFront, count_told, told_front, told_if}
 use Rattle.fdc_sequencer.specs.Moves.{StepsFront}
 use Rattle.fdc_sequencer.specs.declared.opcode.Operation.TheVariants.{Read}
 use Rattle.fdc_sequencer.specs.declared.stage.Stage.TheVariants.{Through}
 use Rattle.fdc_sequencer.specs.declared.transfer.Transfer.{Transfer}
 use Rattle.laws_sequencer.specs.Media.{IsAt, Place, TurnsOn, track_at}
-use Rattle.laws_sequencer.proofs.LateHearing.{IsHearingLed, hearing_led}
+use Rattle.laws_sequencer.proofs.LateHearing.{hearing_led}
 use Rattle.laws_sequencer.proofs.Medium.{IsHearingAt, adapter_turns, fresh_hearing, kept_hearing, outset_at}
 use Rattle.laws_sequencer.proofs.Resting.{polled_phase}
 use Rattle.fdc_chip.specs.Chips.{ChipState, passes_by_channel, passes_by_port, with_front}
 use Rattle.fdc_chip.specs.Codes.{code_of}
 use Rattle.fdc_chip.specs.Doing.{Obeys, identifying}
-use Rattle.fdc_chip.specs.Ending.{EndsIf, EndsSent, MayEnd, has_results, is_not_found, looks_for_cylinder, results_behind, results_taken, told_results}
+use Rattle.fdc_chip.specs.Ending.{EndsIf, EndsSent, MayEnd, is_not_found, looks_for_cylinder, results_behind, results_taken, told_results}
 use Rattle.fdc_chip.specs.Ports as ports
-use Rattle.fdc_chip.specs.Ports.{GivesChipIf, GivesIf, ReadsAt, ReadsIf, TakesByte, TakesIf, gated_by, given_one, value_behind}
+use Rattle.fdc_chip.specs.Ports.{GivesChipIf, GivesIf, ReadsAt, ReadsIf, TakesByte, TakesIf, gated_by, value_behind}
 use Rattle.fdc_chip.specs.Steps.{Follows, StepsChip}
-use Rattle.fdc_chip.specs.declared.answer.Answer.{Answer}
 use Rattle.fdc_chip.specs.declared.answer.Answer.TheVariants as answer
 use Rattle.fdc_chip.specs.declared.code.Code.{Code}
 use Rattle.fdc_chip.specs.declared.code.Code.TheVariants as code
 use Rattle.fdc_chip.specs.declared.order.Order.{Order}
 use Rattle.fdc_chip.specs.declared.stage.Stage.{Stage}
-use Rattle.fdc_chip.specs.declared.stage.Stage.TheVariants.{Busy, Ready, Telling}
-use Rattle.fdc_chip.specs.declared.stage.Task.{Task}
+use Rattle.fdc_chip.specs.declared.stage.Stage.TheVariants.{Busy, Telling}
 use Rattle.fdc_chip.specs.declared.stage.Task.TheVariants.{Sent}
 use Rattle.laws_chip.specs.Beginning.{IsFreeBehind}
 use Rattle.laws_chip.specs.Calls as made
-use Rattle.laws_chip.specs.Calls.{Call, Does, WritesByte, is_step}
+use Rattle.laws_chip.specs.Calls.{Call, Does, is_step}
 use Rattle.laws_chip.specs.Identifying.{IsIdBegun, StaysUnder, TurnsOnBy, is_read_id}
 use Rattle.laws_chip.specs.Lasting.{AreAt}
 use Rattle.laws_chip.specs.Sound.{ExecutesBehind, IsSound, executes_single}
@@ -72,7 +70,7 @@ use Rattle.laws_chip.proofs.FirstSectors.{IsBase, base_held}
 use Rattle.laws_chip.proofs.PassedOn.{other_read}
 use Rattle.laws_chip.proofs.Rests.{through_step}
 use Rattle.laws_chip.proofs.Sending.{id_obeyed}
-use Rattle.laws_chip.proofs.Singles.{WaitsBehind, executes_none, executes_step, id_executes, waits_shown}
+use Rattle.laws_chip.proofs.Singles.{executes_none, executes_step, id_executes, waits_shown}
 use Rattle.laws_chip.proofs.SoundCalls.{call_sound}
 use Rattle.laws_chip.proofs.SoundParts as parts
 use Rattle.laws_chip.proofs.SoundParts.{sound_basis}

@@ -27,3 +27,4 @@ mod HeadsGoing
 mod SeeksBegun
 mod SeeksHeld
 mod Prompt
+mod FormatLays

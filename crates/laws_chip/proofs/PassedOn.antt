@@ -42,6 +42,12 @@ step_same old new step sent still = by_end (has_results step.between) (subst (λ
         absurd (taken_over (looks_for_cylinder old.order (results_behind step.between)) (results_behind step.between) (with_front (results_taken step.between) old) new ends still)
     by_end false is = is
 
+-- so no results wait
+pub no_results : (old new : ChipState) (step : StepsChip old new) → old.stage ≡ Busy Sent → new.stage ≡ Busy Sent → has_results step.between ≡ true → ⊥
+no_results old new step sent still shown =
+    taken_over (looks_for_cylinder old.order (results_behind step.between)) (results_behind step.between) (with_front (results_taken step.between) old) new
+    (subst (λ b. EndsIf b Sent (with_front step.between old) new) shown (subst (λ stage. Follows stage (with_front step.between old) new) sent step.follows)) still
+
 -- while a command is under way no results wait
 pub none_wait : (front : Front) → is_under_way front.stage ≡ true → has_results front ≡ false
 none_wait front under = ap (λ value. bit_and value 0xC0 == 0xC0) (shows_busy front under)

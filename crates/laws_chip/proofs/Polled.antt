@@ -1,6 +1,6 @@
 -- A reset, up to the results of its poll.
 use Rattle.std.proofs.Common.{◌≡◌, ◌⊎◌, inl, inr, ℕ, zero, suc, ◌+◌, ◌<◌, Bool, true, false, not, ◌&&◌, ◌||◌, ◌==◌, if◌then◌else◌, nat_lt, Option, Some, None, List, [], ◌∷◌, refl, sym, ◌∙◌, ap, subst, arith}
-use Rattle.std.proofs.lemmas.Bool.{and_from, and_right, false≢true, or_right, eqb-true}
+use Rattle.std.proofs.lemmas.Bool.{and_from, and_right, false≢true, eqb-true}
 use Rattle.fdc_commands.specs.Seeking.{Seeking, is_seeking, stepped, with_polls}
 use Rattle.fdc_commands.specs.Seeking as seeking
 use Rattle.fdc_phases.specs.declared.phases.Phase.{Phase}
@@ -15,7 +15,7 @@ use Rattle.fdc_sequencer.specs.Fronts.{Front, asks_outside, interrupts_at, inter
 use Rattle.fdc_sequencer.specs.Moves.{StepsFront}
 use Rattle.fdc_sequencer.specs.declared.stage.Stage.{Stage as FrontStage}
 use Rattle.fdc_sequencer.specs.declared.stage.Stage.TheVariants.{Through}
-use Rattle.fdc_chip.specs.Chips.{ChipState, interrupts_chip, passes, passes_at, passes_by_channel, passes_by_port, shows_behind, with_front}
+use Rattle.fdc_chip.specs.Chips.{ChipState, interrupts_chip, passes, passes_at, passes_by_channel, shows_behind, with_front}
 use Rattle.fdc_chip.specs.Doing.{drained, drained_by, drained_one, sensing}
 use Rattle.fdc_chip.specs.Interrupts.{Interrupting, at_rest}
 use Rattle.fdc_chip.specs.Orders.{is_format, with_byte}
@@ -24,11 +24,9 @@ use Rattle.fdc_chip.specs.Ports.{ComesIf, GivesChipIf, ReadsAt, ReadsChip, Takes
 use Rattle.fdc_chip.specs.Quiet.{rests_at}
 use Rattle.fdc_chip.specs.Settings.{is_by_port}
 use Rattle.fdc_chip.specs.Steps.{Follows, StepsChip}
-use Rattle.fdc_chip.specs.declared.answer.Answer.{Answer}
 use Rattle.fdc_chip.specs.declared.pace.Pace.{Pace}
 use Rattle.fdc_chip.specs.declared.stage.Stage.{Stage}
 use Rattle.fdc_chip.specs.declared.stage.Stage.TheVariants.{Ready, Held, Busy, Telling}
-use Rattle.fdc_chip.specs.declared.stage.Task.{Task}
 use Rattle.laws_sequencer.proofs.Known.{which_drive}
 use Rattle.laws_chip.specs.Calls as made
 use Rattle.laws_chip.specs.Calls.{Call, Does, is_step}
@@ -37,7 +35,7 @@ use Rattle.laws_chip.specs.Sound.{IsSound}
 use Rattle.laws_chip.proofs.Channels.{front_left}
 use Rattle.laws_chip.proofs.Rests.{adapter_stays, taking_stays, through_step}
 use Rattle.laws_chip.proofs.SoundCalls.{front_anew}
-use Rattle.laws_chip.proofs.UnderWay.{clash, either_way, port_stage}
+use Rattle.laws_chip.proofs.UnderWay.{either_way, port_stage}
 
 -- ---- the controller in a device step
 

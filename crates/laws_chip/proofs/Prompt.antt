@@ -1,15 +1,14 @@
 -- A transfer whose bytes pass in time: no byte finds the FIFO full, or is missing.
-use Rattle.std.proofs.Common.{◌≡◌, ◌⊎◌, inl, inr, ℕ, zero, suc, ◌+◌, ◌-◌, ◌<◌, ◌≤◌, nat_lt, nat_le, max, Bool, true, false, not, ◌&&◌, ◌||◌, ◌==◌, if◌then◌else◌, Option, Some, None, List, [], ◌∷◌, ◌++◌, length, bit_and, refl, sym, ◌∙◌, ap, subst, arith}
-use Rattle.std.proofs.lemmas.Bool.{eqb-true, false≢true, and_parts}
+use Rattle.std.proofs.Common.{◌≡◌, ◌⊎◌, inl, inr, ℕ, ◌+◌, ◌-◌, ◌<◌, ◌≤◌, nat_lt, nat_le, max, Bool, true, false, not, ◌&&◌, ◌||◌, ◌==◌, if◌then◌else◌, Option, Some, None, List, [], ◌∷◌, ◌++◌, length, bit_and, refl, sym, ◌∙◌, ap, subst, arith}
+use Rattle.std.proofs.lemmas.Bool.{eqb-true, false≢true}
 use Rattle.std.proofs.lemmas.Bool.Decides.{nat_tests}
 use Rattle.flop_base.specs.declared.key.Chrn.{Chrn}
 use Rattle.track_model.specs.Fields.{IsSizeCode}
 use Rattle.drive_model.specs.Drive.{DriveState}
 use Rattle.fdc_registers.specs.Fifo.{Fifo, emptied, low_level, room_of, wants, worth_fetching}
 use Rattle.fdc_registers.specs.St1.{overrun}
-use Rattle.fdc_registers.specs.declared.drive_lines.Dor.{Dor}
 use Rattle.fdc_commands.specs.Seeking.{has_ended_seek, seek_bits}
-use Rattle.fdc_commands.specs.Table.{answer, kept}
+use Rattle.fdc_commands.specs.Table.{kept}
 use Rattle.fdc_commands.specs.declared.bytes.Accepted.{Accepted}
 use Rattle.fdc_commands.specs.declared.bytes.Accepted.TheVariants.{Invalid, Ready}
 use Rattle.fdc_commands.specs.declared.command.Command.{Command}
@@ -18,7 +17,7 @@ use Rattle.fdc_commands.specs.declared.results.Results.{Results}
 use Rattle.fdc_stages.specs.History.{Past}
 use Rattle.fdc_stages.specs.declared.ending.Ending.{Ending}
 use Rattle.fdc_stages.specs.declared.ending.Ending.TheVariants.{Done, NoMark, NoSector, NoField, BadCheck, Overrun, NoCount, Protected, Late}
-use Rattle.fdc_phases.specs.Commands.{IsReadingData, IsWritingData}
+use Rattle.fdc_phases.specs.Commands.{IsReadingData}
 use Rattle.fdc_phases.specs.Dma.{phase_asks, phase_told, task_asks, task_told}
 use Rattle.fdc_phases.specs.Heard.{MayReadIn, Sent}
 use Rattle.fdc_phases.specs.Phases.{ending_of_phase, is_moving, is_over, is_overrun, is_read, is_reading, moves_bytes, overran}
@@ -30,21 +29,21 @@ use Rattle.fdc_phases.specs.declared.phases.Phase.{Phase}
 use Rattle.fdc_phases.specs.declared.phases.Phase.TheVariants.{Command as Taking, Execute, Result}
 use Rattle.fdc_phases.specs.declared.phases.Task.{Task}
 use Rattle.fdc_phases.specs.declared.phases.Task.TheVariants as task
-use Rattle.fdc_core.specs.Commands.{Begins, BeginsData, Obeys, TakesAs, answered}
+use Rattle.fdc_core.specs.Commands.{BeginsData, Obeys, TakesAs, answered}
 use Rattle.fdc_core.specs.Courses.{Works}
 use Rattle.fdc_core.specs.Dma.{asking_told, fifo_told, taken_in, taken_out, told_count}
 use Rattle.fdc_core.specs.Listening.{is_executing}
 use Rattle.fdc_core.specs.Ports.{resets}
-use Rattle.fdc_core.specs.State.{asks, is_gated, is_held}
+use Rattle.fdc_core.specs.State.{asks, is_gated}
 use Rattle.fdc_core.specs.Steps.{FlowsIn}
 use Rattle.fdc_core.specs.Waiting.{Lasts, LastsIn}
 use Rattle.fdc_core.specs.Whole.{TakesWhole, ending_told, given_up, mark_of, without_seek}
 use Rattle.fdc_core.specs.declared.controller.Fdc.{Fdc}
 use Rattle.fdc_core.specs.declared.controller.Lines.{Lines}
-use Rattle.fdc_adapter.specs.Adapters.{AdapterState, Gives, StepsAdapter, Takes, lines_at, selected_at}
-use Rattle.fdc_sequencer.specs.Fronts.{BeginsSector, CollectsAs, Front, GivesAt, GivesFront, KeepsFront, SeeksFirst, Starts, StartsIf, TakesAt, TakesByte, TakesFront, WritesFront, asks_at, asks_outside, begun_if, count_told, moving_of, passed_one, told_front, told_if, with_controller}
+use Rattle.fdc_adapter.specs.Adapters.{AdapterState, StepsAdapter, lines_at, selected_at}
+use Rattle.fdc_sequencer.specs.Fronts.{BeginsSector, CollectsAs, Front, GivesAt, Starts, StartsIf, TakesAt, TakesByte, WritesFront, asks_at, asks_outside, begun_if, count_told, moving_of, passed_one, told_front, told_if, with_controller}
 use Rattle.fdc_sequencer.specs.Moves.{EndsIf, EndsSector, FollowsStep, MovesOn, SeeksOn, StepsFront, goes_on, has_met_other, is_unwanted, judged, judged_if, passed_over_if, results_behind, results_failed, would_go_on}
-use Rattle.fdc_sequencer.specs.Transfers.{command_for, next_of, results_told, size_of, transfer_of}
+use Rattle.fdc_sequencer.specs.Transfers.{command_for, next_of, results_told, size_of}
 use Rattle.fdc_sequencer.specs.declared.opcode.Operation.{Operation}
 use Rattle.fdc_sequencer.specs.declared.opcode.Operation.TheVariants.{Read, Write}
 use Rattle.fdc_sequencer.specs.declared.stage.Moving.{Moving as MovingSector}
@@ -55,19 +54,17 @@ use Rattle.fdc_chip.specs.Chips.{ChipState, asks_chip, interrupts_chip, passes_b
 use Rattle.fdc_chip.specs.Ports as ports
 use Rattle.fdc_chip.specs.Ports.{GivesChipIf, GivesIf, ReadsAt, ReadsIf, TakesByte as TakesByteChip, TakesIf, gated_by, value_behind}
 use Rattle.fdc_chip.specs.Steps.{StepsChip}
-use Rattle.fdc_chip.specs.declared.stage.Stage.TheVariants.{Busy}
 use Rattle.fdc_chip.specs.declared.stage.Task.TheVariants.{Sent as SentTask}
-use Rattle.laws_sequencer.specs.Calls.{IsLastByte}
 use Rattle.laws_sequencer.specs.Lasting.{is_under_way}
-use Rattle.laws_sequencer.specs.Serving.{MayMove, Serves, ServesAt, sent_of}
+use Rattle.laws_sequencer.specs.Serving.{MayMove, ServesAt, sent_of}
 use Rattle.laws_sequencer.proofs.Free.{next_size}
 use Rattle.laws_sequencer.proofs.Known.{port_same, which_drive}
 use Rattle.laws_sequencer.proofs.Started.{size_some}
 use Rattle.laws_chip.specs.Beginning.{IsBegun}
 use Rattle.laws_chip.specs.Calls as made
-use Rattle.laws_chip.specs.Calls.{Call, Does, IsServing, WritesByte}
+use Rattle.laws_chip.specs.Calls.{Call, Does, IsServing}
 use Rattle.laws_chip.specs.InTime.{AreInTime, IsPrompt, PromptAt}
-use Rattle.laws_chip.specs.Sound.{ExecutesBehind, IsSound, ServesBehind}
+use Rattle.laws_chip.specs.Sound.{IsSound, ServesBehind}
 use Rattle.laws_chip.proofs.PassedOn.{other_read, step_same}
 use Rattle.laws_chip.proofs.SoundCalls.{call_sound}
 use Rattle.laws_chip.proofs.SoundParts as parts

@@ -1,8 +1,8 @@
 -- A seek begins: its last byte comes to a chip whose heads stand, with the strap for the time of step pulses off.
-use Rattle.std.proofs.Common.{◌≡◌, inl, inr, ℕ, zero, suc, ◌+◌, ◌-◌, ◌%◌, ◌<◌, ◌≤◌, Bool, true, false, not, ◌&&◌, ◌||◌, ◌==◌, if◌then◌else◌, Option, Some, None, is_some, List, [], ◌∷◌, length, option_map, position, slice_index, slice_set, refl, sym, ◌∙◌, ap, subst, arith}
+use Rattle.std.proofs.Common.{◌≡◌, ℕ, zero, suc, ◌%◌, ◌<◌, ◌≤◌, true, false, not, if◌then◌else◌, Option, Some, None, is_some, List, [], ◌∷◌, length, option_map, position, slice_index, slice_set, refl, sym, ◌∙◌, ap, subst, arith}
 use Rattle.std.specs.Option.{option_map_or}
 use Rattle.std.proofs.lemmas.Bool.{and_from, and_right, false≢true, or_parts}
-use Rattle.fdc_commands.specs.Seeking.{IsMotion, Seeking, after_sense}
+use Rattle.fdc_commands.specs.Seeking.{IsMotion, Seeking}
 use Rattle.fdc_commands.specs.Seeking as seeking
 use Rattle.fdc_commands.specs.Table.{is_begun}
 use Rattle.fdc_commands.specs.declared.motion.Motion.{Motion}
@@ -19,7 +19,7 @@ use Rattle.fdc_sequencer.specs.Fronts.{Front, with_controller}
 use Rattle.fdc_sequencer.specs.Senses.{pending_outside, sensed_at, sensed_outside}
 use Rattle.fdc_sequencer.specs.declared.stage.Stage.TheVariants.{Through}
 use Rattle.fdc_chip.specs.Chips.{ChipState, with_front}
-use Rattle.fdc_chip.specs.Doing.{AttendsIf, Moves, MovesIf, Obeys, Sends, SendsOn, drained, drained_by, drained_one, is_moving, kept, moves_heads, moving, needs_heads, ready, relative_target}
+use Rattle.fdc_chip.specs.Doing.{AttendsIf, Moves, MovesIf, Obeys, Sends, drained, drained_by, drained_one, is_moving, kept, moves_heads, moving, needs_heads, relative_target}
 use Rattle.fdc_chip.specs.Interrupts.{Interrupting, cylinder_of, with_result}
 use Rattle.fdc_chip.specs.Ports.{WritesChip}
 use Rattle.fdc_chip.specs.declared.code.Code.{Code}
@@ -29,13 +29,12 @@ use Rattle.fdc_chip.specs.declared.pace.Pace.{Pace}
 use Rattle.fdc_chip.specs.declared.stage.Stage.TheVariants.{Ready}
 use Rattle.laws_chip.specs.Beginning.{Completes, completed, still_moves}
 use Rattle.laws_chip.specs.Seeks.{HeadsGo, IsSoundInRange, SeeksBehind, goal_of, most_of, steps_left}
-use Rattle.laws_chip.specs.Sound.{RestsBehind}
 use Rattle.laws_chip.proofs.Attended.{free_stands}
 use Rattle.laws_chip.proofs.Rests.{IsResting, drained_rests}
 use Rattle.laws_chip.proofs.Sending.{recalibrate_obeyed, seek_obeyed}
 use Rattle.laws_chip.proofs.SoundParts.{basis_same}
 use Rattle.laws_chip.proofs.Standing.{Stands}
-use Rattle.laws_chip.proofs.WholeTransfers.{IsAttended, attending, byte_attends, drained_front, drained_pace, kept_front, same_moves}
+use Rattle.laws_chip.proofs.WholeTransfers.{attending, byte_attends, drained_front, kept_front, same_moves}
 
 -- ---- results that are taken over
 

@@ -1,7 +1,7 @@
 -- A command that is held while heads go: it is held through other calls, and begins in the device step in which they stand.
-use Rattle.std.proofs.Common.{◌≡◌, ◌⊎◌, inl, inr, ℕ, zero, suc, ◌+◌, ◌<◌, ◌≤◌, ◌^◌, Bool, true, false, not, ◌&&◌, ◌||◌, ◌==◌, if◌then◌else◌, Option, Some, None, is_some, length, slice_set, unwrap_or, bit_and, bit_or, refl, sym, ◌∙◌, ap, subst, arith}
+use Rattle.std.proofs.Common.{◌≡◌, ◌⊎◌, inl, inr, ℕ, zero, suc, ◌+◌, ◌<◌, ◌≤◌, ◌^◌, true, false, not, ◌&&◌, ◌==◌, Option, Some, is_some, length, slice_set, unwrap_or, bit_and, bit_or, refl, sym, ◌∙◌, ap, subst, arith}
 use Rattle.std.specs.Option.{option_map_or}
-use Rattle.std.proofs.lemmas.Bool.{and_from, and_right, eqb-true, false≢true, or_from, or_right}
+use Rattle.std.proofs.lemmas.Bool.{and_from, and_right, false≢true, or_from, or_right}
 use Rattle.fdc_commands.specs.Seeking.{Seeking}
 use Rattle.fdc_commands.specs.declared.motion.Seek.{Seek as DriveSeek}
 use Rattle.fdc_core.specs.Ports.{resets}
@@ -18,7 +18,6 @@ use Rattle.fdc_chip.specs.Settings.{is_by_port}
 use Rattle.fdc_chip.specs.Steps.{StepsChip}
 use Rattle.fdc_chip.specs.declared.code.Code.{Code}
 use Rattle.fdc_chip.specs.declared.order.Order.{Order}
-use Rattle.fdc_chip.specs.declared.pace.Pace.{Pace}
 use Rattle.fdc_chip.specs.declared.stage.Stage.{Stage}
 use Rattle.fdc_chip.specs.declared.stage.Stage.TheVariants.{Ready, Held, Busy, Telling}
 use Rattle.laws_chip.specs.Beginning.{Completes, IsDoneFree, IsHeldFor, completed, still_moves}
@@ -32,7 +31,7 @@ use Rattle.laws_chip.proofs.PassedOn.{other_read}
 use Rattle.laws_chip.proofs.HeadsGoing.{ended_drained, front_steps, going_drained, status_in, stood, stood_stands}
 use Rattle.laws_chip.proofs.Standing.{status_free}
 use Rattle.laws_chip.proofs.UnderWay.{clash, either_way, port_stage}
-use Rattle.laws_chip.proofs.WholeTransfers.{IsAttended, attended_free, attending, byte_attends, follows_held, step_attends, step_rests}
+use Rattle.laws_chip.proofs.WholeTransfers.{attended_free, attending, byte_attends, follows_held, step_attends, step_rests}
 
 -- ---- heads move
 

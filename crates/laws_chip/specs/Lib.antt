@@ -8,3 +8,4 @@ pub mod Resets
 pub mod Identifying
 pub mod Seeks
 pub mod InTime
+pub mod FormatTracks

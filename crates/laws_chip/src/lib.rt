@@ -4,6 +4,7 @@
 
 pub mod edges;
 pub mod endings;
+pub mod formatting;
 pub mod identifying;
 pub mod media;
 pub mod paces;

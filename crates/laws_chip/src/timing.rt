@@ -1,5 +1,5 @@
 // A host that serves each request in time. The bodies are empty: the contracts say what follows from what each call does.
-ghost use Rattle.std.specs.Prelude.{◌≡◌, ◌&&◌, not, true, false, List, bit_and};
+ghost use Rattle.std.specs.Prelude.{◌≡◌, true, List, bit_and};
 ghost use Rattle.fdc_registers.specs.St1.{overrun};
 ghost use Rattle.fdc_commands.specs.declared.results.Results.{Results};
 ghost use Rattle.fdc_sequencer.specs.Fronts.{asks_outside};

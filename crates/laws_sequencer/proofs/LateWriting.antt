@@ -39,7 +39,7 @@ pub record IsWindowLed (outset : Outset) (past : Past) (executes : Bool) (drive 
 
 -- ---- where no word of the track was heard
 
-window_none : (outset : Outset) (late : Past) (executes : Bool) (drive : DriveState) → IsDisk outset.disk → IsTurningIn outset drive → (executes ≡ true → 6250 ≤ drive.spin)
+pub window_none : (outset : Outset) (late : Past) (executes : Bool) (drive : DriveState) → IsDisk outset.disk → IsTurningIn outset drive → (executes ≡ true → 6250 ≤ drive.spin)
     → IsAtWindow outset (unheard late) executes drive
 window_none outset late executes drive valid is fast =
     let hearing = hearing_none outset late executes drive valid is fast in

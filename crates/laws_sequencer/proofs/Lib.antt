@@ -10,7 +10,7 @@ pub mod Called
 pub mod Whole
 mod LateLooks
 pub mod LateHearing
-mod LateWriting
+pub mod LateWriting
 pub mod Medium
 mod Silent
 mod Idle

@@ -1,0 +1,26 @@
+// What FORMAT TRACK leaves of the medium. The bodies are empty: the contracts say what follows from what each call does.
+ghost use Rattle.std.specs.Prelude.{◌≡◌, ℕ, true, List};
+ghost use Rattle.fdc_stages.specs.Formats.{Numbers};
+ghost use Rattle.fdc_core.specs.Drives.Hearing.{Outset};
+ghost use Rattle.fdc_adapter.specs.Adapters.{drive_at};
+ghost use Rattle.fdc_chip.specs.Chips.{ChipState};
+ghost use Rattle.fdc_chip.specs.Doing.{Obeys, is_size};
+ghost use Rattle.fdc_chip.specs.Steps.{StepsChip};
+ghost use Rattle.fdc_chip.specs.declared.code.Code.TheVariants.{FormatTrack};
+ghost use Rattle.fdc_chip.specs.declared.stage.Stage.TheVariants.{Busy};
+ghost use Rattle.fdc_chip.specs.declared.stage.Task.TheVariants.{Sent};
+ghost use Rattle.laws_chip.specs.Beginning.{IsFreeBehind};
+ghost use Rattle.laws_chip.specs.Calls.{Call};
+ghost use Rattle.laws_chip.specs.FormatTracks.{GiveAll, IsFormatBegun, LaysKeys, LetDrives, TurnsAtSpeed, numbers_of};
+ghost use Rattle.laws_chip.specs.Lasting.{AreAt};
+ghost use Rattle.laws_chip.specs.Sound.{IsSound};
+
+/// A FORMAT TRACK that this medium can have begins where what stands behind is free. While it is executed over a medium at speed that nobody touches, and in the device step that ends it, what was written are the first
+/// words of the layout of the keys that the channel or the data port gave; they stand on the track under its head, and nothing else changes.
+pub fn a_format_lays_the_keys_given()
+    ensures begins { (old new : ChipState) → is_size old.order.key.c ≡ true → IsFreeBehind old.front → Obeys (FormatTrack true) old new
+        → IsFormatBegun old.order.unit (numbers_of old.order) new }
+    ensures lays { (outset : Outset) (bay unit : ℕ) (numbers : Numbers) (calls : List Call) (begun last new : ChipState) (at : AreAt (Busy Sent) calls begun last) (step : StepsChip last new)
+        → IsSound begun → IsFormatBegun unit numbers begun → TurnsAtSpeed outset bay unit begun → LetDrives calls
+        → (given : List ℕ) × GiveAll (Busy Sent) calls begun last at given × LaysKeys outset unit numbers given step.between.adapter.controller (drive_at step.between.adapter bay) }
+{}
