@@ -76,7 +76,7 @@ void chip_make(void) { must(telwyddus_controller_new(&controller), "controller_n
 bool chip_insert(const uint8_t *image, size_t length) {
     telwyddus_tray tray = {0};
     if (telwyddus_tray_read(&tray, image, length) != TELWYDDUS_DONE && telwyddus_tray_read_flat(&tray, image, length) != TELWYDDUS_DONE) return false;
-    must(telwyddus_controller_insert(&controller, 0, &tray), "controller_insert");
+    must(telwyddus_controller_insert(&controller, 0, &tray, &lines), "controller_insert");
     must(telwyddus_tray_free(&tray), "tray_free");
     return true;
 }
