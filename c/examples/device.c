@@ -98,7 +98,7 @@ static uint32_t device_store(Device *device, uint32_t bay) {
     uint32_t code = telwyddus_controller_is_written(&device->controller, bay, &is_written);
     if (code != TELWYDDUS_DONE || !(is_written || device->is_unsaved[bay])) return code;
     code = telwyddus_controller_image(&device->controller, bay, NULL, 0, &length);
-    if (code != TELWYDDUS_TOO_SHORT) return code; /* no disk is in, where it is NO_MEDIUM */
+    if (code != TELWYDDUS_TOO_SHORT) return code;
     image = (uint8_t *)malloc(length);
     if (image == NULL) return TELWYDDUS_NO_MEMORY;
     code = telwyddus_controller_image(&device->controller, bay, image, length, &length);
@@ -117,6 +117,7 @@ static uint32_t device_insert(Device *device, uint32_t bay, const uint8_t *file,
     if (code == TELWYDDUS_BAD_IMAGE) code = telwyddus_tray_read_flat(&tray, file, length);
     catch_up(device);
     if (code == TELWYDDUS_DONE) code = telwyddus_controller_insert(&device->controller, bay, &tray, &device->lines);
+    if (code == TELWYDDUS_DONE) device->is_unsaved[bay] = 0;
     telwyddus_tray_free(&tray);
     return code;
 }
