@@ -5,7 +5,7 @@
  * drivers; trays, in which media lie outside drives; shelves, on which the program runs; and disks, single sectors read and
  * written. The code behind them is proved: docs/C.md says what of, and how to build. For C and for C++.
  *
- * A whole device of an emulator over the first face is c/examples/device.c, some 170 lines; docs/C.md goes through it.
+ * A whole device of an emulator over the first face is c/examples/device.c, some 180 lines; docs/C.md goes through it.
  *
  * SLOTS. A slot holds one object or none. It is yours: on your stack, in your device's state. Begin it all 0 ("= {0}"). Don't
  * write its fields, and don't copy or move it while it holds something: a copy that is freed besides frees twice. A call on a

@@ -319,6 +319,24 @@ static void goes_on_bare(void) {
     free(bytes);
 }
 
+/* What was written before a bare state is restored is told after it too. */
+static void joins_writes(void) {
+    uint8_t results[7], sector[SECTOR], written;
+    telwyddus_tracks map;
+    size_t length;
+    MUST(telwyddus_controller_written(&controller, 0, &written));
+    MUST(telwyddus_controller_written_tracks(&controller, 0, &map));
+    uint8_t *bytes = state_of(&controller, &length);
+    memcpy(sector, flat, SECTOR);
+    check(command(WRITE, 9, sector, SECTOR, results) == SECTOR && (results[0] & 0xC0) == 0, "a sector is written again");
+    MUST(telwyddus_controller_restore_bare(&controller, bytes, length, &lines));
+    MUST(telwyddus_controller_is_written(&controller, 0, &written));
+    check(written == 1, "that is told after a bare state that doesn't tell it");
+    MUST(telwyddus_controller_written_tracks(&controller, 0, &map));
+    check(map.bytes[0] == 1, "and so is its track");
+    free(bytes);
+}
+
 /* Bytes are refused by a controller, which stays. */
 static void refuses(telwyddus_controller *other, const uint8_t *bytes, size_t length, uint32_t code, const char *what) {
     size_t before, behind;
@@ -335,6 +353,7 @@ static void bare(void) {
     telwyddus_tray tray = {0};
     size_t length, whole = 0;
     goes_on_bare();
+    joins_writes();
     uint8_t *bytes = state_of(&controller, &length);
     check(telwyddus_controller_restore_bare(&other, bytes, length, &lines) == TELWYDDUS_EMPTY, "there is none to restore it onto");
     MUST(telwyddus_controller_new(&other));
