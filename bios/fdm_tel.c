@@ -73,10 +73,12 @@ const Machine whole_machine = {machine_make, machine_insert, machine_image, mach
 
 void chip_make(void) { must(telwyddus_controller_new(&controller), "controller_new"); }
 
+static uint8_t lines; /* as the last call told them */
+
 bool chip_insert(const uint8_t *image, size_t length) {
     telwyddus_tray tray = {0};
     if (telwyddus_tray_read(&tray, image, length) != TELWYDDUS_DONE && telwyddus_tray_read_flat(&tray, image, length) != TELWYDDUS_DONE) return false;
-    must(telwyddus_controller_insert(&controller, 0, &tray), "controller_insert");
+    must(telwyddus_controller_insert(&controller, 0, &tray, &lines), "controller_insert");
     must(telwyddus_tray_free(&tray), "tray_free");
     return true;
 }
@@ -88,8 +90,6 @@ uint8_t *chip_image(size_t *length) {
     must(telwyddus_controller_image(&controller, 0, image, *length, length), "controller_image");
     return image;
 }
-
-static uint8_t lines; /* as the last call told them */
 
 uint8_t chip_in(uint16_t port) {
     uint8_t value = 0;

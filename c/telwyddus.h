@@ -5,7 +5,7 @@
  * drivers; trays, in which media lie outside drives; shelves, on which the program runs; and disks, single sectors read and
  * written. The code behind them is proved: docs/C.md says what of, and how to build. For C and for C++.
  *
- * A whole device of an emulator over the first face is c/examples/device.c, some 170 lines; docs/C.md goes through it.
+ * A whole device of an emulator over the first face is c/examples/device.c, some 180 lines; docs/C.md goes through it.
  *
  * SLOTS. A slot holds one object or none. It is yours: on your stack, in your device's state. Begin it all 0 ("= {0}"). Don't
  * write its fields, and don't copy or move it while it holds something: a copy that is freed besides frees twice. A call on a
@@ -20,8 +20,8 @@
  *
  * WHAT YOU GET. Each call answers a code, below. What a call hands out through a pointer is set where it answers
  * TELWYDDUS_DONE; where it answers anything else it is left, but for the length of TELWYDDUS_TOO_SHORT, the line of
- * TELWYDDUS_BAD_PLAN, the cylinder and head of TELWYDDUS_UNFIT, and the lines of TELWYDDUS_NOT_ASKED; and so is the object, but where it
- * says more. Compilers warn where a code isn't looked at of which something may come that you can't know.
+ * TELWYDDUS_BAD_PLAN, the cylinder and head of TELWYDDUS_UNFIT, and the lines, which are told whenever the slot holds a controller after
+ * the call. So is the object left, a drive and its medium too, but where it says more. Compilers warn where a code isn't looked at of which something may come that you can't know.
  *
  * FULL SLOTS. A call that makes something in a slot (new, new_planned, blank, read, read_flat, read_imd; eject, in the tray) looks
  * at that slot first: where it holds something already the answer is TELWYDDUS_FULL, whatever else is wrong, and it stays. Any
@@ -38,8 +38,8 @@
 
 /* The version of this file, and the same as a number: 10,000 times the first, 100 times the second, and the third. Where the first number
  * is another one, a program has to be compiled anew. */
-#define TELWYDDUS_VERSION "1.0.0"
-#define TELWYDDUS_VERSION_NUMBER 10000
+#define TELWYDDUS_VERSION "2.0.0"
+#define TELWYDDUS_VERSION_NUMBER 20000
 
 /* A call; and one whose code has news, so that it is to be looked at. */
 #if defined(__GNUC__)
@@ -196,12 +196,12 @@ TELWYDDUS_NEWS uint32_t telwyddus_tray_set_track(telwyddus_tray *tray, uint8_t c
  *     found: after a search, with INT and seven result bytes.
  *   - Where the guest's SPECIFY sets ND, bytes pass at 3F5, INT asks for each, and DRQ stays down: DACK answers NOT_ASKED.
  *   - Port accesses go to read and write as they come. Each word time is a step; run makes many.
- *   - EACH CALL BY WHICH A LINE MAY CHANGE TELLS THE LINES BEHIND IT: attend to them after every one, port accesses too. INT falls and
- *     rises in them, and DRQ may rise with the last byte of a command. With DMA a call that takes an interrupt leaves INT down, so no
- *     edge is missed; tell your interrupt controller changes alone. INDEX ends no run: it is told for who wants to show or hear it.
+ *   - EACH CALL AFTER WHICH A LINE MAY DIFFER TELLS THE LINES AS THEY ARE AFTER IT: attend to them after every one, port accesses too. INT
+ *     falls and rises in them, and DRQ may rise with the last byte of a command. With DMA a call that takes an interrupt leaves INT down,
+ *     so no edge is missed; tell your interrupt controller changes alone. INDEX ends no run: it is told for who wants to show or hear it.
  *   - While DRQ is up let bytes pass by DACK, as your channel lets you, and TC with the last one: before the next step.
- *   - Let the time that word_time tells pass for each step, and ask it again behind a write of 3F4 or 3F7. quiet tells how long you needn't
- *     call at all.
+ *   - Let the time that word_time tells pass for each step, and ask it again after a write of 3F4 or 3F7, and after reset, restore and
+ *     restore_bare. quiet tells how long you needn't call at all.
  *   - A second controller at 370 to 377 is another slot: give its ports as 0x3F0 | (port & 7). */
 
 enum telwyddus_lines { TELWYDDUS_INT = 1, TELWYDDUS_DRQ = 2, TELWYDDUS_TO_MEMORY = 4, TELWYDDUS_INDEX = 8 };
@@ -261,12 +261,14 @@ TELWYDDUS_CALL uint32_t telwyddus_controller_tc(telwyddus_controller *controller
  * 32,000 at 250, as at power-up, 8,000 at 1 Mbit/s. DONE, EMPTY. */
 TELWYDDUS_CALL uint32_t telwyddus_controller_word_time(telwyddus_controller *controller, uint32_t *nanoseconds);
 
-/* Puts the medium of a tray into a bay, 0 or 1; the tray stays, with nothing in it. DONE, EMPTY, OUT_OF_RANGE, HAS_MEDIUM,
- * NO_MEDIUM. */
-TELWYDDUS_NEWS uint32_t telwyddus_controller_insert(telwyddus_controller *controller, uint32_t bay, telwyddus_tray *tray);
+/* Puts the medium of a tray into a bay, 0 or 1; the tray stays, with nothing in it. A refusal changes neither drive nor tray. DONE, EMPTY,
+ * OUT_OF_RANGE, HAS_MEDIUM, NO_MEDIUM. */
+TELWYDDUS_NEWS uint32_t telwyddus_controller_insert(telwyddus_controller *controller, uint32_t bay, telwyddus_tray *tray,
+    uint8_t *lines);
 
 /* Takes the medium out of a bay into a tray, which is made. DONE, EMPTY, FULL (the tray), NO_MEMORY, OUT_OF_RANGE, NO_MEDIUM. */
-TELWYDDUS_NEWS uint32_t telwyddus_controller_eject(telwyddus_controller *controller, uint32_t bay, telwyddus_tray *tray);
+TELWYDDUS_NEWS uint32_t telwyddus_controller_eject(telwyddus_controller *controller, uint32_t bay, telwyddus_tray *tray,
+    uint8_t *lines);
 
 /* Writes the image file of a bay's medium, which stays in and turns on, to the beginning of a buffer. DONE, EMPTY, NO_MEMORY,
  * OUT_OF_RANGE, NO_MEDIUM, TOO_SHORT. */
@@ -288,12 +290,13 @@ TELWYDDUS_CALL uint32_t telwyddus_controller_bay(telwyddus_controller *controlle
 TELWYDDUS_CALL uint32_t telwyddus_controller_selected(telwyddus_controller *controller, uint8_t *bay);
 
 /* The reset pin, as a machine's reset drives it: all registers are as at power-up but for what SPECIFY set, whatever LOCK says; what is under way
- * ends, and the controller is held in reset until DOR lets it out. Media, heads, straps, cables and plans stay. The lines fall. DONE, EMPTY. */
-TELWYDDUS_CALL uint32_t telwyddus_controller_reset(telwyddus_controller *controller);
+ * ends, and the controller is held in reset until DOR lets it out. Media, heads, straps, cables and plans stay, and what is told of writes.
+ * INT and DRQ fall. DONE, EMPTY. */
+TELWYDDUS_CALL uint32_t telwyddus_controller_reset(telwyddus_controller *controller, uint8_t *lines);
 
 /* Pulls the cable of a bay's drive where `on` is 0, and puts it in again: at first both are in. A drive whose cable is pulled is absent, as those of
- * bays 2 and 3 are: its lines stay low, the heads move nowhere and are never over track 0, and no word comes. A PC with one drive has
- * bay 1 so. It isn't pulled while a medium is in, HAS_MEDIUM, and takes none, OUT_OF_RANGE. `bay` tells cylinder 82 of it. DONE, EMPTY, OUT_OF_RANGE,
+ * bays 2 and 3 are: its lines stay low, the heads move nowhere and are never over track 0, and no word comes. Heads, change line and planned
+ * faults of the drive itself are, once the cable is in again, as they were. A PC with one drive has bay 1 so. It isn't pulled while a medium is in, HAS_MEDIUM, and takes none, OUT_OF_RANGE. `bay` tells cylinder 82 of it. DONE, EMPTY, OUT_OF_RANGE,
  * HAS_MEDIUM. */
 TELWYDDUS_NEWS uint32_t telwyddus_controller_attach(telwyddus_controller *controller, uint32_t bay, uint8_t on);
 
@@ -314,7 +317,8 @@ typedef struct telwyddus_tracks {
 } telwyddus_tracks;
 
 /* Which tracks of a bay's medium had a word replaced since this was asked, or since it was put in: 20 bytes, of which byte t / 8 has in bit t % 8,
- * the lowest first, track t = 2 * cylinder + head. They are forgotten, but is_written isn't; an eject keeps them. DONE, EMPTY, OUT_OF_RANGE. */
+ * the lowest first, track t = 2 * cylinder + head. They are forgotten, but is_written isn't; an eject keeps them. No call but a write marks a
+ * track, and none but this and an insert forgets one; a restore brings those that were saved. DONE, EMPTY, OUT_OF_RANGE. */
 TELWYDDUS_CALL uint32_t telwyddus_controller_written_tracks(telwyddus_controller *controller, uint32_t bay, telwyddus_tracks *map);
 
 /* Plans a bay's drive anew, while it runs: of a plan's text, as new_planned takes it, the faults of that bay are those that come from now on. The
@@ -335,8 +339,10 @@ TELWYDDUS_NEWS uint32_t telwyddus_controller_save(telwyddus_controller *controll
 #define TELWYDDUS_CONTROLLER_STATE_MOST(faults) ((size_t)10486812 + (size_t)10 * (size_t)(faults))
 
 /* Makes the slot hold the controller that was saved, in place of what it holds, which is freed; a slot that holds nothing is filled.
- * Where the bytes are no state, all of them, or memory is out, the slot stays as it was. DONE, NO_MEMORY, BAD_STATE. */
-TELWYDDUS_NEWS uint32_t telwyddus_controller_restore(telwyddus_controller *controller, const uint8_t *bytes, size_t length);
+ * Where the bytes are no state, all of them, or memory is out, the slot stays as it was. What written and written_tracks tell is what they
+ * told when it was saved; the file that you keep of a medium may be newer. So store each medium's image whole after a restore, whatever
+ * they tell. DONE, NO_MEMORY, BAD_STATE. */
+TELWYDDUS_NEWS uint32_t telwyddus_controller_restore(telwyddus_controller *controller, const uint8_t *bytes, size_t length, uint8_t *lines);
 
 /* A BARE STATE: the same without the media, for an emulator that keeps each disk in a file of its own. Of a medium it has the length of its
  * tracks and its rate, by a stand-in of one empty track: an image file of 25,014 bytes for 1.44 MB, 12,514 for 720 KB. Left out are each cell
@@ -346,10 +352,12 @@ TELWYDDUS_NEWS uint32_t telwyddus_controller_restore(telwyddus_controller *contr
 TELWYDDUS_NEWS uint32_t telwyddus_controller_save_bare(telwyddus_controller *controller, uint8_t *out, size_t room, size_t *length);
 
 /* Makes the controller that the slot holds the one that was saved, but for its own media, tabs and all, which stay in their bays and turn on at
- * the place of the saved ones. They must be those that were in, or equal ones, for the guest not to notice: put them in before. Where one bay
+ * the place of the saved ones. What was written of them is kept: written tells 1 where it did here or in the state, and written_tracks has
+ * the tracks of both; so nothing that isn't stored yet is lost. They must be those that were in, or equal ones, for the guest not to notice: put them in before. Where one bay
  * has a medium here and none there, or none here and one there, or the length of their tracks or the rate differs, UNFIT. The slot stays as it
  * was in each refusal. DONE, EMPTY, NO_MEMORY, UNFIT, BAD_STATE. */
-TELWYDDUS_NEWS uint32_t telwyddus_controller_restore_bare(telwyddus_controller *controller, const uint8_t *bytes, size_t length);
+TELWYDDUS_NEWS uint32_t telwyddus_controller_restore_bare(telwyddus_controller *controller, const uint8_t *bytes, size_t length,
+    uint8_t *lines);
 
 /* ---------------------------------------------------------------------------------------------------------------------------
  * THE MACHINE: a smaller controller, channel 2 of an 8237A (ports 04, 05, 08 to 0F, 81), 1 MiB of memory, and a latch for IRQ 6.
@@ -523,12 +531,12 @@ static inline const uint16_t *telwyddus_words_in_(const uint16_t *words) {
     (telwyddus_controller_image)(controller, bay, telwyddus_out_(out), room, length)
 #define telwyddus_controller_save(controller, out, room, length) \
     (telwyddus_controller_save)(controller, telwyddus_out_(out), room, length)
-#define telwyddus_controller_restore(controller, bytes, length) \
-    (telwyddus_controller_restore)(controller, telwyddus_in_(bytes), length)
+#define telwyddus_controller_restore(controller, bytes, length, lines) \
+    (telwyddus_controller_restore)(controller, telwyddus_in_(bytes), length, lines)
 #define telwyddus_controller_save_bare(controller, out, room, length) \
     (telwyddus_controller_save_bare)(controller, telwyddus_out_(out), room, length)
-#define telwyddus_controller_restore_bare(controller, bytes, length) \
-    (telwyddus_controller_restore_bare)(controller, telwyddus_in_(bytes), length)
+#define telwyddus_controller_restore_bare(controller, bytes, length, lines) \
+    (telwyddus_controller_restore_bare)(controller, telwyddus_in_(bytes), length, lines)
 #define telwyddus_machine_new_planned(machine, plan, length, line) \
     (telwyddus_machine_new_planned)(machine, telwyddus_in_(plan), length, line)
 #define telwyddus_machine_memory_get(machine, address, out, length) \

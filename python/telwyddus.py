@@ -298,7 +298,7 @@ class Planned(Saved):
 class Controller(Planned):
     """The bare controller with two drives, for a bus of your own; its drives with the faults of a plan, if any.
 
-    `behind` has the lines as the last access, steps, bytes of the channel or terminal count told them."""
+    `behind` has the lines as the last call told them: each after which a line may differ tells them."""
 
     kind = "controller"
     behind = Lines(0)
@@ -308,11 +308,23 @@ class Controller(Planned):
         return self._bytes("save_bare")
 
     def restore_bare(self, state):
-        """Becomes what was saved so, but for its own media. Unfit where they have other tracks."""
-        self._call("restore_bare", *given(state))
+        """Becomes what was saved so, but for its own media, and what was written of them. Unfit where they have other tracks."""
+        self._telling("restore_bare", *given(state))
+
+    def restore(self, state):
+        """Becomes what was saved. What it was is gone; where this is refused it stays. Store each medium whole after it, whatever is_written
+        tells: its file may be another."""
+        self._telling("restore", *given(state))
+
+    def insert(self, bay, tray): self._telling("insert", count(bay), ctypes.byref(tray._slot))
+
+    def eject(self, bay):
+        tray = Tray()
+        self._telling("eject", count(bay), ctypes.byref(tray._slot))
+        return tray
 
     def _telling(self, name, *values):
-        """A call whose last pointer takes the lines behind it; a byte that isn't asked for has them too."""
+        """A call whose last pointer takes the lines after it; where it is refused it may tell them too."""
         lines = ctypes.c_uint8(self.behind)
         try:
             self._call(name, *values, ctypes.byref(lines))
@@ -364,7 +376,7 @@ class Controller(Planned):
 
     # Drives and their media, while they turn.
 
-    def reset(self): self._call("reset")
+    def reset(self): self._telling("reset")
     def attach(self, bay, on=True): self._call("attach", count(bay), byte(bool(on)))
     def protect(self, bay, on=True): self._call("protect", count(bay), byte(bool(on)))
     def shape(self, bay): return self._told_as(Shape, "shape", count(bay))

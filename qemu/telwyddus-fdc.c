@@ -58,8 +58,7 @@ static void telwyddus_fdc_reset(DeviceState *dev)
 {
     TelwyddusFDC *s = TELWYDDUS_FDC(dev);
 
-    telwyddus_must(telwyddus_controller_reset(&s->chip));
-    telwyddus_must(telwyddus_controller_lines(&s->chip, &s->lines));
+    telwyddus_must(telwyddus_controller_reset(&s->chip, &s->lines));
     telwyddus_ask_step(s);
     s->at = telwyddus_now();
     telwyddus_tell(s);
@@ -171,14 +170,13 @@ static int telwyddus_fdc_post_load(void *opaque, int version_id)
 {
     TelwyddusFDC *s = opaque;
     uint32_t code = telwyddus_controller_restore(&s->chip, s->state,
-                                                 s->state_size);
+                                                 s->state_size, &s->lines);
 
     telwyddus_fdc_drop_state(s);
     if (code != TELWYDDUS_DONE) {
         error_report("telwyddus-fdc: %s", telwyddus_code_name(code));
         return -EINVAL;
     }
-    telwyddus_must(telwyddus_controller_lines(&s->chip, &s->lines));
     telwyddus_ask_step(s);
     s->is_held = false;         /* i8257 forgets it too: the timer asks again */
     for (unsigned bay = 0; bay < BAYS; bay++) {

@@ -186,7 +186,8 @@ static bool telwyddus_read_file(const char *name, telwyddus_tray *tray,
 static bool telwyddus_eject(TelwyddusFDC *s, unsigned bay, Error **errp)
 {
     telwyddus_tray out = { 0 };
-    uint32_t code = telwyddus_controller_eject(&s->chip, bay, &out);
+    uint32_t code = telwyddus_controller_eject(&s->chip, bay, &out,
+                                               &s->lines);
 
     telwyddus_tray_free(&out);
     if (code != TELWYDDUS_DONE && code != TELWYDDUS_NO_MEDIUM) {
@@ -217,7 +218,8 @@ bool telwyddus_insert(TelwyddusFDC *s, unsigned bay, const char *name,
         if (b->is_protected || access(name, W_OK) != 0) {
             telwyddus_must(telwyddus_tray_protect(&in, 1));
         }
-        telwyddus_must(telwyddus_controller_insert(&s->chip, bay, &in));
+        telwyddus_must(telwyddus_controller_insert(&s->chip, bay, &in,
+                                                   &s->lines));
         b->is_flat = is_flat;
     }
     telwyddus_tray_free(&in);

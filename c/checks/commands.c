@@ -468,11 +468,11 @@ static void refusals(void) {
     refused_by(0, "no medium: commands without MFM, and of size code 0 or above 6, end with MA");
     MUST(telwyddus_tray_blank(&tray, CYLINDERS, 500));
     MUST(telwyddus_tray_write(&tray, blank, SMALL, &told));
-    MUST(telwyddus_controller_insert(&guest.controller, 1, &tray));
+    MUST(telwyddus_controller_insert(&guest.controller, 1, &tray, &guest.lines));
     MUST(telwyddus_tray_free(&tray));
     refused_by(0, "an empty medium: the same");
     is_untouched(blank, "and it is as it was");
-    MUST(telwyddus_controller_eject(&guest.controller, 1, &tray));
+    MUST(telwyddus_controller_eject(&guest.controller, 1, &tray, &guest.lines));
     MUST(telwyddus_tray_free(&tray));
     insert_in(&guest, 1, image, SMALL);
     refused_by(1, "a formatted medium: MA without MFM, ND else");
@@ -655,7 +655,7 @@ static void track_fails(void) {
     for (long i = 0; i < 100000 && !is_int(); i++) make_steps(&guest, 1);
     finish(&guest);
     expect_result(1, "44 10 00 06 01 01 02", "READ TRACK whose bytes aren't taken: OR");
-    MUST(telwyddus_controller_eject(&guest.controller, 1, &tray));
+    MUST(telwyddus_controller_eject(&guest.controller, 1, &tray, &guest.lines));
     MUST(telwyddus_tray_free(&tray));
     choose(1);
     does("42 01 00 00 01 02 05 1B FF", 512, 0, "41 01 00 00 00 01 02", "READ TRACK of no medium: MA");

@@ -212,13 +212,13 @@ static void planned_anew(void) {
 static void cables(telwyddus_tray *tray) {
     check(telwyddus_controller_attach(&controller, 0, 0) == TELWYDDUS_HAS_MEDIUM, "a medium is in");
     check(telwyddus_controller_attach(&controller, 2, 0) == TELWYDDUS_OUT_OF_RANGE, "no bay 2");
-    MUST(telwyddus_controller_eject(&controller, 0, tray));
+    MUST(telwyddus_controller_eject(&controller, 0, tray, &lines));
     MUST(telwyddus_controller_attach(&controller, 0, 0));
-    check(telwyddus_controller_insert(&controller, 0, tray) == TELWYDDUS_OUT_OF_RANGE, "it takes no medium");
+    check(telwyddus_controller_insert(&controller, 0, tray, &lines) == TELWYDDUS_OUT_OF_RANGE, "it takes no medium");
     check((in(0x3F7) & 0x80) == 0, "no change line");
     check((begin() & 0x10) != 0, "no track 0");
     MUST(telwyddus_controller_attach(&controller, 0, 1));
-    MUST(telwyddus_controller_insert(&controller, 0, tray));
+    MUST(telwyddus_controller_insert(&controller, 0, tray, &lines));
     check((begin() & 0xF0) == 0x20, "track 0 again");
 }
 
@@ -228,8 +228,7 @@ static void pin(void) {
     uint32_t nanoseconds;
     out(0x3F5, 0x94); /* LOCK */
     in(0x3F5);
-    MUST(telwyddus_controller_reset(&controller));
-    MUST(telwyddus_controller_lines(&controller, &lines));
+    MUST(telwyddus_controller_reset(&controller, &lines));
     check((lines & (TELWYDDUS_INT | TELWYDDUS_DRQ)) == 0, "the lines are down");
     MUST(telwyddus_controller_word_time(&controller, &nanoseconds));
     check(nanoseconds == 32000, "250 kbit/s, as at power-up");
@@ -241,7 +240,7 @@ static void pin(void) {
 }
 
 static void states(void) {
-    static const uint8_t name[8] = {'T', 'E', 'L', 'W', 'Y', 'D', 'D', 1};
+    static const uint8_t name[8] = {'T', 'E', 'L', 'W', 'Y', 'D', 'D', 2};
     telwyddus_controller other = {0};
     size_t length = 0;
     check(telwyddus_controller_save(&controller, NULL, 0, &length) == TELWYDDUS_TOO_SHORT, "a state's length");
@@ -249,9 +248,9 @@ static void states(void) {
     MUST(telwyddus_controller_save(&controller, bytes, length, &length));
     check(memcmp(bytes, name, 8) == 0, "it begins with its name");
     bytes[7]++;
-    check(telwyddus_controller_restore(&other, bytes, length) == TELWYDDUS_BAD_STATE, "another form is none");
+    check(telwyddus_controller_restore(&other, bytes, length, &lines) == TELWYDDUS_BAD_STATE, "another form is none");
     bytes[7]--;
-    MUST(telwyddus_controller_restore(&other, bytes, length));
+    MUST(telwyddus_controller_restore(&other, bytes, length, &lines));
     MUST(telwyddus_controller_free(&other));
     free(bytes);
 }
@@ -269,7 +268,7 @@ static void longest(void) {
     MUST(telwyddus_controller_new_planned(&large, (const uint8_t *)plan, sizeof plan - 1, &line));
     for (uint32_t bay = 0; bay < 2; bay++) {
         MUST(telwyddus_tray_read(&tray, image, WHOLE));
-        MUST(telwyddus_controller_insert(&large, bay, &tray));
+        MUST(telwyddus_controller_insert(&large, bay, &tray, &lines));
         MUST(telwyddus_tray_free(&tray));
     }
     check(telwyddus_controller_save(&large, NULL, 0, &length) == TELWYDDUS_TOO_SHORT, "the longest state's length");
@@ -304,7 +303,7 @@ static void take(uint8_t *data, size_t from, size_t to, uint8_t results[7]) {
 }
 
 static void goes_on_bare(void) {
-    static const uint8_t name[8] = {'T', 'E', 'L', 'W', 'Y', 'D', 'B', 1};
+    static const uint8_t name[8] = {'T', 'E', 'L', 'W', 'Y', 'D', 'B', 2};
     uint8_t one[SECTOR], two[SECTOR], first[7], second[7];
     size_t length;
     for (int i = 0; i < 9; i++) out(0x3F5, READ[i]);
@@ -314,10 +313,27 @@ static void goes_on_bare(void) {
     check(memcmp(bytes, name, 8) == 0 && length < 30000, "it has a name of its own, and no cells");
     take(one, 200, SECTOR, first);
     check(memcmp(one, flat, SECTOR) == 0 && (first[0] & 0xC0) == 0, "the read ends");
-    MUST(telwyddus_controller_restore_bare(&controller, bytes, length));
-    MUST(telwyddus_controller_lines(&controller, &lines));
+    MUST(telwyddus_controller_restore_bare(&controller, bytes, length, &lines));
     take(two, 200, SECTOR, second);
     check(memcmp(one, two, SECTOR) == 0 && memcmp(first, second, 7) == 0, "and ends once more, from its middle");
+    free(bytes);
+}
+
+/* What was written before a bare state is restored is told after it too. */
+static void joins_writes(void) {
+    uint8_t results[7], sector[SECTOR], written;
+    telwyddus_tracks map;
+    size_t length;
+    MUST(telwyddus_controller_written(&controller, 0, &written));
+    MUST(telwyddus_controller_written_tracks(&controller, 0, &map));
+    uint8_t *bytes = state_of(&controller, &length);
+    memcpy(sector, flat, SECTOR);
+    check(command(WRITE, 9, sector, SECTOR, results) == SECTOR && (results[0] & 0xC0) == 0, "a sector is written again");
+    MUST(telwyddus_controller_restore_bare(&controller, bytes, length, &lines));
+    MUST(telwyddus_controller_is_written(&controller, 0, &written));
+    check(written == 1, "that is told after a bare state that doesn't tell it");
+    MUST(telwyddus_controller_written_tracks(&controller, 0, &map));
+    check(map.bytes[0] == 1, "and so is its track");
     free(bytes);
 }
 
@@ -325,7 +341,7 @@ static void goes_on_bare(void) {
 static void refuses(telwyddus_controller *other, const uint8_t *bytes, size_t length, uint32_t code, const char *what) {
     size_t before, behind;
     uint8_t *was = state_of(other, &before);
-    check(telwyddus_controller_restore_bare(other, bytes, length) == code, what);
+    check(telwyddus_controller_restore_bare(other, bytes, length, &lines) == code, what);
     uint8_t *is = state_of(other, &behind);
     check(before == behind && memcmp(was, is, before) == 0, "and all stays");
     free(was);
@@ -337,15 +353,16 @@ static void bare(void) {
     telwyddus_tray tray = {0};
     size_t length, whole = 0;
     goes_on_bare();
+    joins_writes();
     uint8_t *bytes = state_of(&controller, &length);
-    check(telwyddus_controller_restore_bare(&other, bytes, length) == TELWYDDUS_EMPTY, "there is none to restore it onto");
+    check(telwyddus_controller_restore_bare(&other, bytes, length, &lines) == TELWYDDUS_EMPTY, "there is none to restore it onto");
     MUST(telwyddus_controller_new(&other));
     refuses(&other, bytes, length, TELWYDDUS_UNFIT, "no medium is in");
     MUST(telwyddus_tray_read_flat(&tray, flat, FLAT / 2));
-    MUST(telwyddus_controller_insert(&other, 0, &tray));
+    MUST(telwyddus_controller_insert(&other, 0, &tray, &lines));
     refuses(&other, bytes, length, TELWYDDUS_UNFIT, "one of 720 KB is in");
     refuses(&other, bytes, length - 1, TELWYDDUS_BAD_STATE, "a byte too few");
-    check(telwyddus_controller_restore(&other, bytes, length) == TELWYDDUS_BAD_STATE, "a bare state is no whole one");
+    check(telwyddus_controller_restore(&other, bytes, length, &lines) == TELWYDDUS_BAD_STATE, "a bare state is no whole one");
     free(bytes);
     check(telwyddus_controller_save(&controller, NULL, 0, &whole) == TELWYDDUS_TOO_SHORT, "a whole state's length");
     bytes = (uint8_t *)malloc(whole);
@@ -366,7 +383,7 @@ int main(void) {
     forms();
     tracks(&tray);
     MUST(telwyddus_controller_new(&controller));
-    MUST(telwyddus_controller_insert(&controller, 0, &tray));
+    MUST(telwyddus_controller_insert(&controller, 0, &tray, &lines));
     MUST(telwyddus_tray_free(&tray));
     check((begin() & 0xF0) == 0x20, "the heads find track 0");
     in_its_bay();

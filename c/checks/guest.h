@@ -165,7 +165,7 @@ static inline void start(Guest *guest) {
 static inline void insert_in(Guest *guest, uint32_t bay, const uint8_t *image, size_t length) {
     telwyddus_tray tray = {0};
     MUST(telwyddus_tray_read(&tray, image, length));
-    MUST(telwyddus_controller_insert(&guest->controller, bay, &tray));
+    MUST(telwyddus_controller_insert(&guest->controller, bay, &tray, &guest->lines));
     MUST(telwyddus_tray_free(&tray));
 }
 

@@ -234,6 +234,40 @@ static void tray_write(void) {
     wrote(want, room, told, size);
 }
 
+/* ---- the lines of a controller */
+
+static unsigned here; /* the controller that calls go to */
+
+static bool is_here(void) { return controller_is[here].is; }
+
+/* The lines that there are, or none where there is no controller. */
+static uint8_t lines_now(void) {
+    uint8_t lines = 0xEE;
+    CALL(telwyddus_controller_lines(&controllers[here], &lines));
+    wanted(missing(is_here()));
+    so(is_here() ? lines < 16 : lines == 0xEE, "the lines are told, or left");
+    return is_here() ? lines : 0;
+}
+
+/* A call that tells the lines has told them, if there is a controller. */
+static void lines_told(uint8_t lines) {
+    if (!is_here()) so(lines == 0xEE, "the lines are left");
+    else if (below(4) == 0) {
+        const char *call = the_call;
+        uint8_t now = lines_now();
+        the_call = call;
+        so(lines == now, "the lines are those that there are");
+    }
+}
+
+/* The same of one of the controllers. */
+static void told_of(unsigned at, uint8_t lines) {
+    unsigned before = here;
+    here = at;
+    lines_told(lines);
+    here = before;
+}
+
 /* ---- media between trays and bays, at each kind that has bays */
 
 static bool is_bay(uint32_t bay) { return bay < 2; }
@@ -264,11 +298,12 @@ static void ejected(Drives *drives, uint32_t bay, unsigned tray) {
 static void move_medium(void) {
     unsigned at = below(2), tray = below(4);
     uint32_t bay = below(30) ? below(2) : 2 + below(300);
+    uint8_t lines = 0xEE;
     switch (below(6)) {
-    case 0: CALL(telwyddus_controller_insert(&controllers[at], bay, &trays[tray])); inserted(&controller_is[at], bay, tray); break;
+    case 0: CALL(telwyddus_controller_insert(&controllers[at], bay, &trays[tray], &lines)); inserted(&controller_is[at], bay, tray); told_of(at, lines); break;
     case 1: CALL(telwyddus_machine_insert(&machines[at], bay, &trays[tray])); inserted(&machine_is[at], bay, tray); break;
     case 2: CALL(telwyddus_disk_insert(&disks[at], bay, &trays[tray])); inserted(&disk_is[at], bay, tray); break;
-    case 3: CALL(telwyddus_controller_eject(&controllers[at], bay, &trays[tray])); ejected(&controller_is[at], bay, tray); break;
+    case 3: CALL(telwyddus_controller_eject(&controllers[at], bay, &trays[tray], &lines)); ejected(&controller_is[at], bay, tray); told_of(at, lines); break;
     case 4: CALL(telwyddus_machine_eject(&machines[at], bay, &trays[tray])); ejected(&machine_is[at], bay, tray); break;
     default: CALL(telwyddus_disk_eject(&disks[at], bay, &trays[tray])); ejected(&disk_is[at], bay, tray);
     }
@@ -313,30 +348,6 @@ static void end(void) {
 }
 
 /* ---- the controller: ports, steps, the channel */
-
-static unsigned here; /* the controller that calls go to */
-
-static bool is_here(void) { return controller_is[here].is; }
-
-/* The lines that there are, or none where there is no controller. */
-static uint8_t lines_now(void) {
-    uint8_t lines = 0xEE;
-    CALL(telwyddus_controller_lines(&controllers[here], &lines));
-    wanted(missing(is_here()));
-    so(is_here() ? lines < 16 : lines == 0xEE, "the lines are told, or left");
-    return is_here() ? lines : 0;
-}
-
-/* A call that tells the lines has told them, if there is a controller. */
-static void lines_told(uint8_t lines) {
-    if (!is_here()) so(lines == 0xEE, "the lines are left");
-    else if (below(4) == 0) {
-        const char *call = the_call;
-        uint8_t now = lines_now();
-        the_call = call;
-        so(lines == now, "the lines are those that there are");
-    }
-}
 
 static void write_port(uint16_t port, uint8_t value) {
     uint8_t lines = 0xEE;
@@ -519,13 +530,13 @@ static void rig(void) {
     bool is = controller_is[at].is, on = below(2);
     uint32_t want = !is ? TELWYDDUS_EMPTY : is_bay(bay) ? TELWYDDUS_DONE : TELWYDDUS_OUT_OF_RANGE;
     telwyddus_tracks tracks;
+    uint8_t lines = 0xEE;
     size_t line = 0;
     switch (below(4)) {
     case 0:
-        CALL(telwyddus_controller_reset(&controllers[at]));
-        if (!wanted(missing(is))) return;
-        here = at;
-        so(!(lines_now() & (TELWYDDUS_INT | TELWYDDUS_DRQ)), "behind the reset pin both lines are down");
+        CALL(telwyddus_controller_reset(&controllers[at], &lines));
+        if (wanted(missing(is))) so(!(lines & (TELWYDDUS_INT | TELWYDDUS_DRQ)), "after the reset pin both lines are down");
+        told_of(at, lines);
         return;
     case 1:
         CALL(telwyddus_controller_attach(&controllers[at], bay, on));
@@ -640,6 +651,7 @@ static void move_state(void) {
     const State *state = states[below(3)];
     size_t length = way == 0 ? 0 : way == 1 ? state->length / 2 : state->length;
     const uint8_t *bytes = state->bytes;
+    uint8_t lines = 0xEE;
     if (way == 2 && length > 0) { /* behind another name */
         memcpy(pool, bytes, length);
         bytes = pool;
@@ -649,13 +661,15 @@ static void move_state(void) {
     case 0: CALL(telwyddus_controller_save(&controllers[at], buffer(room), room, &told)); saved(&controller_state, &controller_is[at], room, told); break;
     case 1: CALL(telwyddus_machine_save(&machines[at], buffer(room), room, &told)); saved(&machine_state, &machine_is[at], room, told); break;
     case 2:
-        CALL(telwyddus_controller_restore(&controllers[at], length == 0 ? NULL : bytes, length));
+        CALL(telwyddus_controller_restore(&controllers[at], length == 0 ? NULL : bytes, length, &lines));
         restored(state, &controller_is[at], state == &controller_state && way > 2);
+        told_of(at, lines);
         break;
     case 3: CALL(telwyddus_controller_save_bare(&controllers[at], buffer(room), room, &told)); saved(&bare_state, &controller_is[at], room, told); break;
     case 4:
-        CALL(telwyddus_controller_restore_bare(&controllers[at], length == 0 ? NULL : bytes, length));
+        CALL(telwyddus_controller_restore_bare(&controllers[at], length == 0 ? NULL : bytes, length, &lines));
         restored_bare(state, &controller_is[at], state == &bare_state && way > 2);
+        told_of(at, lines);
         break;
     default:
         CALL(telwyddus_machine_restore(&machines[at], length == 0 ? NULL : bytes, length));

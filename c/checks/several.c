@@ -139,7 +139,7 @@ static void damage(void) {
     telwyddus_tray tray = {0};
     image_of(&guest, image, IMAGE);
     image[14 + 9 * 2 * 25000 + (146 + 682 * 4 + 44 + 16 + 300) * 2 + 1] ^= 0x01;
-    MUST(telwyddus_controller_eject(&guest.controller, 0, &tray));
+    MUST(telwyddus_controller_eject(&guest.controller, 0, &tray, &guest.lines));
     MUST(telwyddus_tray_free(&tray));
     insert(&guest, image, IMAGE);
 }
@@ -336,12 +336,12 @@ static void take_medium(size_t bytes_passed, uint32_t steps, size_t passed, cons
     telwyddus_tray tray = {0};
     begin_four(bytes_passed);
     need(!run(&guest, steps), "it goes on");
-    MUST(telwyddus_controller_eject(&guest.controller, 0, &tray));
+    MUST(telwyddus_controller_eject(&guest.controller, 0, &tray, &guest.lines));
     finish(&guest);
     if (guest.passed != passed || memcmp(guest.result, wanted, 7) != 0)
         printf("%u bytes, results %02X %02X %02X, record %u\n", (unsigned)guest.passed, (unsigned)guest.result[0], (unsigned)guest.result[1], (unsigned)guest.result[2], (unsigned)guest.result[5]);
     check(guest.results == 7 && guest.passed == passed && memcmp(guest.result, wanted, 7) == 0, what);
-    MUST(telwyddus_controller_insert(&guest.controller, 0, &tray));
+    MUST(telwyddus_controller_insert(&guest.controller, 0, &tray, &guest.lines));
     MUST(telwyddus_tray_free(&tray));
 }
 
@@ -359,7 +359,7 @@ static void starve(void) {
 static void protect(void) {
     static const Case write = {"a protected medium: NW", {WRITE | MT, 0, 60, 0, 1, 2, 18, GAP}, 1024, 1, {0x40, 0x02, 0, 60, 0, 1, 2}};
     telwyddus_tray tray = {0};
-    MUST(telwyddus_controller_eject(&guest.controller, 0, &tray));
+    MUST(telwyddus_controller_eject(&guest.controller, 0, &tray, &guest.lines));
     MUST(telwyddus_tray_free(&tray));
     image[8] |= 1;
     insert(&guest, image, IMAGE);

@@ -57,6 +57,7 @@ static void is_so(bool is, const char *what) {
 }
 
 static uint8_t *image, *out, *other;
+static uint8_t lines;
 static size_t length;
 
 static void is_image(telwyddus_tray *tray, const char *what) {
@@ -75,12 +76,12 @@ static void move(void) {
     TRY(telwyddus_controller_new(&controller));
     MUST(telwyddus_controller_strap_seeks(&controller, 1));
     TRY(telwyddus_tray_read(&tray, image, length));
-    MUST(telwyddus_controller_insert(&controller, 0, &tray));
+    MUST(telwyddus_controller_insert(&controller, 0, &tray, &lines));
     TRY(telwyddus_controller_image(&controller, 0, out, length, &told));
-    if (REFUSED(telwyddus_controller_eject(&controller, 0, &back))) {
+    if (REFUSED(telwyddus_controller_eject(&controller, 0, &back, &lines))) {
         MUST(telwyddus_controller_image(&controller, 0, out, length, &told));
         is_so(memcmp(image, out, length) == 0, "behind a refused eject the medium is in the drive");
-        MUST(telwyddus_controller_eject(&controller, 0, &back));
+        MUST(telwyddus_controller_eject(&controller, 0, &back, &lines));
     }
     is_image(&back, "the medium that comes out went in");
     MUST(telwyddus_tray_free(&tray));
@@ -97,15 +98,15 @@ static void restore(void) {
     size_t told, was_told, now_told;
     TRY(telwyddus_controller_new(&controller));
     TRY(telwyddus_tray_read(&tray, image, length));
-    MUST(telwyddus_controller_insert(&controller, 0, &tray));
+    MUST(telwyddus_controller_insert(&controller, 0, &tray, &lines));
     MUST(telwyddus_tray_free(&tray));
     TRY(telwyddus_controller_save(&controller, state, ROOM, &told));
     TRY(telwyddus_controller_new(&again));
     TRY(telwyddus_controller_save(&again, was, ROOM, &was_told));
-    if (REFUSED(telwyddus_controller_restore(&again, state, told))) {
+    if (REFUSED(telwyddus_controller_restore(&again, state, told, &lines))) {
         MUST(telwyddus_controller_save(&again, now, ROOM, &now_told));
         is_so(now_told == was_told && memcmp(now, was, was_told) == 0, "behind a refused restore the slot holds what it held");
-        MUST(telwyddus_controller_restore(&again, state, told));
+        MUST(telwyddus_controller_restore(&again, state, told, &lines));
     }
     TRY(telwyddus_controller_save(&again, now, ROOM, &now_told));
     is_so(now_told == told && memcmp(now, state, told) == 0, "what is restored was saved");
@@ -138,7 +139,7 @@ static void bare(void) {
     TRY(telwyddus_controller_new(&controller));
     for (uint32_t bay = 0; bay < 2; bay++) {
         TRY(telwyddus_tray_read(&tray, image, length));
-        MUST(telwyddus_controller_insert(&controller, bay, &tray));
+        MUST(telwyddus_controller_insert(&controller, bay, &tray, &lines));
         MUST(telwyddus_tray_free(&tray));
     }
     TRY(telwyddus_controller_save(&controller, whole, ROOM, &all));
@@ -146,9 +147,9 @@ static void bare(void) {
         is_as(&controller, whole, all);
         MUST(telwyddus_controller_save_bare(&controller, state, ROOM, &told));
     }
-    if (REFUSED(telwyddus_controller_restore_bare(&controller, state, told))) {
+    if (REFUSED(telwyddus_controller_restore_bare(&controller, state, told, &lines))) {
         is_as(&controller, whole, all);
-        MUST(telwyddus_controller_restore_bare(&controller, state, told));
+        MUST(telwyddus_controller_restore_bare(&controller, state, told, &lines));
     }
     is_as(&controller, whole, all);
     MUST(telwyddus_controller_free(&controller));

@@ -32,16 +32,16 @@ typedef struct {
 
 static uint8_t told[3];         /* the lines of each controller, as its last call told them */
 
-/* Behind the names come further arguments of an access. */
+/* After the names come further arguments of what tells lines. */
 #define KIND(kind, in, out, ...) \
     static telwyddus_##kind kind##s[3]; \
     static int await_##kind(unsigned long most); \
     static uint32_t save_##kind(int at, uint8_t *bytes, size_t room, size_t *length) { return telwyddus_##kind##_save(&kind##s[at], bytes, room, length); } \
-    static uint32_t restore_##kind(int at, const uint8_t *bytes, size_t length) { return telwyddus_##kind##_restore(&kind##s[at], bytes, length); } \
+    static uint32_t restore_##kind(int at, const uint8_t *bytes, size_t length) { return telwyddus_##kind##_restore(&kind##s[at], bytes, length __VA_ARGS__); } \
     static uint32_t read_##kind(int at, uint16_t port, uint8_t *value) { return telwyddus_##kind##_##in(&kind##s[at], port, value __VA_ARGS__); } \
     static uint32_t write_##kind(int at, uint16_t port, uint8_t value) { return telwyddus_##kind##_##out(&kind##s[at], port, value __VA_ARGS__); } \
-    static uint32_t insert_##kind(int at, uint32_t bay, telwyddus_tray *tray) { return telwyddus_##kind##_insert(&kind##s[at], bay, tray); } \
-    static uint32_t eject_##kind(int at, uint32_t bay, telwyddus_tray *tray) { return telwyddus_##kind##_eject(&kind##s[at], bay, tray); } \
+    static uint32_t insert_##kind(int at, uint32_t bay, telwyddus_tray *tray) { return telwyddus_##kind##_insert(&kind##s[at], bay, tray __VA_ARGS__); } \
+    static uint32_t eject_##kind(int at, uint32_t bay, telwyddus_tray *tray) { return telwyddus_##kind##_eject(&kind##s[at], bay, tray __VA_ARGS__); } \
     static uint32_t end_##kind(int at) { return telwyddus_##kind##_free(&kind##s[at]); } \
     static const Kind kind##_kind = {#kind "s", save_##kind, restore_##kind, read_##kind, write_##kind, insert_##kind, eject_##kind, end_##kind, await_##kind};
 

@@ -10,6 +10,7 @@ typedef struct {
     uint64_t at;                /* device steps were made up to this time, in nanoseconds; */
     uint32_t word_time;         /* one lasts so long */
     uint8_t lines;              /* as the last call told them */
+    uint8_t is_unsaved[2];      /* a bay's disk came by a state, and its file may be another */
 } Device;
 
 /* These calls are done whenever the slot holds a controller. */
@@ -90,18 +91,21 @@ static void device_out(Device *device, uint16_t port, uint8_t value) {
 
 /* ---- disks. Each gives a code, TELWYDDUS_DONE where all is well */
 
-/* Stores the disk of a bay, if it was written. It stays in, and is written still where it can't be stored. */
+/* Stores the disk of a bay, if it was written, or came by a state. It stays in, and is written still where it can't be stored. */
 static uint32_t device_store(Device *device, uint32_t bay) {
     uint8_t is_written, *image;
     size_t length;
     uint32_t code = telwyddus_controller_is_written(&device->controller, bay, &is_written);
-    if (code != TELWYDDUS_DONE || !is_written) return code;
+    if (code != TELWYDDUS_DONE || !(is_written || device->is_unsaved[bay])) return code;
     code = telwyddus_controller_image(&device->controller, bay, NULL, 0, &length);
     if (code != TELWYDDUS_TOO_SHORT) return code;
     image = (uint8_t *)malloc(length);
     if (image == NULL) return TELWYDDUS_NO_MEMORY;
     code = telwyddus_controller_image(&device->controller, bay, image, length, &length);
-    if (code == TELWYDDUS_DONE && bus_store(device->bus, image, length)) code = telwyddus_controller_written(&device->controller, bay, &is_written);
+    if (code == TELWYDDUS_DONE && bus_store(device->bus, image, length)) {
+        device->is_unsaved[bay] = 0;
+        code = telwyddus_controller_written(&device->controller, bay, &is_written);
+    }
     free(image);
     return code;
 }
@@ -112,7 +116,8 @@ static uint32_t device_insert(Device *device, uint32_t bay, const uint8_t *file,
     uint32_t code = telwyddus_tray_read(&tray, file, length);
     if (code == TELWYDDUS_BAD_IMAGE) code = telwyddus_tray_read_flat(&tray, file, length);
     catch_up(device);
-    if (code == TELWYDDUS_DONE) code = telwyddus_controller_insert(&device->controller, bay, &tray);
+    if (code == TELWYDDUS_DONE) code = telwyddus_controller_insert(&device->controller, bay, &tray, &device->lines);
+    if (code == TELWYDDUS_DONE) device->is_unsaved[bay] = 0;
     telwyddus_tray_free(&tray);
     return code;
 }
@@ -121,7 +126,7 @@ static uint32_t device_eject(Device *device, uint32_t bay) {
     telwyddus_tray tray = {0};
     catch_up(device);
     uint32_t code = device_store(device, bay);
-    if (code == TELWYDDUS_DONE) code = telwyddus_controller_eject(&device->controller, bay, &tray);
+    if (code == TELWYDDUS_DONE) code = telwyddus_controller_eject(&device->controller, bay, &tray, &device->lines);
     telwyddus_tray_free(&tray);
     return code;
 }
@@ -139,12 +144,12 @@ static size_t device_state(Device *device, uint8_t *state, size_t room) {
 
 static uint32_t device_restore(Device *device, const uint8_t *state, size_t length) {
     uint64_t behind;
-    uint32_t code = length < sizeof behind ? (uint32_t)TELWYDDUS_BAD_STATE : telwyddus_controller_restore(&device->controller, state + sizeof behind, length - sizeof behind);
+    uint32_t code = length < sizeof behind ? (uint32_t)TELWYDDUS_BAD_STATE : telwyddus_controller_restore(&device->controller, state + sizeof behind, length - sizeof behind, &device->lines);
     if (code != TELWYDDUS_DONE) return code;
     memcpy(&behind, state, sizeof behind);
     device->at = device->bus->now - behind;
     must(telwyddus_controller_word_time(&device->controller, &device->word_time));
-    must(telwyddus_controller_lines(&device->controller, &device->lines));
+    device->is_unsaved[0] = device->is_unsaved[1] = 1; /* the files may be newer than the state, whatever is_written tells */
     device->bus->irq = device->lines & TELWYDDUS_INT; /* no edge */
     set_timer(device);
     return TELWYDDUS_DONE;
@@ -166,9 +171,8 @@ static uint32_t device_on(Device *device, Bus *bus) {
 /* Disks stay in, and heads where they are. */
 static void device_reset(Device *device) {
     catch_up(device);
-    must(telwyddus_controller_reset(&device->controller));
+    must(telwyddus_controller_reset(&device->controller, &device->lines));
     must(telwyddus_controller_word_time(&device->controller, &device->word_time));
-    must(telwyddus_controller_lines(&device->controller, &device->lines));
     attend(device);
     set_timer(device);
 }

@@ -143,7 +143,7 @@ int main(int count, char **words) {
     if (rate == 0) new_planned(bay, key);
     else MUST(telwyddus_controller_new(&controller));
     MUST(telwyddus_tray_read(&tray, image, length));
-    MUST(telwyddus_controller_insert(&controller, (uint32_t)bay, &tray));
+    MUST(telwyddus_controller_insert(&controller, (uint32_t)bay, &tray, &lines));
     MUST(telwyddus_tray_free(&tray));
 
     out(0x3F2, (uint8_t)(0x0C | 0x10 << bay | bay));

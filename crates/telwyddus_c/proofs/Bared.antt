@@ -11,11 +11,13 @@ use Rattle.fdc_adapter.specs.declared.adapter.DisketteAdapter.{DisketteAdapter}
 use Rattle.fdc_chip.specs.Chips.{chip_with_drive}
 use Rattle.fdc_chip.specs.declared.chip.Chip.{Chip}
 use Rattle.c_bay_drive.specs.Bays.{bay_state}
+use Rattle.c_bay_drive.specs.Joined.{with_writes}
 use Rattle.c_bay_drive.specs.WithMedium.{BayWithMedium}
 use Rattle.c_bay_drive.specs.declared.bay.BayDrive.{BayDrive}
 use Rattle.c_bay_drive.proofs.Exchanges.{one_bay, stays_bay, back_bay, medium_in_bay}
+use Rattle.c_bay_drive.proofs.Joining.{writes_same}
 use Rattle.c_slots.specs.Controllers.{ControllerValue}
-use Rattle.telwyddus_c.specs.Bare.{stand_in_for, same_rate, alike, media_alike, medium_in, spelled_bare, BareBytes, HasMedium, HasMedia, IsBared, IsRefilled, RestoresBare}
+use Rattle.telwyddus_c.specs.Bare.{stand_in_for, same_rate, alike, media_alike, medium_in, spelled_bare, BareBytes, HasMedium, HasMedia, IsBared, IsRefilled, RestoresBare, with_writes_at, with_writes_of}
 use Rattle.telwyddus_c.specs.Drives.{held}
 use Rattle.telwyddus_c.specs.States.{ControllerFits}
 
@@ -200,11 +202,39 @@ second_alike from left to between first is stays moved =
     ∙ ap (alike (medium_in from 1)) (second_medium_stays first to between moved)
     ∙ and_second (alike (medium_in from 0) (medium_in to 0)) (alike (medium_in from 1) (medium_in to 1)) is
 
-pub refilled_both : (from left to between new : ControllerValue) → held left 1 ≡ held from 1 → HasMedium (medium_in from 0) 0 to between
-    → HasMedium (medium_in left 1) 1 between new → IsRefilled from to new
-refilled_both from left to between new stays one two =
-    both_bays (medium_in from 0) (medium_in from 1) to between new one
+pub refilled_both : (from left state to between new : ControllerValue) → to ≡ with_writes_of from state → held left 1 ≡ held from 1
+    → HasMedium (medium_in from 0) 0 to between → HasMedium (medium_in left 1) 1 between new → IsRefilled from state new
+refilled_both from left state to between new is stays one two =
+    both_bays (medium_in from 0) (medium_in from 1) (with_writes_of from state) between new
+    (subst (λ (it : ControllerValue). HasMedium (medium_in from 0) 0 it between) is one)
     (subst (λ (drive : BayDrive). HasMedium (bay_state drive).medium 1 between new) stays two)
+
+-- ---- what is told of writes
+
+-- a drive is taken out of a bay, tells besides of another's writes, and is put back
+pub writes_joined_there : (bay : ℕ) (spare other before after : BayDrive) (from old between new : ControllerValue)
+    → before ≡ held old bay → other ≡ held from bay → after ≡ with_writes other before
+    → between ≡ chip_with_drive bay spare old → new ≡ chip_with_drive bay after between → new ≡ with_writes_at bay from old
+writes_joined_there bay spare other before after from old between new taken is joined out back =
+    back
+    ∙ ap (λ (c : ControllerValue). chip_with_drive bay after c) out
+    ∙ with_twice bay spare after old
+    ∙ ap (λ (drive : BayDrive). chip_with_drive bay drive old)
+    (joined ∙ ap (λ (it : BayDrive). with_writes it before) is ∙ ap (with_writes (held from bay)) taken)
+
+-- no medium is another one by that
+pub alike_joined : (from state to : ControllerValue) → to ≡ with_writes_of from state → media_alike from state ≡ true → media_alike from to ≡ true
+alike_joined from state to is alike_both = ap (media_alike from) is ∙ alike_both
+
+-- a controller without its media tells of the same writes
+joined_with_bare : (controller bare : ControllerValue) → IsBared controller bare → with_writes_of controller bare ≡ bare
+joined_with_bare controller bare bares =
+    let first : with_writes (held controller 0) (held bare 0) ≡ held bare 0 =
+    writes_same (held controller 0) (held bare 0) bares.first_drive.replaced bares.first_drive.tracks in
+    let second : with_writes (held controller 1) (held bare 1) ≡ held bare 1 =
+    writes_same (held controller 1) (held bare 1) bares.second_drive.replaced bares.second_drive.tracks in
+    let stays : with_writes_at 0 controller bare ≡ bare = ap (λ (drive : BayDrive). chip_with_drive 0 drive bare) first ∙ sym (with_itself 0 bare) in
+    ap (with_writes_at 1 controller) stays ∙ ap (λ (drive : BayDrive). chip_with_drive 1 drive bare) second ∙ sym (with_itself 1 bare)
 
 -- ---- what was saved comes back
 
@@ -216,8 +246,9 @@ bared_alike controller bare bares =
     (ap (alike (medium_in controller 0)) first ∙ alike_stand_in (medium_in controller 0))
     (ap (alike (medium_in controller 1)) second ∙ alike_stand_in (medium_in controller 1))
 
-refilled_again : (controller bare new : ControllerValue) → IsBared controller bare → IsRefilled controller bare new → new ≡ controller
-refilled_again controller bare new bares refills =
+media_again : (controller bare new : ControllerValue) → IsBared controller bare → HasMedia (medium_in controller 0) (medium_in controller 1) bare new
+    → new ≡ controller
+media_again controller bare new bares refills =
     let first : held new 0 ≡ held controller 0 = one_bay (medium_in controller 0) (held bare 0) (held controller 0) (held new 0)
     (back_bay (stand_in_for (medium_in controller 0)) (held controller 0) (held bare 0) bares.first_drive) refills.first_drive in
     let second : held new 1 ≡ held controller 1 = one_bay (medium_in controller 1) (held bare 1) (held controller 1) (held new 1)
@@ -226,6 +257,11 @@ refilled_again controller bare new bares refills =
     ∙ ap (λ (drive : BayDrive). chip_with_drive 1 (held new 1) (chip_with_drive 0 drive bare)) first
     ∙ ap (λ (drive : BayDrive). chip_with_drive 1 drive (chip_with_drive 0 (held controller 0) bare)) second
     ∙ ap (λ (c : ControllerValue). chip_with_drive 1 (held controller 1) (chip_with_drive 0 (held controller 0) c)) bares.whole
+
+refilled_again : (controller bare new : ControllerValue) → IsBared controller bare → IsRefilled controller bare new → new ≡ controller
+refilled_again controller bare new bares refills =
+    media_again controller bare new bares
+    (subst (λ (it : ControllerValue). HasMedia (medium_in controller 0) (medium_in controller 1) it new) (joined_with_bare controller bare bares) refills)
 
 -- only one of four codes comes
 one_of : (done unfit bad out : Bool) (code : ℕ) (A B C D Same : Type 0) → (done ≡ true → code ≡ 0) → (out ≡ true → code ≡ 3) → (A → Same) → (B → ⊥)

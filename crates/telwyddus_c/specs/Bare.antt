@@ -2,6 +2,7 @@
 use Rattle.std.specs.Prelude.{◌≡◌, ◌⊎◌, ◌==◌, ◌&&◌, ℕ, Bool, true, false, List, [], ◌∷◌, Option, Some, None, MatchBool}
 use Rattle.c_bay_drive.specs.Bays.{bay_state}
 use Rattle.c_bay_drive.specs.Saving.{spelled_bay}
+use Rattle.c_bay_drive.specs.Joined.{with_writes}
 use Rattle.c_bay_drive.specs.WithMedium.{BayWithMedium}
 use Rattle.c_slots.specs.Controllers.{ControllerValue}
 use Rattle.fdc_chip.specs.Chips.{chip_with_drive}
@@ -64,9 +65,18 @@ pub record HasMedia (first second : Option Disk) (old new : ControllerValue) : T
 abbrev pub IsBared : ControllerValue → ControllerValue → Type 0
 IsBared old bare = HasMedia (stand_in_for (medium_in old 0)) (stand_in_for (medium_in old 1)) old bare
 
--- what was saved, with the media that are in the bays of this controller, tabs and all
+-- the drive of a bay tells besides of the writes of which another controller's drive there tells
+abbrev pub with_writes_at : (bay : ℕ) → (from state : ControllerValue) → ControllerValue
+with_writes_at bay from state = chip_with_drive bay (with_writes (held from bay) (held state bay)) state
+
+-- it is so in both bays
+abbrev pub with_writes_of : (from state : ControllerValue) → ControllerValue
+with_writes_of from state = with_writes_at 1 from (with_writes_at 0 from state)
+
+-- what was saved, with the media that are in the bays of this controller, tabs and all. Of these it is told that a word was replaced, and
+-- which tracks were written, where the controller tells it or the saved state does
 abbrev pub IsRefilled : (media state new : ControllerValue) → Type 0
-IsRefilled media state new = HasMedia (medium_in media 0) (medium_in media 1) state new
+IsRefilled media state new = HasMedia (medium_in media 0) (medium_in media 1) (with_writes_of media state) new
 
 -- the bytes of a controller that lacks media so
 pub record BareBytes (Lacks : ControllerValue → Type 0) (bytes : List ℕ) : Type 0 where
@@ -82,7 +92,7 @@ WritesBare controller code old new was told =
     ((bytes : List ℕ) × BareBytes (IsBared controller) bytes × WritesBytes bytes code old new told)
     ⊎ ((code ≡ 3) × (new ≡ old) × (told ≡ was))
 
--- the controller is the one whose state the bytes are, but for its media, which stay: 0. The state is of other media, 21, no state has
+-- the controller is the one whose state the bytes are, but for its media, which stay, and what was written of them: 0. The state is of other media, 21, no state has
 -- these bytes, 22, or memory is out, 3: it stays
 abbrev pub RestoresBare : List ℕ → (code : ℕ) → ControllerValue → ControllerValue → Type 0
 RestoresBare bytes code old new =

@@ -1,13 +1,9 @@
 -- Calls on the controller.
 use Rattle.std.specs.Prelude.{◌≤◌, ◌≡◌, ◌↔◌, ◌+◌, ◌-◌, ◌==◌, ℕ, Bool, true, false, Option, Some, None, is_some, IsTrue, IsBitSet, if◌then◌else◌}
-use Rattle.c_bay_drive.specs.Bays.{bay_state}
+use Rattle.c_bay_drive.specs.Bays.{bay_state, new_in_bay}
 use Rattle.c_slots.specs.Controllers.{ControllerValue}
 use Rattle.c_slots.specs.Trays.{TrayValue}
 use Rattle.drive_model.specs.Drive.{DriveState, forgotten}
-use Rattle.drive_model.specs.Fault.{total_left}
-use Rattle.drive_model.specs.Mechanics.{at_rest}
-use Rattle.drive_model.specs.ScriptDrive.{told}
-use Rattle.fault_plan.specs.Plan.{Plan}
 use Rattle.fdc_adapter.specs.Adapters.{SameDrives, drive_at, selected_at}
 use Rattle.fdc_chip.specs.Chips.{ChipState, chip_state, behind_of, IsNewChip, KeepsChip, interrupts_chip, asks_chip, indexes_chip}
 use Rattle.fdc_chip.specs.Ports.{TakesChip, GivesChip}
@@ -27,12 +23,7 @@ KeepsDrives old new = SameDrives (adapter_of (behind_of old)) (adapter_of (behin
 
 -- a new one whose drives have no faults
 abbrev pub IsPlain : ControllerValue → Type 0
-IsPlain controller = IsNewChip (at_rest (Some 0)) (at_rest (Some 0)) (state_of controller)
-
--- a new one whose drives have as many faults to come as the plan has for them
-abbrev pub IsPlanned : Plan → ControllerValue → Type 0
-IsPlanned plan controller =
-    IsNewChip (at_rest (told 0 (total_left plan.bay0))) (at_rest (told 0 (total_left plan.bay1))) (state_of controller)
+IsPlain controller = IsNewChip (new_in_bay (Some 0)) (new_in_bay (Some 0)) (state_of controller)
 
 -- the drive in a bay
 abbrev pub drive_of : ControllerValue → ℕ → DriveState
@@ -42,6 +33,11 @@ drive_of controller bay = drive_at (state_of controller).front.adapter bay
 abbrev pub lines_byte : ChipState → ℕ
 lines_byte chip = (if interrupts_chip chip then 1 else 0) + (if asks_chip chip then 2 else 0)
     + (if to_memory_of chip.front.adapter.controller then 4 else 0) + (if indexes_chip chip then 8 else 0)
+
+-- the lines are told where a slot holds a controller; else what was told stays
+abbrev pub TellsLines : Option ControllerValue → (was told : ℕ) → Type 0
+TellsLines None was told = told ≡ was
+TellsLines (Some controller) was told = told ≡ lines_byte (state_of controller)
 
 -- the channel takes a byte: 0. None is asked for in this direction: 8
 abbrev pub TakesByte : ℕ → ChipState → (was byte : ℕ) → ChipState → Type 0

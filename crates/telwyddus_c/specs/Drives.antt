@@ -1,7 +1,6 @@
 -- The drives of bays: their cables, their plans, and the tracks that were written.
 use Rattle.std.specs.Prelude.{◌≡◌, ◌-◌, ◌==◌, ◌&&◌, ℕ, Bool, not, List, is_some, Ok, Err, MatchBool, if◌then◌else◌}
-use Rattle.c_bay_drive.specs.Bays.{bay_state, drive_in_bay, faults_in_bay, is_attached, state_with_cable, tracks_in_bay}
-use Rattle.c_bay_drive.specs.Maps.{no_tracks}
+use Rattle.c_bay_drive.specs.Bays.{bay_state, drive_in_bay, drive_within, faults_in_bay, is_attached, new_in_bay, state_replanned, state_with_cable, tracks_in_bay, without_tracks}
 use Rattle.c_bay_drive.specs.declared.bay.BayDrive.{BayDrive}
 use Rattle.c_slots.specs.Controllers.{ControllerValue}
 use Rattle.drive_model.specs.Drive.{DriveState}
@@ -10,7 +9,7 @@ use Rattle.drive_model.specs.ScriptDrive.{told}
 use Rattle.drive_model.specs.declared.fault.Fault.{Fault}
 use Rattle.fault_plan.specs.Plan.{Plan, plan_spelled}
 use Rattle.fdc_adapter.specs.Adapters.{drive_held}
-use Rattle.fdc_chip.specs.Chips.{behind_of, KeepsChip}
+use Rattle.fdc_chip.specs.Chips.{behind_of, IsNewChip, KeepsChip}
 use Rattle.fdc_sequencer.specs.Fronts.{adapter_of}
 use Rattle.telwyddus_c.specs.Controllers.{drive_of, state_of}
 
@@ -50,13 +49,18 @@ faults_for bay plan = if bay == 0 then plan.bay0 else plan.bay1
 abbrev pub replanned : List Fault → DriveState → DriveState
 replanned faults drive = record drive { left = told drive.faults (total_left faults) }
 
--- a drive has these faults to come, in place of those that it had; what it is besides stays
+-- a drive has these faults to come, in place of those that it had; what it is besides stays, and what its cable tells of it
 pub record Replans (bay : ℕ) (faults : List Fault) (old new : ControllerValue) : Type 0 where
   pub faults_are : faults_in_bay (held new bay) ≡ faults
-  pub drive : bay_state (drive_in_bay (held new bay)) ≡ replanned faults (bay_state (drive_in_bay (held old bay)))
-  pub cable : is_attached (held new bay) ≡ is_attached (held old bay)
-  pub tracks : tracks_in_bay (held new bay) ≡ tracks_in_bay (held old bay)
+  pub within : drive_within (held new bay) ≡ replanned faults (drive_within (held old bay))
+  pub state : bay_state (held new bay) ≡ state_replanned faults (held old bay)
   pub beside : KeepsOther bay old new
+
+-- a new controller whose drives have the faults that the plan has for them, and no others
+pub record IsPlanned (plan : Plan) (controller : ControllerValue) : Type 0 where
+  pub chip : IsNewChip (new_in_bay (told 0 (total_left plan.bay0))) (new_in_bay (told 0 (total_left plan.bay1))) (state_of controller)
+  pub first : faults_in_bay (held controller 0) ≡ plan.bay0
+  pub second : faults_in_bay (held controller 1) ≡ plan.bay1
 
 -- a drive is planned anew by a text: 0. It is no plan, 9: its first bad line is told. Memory is out, 3. All stays then
 abbrev pub PlansAt : (bay : ℕ) → List ℕ → (code was line : ℕ) → ControllerValue → ControllerValue → Type 0
@@ -65,11 +69,8 @@ PlansAt bay text code was line old new =
     (MatchBool (code == 9) ((plan_spelled text ≡ Err line) × (new ≡ old))
     (MatchBool (code == 3) ((line ≡ was) × (new ≡ old)) ⊥))
 
--- the tracks of a bay's medium that were written are told in a map, and forgotten
+-- the tracks of a bay's medium that were written are told in a map, and forgotten; what the drive is besides stays
 pub record TellsTracks (bay : ℕ) (old : ControllerValue) (map : List ℕ) (new : ControllerValue) : Type 0 where
   pub told : map ≡ tracks_in_bay (held old bay)
-  pub forgets : tracks_in_bay (held new bay) ≡ no_tracks
-  pub state : bay_state (held new bay) ≡ bay_state (held old bay)
-  pub faults : faults_in_bay (held new bay) ≡ faults_in_bay (held old bay)
-  pub cable : is_attached (held new bay) ≡ is_attached (held old bay)
+  pub forgets : held new bay ≡ without_tracks (held old bay)
   pub beside : KeepsOther bay old new

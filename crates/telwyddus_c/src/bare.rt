@@ -6,7 +6,7 @@ ghost use Rattle.c_bay_drive.specs.Bays.{bay_state};
 ghost use Rattle.c_bay_drive.specs.WithMedium.{BayWithMedium};
 ghost use Rattle.drive_model.specs.Drive.{same_length};
 ghost use Rattle.telwyddus_c.specs.Bare.{stand_in, stand_in_for as stand_in_of, alike as alike_of, media_alike, medium_in, BareBytes, HasMedium, IsBared, IsRefilled};
-ghost use Rattle.telwyddus_c.specs.Bare.{same_rate as same_rate_of};
+ghost use Rattle.telwyddus_c.specs.Bare.{same_rate as same_rate_of, with_writes_at, with_writes_of};
 ghost use Rattle.telwyddus_c.specs.Drives.{held};
 
 use crate::state::{BARE, save_behind};
@@ -183,7 +183,27 @@ fn move_medium(alloc: Global, from: &mut WholeController, to: &mut WholeControll
     exchange(alloc, to, bay, medium);
 }
 
-/// Makes the controller what was saved, with its own media; or tells that they aren't alike, and leaves it.
+/// Lets the drive of a bay tell besides of the writes of which another controller's drive there tells.
+fn join_writes(alloc: Global, from: &WholeController, to: &mut WholeController, bay: u8)
+    requires { bay ≤ 1 }
+    ensures { to.new ≡ with_writes_at bay from.now to.old }
+{
+    let mut drive = BayDrive::new(Vec::new(alloc));
+    to.swap_drive(bay, &mut drive);
+    drive.join_writes(from.drive(bay));
+    to.swap_drive(bay, &mut drive);
+}
+
+/// The same of both bays.
+fn join_all_writes(alloc: Global, from: &WholeController, to: &mut WholeController)
+    ensures { to.new ≡ with_writes_of from.now to.old }
+{
+    join_writes(alloc, from, to, 0);
+    join_writes(alloc, from, to, 1);
+}
+
+/// Makes the controller what was saved, with its own media, and with what it tells of writes to them; or tells that they aren't alike, and
+/// leaves it.
 pub(crate) fn refill(
     alloc: Global,
     controller: &mut WholeController,
@@ -196,6 +216,7 @@ pub(crate) fn refill(
     if !are_alike(controller, state) {
         return false;
     }
+    join_all_writes(alloc, controller, state);
     move_medium(alloc, controller, state, 0);
     move_medium(alloc, controller, state, 1);
     mem::swap(controller, state);

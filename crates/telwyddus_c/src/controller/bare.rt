@@ -1,11 +1,13 @@
 // The controller's state without its media as bytes, and back onto the media that are in its bays.
-ghost use Rattle.std.specs.Prelude.{◌≡◌, ⊤};
+ghost use Rattle.std.specs.Prelude.{◌≡◌};
 ghost use Rattle.telwyddus_c.specs.Bare.{WritesBare, RestoresBare};
+ghost use Rattle.telwyddus_c.specs.Controllers.{state_of, lines_byte};
 ghost use Rattle.telwyddus_c.specs.Slots.{Serves};
 
 use crate::bare::{bare_bytes, refill};
 use crate::buffer::write_bytes;
 use crate::code::{BAD_STATE, DONE, EMPTY, NO_MEMORY, UNFIT};
+use crate::controller::lines::lines_of;
 use crate::state::{BARE, read_behind};
 use c_slots::{ControllerSlot, WholeController};
 use saved_state::RestoreError;
@@ -47,24 +49,42 @@ fn save_bare(
     }
 }
 
-/// Makes the controller that a slot holds the one whose state the bytes are, but for its media, which stay in its bays.
+/// Makes the controller that a slot holds the one whose state the bytes are, but for its media, which stay in its bays with what it tells of
+/// writes to them; and tells the lines behind that.
 #[unsafe(no_mangle)]
 pub extern "C" fn telwyddus_controller_restore_bare(
     alloc: Global,
     slot: &mut ControllerSlot,
     bytes: &[u8],
+    lines: &mut u8,
 ) -> u32
-    ensures { Serves (RestoresBare bytes.now) ⊤ result slot.old.held.controller slot.new.held.controller }
+    ensures { Serves (λ code old new. RestoresBare bytes.now code old new × (lines.new ≡ lines_byte (state_of new))) (lines.new ≡ lines.old)
+        result slot.old.held.controller slot.new.held.controller }
 {
     let Some(mut controller) = slot.take(alloc) else {
         return EMPTY;
     };
-    let code = restore_bare(alloc, &mut controller, bytes);
+    let code = restore_telling(alloc, &mut controller, bytes, lines);
     slot.put(controller);
     code
 }
 
 /// The same of a controller.
+fn restore_telling(
+    alloc: Global,
+    controller: &mut WholeController,
+    bytes: &[u8],
+    lines: &mut u8,
+) -> u32
+    ensures restores { RestoresBare bytes.now result controller.old controller.new }
+    ensures told { lines.new ≡ lines_byte (state_of controller.new) }
+{
+    let code = restore_bare(alloc, controller, bytes);
+    *lines = lines_of(controller);
+    code
+}
+
+/// The same, and no lines are told.
 fn restore_bare(alloc: Global, controller: &mut WholeController, bytes: &[u8]) -> u32
     ensures { RestoresBare bytes.now result controller.old controller.new }
 {

@@ -1,13 +1,14 @@
 // The bays of the controller: media in and out, and what a front end shows.
-ghost use Rattle.std.specs.Prelude.{◌≡◌, ◌≤◌, ◌-◌, ⊤};
+ghost use Rattle.std.specs.Prelude.{◌≡◌, ◌≤◌, ◌-◌};
 ghost use Rattle.telwyddus_c.specs.Controllers.{drive_of, InsertsAt, EjectsAt, ShowsWritten, TellsWritten, Shows};
 ghost use Rattle.telwyddus_c.specs.Images.{WritesImage};
 ghost use Rattle.telwyddus_c.specs.Media.{PutsIn};
-ghost use Rattle.telwyddus_c.specs.Controllers.{state_of, KeepsBeside};
+ghost use Rattle.telwyddus_c.specs.Controllers.{state_of, lines_byte, KeepsBeside};
 ghost use Rattle.telwyddus_c.specs.Drives.{OfDrive};
 ghost use Rattle.telwyddus_c.specs.Slots.{Serves, InBay};
 
 use crate::code::{DONE, EMPTY, FULL, HAS_MEDIUM, NO_MEDIUM, NO_MEMORY, OUT_OF_RANGE};
+use crate::controller::lines::lines_of;
 use crate::image::write_medium;
 use c_slots::{ControllerSlot, MediumTray, TraySlot, WholeController};
 use std::alloc::Global;
@@ -24,28 +25,48 @@ const GATE: u8 = 4;
 /// A medium is in.
 const MEDIUM: u8 = 8;
 
-/// Puts the medium of a tray into a bay. Where one is in already, it stays in the tray.
+/// Puts the medium of a tray into a bay, and tells the lines behind that. Where one is in already, it stays in the tray.
 #[unsafe(no_mangle)]
 pub extern "C" fn telwyddus_controller_insert(
     alloc: Global,
     slot: &mut ControllerSlot,
     bay: u32,
     tray: &mut TraySlot,
+    lines: &mut u8,
 ) -> u32
     ensures { Serves (λ code old new. InBay bay code ((new ≡ old) × (tray.new.held.tray ≡ tray.old.held.tray))
         (OfDrive bay code old ((new ≡ old) × (tray.new.held.tray ≡ tray.old.held.tray))
-        (InsertsAt bay code tray.old.held.tray tray.new.held.tray old new))) (tray.new.held.tray ≡ tray.old.held.tray)
+        (InsertsAt bay code tray.old.held.tray tray.new.held.tray old new)) × (lines.new ≡ lines_byte (state_of new)))
+        ((tray.new.held.tray ≡ tray.old.held.tray) × (lines.new ≡ lines.old))
         result slot.old.held.controller slot.new.held.controller }
 {
     let Some(mut controller) = slot.take(alloc) else {
         return EMPTY;
     };
-    let code = insert_from(alloc, &mut controller, bay, tray);
+    let code = insert_telling(alloc, &mut controller, bay, tray, lines);
     slot.put(controller);
     code
 }
 
 /// The same of a controller.
+fn insert_telling(
+    alloc: Global,
+    controller: &mut WholeController,
+    bay: u32,
+    tray: &mut TraySlot,
+    lines: &mut u8,
+) -> u32
+    ensures inserts { InBay bay result ((controller.new ≡ controller.old) × (tray.new.held.tray ≡ tray.old.held.tray))
+        (OfDrive bay result controller.old ((controller.new ≡ controller.old) × (tray.new.held.tray ≡ tray.old.held.tray))
+        (InsertsAt bay result tray.old.held.tray tray.new.held.tray controller.old controller.new)) }
+    ensures told { lines.new ≡ lines_byte (state_of controller.new) }
+{
+    let code = insert_from(alloc, controller, bay, tray);
+    *lines = lines_of(controller);
+    code
+}
+
+/// The same, and no lines are told.
 fn insert_from(
     alloc: Global,
     controller: &mut WholeController,
@@ -116,27 +137,46 @@ fn insert(controller: &mut WholeController, bay: u8, tray: &mut MediumTray) -> u
     }
 }
 
-/// Takes the medium out of a bay, into a new tray.
+/// Takes the medium out of a bay, into a new tray, and tells the lines behind that.
 #[unsafe(no_mangle)]
 pub extern "C" fn telwyddus_controller_eject(
     alloc: Global,
     slot: &mut ControllerSlot,
     bay: u32,
     tray: &mut TraySlot,
+    lines: &mut u8,
 ) -> u32
     ensures { Serves (λ code old new. InBay bay code ((new ≡ old) × (tray.new.held.tray ≡ tray.old.held.tray))
-        (EjectsAt bay code tray.old.held.tray tray.new.held.tray old new)) (tray.new.held.tray ≡ tray.old.held.tray)
+        (EjectsAt bay code tray.old.held.tray tray.new.held.tray old new) × (lines.new ≡ lines_byte (state_of new)))
+        ((tray.new.held.tray ≡ tray.old.held.tray) × (lines.new ≡ lines.old))
         result slot.old.held.controller slot.new.held.controller }
 {
     let Some(mut controller) = slot.take(alloc) else {
         return EMPTY;
     };
-    let code = eject_into(alloc, &mut controller, bay, tray);
+    let code = eject_telling(alloc, &mut controller, bay, tray, lines);
     slot.put(controller);
     code
 }
 
 /// The same of a controller.
+fn eject_telling(
+    alloc: Global,
+    controller: &mut WholeController,
+    bay: u32,
+    tray: &mut TraySlot,
+    lines: &mut u8,
+) -> u32
+    ensures ejects { InBay bay result ((controller.new ≡ controller.old) × (tray.new.held.tray ≡ tray.old.held.tray))
+        (EjectsAt bay result tray.old.held.tray tray.new.held.tray controller.old controller.new) }
+    ensures told { lines.new ≡ lines_byte (state_of controller.new) }
+{
+    let code = eject_into(alloc, controller, bay, tray);
+    *lines = lines_of(controller);
+    code
+}
+
+/// The same, and no lines are told.
 fn eject_into(alloc: Global, controller: &mut WholeController, bay: u32, tray: &mut TraySlot) -> u32
     ensures { InBay bay result ((controller.new ≡ controller.old) × (tray.new.held.tray ≡ tray.old.held.tray))
         (EjectsAt bay result tray.old.held.tray tray.new.held.tray controller.old controller.new) }

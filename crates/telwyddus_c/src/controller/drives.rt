@@ -148,7 +148,7 @@ fn faults_for(bay: u8, plan: FaultPlan) -> Vec<Fault>
 }
 
 /// Plans these faults for the drive of a bay.
-fn replan(alloc: Global, controller: &mut WholeController, bay: u8, faults: Vec<Fault>)
+pub(crate) fn replan(alloc: Global, controller: &mut WholeController, bay: u8, faults: Vec<Fault>)
     requires { bay ≤ 1 }
     ensures { Replans bay faults.items controller.old controller.new }
 {

@@ -1,6 +1,6 @@
 // The controller's lines.
 ghost use Rattle.std.specs.Prelude.{◌≡◌};
-ghost use Rattle.telwyddus_c.specs.Controllers.{state_of, lines_byte};
+ghost use Rattle.telwyddus_c.specs.Controllers.{state_of, lines_byte, TellsLines};
 ghost use Rattle.telwyddus_c.specs.Slots.{Serves};
 
 use crate::code::{DONE, EMPTY};
@@ -37,7 +37,19 @@ pub extern "C" fn telwyddus_controller_lines(
     DONE
 }
 
-/// The same of a controller.
+/// Tells the lines of what a slot holds, if anything.
+pub(crate) fn tell_lines(alloc: Global, slot: &mut ControllerSlot, lines: &mut u8)
+    ensures stays { slot.new.held.controller ≡ slot.old.held.controller }
+    ensures told { TellsLines slot.old.held.controller lines.old lines.new }
+{
+    let Some(controller) = slot.take(alloc) else {
+        return;
+    };
+    *lines = lines_of(&controller);
+    slot.put(controller);
+}
+
+/// The lines of a controller.
 pub(crate) fn lines_of(controller: &WholeController) -> u8
     ensures { result ≡ lines_byte (state_of controller.now) }
 {

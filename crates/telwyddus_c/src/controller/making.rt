@@ -1,12 +1,15 @@
 // The controller's making.
-ghost use Rattle.telwyddus_c.specs.Controllers.{IsPlain, IsPlanned};
+ghost use Rattle.fault_plan.specs.Plan.{lists_of};
+ghost use Rattle.telwyddus_c.specs.Controllers.{IsPlain};
+ghost use Rattle.telwyddus_c.specs.Drives.{IsPlanned};
 ghost use Rattle.telwyddus_c.specs.Plans.{FillsPlanned};
 ghost use Rattle.telwyddus_c.specs.Slots.{Fills, Frees};
 
 use crate::code::{BAD_PLAN, DONE, EMPTY, FULL, NO_MEMORY};
+use crate::controller::drives::replan;
 use c_bay_drive::BayDrive;
-use c_slots::ControllerSlot;
-use fault_plan::{PlanError, plan_of};
+use c_slots::{ControllerSlot, WholeController};
+use fault_plan::{FaultPlan, PlanError, plan_of};
 use fdc_chip::Chip;
 use std::alloc::Global;
 
@@ -51,11 +54,12 @@ pub extern "C" fn telwyddus_controller_new_planned(
             BAD_PLAN
         }
         Ok(plan) => {
-            let first = BayDrive::new(plan.bay0);
-            let second = BayDrive::new(plan.bay1);
-            let Ok(controller) = Chip::new(alloc, first, second) else {
+            let first = BayDrive::new(Vec::new(alloc));
+            let second = BayDrive::new(Vec::new(alloc));
+            let Ok(mut controller) = Chip::new(alloc, first, second) else {
                 return NO_MEMORY;
             };
+            plan_both(alloc, &mut controller, plan);
             let Ok(controller) = Box::new(alloc, controller) else {
                 return NO_MEMORY;
             };
@@ -63,6 +67,15 @@ pub extern "C" fn telwyddus_controller_new_planned(
             DONE
         }
     }
+}
+
+/// Plans the faults of a plan's text for both drives of a new controller.
+fn plan_both(alloc: Global, controller: &mut WholeController, plan: FaultPlan)
+    requires { IsPlain controller.old }
+    ensures { IsPlanned (lists_of plan) controller.new }
+{
+    replan(alloc, controller, 0, plan.bay0);
+    replan(alloc, controller, 1, plan.bay1);
 }
 
 /// Frees the controller with its drives and media.

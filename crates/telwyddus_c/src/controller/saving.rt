@@ -1,10 +1,12 @@
 // The controller's state as bytes, and back.
 ghost use Rattle.std.specs.Prelude.{◌≡◌};
+ghost use Rattle.telwyddus_c.specs.Controllers.{TellsLines};
 ghost use Rattle.telwyddus_c.specs.Lengths.{TellsAtMost};
 ghost use Rattle.telwyddus_c.specs.Slots.{Serves};
 ghost use Rattle.telwyddus_c.specs.States.{spelled_controller, ControllerFits, WritesState, RestoresState};
 
 use crate::code::{BAD_STATE, DONE, EMPTY, NO_MEMORY};
+use crate::controller::lines::tell_lines;
 use crate::state::{read_state, write_state};
 use c_slots::{ControllerSlot, WholeController};
 use saved_state::RestoreError;
@@ -38,13 +40,24 @@ fn save(alloc: Global, controller: &WholeController, out: &mut [u8], length: &mu
     write_state(alloc, controller, out, length)
 }
 
-/// Makes the slot hold the controller whose state the bytes are, in place of what it holds.
+/// Makes the slot hold the controller whose state the bytes are, in place of what it holds, and tells the lines of what it holds then.
 #[unsafe(no_mangle)]
 pub extern "C" fn telwyddus_controller_restore(
     alloc: Global,
     slot: &mut ControllerSlot,
     bytes: &[u8],
+    lines: &mut u8,
 ) -> u32
+    ensures restores { RestoresState ControllerFits spelled_controller bytes.now result slot.old.held.controller slot.new.held.controller }
+    ensures told { TellsLines slot.new.held.controller lines.old lines.new }
+{
+    let code = restore(alloc, slot, bytes);
+    tell_lines(alloc, slot, lines);
+    code
+}
+
+/// The same, and no lines are told.
+fn restore(alloc: Global, slot: &mut ControllerSlot, bytes: &[u8]) -> u32
     ensures { RestoresState ControllerFits spelled_controller bytes.now result slot.old.held.controller slot.new.held.controller }
 {
     match read_state(alloc, bytes) {

@@ -2,4 +2,4 @@ use Rattle.std.proofs.Common.{sym}
 use Rattle.telwyddus_c.proofs.controller.bays.telwyddus_controller_eject.Goals as goal
 
 pub returns : goal.returns
-returns c = rw (sym c.in-Some.ensures.taken) (_, c.put.ensures, rw (sym c.deref_mut.ensures.value) c.eject_into-code.ensures)
+returns c = rw (sym c.in-Some.ensures.taken) (_, c.put.ensures, rw (sym c.deref_mut.ensures.value) (c.eject_telling-code.ensures.ejects, c.eject_telling-code.ensures.told))
