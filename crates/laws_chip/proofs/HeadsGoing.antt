@@ -19,9 +19,10 @@ use Rattle.fdc_sequencer.specs.Fronts.{Front, interrupts_at, interrupts_outside}
 use Rattle.fdc_sequencer.specs.Moves.{StepsFront}
 use Rattle.fdc_sequencer.specs.declared.stage.Stage.TheVariants.{Through}
 use Rattle.fdc_chip.specs.Chips.{ChipState, interrupts_chip, with_front}
-use Rattle.fdc_chip.specs.Doing.{drained, drained_by, drained_one, moves_heads}
+use Rattle.fdc_chip.specs.Doing.{drained, drained_by, drained_one, is_told, moves_heads, seek_end}
 use Rattle.fdc_chip.specs.Interrupts.{Interrupting, with_result}
 use Rattle.fdc_chip.specs.Steps.{StepsChip}
+use Rattle.fdc_chip.specs.declared.pace.Pace.{Pace}
 use Rattle.fdc_chip.specs.declared.stage.Stage.{Stage}
 use Rattle.fdc_chip.specs.declared.stage.Stage.TheVariants.{Ready}
 use Rattle.laws_sequencer.proofs.Known.{which_drive}
@@ -213,21 +214,25 @@ ending drive status cylinders chip = record chip {
 abbrev pub stood : ℕ → ℕ → List ℕ → ChipState → ChipState
 stood status cylinder cylinders chip = record (bare cylinders None false false chip) { interrupts = with_result status cylinder chip.interrupts }
 
-ends_one : (drive status : ℕ) (cylinders : List ℕ) (chip : ChipState) → drive ≤ 3 → is_held chip.front.adapter.controller ≡ false
-    → drained_one (ending drive status cylinders chip) ≡ stood status (slice_index cylinders drive) cylinders chip
-ends_one zero status cylinders chip few free = rw free refl
-ends_one (suc zero) status cylinders chip few free = rw free refl
-ends_one (suc (suc zero)) status cylinders chip few free = rw free refl
-ends_one (suc (suc (suc zero))) status cylinders chip few free = rw free refl
-ends_one (suc (suc (suc (suc drive)))) status cylinders chip few free = absurd (omega arith)
+-- it is told, where no pulses come in the time that SPECIFY sets
+unpaced_told : (pace : Option Pace) (status : ℕ) → pace ≡ None → is_told pace status ≡ true
+unpaced_told pace status none = ap (λ p. is_told p status) none ∙ or_right (bit_and status seek_end == 0) true refl
 
-ends_drained : (drive status : ℕ) (cylinders : List ℕ) (chip : ChipState) → drive ≤ 3 → is_held chip.front.adapter.controller ≡ false
+ends_one : (drive status : ℕ) (cylinders : List ℕ) (chip : ChipState) → drive ≤ 3 → is_held chip.front.adapter.controller ≡ false → is_told chip.pace status ≡ true
+    → drained_one (ending drive status cylinders chip) ≡ stood status (slice_index cylinders drive) cylinders chip
+ends_one zero status cylinders chip few free told = rw (free, told) refl
+ends_one (suc zero) status cylinders chip few free told = rw (free, told) refl
+ends_one (suc (suc zero)) status cylinders chip few free told = rw (free, told) refl
+ends_one (suc (suc (suc zero))) status cylinders chip few free told = rw (free, told) refl
+ends_one (suc (suc (suc (suc drive)))) status cylinders chip few free told = absurd (omega arith)
+
+ends_drained : (drive status : ℕ) (cylinders : List ℕ) (chip : ChipState) → drive ≤ 3 → is_held chip.front.adapter.controller ≡ false → chip.pace ≡ None
     → drained (ending drive status cylinders chip) ≡ stood status (slice_index cylinders drive) cylinders chip
 unfolding drained_by
-ends_drained drive status cylinders chip few free =
+ends_drained drive status cylinders chip few free unpaced =
     let after = stood status (slice_index cylinders drive) cylinders chip in
     let same : drained_one after ≡ after = bare_one cylinders None false false after free in
-    ap (λ c. drained_one (drained_one (drained_one c))) (ends_one drive status cylinders chip few free) ∙ (ap (λ c. drained_one (drained_one c)) same ∙ (ap drained_one same ∙ same))
+    ap (λ c. drained_one (drained_one (drained_one c))) (ends_one drive status cylinders chip few free (unpaced_told chip.pace status unpaced)) ∙ (ap (λ c. drained_one (drained_one c)) same ∙ (ap drained_one same ∙ same))
 
 -- the number that is told is where the heads went
 told_at : (drive target : ℕ) (cylinders : List ℕ) → drive ≤ 3 → length cylinders ≡ 4 → slice_index (slice_set cylinders drive target) drive ≡ target
@@ -255,14 +260,14 @@ stood_stands status cylinder cylinders chip free = record {
     stand : moves_heads (stood status cylinder cylinders chip).front ≡ false
     stand = rw free refl
 
-pub ended_drained : (drive status target : ℕ) (cylinders : List ℕ) (chip : ChipState) → drive ≤ 3 → HasEnded drive status target cylinders chip.front
+pub ended_drained : (drive status target : ℕ) (cylinders : List ℕ) (chip : ChipState) → drive ≤ 3 → HasEnded drive status target cylinders chip.front → chip.pace ≡ None
     → drained chip ≡ stood status target (slice_set cylinders drive target) chip
-ended_drained drive status target cylinders chip few is =
+ended_drained drive status target cylinders chip few is unpaced =
     let at = slice_set cylinders drive target in
     let same : chip ≡ ending drive status at chip =
     ap (λ (f : Front). record chip { front = f }) (built chip.front Through Taking [] (record { cylinders = at; seek = Some (record { drive = drive; motion = Ended }); pending = slice_set none_pending drive (Some status) }) false true
     is.through is.takes is.whole is.seeks is.polled is.up) in
-    ap drained same ∙ (ends_drained drive status at chip few is.free ∙ ap (λ c. stood status c at chip) (told_at drive target cylinders few is.four))
+    ap drained same ∙ (ends_drained drive status at chip few is.free unpaced ∙ ap (λ c. stood status c at chip) (told_at drive target cylinders few is.four))
 
 -- ---- a device step of the chip
 
@@ -292,7 +297,7 @@ heads_step left drive goal old new sound was step =
           let gated : is_gated step.between.adapter.controller ≡ true = ap (λ (d : Dor). is_gated (record old.front.adapter.controller { dor = d })) dor ∙ sound.lets_out was.going.free in
           let up = ended_up drive status target cylinders old step.between ended gated in
           let same : new ≡ stood status target (slice_set cylinders drive target) set =
-          is ∙ (ap (λ b. if b then drained set else set) up ∙ ended_drained drive status target cylinders set was.few ended) in
+          is ∙ (ap (λ b. if b then drained set else set) up ∙ ended_drained drive status target cylinders set was.few ended was.unpaced) in
           inr (subst (EndsBySignal drive goal old) (sym same) (record { stage = refl; unpaced = was.unpaced; results = refl; standing = stood_stands status target (slice_set cylinders drive target) set ended.free }))
     ]
 

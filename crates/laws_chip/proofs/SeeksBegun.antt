@@ -1,5 +1,5 @@
 -- A seek begins: its last byte comes to a chip whose heads stand, with the strap for the time of step pulses off.
-use Rattle.std.proofs.Common.{◌≡◌, ℕ, zero, suc, ◌%◌, ◌<◌, ◌≤◌, true, false, not, if◌then◌else◌, Option, Some, None, is_some, List, [], ◌∷◌, length, option_map, position, slice_index, slice_set, refl, sym, ◌∙◌, ap, subst, arith}
+use Rattle.std.proofs.Common.{◌≡◌, ℕ, zero, suc, ◌%◌, ◌<◌, ◌≤◌, Bool, true, false, not, if◌then◌else◌, Option, Some, None, is_some, List, [], ◌∷◌, length, option_map, position, slice_index, slice_set, refl, sym, ◌∙◌, ap, subst, arith}
 use Rattle.std.specs.Option.{option_map_or}
 use Rattle.std.proofs.lemmas.Bool.{and_from, and_right, false≢true, or_parts}
 use Rattle.fdc_commands.specs.Seeking.{IsMotion, Seeking}
@@ -19,7 +19,7 @@ use Rattle.fdc_sequencer.specs.Fronts.{Front, with_controller}
 use Rattle.fdc_sequencer.specs.Senses.{pending_outside, sensed_at, sensed_outside}
 use Rattle.fdc_sequencer.specs.declared.stage.Stage.TheVariants.{Through}
 use Rattle.fdc_chip.specs.Chips.{ChipState, with_front}
-use Rattle.fdc_chip.specs.Doing.{AttendsIf, Moves, MovesIf, Obeys, Sends, drained, drained_by, drained_one, is_moving, kept, moves_heads, moving, needs_heads, relative_target}
+use Rattle.fdc_chip.specs.Doing.{AttendsIf, Moves, MovesIf, Obeys, Sends, drained, drained_by, drained_one, is_moving, is_told, kept, moves_heads, moving, needs_heads, relative_target}
 use Rattle.fdc_chip.specs.Interrupts.{Interrupting, cylinder_of, with_result}
 use Rattle.fdc_chip.specs.Ports.{WritesChip}
 use Rattle.fdc_chip.specs.declared.code.Code.{Code}
@@ -34,7 +34,7 @@ use Rattle.laws_chip.proofs.Rests.{IsResting, drained_rests}
 use Rattle.laws_chip.proofs.Sending.{recalibrate_obeyed, seek_obeyed}
 use Rattle.laws_chip.proofs.SoundParts.{basis_same}
 use Rattle.laws_chip.proofs.Standing.{Stands}
-use Rattle.laws_chip.proofs.WholeTransfers.{attending, byte_attends, drained_front, kept_front, same_moves}
+use Rattle.laws_chip.proofs.WholeTransfers.{attending, byte_attends, drained_front, drained_pace, kept_front, same_moves}
 
 -- ---- results that are taken over
 
@@ -148,23 +148,36 @@ all_taken chip idle four =
     }
 
 -- what they leave of the chip is by its front and what was kept of them
-kept_interrupts : (result : Option (ℕ × ℕ)) (one other : ChipState) → one.interrupts ≡ other.interrupts → (kept result one).interrupts ≡ (kept result other).interrupts
-kept_interrupts None one other same = same
-kept_interrupts (Some (status, cylinder)) one other same = ap (with_result status cylinder) same
+kept_interrupts : (result : Option (ℕ × ℕ)) (one other : ChipState) → one.pace ≡ other.pace → one.interrupts ≡ other.interrupts
+    → (kept result one).interrupts ≡ (kept result other).interrupts
+kept_interrupts None one other pace same = same
+kept_interrupts (Some (status, cylinder)) one other pace same =
+    by_told (is_told one.pace status)
+    ∙ ap (λ p. (if is_told p status then record other { interrupts = with_result status cylinder other.interrupts } else other).interrupts) pace
+  where
+    by_told : (b : Bool) → (if b then record one { interrupts = with_result status cylinder one.interrupts } else one).interrupts
+        ≡ (if b then record other { interrupts = with_result status cylinder other.interrupts } else other).interrupts
+    by_told true = ap (with_result status cylinder) same
+    by_told false = same
 
-drained_interrupts : (n : ℕ) (one other : ChipState) → one.front ≡ other.front → one.interrupts ≡ other.interrupts → (drained_by n one).interrupts ≡ (drained_by n other).interrupts
+drained_interrupts : (n : ℕ) (one other : ChipState) → one.front ≡ other.front → one.pace ≡ other.pace → one.interrupts ≡ other.interrupts → (drained_by n one).interrupts ≡ (drained_by n other).interrupts
 unfolding drained_by
-drained_interrupts zero one other front same = same
-drained_interrupts (suc n) one other front same =
+drained_interrupts zero one other front pace same = same
+drained_interrupts (suc n) one other front pace same =
     let first = drained_by n one in
     let second = drained_by n other in
     let after = with_front (sensed_outside second.front) second in
-    kept_interrupts (pending_outside first.front) (with_front (sensed_outside first.front) first) after (drained_interrupts n one other front same)
+    kept_interrupts (pending_outside first.front) (with_front (sensed_outside first.front) first) after
+    (drained_pace n one ∙ (pace ∙ sym (drained_pace n other))) (drained_interrupts n one other front pace same)
     ∙ ap (λ (f : Front). (kept (pending_outside f) after).interrupts) (drained_front n one other front)
 
 kept_paced : (result : Option (ℕ × ℕ)) (old : ChipState) → (kept result old).paced ≡ old.paced
 kept_paced None old = refl
-kept_paced (Some (status, cylinder)) old = refl
+kept_paced (Some (status, cylinder)) old = by_told (is_told old.pace status)
+  where
+    by_told : (b : Bool) → (if b then record old { interrupts = with_result status cylinder old.interrupts } else old).paced ≡ old.paced
+    by_told true = refl
+    by_told false = refl
 
 drained_paced : (n : ℕ) (chip : ChipState) → (drained_by n chip).paced ≡ chip.paced
 unfolding drained_by
@@ -283,7 +296,7 @@ seek_comes code goal byte old new was is_after few completes is writes still unp
     let obeys : Obeys code set new = subst (λ b. AttendsIf b code set new) (and_right (needs_heads code) (is_moving set) stays) attended.attends in
     let same : goal_of code set.order set.interrupts ≡ Some goal =
     ap (λ (order : Order). goal_of code order set.interrupts) resting.order
-    ∙ (ap (λ (i : Interrupting). goal_of code (completed byte old) i) (drained_interrupts 4 start old refl refl) ∙ is) in
+    ∙ (ap (λ (i : Interrupting). goal_of code (completed byte old) i) (drained_interrupts 4 start old refl refl refl) ∙ is) in
     let moves : MovesIf set.paced goal set new = goal_moves code goal set new same obeys in
     let (sends, rest) = subst (λ b. MovesIf b goal set new) (drained_paced 4 start ∙ unpaced) moves in
     let taken = all_taken start (record { through = attended.rests.through; takes = attended.rests.takes; whole = attended.basis.whole; free = attended.basis.free }) was.range.seeks.pending in

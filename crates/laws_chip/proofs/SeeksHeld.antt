@@ -177,7 +177,7 @@ held_step left drive goal code order old new sound held is heads was step =
           let status = status_in goal drive old.front in
           let cylinders = old.front.adapter.controller.seeks.cylinders in
           let target = unwrap_or goal 0 in
-          let same : drained paced ≡ stood status target (slice_set cylinders drive target) set = ap drained unpaced ∙ ended_drained drive status target cylinders set was.few ended in
+          let same : drained paced ≡ stood status target (slice_set cylinders drive target) set = ap drained unpaced ∙ ended_drained drive status target cylinders set was.few ended was.unpaced in
           let stands = stood_stands status target (slice_set cylinders drive target) set ended.free in
           let still : still_moves paced ≡ false = ap is_moving same ∙ or_from (is_some set.pace) (moves_heads (stood status target (slice_set cylinders drive target) set).front) (ap is_some was.unpaced) stands.stand in
           inr (subst (λ o. IsDoneFree code o new) of_order (attended_free code paced new attended still))
