@@ -125,10 +125,10 @@ most-task (tasks.Refused unit key mfm) rest = omega (arith, length-byte, length-
 most-task (tasks.Verify left) rest = omega (arith, length-double)
 most-task (tasks.Track track) rest = omega (arith, most-track)
 
-most-pace : HasMost spelled_pace 6
+most-pace : HasMost spelled_pace 7
 unfolding spelled_pace
 most-pace pace rest =
-    omega (arith, length-byte, length-word, most-option spelled_byte 1 most-byte pace.goal (spelled_word pace.wait rest))
+    omega (arith, length-byte, length-word, most-option spelled_byte 1 most-byte pace.goal (spelled_byte pace.left (spelled_word pace.wait rest)))
 
 most-stage : HasMost chips.spelled_stage 15
 unfolding chips.spelled_stage
@@ -140,7 +140,7 @@ most-stage (stages.Telling answer read) rest = omega (arith, most-answer, length
 pub most-chip : {D : Type 0} (spelled : D → List ℕ → List ℕ) (fits : D → Type 0) (chip : Chip D) (first second : ℕ) (rest : List ℕ)
     → ChipFits fits chip → ((left : List ℕ) → length (spelled chip.behind.adapter.first left) ≤ first + length left)
     → ((left : List ℕ) → length (spelled chip.behind.adapter.second left) ≤ second + length left)
-    → length (spelled_chip spelled chip rest) ≤ 211 + first + second + length rest
+    → length (spelled_chip spelled chip rest) ≤ 212 + first + second + length rest
 unfolding spelled_chip
 most-chip spelled fits chip first second rest is one two =
     let paced = spelled_flag chip.paced rest in
@@ -159,5 +159,5 @@ most-chip spelled fits chip first second rest is one two =
       most-settings,
       length-flag,
       length-word,
-      most-option spelled_pace 6 most-pace chip.pace paced,
+      most-option spelled_pace 7 most-pace chip.pace paced,
     )
