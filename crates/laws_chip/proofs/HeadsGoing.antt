@@ -1,9 +1,11 @@
 -- Seeks that give a pulse in each device step: they go on, and end by INT.
 use Rattle.std.proofs.Common.{◌≡◌, ◌⊎◌, inl, inr, ℕ, zero, suc, ◌+◌, ◌-◌, ◌≤◌, nat_lt, Bool, true, false, not, ◌&&◌, ◌||◌, ◌==◌, if◌then◌else◌, Option, Some, None, List, [], ◌∷◌, length, slice_index, slice_set, unwrap_or, refl, sym, ◌∙◌, ap, subst, arith}
 use Rattle.std.specs.Option.{option_map_or}
+use Rattle.std.specs.Prelude.{bit_and}
 use Rattle.std.proofs.lemmas.Bool.{and_from, or_parts, or_right}
 use Rattle.std.proofs.lemmas.Bool.Decides.{nat_tests}
 use Rattle.drive_model.specs.Drive.{DriveState}
+use Rattle.fdc_registers.specs.St0.{seek_end}
 use Rattle.fdc_registers.specs.declared.drive_lines.Dor.{Dor}
 use Rattle.fdc_commands.specs.Seeking.{Seeking, ended, has_ended, is_seeking, neighbour, recalibrated, sought, stepped, stepped_seek, with_motion, with_polls}
 use Rattle.fdc_commands.specs.declared.motion.Motion.{Motion}
@@ -19,7 +21,7 @@ use Rattle.fdc_sequencer.specs.Fronts.{Front, interrupts_at, interrupts_outside}
 use Rattle.fdc_sequencer.specs.Moves.{StepsFront}
 use Rattle.fdc_sequencer.specs.declared.stage.Stage.TheVariants.{Through}
 use Rattle.fdc_chip.specs.Chips.{ChipState, interrupts_chip, with_front}
-use Rattle.fdc_chip.specs.Doing.{drained, drained_by, drained_one, is_told, moves_heads, seek_end}
+use Rattle.fdc_chip.specs.Doing.{drained, drained_by, drained_one, is_told, moves_heads}
 use Rattle.fdc_chip.specs.Interrupts.{Interrupting, with_result}
 use Rattle.fdc_chip.specs.Steps.{StepsChip}
 use Rattle.fdc_chip.specs.declared.pace.Pace.{Pace}
