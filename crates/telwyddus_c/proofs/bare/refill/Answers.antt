@@ -1,5 +1,6 @@
-use Rattle.std.proofs.Common.{sym}
-use Rattle.telwyddus_c.specs.Bare.{medium_in}
+use Rattle.std.proofs.Common.{sym, subst}
+use Rattle.c_slots.specs.Controllers.{ControllerValue}
+use Rattle.telwyddus_c.specs.Bare.{IsRefilled, medium_in}
 use Rattle.telwyddus_c.proofs.Bared.{alike_joined, first_alike, refilled_both, second_alike}
 use Rattle.telwyddus_c.proofs.bare.refill.Goals as goal
 
@@ -16,5 +17,6 @@ move_medium-requires-2-clause-alike c =
 
 pub returns-clause-refilled : goal.returns-clause-refilled
 returns-clause-refilled c =
-    refilled_both c.args.controller.now c.move_medium.new.from c.args.state.now c.join_all_writes.new.to c.move_medium.new.to c.move_medium-2.new.to
-    c.join_all_writes.ensures c.move_medium.ensures.other c.move_medium.ensures.moved c.move_medium-2.ensures.moved
+    subst (λ (it : ControllerValue). IsRefilled c.args.controller.now c.args.state.now it) (sym c.swap.ensures.x_after)
+    (refilled_both c.args.controller.now c.move_medium.new.from c.args.state.now c.join_all_writes.new.to c.move_medium.new.to c.move_medium-2.new.to
+    c.join_all_writes.ensures c.move_medium.ensures.other c.move_medium.ensures.moved c.move_medium-2.ensures.moved)

@@ -8,7 +8,7 @@ use Rattle.telwyddus_c.proofs.controller.making.telwyddus_controller_new_planned
 pub plan_both-requires : goal.plan_both-requires
 plan_both-requires c =
     let first = c.new-first.ensures.state ∙ none_planned _ c.new.ensures.items in
-    let second = c.new-second.ensures.state ∙ none_planned _ c.new-2.ensures.items in
+    let second = c.new-second.ensures.state ∙ none_planned _ c.new-in-Ok.ensures.items in
     rw first at (rw second at c.in-Ok-new.ensures)
 
 pub returns-in-Ok-new-2 : goal.returns-in-Ok-new-2
