@@ -8,8 +8,8 @@
  * A whole device of an emulator over the first face is c/examples/device.c, some 180 lines; docs/C.md goes through it.
  *
  * SLOTS. A slot holds one object or none. It is yours: on your stack, in your device's state. Begin it all 0 ("= {0}"). Don't
- * write its fields, and don't copy or move it while it holds something: a copy that is freed besides frees twice. A call on a
- * slot that holds nothing answers TELWYDDUS_EMPTY and does nothing, so freeing twice is harmless.
+ * write its fields, and don't copy or move it while it holds something: a copy that is freed besides frees twice. So a C++ object
+ * with a slot in it stays where it is. A call on a slot that holds nothing answers TELWYDDUS_EMPTY and does nothing, so freeing twice is harmless.
  *
  * WHAT YOU OWE. Pointers aren't null, but that of a buffer whose length is 0 may be (the macros at the end of this file see to it). A
  * buffer has the length that is told, and no two pointers of a call overlap. No call comes from a signal handler.
@@ -143,7 +143,8 @@ TELWYDDUS_NEWS uint32_t telwyddus_tray_write_flat_as(telwyddus_tray *tray, uint8
     uint16_t kilobits, uint8_t *out, size_t room, size_t *length, uint8_t *cylinder, uint8_t *head);
 
 /* Makes a tray with the medium of an ImageDisk file (MFM at 500 or 250 kbit/s): all its sectors, and no others. UNFIT where a track
- * has no room for its sectors: its cylinder and head are told. DONE, FULL, NO_MEMORY, BAD_IMAGE, UNFIT. */
+ * has no room for its sectors with a gap 3 of 16 bytes, also one that write_imd wrote: its cylinder and head are told. DONE, FULL, NO_MEMORY,
+ * BAD_IMAGE, UNFIT. */
 TELWYDDUS_NEWS uint32_t telwyddus_tray_read_imd(telwyddus_tray *tray, const uint8_t *bytes, size_t length, uint8_t *cylinder,
     uint8_t *head);
 
@@ -176,7 +177,7 @@ TELWYDDUS_CALL uint32_t telwyddus_tray_shape(telwyddus_tray *tray, telwyddus_sha
 TELWYDDUS_CALL uint32_t telwyddus_tray_protect(telwyddus_tray *tray, uint8_t on);
 
 /* Writes the words of a track of its medium to the beginning of a buffer, or replaces them by exactly as many; the tab plays no part. A word has
- * 16 cells, the first in its highest bit; the first word is behind the index. `room`, `length` and *length count words. OUT_OF_RANGE: no such
+ * 16 cells, the first in its highest bit; the first word follows the index. `room`, `length` and *length count words. OUT_OF_RANGE: no such
  * track, or another number of words. DONE, EMPTY, OUT_OF_RANGE, NO_MEDIUM, and TOO_SHORT. */
 TELWYDDUS_NEWS uint32_t telwyddus_tray_track(telwyddus_tray *tray, uint8_t cylinder, uint8_t head, uint16_t *out, size_t room,
     size_t *length);
@@ -219,11 +220,12 @@ TELWYDDUS_NEWS uint32_t telwyddus_controller_new_planned(telwyddus_controller *c
 TELWYDDUS_CALL uint32_t telwyddus_controller_free(telwyddus_controller *controller);
 
 /* A strap of your board: where `on` isn't 0, commands that name a cylinder (READ DATA, WRITE DATA, VERIFY, READ TRACK) seek it first
- * whatever CONFIGURE sets, also behind a reset. Off at first. DONE, EMPTY. */
+ * whatever CONFIGURE sets, also after a reset. Off at first. DONE, EMPTY. */
 TELWYDDUS_CALL uint32_t telwyddus_controller_strap_seeks(telwyddus_controller *controller, uint8_t on);
 
-/* Another: where `on` isn't 0, the pulses of SEEK, RELATIVE SEEK and RECALIBRATE come in the time that SPECIFY sets, so that heads can be
- * heard; else one in each word time. What is told of them is the same. Off at first. DONE, EMPTY. */
+/* Another: where `on` isn't 0, the pulses of SEEK and RELATIVE SEEK come in the time that SPECIFY sets, so that heads can be heard, and of
+ * RECALIBRATE those for the cylinders that were counted; else one in each word time. ST0 and the cylinder that SENSE INTERRUPT gives are the
+ * same with it and without. Off at first. DONE, EMPTY. */
 TELWYDDUS_CALL uint32_t telwyddus_controller_strap_steps(telwyddus_controller *controller, uint8_t on);
 
 /* A port, 3F0 to 3F7, is read or written. A port that nothing answers gives FF. A read of any but 3F5 changes nothing.
@@ -236,8 +238,9 @@ TELWYDDUS_CALL uint32_t telwyddus_controller_write(telwyddus_controller *control
 TELWYDDUS_CALL uint32_t telwyddus_controller_step(telwyddus_controller *controller, uint8_t *lines);
 TELWYDDUS_CALL uint32_t telwyddus_controller_run(telwyddus_controller *controller, uint32_t most, uint32_t *made, uint8_t *lines);
 
-/* So many device steps, `most` or fewer, surely change neither INT nor DRQ, while no other call comes between: `most` where nothing is under
- * way, so that no timer is needed then. It is a lower bound, and may be 0. DONE, EMPTY. */
+/* So many device steps surely change neither INT nor DRQ, while no other call comes between. It is `most` where no command is executed or
+ * held, no heads move and no INT of a seek or a reset is still to come, and while the controller is held in reset: no timer is needed then. It
+ * is `most` too where DOR lets no line out, no command is executed or held and no pulse of strap_steps is to come. Else it is 0. DONE, EMPTY. */
 TELWYDDUS_CALL uint32_t telwyddus_controller_quiet(telwyddus_controller *controller, uint32_t most, uint32_t *steps);
 
 /* INT, DRQ, whether bytes go to memory, and INDEX of the drive that DOR selects: up in the first 2 ms of a turn. DONE, EMPTY. */
@@ -254,7 +257,7 @@ TELWYDDUS_CALL uint32_t telwyddus_controller_dack_block_read(telwyddus_controlle
 TELWYDDUS_CALL uint32_t telwyddus_controller_dack_block_write(telwyddus_controller *controller, const uint8_t *bytes, size_t length,
     size_t *moved, uint8_t *lines);
 
-/* Terminal count: tell it with the last byte, behind its DACK. DONE, EMPTY. */
+/* Terminal count: tell it with the last byte, after its DACK. DONE, EMPTY. */
 TELWYDDUS_CALL uint32_t telwyddus_controller_tc(telwyddus_controller *controller, uint8_t *lines);
 
 /* Nanoseconds of a device step at the rate that was chosen last: 16,000 at 500 kbit/s, 26,667 at 300 (two thirds, rounded up),
@@ -348,7 +351,7 @@ TELWYDDUS_NEWS uint32_t telwyddus_controller_restore(telwyddus_controller *contr
  * tracks and its rate, by a stand-in of one empty track: an image file of 25,014 bytes for 1.44 MB, 12,514 for 720 KB. Left out are each cell
  * and the tab. It begins with "TELWYDB" and 2, so that restore refuses it with BAD_STATE, as restore_bare does a whole state.
  *
- * Writes it as save does. The controller is behind it as it was, also where memory is out. DONE, EMPTY, NO_MEMORY, TOO_SHORT. */
+ * Writes it as save does. The controller is then as it was, also where memory is out. DONE, EMPTY, NO_MEMORY, TOO_SHORT. */
 TELWYDDUS_NEWS uint32_t telwyddus_controller_save_bare(telwyddus_controller *controller, uint8_t *out, size_t room, size_t *length);
 
 /* Makes the controller that the slot holds the one that was saved, but for its own media, tabs and all, which stay in their bays and turn on at
