@@ -1,4 +1,4 @@
-/* What the library allocates by, over malloc. Compile it along with it. */
+/* The memory functions that the library calls, made of malloc. Compile this file along with the library. */
 #include <stdbool.h>
 #include <stddef.h>
 #include <stdlib.h>

@@ -1,12 +1,14 @@
-"""The library for C (c/telwyddus.h) in Python, by ctypes and the standard library alone. The header tells what each call does.
+"""The library for C (c/telwyddus.h) in Python. It needs ctypes and the standard library alone. The header says what
+each call does.
 
     with Tray(image) as tray, Controller() as controller:
         controller.insert(0, tray)
         controller.write(0x3F2, 0x1C)
 
-TELWYDDUS_LIBRARY names the shared library; without it the one beside this file is taken, as a wheel has it, or the system's. docs/C.md
-says how to build it. Each object frees what it holds where its `with` ends.
-A code other than DONE is raised as the exception of its name. Calls keep the interpreter's lock, so they come one at a time.
+TELWYDDUS_LIBRARY names the shared library. Without it, this module takes the library beside this file, as in a wheel,
+or else the system's. docs/C.md says how to build the library.
+Each object frees what it holds at the end of its `with`. If a call answers another code than DONE, the exception of
+that name is raised. Calls keep the interpreter's lock, so they come one at a time.
 """
 import ctypes
 import enum
@@ -27,28 +29,28 @@ class Refused(Exception):
     """A call answered a code other than DONE."""
 
 
-class Empty(Refused): """The object holds nothing, or no more."""
+class Empty(Refused): """The object holds nothing, or holds nothing any more."""
 class Full(Refused): """The object holds something already."""
-class NoMemory(Refused): """Memory is out."""
+class NoMemory(Refused): """There is no memory left."""
 class OutOfRange(Refused): """A bay above 1, or addresses beyond memory."""
-class BadImage(Refused): """The bytes are no image file."""
-class HasMedium(Refused): """The bay has a medium in: the new one stays in its tray."""
-class NoMedium(Refused): """The bay, or the tray, has none."""
-class NotAsked(Refused): """The request line is down, or bytes go the other way."""
-class BadPlan(Refused): """A line of the plan isn't understood: `line`, counted from 1; 0 where the text is too long."""
+class BadImage(Refused): """The bytes are not those of an image file."""
+class HasMedium(Refused): """A medium is in the bay already: the new one stays in its tray."""
+class NoMedium(Refused): """No medium is in the bay, or in the tray."""
+class NotAsked(Refused): """DRQ is down, or bytes go in the other direction."""
+class BadPlan(Refused): """A line of the plan isn't understood. `line` is its number, counted from 1; it is 0 if the text is too long."""
 class TooShort(Refused): """The buffer is too short."""
-class NotText(Refused): """A name, or a word, isn't UTF-8."""
-class NoFile(Refused): """No file has the name."""
+class NotText(Refused): """A name, or an argument, isn't UTF-8."""
+class NoFile(Refused): """No file has this name."""
 class NotReady(Refused): """No medium is in the bay that is to be acknowledged."""
-class Changed(Refused): """The bay isn't acknowledged since its medium was put in."""
+class Changed(Refused): """The bay wasn't acknowledged since its medium was put in."""
 class Protected(Refused): """The medium is write-protected."""
 class NoMark(Refused): """The track has no address mark, or the sector no data."""
 class NotFound(Refused): """The track has no such sector."""
 class BadCrc(Refused): """The sector's data is damaged."""
 class Overrun(Refused): """A DMA request waited too long."""
 class Seek(Refused): """The heads didn't find track 0."""
-class Unfit(Refused): """The other form can't have a track: `cylinder` and `head`; both are 255 where it is the whole medium."""
-class BadState(Refused): """The bytes are no saved state."""
+class Unfit(Refused): """The other file format can't hold the track `cylinder` and `head`; both are 255 if it can't hold the whole medium."""
+class BadState(Refused): """The bytes are not a saved state."""
 
 
 CODES = (None, Empty, Full, NoMemory, OutOfRange, BadImage, HasMedium, NoMedium, NotAsked, BadPlan, TooShort, NotText, NoFile,
@@ -64,7 +66,7 @@ class Signs(enum.IntFlag):
 
 
 class Found(enum.IntEnum):
-    """What a survey found behind an address field."""
+    """What a survey found after an address field."""
     OK, DELETED, NO_DATA, BAD_CRC, NO_SIZE = 0x00, 0x01, 0x02, 0x10, 0xFF
 
 
@@ -73,18 +75,18 @@ class Slot(ctypes.Structure):
 
 
 class Shape(ctypes.Structure):
-    """What a medium is but for its cells."""
+    """All that a medium is, except its cells."""
     _fields_ = [("words", ctypes.c_uint16), ("kilobits", ctypes.c_uint16), ("cylinders", ctypes.c_uint8), ("heads", ctypes.c_uint8),
                 ("is_protected", ctypes.c_uint8)]
 
 
 class Tracks(ctypes.Structure):
-    """A bit for each track, by cylinder, then head: the lowest of the first byte is the first track's."""
+    """A bit for each track, by cylinder and then head. The lowest bit of the first byte stands for the first track."""
     _fields_ = [("bytes", ctypes.c_uint8 * 20)]
 
 
 def number(kind, value):
-    """A number as C has it; ctypes itself would cut it."""
+    """A number, if C can have it; ctypes itself would cut it."""
     if not 0 <= value < 256 ** ctypes.sizeof(kind):
         raise OverflowError(value)
     return kind(value)
@@ -104,7 +106,7 @@ def version():
 
 
 def given(data):
-    """Bytes that go in: where they are, and how many."""
+    """Bytes that go in: their address, and how many they are."""
     return ctypes.create_string_buffer(bytes(data)), size(len(data))
 
 
@@ -126,7 +128,7 @@ class Holder:
         self.close()
 
     def close(self):
-        """Frees it. Once more is harmless."""
+        """Frees the object. It is harmless to do it once more."""
         getattr(library, f"telwyddus_{self.kind}_free")(ctypes.byref(self._slot))
 
     def _call(self, name, *values):
@@ -137,13 +139,13 @@ class Holder:
             raise CODES[code](f"{self.kind}_{name}")
 
     def _told(self, kind, name, *values):
-        """What a call hands out through its last pointer."""
+        """Gives what a call hands out through its last pointer."""
         told = kind()
         self._call(name, *values, ctypes.byref(told))
         return told.value
 
     def _bytes(self, name, *values, behind=()):
-        """Bytes whose number the call tells."""
+        """Gives bytes, of a call that says how many there are."""
         room, length = 0, ctypes.c_size_t()
         while True:
             out = ctypes.create_string_buffer(room + 1)
@@ -154,13 +156,13 @@ class Holder:
                 room = length.value
 
     def _told_as(self, kind, name, *values):
-        """A structure that a call hands out through its last pointer."""
+        """Gives a structure that a call hands out through its last pointer."""
         told = kind()
         self._call(name, *values, ctypes.byref(told))
         return told
 
     def _words(self, name, *values):
-        """Words whose number the call tells."""
+        """Gives words, of a call that says how many there are."""
         room, length = 0, ctypes.c_size_t()
         while True:
             out = (ctypes.c_uint16 * (room + 1))()
@@ -172,7 +174,7 @@ class Holder:
 
 
 class Tray(Holder):
-    """A medium outside a drive, of an image file's bytes; without them, what an eject fills."""
+    """A medium outside a drive, made of an image file's bytes. Without bytes it is an empty tray for an eject to fill."""
 
     kind = "tray"
 
@@ -232,7 +234,7 @@ class Tray(Holder):
             yield field[0], field[1], int.from_bytes(field[2:6], "little"), tuple(field[6:10]), Found(field[10])
 
     def shape(self):
-        """What its medium is but for its cells: words, kilobits, cylinders, heads, is_protected."""
+        """All that its medium is, except its cells: words, kilobits, cylinders, heads, is_protected."""
         return self._told_as(Shape, "shape")
 
     def protect(self, on=True): self._call("protect", byte(bool(on)))
@@ -275,12 +277,13 @@ class Saved(Drives):
     def save(self): return self._bytes("save")
 
     def restore(self, state):
-        """Becomes what was saved. What it was is gone; where this is refused it stays."""
+        """Makes this object what was saved. What it was before is gone; if the bytes are refused, it stays as it was."""
         self._call("restore", *given(state))
 
 
 class Planned(Saved):
-    """What may be made with the faults of a plan's text. BadPlan has the number of a line that isn't understood as `line`."""
+    """An object that can be made with the faults of a plan's text. If a line isn't understood, BadPlan has its number
+    as `line`."""
 
     def __init__(self, plan=None):
         super().__init__()
@@ -296,9 +299,10 @@ class Planned(Saved):
 
 
 class Controller(Planned):
-    """The bare controller with two drives, for a bus of your own; its drives with the faults of a plan, if any.
+    """The bare controller with two drives, for a bus of your own. Its drives have the faults of a plan, if one is
+    given.
 
-    `behind` has the lines as the last call told them: each after which a line may differ tells them."""
+    `behind` has the lines as the last call gave them. Each call after which a line may differ gives them."""
 
     kind = "controller"
     behind = Lines(0)
@@ -308,12 +312,13 @@ class Controller(Planned):
         return self._bytes("save_bare")
 
     def restore_bare(self, state):
-        """Becomes what was saved so, but for its own media, and what was written of them. Unfit where they have other tracks."""
+        """Makes this controller the one that was saved by save_bare, except for its own media and what was written of
+        them. Unfit if the media have other tracks."""
         self._telling("restore_bare", *given(state))
 
     def restore(self, state):
-        """Becomes what was saved. What it was is gone; where this is refused it stays. Store each medium whole after it, whatever is_written
-        tells: its file may be another."""
+        """Makes this controller the one that was saved. What it was before is gone; if the bytes are refused, it stays
+        as it was. Store each medium whole afterwards, whatever is_written says, since its file may be another one."""
         self._telling("restore", *given(state))
 
     def insert(self, bay, tray): self._telling("insert", count(bay), ctypes.byref(tray._slot))
@@ -324,7 +329,7 @@ class Controller(Planned):
         return tray
 
     def _telling(self, name, *values):
-        """A call whose last pointer takes the lines after it; where it is refused it may tell them too."""
+        """A call that hands out the lines through its last pointer. It may set them even if it is refused."""
         lines = ctypes.c_uint8(self.behind)
         try:
             self._call(name, *values, ctypes.byref(lines))
@@ -332,7 +337,8 @@ class Controller(Planned):
             self.behind = Lines(lines.value)
 
     def _telling_more(self, kind, name, *values):
-        """The same of one that tells another value before."""
+        """A call like `_telling` that also hands out another value through the pointer in front of the pointer of the
+        lines."""
         told = kind()
         self._telling(name, *values, ctypes.byref(told))
         return told.value
@@ -349,17 +355,17 @@ class Controller(Planned):
     def tc(self): self._telling("tc")
 
     def dack_block_read(self, room):
-        """As many bytes as are asked for, so many at most."""
+        """Takes bytes as long as the controller asks, and at most so many."""
         out = ctypes.create_string_buffer(room + 1)
         moved = self._telling_more(ctypes.c_size_t, "dack_block_read", out, size(room))
         return out.raw[:moved]
 
     def dack_block_write(self, data):
-        """Gives as many of the bytes as are asked for, and tells how many these are."""
+        """Gives the controller bytes as long as it asks, and returns how many these were."""
         return self._telling_more(ctypes.c_size_t, "dack_block_write", *given(data))
 
     def quiet(self, most):
-        """So many device steps, `most` or fewer, surely change neither INT nor DRQ."""
+        """A number of device steps, at most `most`, that surely change neither INT nor DRQ."""
         return self._told(ctypes.c_uint32, "quiet", count(most))
 
     def word_time(self): return self._told(ctypes.c_uint32, "word_time")
@@ -369,7 +375,7 @@ class Controller(Planned):
     def selected(self): return self._told(ctypes.c_uint8, "selected")
 
     def bay(self, bay):
-        """The cylinder under its heads, and its signs."""
+        """The cylinder under the bay's heads, and its signs."""
         cylinder = ctypes.c_uint8()
         signs = self._told(ctypes.c_uint8, "bay", count(bay), ctypes.byref(cylinder))
         return cylinder.value, Signs(signs)
@@ -388,12 +394,12 @@ class Controller(Planned):
         return Tray._fitting(place, lambda: self._bytes("flat", count(bay), behind=Tray._places(place)))
 
     def written_tracks(self, bay):
-        """The (cylinder, head) of each track that was written since this was asked."""
+        """The (cylinder, head) of each track that was written since the last call of this."""
         told = self._told_as(Tracks, "written_tracks", count(bay))
         return [divmod(track, 2) for track in range(160) if told.bytes[track // 8] >> track % 8 & 1]
 
     def plan(self, bay, plan):
-        """The faults of a bay's drive from now on."""
+        """Plans the faults of a bay's drive from now on."""
         line = ctypes.c_size_t()
         try:
             self._call("plan", count(bay), *given(plan.encode()), ctypes.byref(line))
@@ -403,7 +409,8 @@ class Controller(Planned):
 
 
 class Machine(Planned):
-    """The whole machine: controller, channel 2, memory, and the latch of IRQ 6; with the faults and delays of a plan, if any."""
+    """The whole machine: controller, channel 2, memory, and the latch of IRQ 6. It has the faults and delays of a plan,
+    if one is given."""
 
     kind = "machine"
 
@@ -438,13 +445,13 @@ class Shelf(Holder):
     def get(self, name): return self._bytes("get", *given(name.encode()))
 
     def run(self, *words):
-        """Runs the program, and tells its exit status."""
+        """Runs the program, and returns its exit status."""
         if any("\n" in word for word in words):
             raise ValueError("a line feed in a word")
         return self._told(ctypes.c_uint32, "run", *given("\n".join(words).encode()))
 
     def report(self):
-        """What runs printed since this was asked last."""
+        """What runs printed since the last report."""
         return self._bytes("report").decode()
 
 

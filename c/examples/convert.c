@@ -1,5 +1,5 @@
-/* convert - flat sector files to disks and back, by the program's own words over files in memory. No file of the machine is
- * read or written. */
+/* convert - makes disks of flat sector files, and flat sector files of disks. It runs the program `floppy` over
+ * files in memory. No file of the computer is read or written. */
 #include "common.h"
 
 #define FLAT 1474560
@@ -23,7 +23,7 @@ static uint32_t get(const char *name, uint8_t *out, size_t room, size_t *length)
     return telwyddus_shelf_get(&shelf, bytes_of(name), strlen(name), out, room, length);
 }
 
-/* What was printed since it was asked last, as a text; it ends with a line feed. */
+/* What was printed since the last call, as a text; it ends with a line feed. */
 static char *report(void) {
     size_t length = 0;
     uint32_t code = telwyddus_shelf_report(&shelf, back, 0, &length); /* how long it is */

@@ -1,4 +1,5 @@
-/* A diskette controller as a device of an emulator: its ports, its time, IRQ 6, DMA channel 2, its disks, its saved state. */
+/* A diskette controller as a device of an emulator: its ports, its time, IRQ 6, DMA channel 2, its disks and its
+ * saved state. */
 #include "bus.h"
 #include "telwyddus.h"
 #include <stdio.h>
@@ -8,21 +9,22 @@ typedef struct {
     telwyddus_controller controller;
     Bus *bus;
     uint64_t at;                /* device steps were made up to this time, in nanoseconds; */
-    uint32_t word_time;         /* one lasts so long */
-    uint8_t lines;              /* as the last call told them */
-    uint8_t is_unsaved[2];      /* a bay's disk came by a state, and its file may be another */
+    uint32_t word_time;         /* the length of one, in nanoseconds */
+    uint8_t lines;              /* as the last call gave them */
+    uint8_t is_unsaved[2];      /* a bay's disk came with a restored state, and its file may have other bytes */
 } Device;
 
-/* These calls are done whenever the slot holds a controller. */
+/* These calls always answer DONE while the slot holds a controller. */
 static void must(uint32_t code) {
     if (code == TELWYDDUS_DONE) return;
     fprintf(stderr, "diskette controller: %s\n", telwyddus_code_name(code));
     abort();
 }
 
-/* ---- lines: attended to behind every call that tells them */
+/* ---- lines: looked at after every call that gives them */
 
-/* Bytes pass while they are asked for and the channel has room, the terminal count with its last; then IRQ 6 is told. */
+/* Lets bytes pass while the controller asks for them and the channel has room, with the terminal count after the
+ * channel's last byte. Then sets IRQ 6. */
 static void attend(Device *device) {
     while (device->lines & TELWYDDUS_DRQ) {
         size_t left, moved;
@@ -35,11 +37,12 @@ static void attend(Device *device) {
     if (!!(device->lines & TELWYDDUS_INT) != device->bus->irq) bus_irq(device->bus, !device->bus->irq);
 }
 
-/* ---- time: steps are made when somebody looks, or when the timer is due */
+/* ---- time: steps are made when somebody looks at the controller, or when the timer is due */
 
-#define SLICE 32                /* steps between timers at least: an interrupt may be half a millisecond late, and no byte is */
+#define SLICE 32                /* the fewest steps between two timers: an interrupt may be half a millisecond late, and no byte is late */
 
-/* Makes the steps that are due. A run ends where INT or DRQ changes, so bytes pass in time, however late this comes. */
+/* Makes the steps that are due. A run ends after the step in which INT or DRQ changes, so bytes pass in time,
+ * however late this function is called. */
 static void catch_up(Device *device) {
     while (device->bus->now - device->at >= device->word_time) {
         uint64_t due = (device->bus->now - device->at) / device->word_time;
@@ -50,7 +53,7 @@ static void catch_up(Device *device) {
     }
 }
 
-/* The timer is due where a line may change next; where nothing is under way there is none. */
+/* Sets the timer to the next time at which a line may change. If nothing is under way, there is no timer. */
 static void set_timer(Device *device) {
     uint32_t steps;
     must(telwyddus_controller_quiet(&device->controller, UINT32_MAX, &steps));
@@ -70,7 +73,7 @@ static void device_unmasked(Device *device) {
     set_timer(device);
 }
 
-/* ---- ports: 3F0 to 3F7, or 370 to 377 of a second controller. Of 3F7 the hard disk has bits 6 to 0, and all of 3F6 */
+/* ---- ports: 3F0 to 3F7, or 370 to 377 of a second controller. The hard disk has bits 6 to 0 of 3F7, and all of 3F6 */
 
 static uint8_t device_in(Device *device, uint16_t port) {
     uint8_t value;
@@ -89,9 +92,10 @@ static void device_out(Device *device, uint16_t port, uint8_t value) {
     set_timer(device);
 }
 
-/* ---- disks. Each gives a code, TELWYDDUS_DONE where all is well */
+/* ---- disks. Each function answers a code, which is TELWYDDUS_DONE if all is well */
 
-/* Stores the disk of a bay, if it was written, or came by a state. It stays in, and is written still where it can't be stored. */
+/* Stores the disk of a bay if it was written, or if it came with a restored state. The disk stays in. If it can't be
+ * stored, it still counts as written. */
 static uint32_t device_store(Device *device, uint32_t bay) {
     uint8_t is_written, *image;
     size_t length;
@@ -131,7 +135,8 @@ static uint32_t device_eject(Device *device, uint32_t bay) {
     return code;
 }
 
-/* ---- states: the time that isn't made into steps yet, and the controller with its disks. No step is made here: the bus has stopped */
+/* ---- states: the time for which no steps were made yet, and the controller with its disks. No step is made here,
+ * because the bus has stopped */
 
 static size_t device_state(Device *device, uint8_t *state, size_t room) {
     uint64_t behind = device->bus->now - device->at;
@@ -149,7 +154,7 @@ static uint32_t device_restore(Device *device, const uint8_t *state, size_t leng
     memcpy(&behind, state, sizeof behind);
     device->at = device->bus->now - behind;
     must(telwyddus_controller_word_time(&device->controller, &device->word_time));
-    device->is_unsaved[0] = device->is_unsaved[1] = 1; /* the files may be newer than the state, whatever is_written tells */
+    device->is_unsaved[0] = device->is_unsaved[1] = 1; /* the files may be newer than the state, whatever is_written says */
     device->bus->irq = device->lines & TELWYDDUS_INT; /* no edge */
     set_timer(device);
     return TELWYDDUS_DONE;
@@ -204,13 +209,13 @@ static void go(Device *it, uint64_t span) {
     it->bus->now = end;
 }
 
-/* Up to three seconds, as drivers wait. */
+/* Waits up to three seconds, as drivers do. */
 static int waits(Device *it) {
     for (int i = 0; i < 3000 && !it->bus->irq; i++) go(it, 1000000);
     return it->bus->irq;
 }
 
-/* The bytes of a command. */
+/* Sends the bytes of a command. */
 static void send(Device *it, const uint8_t *bytes, int count) {
     for (int i = 0; i < count; i++) {
         check((device_in(it, 0x3F4) & 0xC0) == 0x80, "a byte can go to the controller");
@@ -218,7 +223,7 @@ static void send(Device *it, const uint8_t *bytes, int count) {
     }
 }
 
-/* The result bytes; the first is told. */
+/* Reads the result bytes, and returns the first. */
 static uint8_t results(Device *it, int count) {
     uint8_t first = 0;
     for (int i = 0; i < count; i++) {
@@ -234,7 +239,7 @@ static uint8_t sense(Device *it) {
     return results(it, 2);
 }
 
-/* Channel 2 is set to so many bytes, and sectors from this one on pass. */
+/* Sets channel 2 to so many bytes, and moves the sectors from this one on. */
 static void begin(Device *it, uint8_t code, uint8_t head, uint8_t record, size_t count) {
     const uint8_t bytes[] = {code, (uint8_t)(head << 2), 5, head, record, 2, 18, 0x1B, 0xFF};
     it->bus->place = 0;
@@ -278,7 +283,7 @@ static void transfers(void) {
     device_off(&again);
 }
 
-/* What was stored is the disk as it is now. */
+/* The file that was stored has the sectors of the disk as it is now. */
 static void stores(void) {
     telwyddus_tray tray = {0};
     size_t length;

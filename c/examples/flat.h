@@ -1,4 +1,5 @@
-/* Flat sector files and disks of 80 cylinders, by the program's own words over files in memory. */
+/* Makes disks of 80 cylinders of flat sector files, and the reverse. It runs the program `floppy` over files in
+ * memory. */
 #ifndef FLAT_H
 #define FLAT_H
 #include "common.h"

@@ -1,7 +1,8 @@
 /* planned_fault IMAGE C H R WANTED
- *
- * A bench in C: the whole machine, whose first drive loses one word of a sector once. Puts the image file IMAGE into bay 0 and
- * reads the sector C H R through ports, channel 2 and IRQ 6: first its check fails, then it is the file WANTED. */
+ * 
+ * A test rig in C: the whole machine, whose first drive loses one word of a sector once. It puts the image file
+ * IMAGE into bay 0 and reads the sector C H R through ports, channel 2 and IRQ 6. The first read fails by its CRC;
+ * the second gives the file WANTED. */
 #include "common.h"
 
 static telwyddus_machine machine;
@@ -59,7 +60,7 @@ int main(int count, char **words) {
     telwyddus_tray tray = {0};
     char plan[64];
 
-    /* The hundredth word of the window of a standard sector. */
+    /* The word that is lost: the hundredth of the window of a standard sector. */
     snprintf(plan, sizeof plan, "drop 0 %d %d %d 1\n", key[0], key[1], 146 + 682 * (key[2] - 1) + 44 + 100);
     check(telwyddus_machine_new_planned(&machine, (const uint8_t *)"gap 1 1\ndrop 0 0\n", 17, &line) == TELWYDDUS_BAD_PLAN && line == 2,
         "a plan whose second line is bad is refused");

@@ -1,12 +1,13 @@
 /* read_sector IMAGE BAY RATE C H R WANTED CONTENT AFTER
- *
- * Puts the image file IMAGE into BAY, reads the sector C H R at RATE (500 or 250) at the ports of the bare controller, and
- * compares its 512 bytes with the file WANTED. Then it writes the file CONTENT there, takes the image while the medium is in,
- * and compares it with the file AFTER; a reset cuts a last write short. DACK and TC are its own: `serve` is its DMA channel. */
+ * 
+ * Puts the image file IMAGE into BAY, reads the sector C H R at RATE (500 or 250) at the ports of the bare
+ * controller, and compares its 512 bytes with the file WANTED. Then it writes the file CONTENT to that sector, takes
+ * the image while the medium is in, and compares the image with the file AFTER. At the end a reset cuts a last write
+ * short. The program serves DACK and TC itself: `serve` is its DMA channel. */
 #include "common.h"
 
 static telwyddus_controller controller;
-static uint8_t lines;           /* as the last call told them */
+static uint8_t lines;           /* as the last call gave them */
 static unsigned long steps;
 
 /* ---- the channel: bytes between a buffer and the controller, TC with the last */
@@ -85,7 +86,8 @@ static void transfer(uint8_t code, int bay, const uint8_t *key, uint8_t *bytes) 
     transfer_ends(code, bay, key, bytes, done);
 }
 
-/* A controller with a plan for its drive: the hundredth word of the window of a standard sector of 1.44 MB is lost once. */
+/* A controller with a plan for its drive: the hundredth word of the window of a standard sector of 1.44 MB is lost
+ * once. */
 static void new_planned(int bay, const uint8_t *key) {
     char plan[64];
     size_t line = 0;
@@ -95,7 +97,8 @@ static void new_planned(int bay, const uint8_t *key) {
     MUST(telwyddus_controller_new_planned(&controller, (const uint8_t *)plan, strlen(plan), &line));
 }
 
-/* Whether a word of the medium was replaced is told again and again, until it is told and forgotten. */
+/* is_written says that a word of the medium was replaced as often as it is asked, until written has said it and
+ * forgotten it. */
 static void check_written(int bay, uint8_t wanted) {
     uint8_t written;
     for (int i = 0; i < 2; i++) {
@@ -114,7 +117,7 @@ static int is_gate_open(int bay) {
     return signs & TELWYDDUS_GATE;
 }
 
-/* A write is cut short: a reset closes the gate. */
+/* A write is cut short: a reset closes the write gate. */
 static void interrupt_write(int bay, const uint8_t *key, uint8_t *bytes) {
     begin(0x45, bay, key, bytes);
     for (long i = 0; i < 30000 && !is_gate_open(bay); i++) {

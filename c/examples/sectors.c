@@ -1,11 +1,14 @@
 /* sectors IMAGE BAY RATE C H R WANTED CONTENT AFTER FORMATTED FILLED FLAT
- *
- * Single sectors by calls, in BAY (0 or 1). Of the image file IMAGE, at RATE (500 or 250), the sector C H R is read and compared with the
- * file WANTED; the file CONTENT is written there, and the image that comes out is compared with the file AFTER. Then a blank medium of 2
- * cylinders is formatted, and compared with the image file FORMATTED; all its sectors are written, read back and surveyed, the image is
- * compared with FILLED, and the medium goes through an ImageDisk file. And a flat sector file is put in, CONTENT is written to the
- * sector C H R, the image is compared with FLAT, and a shelf exports it. With a sector more on the track C H, or with the sector C H R
- * marked deleted, it has no flat file. */
+ * 
+ * Reads and writes single sectors by calls, in BAY (0 or 1), at RATE (500 or 250).
+ *   - It reads the sector C H R of the image file IMAGE, and compares it with the file WANTED. Then it writes the
+ *     file CONTENT to that sector, and compares the image that comes out with the file AFTER.
+ *   - It formats a blank medium of 2 cylinders, and compares its image with the image file FORMATTED. It writes all
+ *     sectors of that medium, reads them back and surveys it, and compares the image with FILLED. Then it makes an
+ *     ImageDisk file of the medium, and a medium of that file.
+ *   - It puts a flat sector file in, writes CONTENT to the sector C H R, and compares the image with FLAT. A shelf
+ *     exports that image.
+ *   - A medium has no flat file if the track C H has a sector more, or if the sector C H R is marked deleted. */
 #include "flat.h"
 
 enum { SIZE = 512, CODE = 2, FIELD = 11, CYLINDERS = 2 };
@@ -49,7 +52,7 @@ static void one_sector(const uint8_t *image, size_t length, const uint8_t *key, 
     check(memcmp(bytes, content, SIZE) == 0 && deleted == 0, "the sector is the one that was written");
 }
 
-/* What is refused, and by which code. */
+/* What is refused, and with which code. */
 static void refusals(const uint8_t *key) {
     uint8_t bytes[SIZE], deleted = 7;
     memset(bytes, 0x55, SIZE);
@@ -115,7 +118,7 @@ static void survey(telwyddus_tray *tray) {
     check(keys == count && found == count && places == count, "each key stands in its order, with its data");
 }
 
-/* Through an ImageDisk file. */
+/* The medium goes into an ImageDisk file and comes back. */
 static void archive(telwyddus_tray *tray) {
     telwyddus_tray again = {0};
     size_t told;
@@ -159,7 +162,7 @@ static void whole(const uint8_t *formatted, const uint8_t *filled, size_t length
 
 /* ---- what a flat sector file can't have */
 
-/* There is no flat file of a medium, which is told of the track of a cylinder and head. All else is left. */
+/* The medium has no flat file: the call sets the cylinder and head of the track, and leaves all else as it was. */
 static void is_unfit(telwyddus_tray *tray, uint8_t c, uint8_t h, const char *what) {
     uint8_t out[] = {0x55}, cylinder = 1, head = 1;
     size_t told = 7;
@@ -167,7 +170,7 @@ static void is_unfit(telwyddus_tray *tray, uint8_t c, uint8_t h, const char *wha
     check(code == TELWYDDUS_UNFIT && cylinder == c && head == h && told == 7 && out[0] == 0x55, what);
 }
 
-/* Where the track that stands there in an ImageDisk file ends. */
+/* Where the track that begins there in an ImageDisk file ends. */
 static size_t track_end(const uint8_t *file, size_t at) {
     size_t count = file[at + 3], size = (size_t)128 << file[at + 4];
     at += 5 + count;
@@ -175,7 +178,7 @@ static size_t track_end(const uint8_t *file, size_t at) {
     return at;
 }
 
-/* The same file, with one record more on a track: all bytes E5. Gives its length. */
+/* Makes the same file with one sector more on a track, with all bytes E5. Gives its length. */
 static size_t with_one_more(const uint8_t *file, size_t length, const uint8_t *key, uint8_t *out) {
     size_t at = 0;
     while (file[at++] != 0x1A) {}
@@ -191,7 +194,7 @@ static size_t with_one_more(const uint8_t *file, size_t length, const uint8_t *k
     return length + 3;
 }
 
-/* A tenth or nineteenth sector on one track. */
+/* One track has a tenth or nineteenth sector. */
 static void one_more(telwyddus_tray *tray, const uint8_t *key) {
     telwyddus_tray more = {0};
     size_t told;
@@ -206,7 +209,7 @@ static void one_more(telwyddus_tray *tray, const uint8_t *key) {
     free(file), free(other);
 }
 
-/* A sector that is marked deleted. */
+/* A sector is marked deleted. */
 static void one_deleted(telwyddus_tray *tray, const uint8_t *key, const uint8_t *content) {
     put_in(tray);
     MUST(telwyddus_disk_write(&disk, bay, key[0], key[1], key[2], CODE, content, SIZE, 1));
@@ -214,7 +217,7 @@ static void one_deleted(telwyddus_tray *tray, const uint8_t *key, const uint8_t 
     is_unfit(tray, key[0], key[1], "a sector is marked deleted: its track is told");
 }
 
-/* A slot that holds a medium is told to be full, whatever it is to be filled with. */
+/* A call that makes something answers FULL for a slot that holds a medium, whatever the call makes. */
 static void is_full(telwyddus_tray *tray) {
     uint8_t bytes[] = {1, 2, 3}, cylinder = 9, head = 9;
     int full = telwyddus_tray_read(tray, bytes, sizeof bytes) == TELWYDDUS_FULL;
