@@ -1,10 +1,11 @@
-"""crates.txt as the scripts read it: its crates from the bottom up."""
+"""Reads crates.txt for the scripts: its crates from the bottom up."""
 import collections
 import pathlib
 
 FILE = pathlib.Path(__file__).resolve().parent.parent / "crates.txt"
 
-# `below` are the crates that a line lists, also those of the kit; `group` is the comment above the lines of its group.
+# `below` are the crates that a line lists, also crates of the kit; `group` is the comment above the lines of the
+# crate's group.
 Crate = collections.namedtuple("Crate", "name below group line")
 
 

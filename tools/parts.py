@@ -1,4 +1,5 @@
-"""What the tools here and tools/install have in common: the version, what has been built, and the library made of it."""
+"""What tools/install and the tools that make packages have in common: the version, what has been built, and the library
+made of it."""
 import datetime
 import pathlib
 import re
@@ -8,19 +9,19 @@ import sys
 
 TOP = pathlib.Path(__file__).resolve().parent.parent
 VERSION = (TOP / "VERSION").read_text(encoding="ascii").strip()
-# What was linked with one library runs with each other one whose version has this first number.
+# A program that was linked with one library runs with each other library whose version has this first number.
 ABI = VERSION.partition(".")[0]
 SONAME = f"libtelwyddus.so.{ABI}"
 SHARED = f"libtelwyddus.so.{VERSION}"
 PROGRAM = TOP / "crates/floppy/out/floppy"
 ARCHIVE = TOP / "crates/telwyddus_c/out/libtelwyddus_c.a"
-# What an archive of the library for C goes with: the code, and the header and the heap, which lie right in c/.
+# What an archive of the library for C belongs to: the code, and the header and the heap, which lie right in c/.
 LIBRARY = ["crates", ":(glob)c/*"]
 SUMMARY = "The 1.44 MB diskette path of the IBM PC/AT as one machine model, with proofs"
 
 
 def run(*words, **more):
-    """Runs a tool; one that fails, or isn't there, ends this one."""
+    """Runs a tool. If it fails, or isn't there, this script ends."""
     try:
         return subprocess.run([str(word) for word in words], check=True, universal_newlines=True, **more)
     except FileNotFoundError as lacking:
@@ -41,7 +42,8 @@ def built(path, by):
 
 
 def make_library(archive, work):
-    """Makes the library in a folder, of an archive and c/heap.c: libtelwyddus.a, and the shared one, which shows its calls alone."""
+    """Makes the library in a folder, from an archive and c/heap.c: libtelwyddus.a, and the shared library, which
+    exports only its calls."""
     heap, static, shared, shown = work / "heap.o", work / "libtelwyddus.a", work / SHARED, work / "shown"
     run("gcc", "-O2", "-fPIC", "-c", TOP / "c/heap.c", "-o", heap)
     shutil.copyfile(archive, static)
@@ -59,8 +61,8 @@ def pkg_config(prefix, libraries):
 
 
 def cmake_config(folder):
-    """The files by which find_package(telwyddus) of CMake finds the library, in a folder telwyddus of cmake beside the libraries: the target
-    telwyddus::telwyddus, and the versions that it stands in for."""
+    """The files by which find_package(telwyddus) of CMake finds the library, in a folder telwyddus of cmake beside the
+    libraries. They define the target telwyddus::telwyddus, and say which versions it can stand in for."""
     (folder / "telwyddusConfig.cmake").write_text(f"""# The target telwyddus::telwyddus: the shared library, and where its header is.
 get_filename_component(telwyddus_libraries "${{CMAKE_CURRENT_LIST_DIR}}/../.." ABSOLUTE)
 find_path(telwyddus_INCLUDE_DIR telwyddus.h HINTS "${{telwyddus_libraries}}/../include" "${{telwyddus_libraries}}/../../include" NO_CACHE)
@@ -84,7 +86,7 @@ endif()
 
 
 def changes():
-    """What CHANGELOG.md tells of each version, the newest first: its number, its day, and its points."""
+    """What CHANGELOG.md says of each version, the newest first: its number, its day, and its points."""
     found = []
     for line in (TOP / "CHANGELOG.md").read_text(encoding="utf-8").splitlines():
         heading = re.fullmatch(r"## (\S+), (\d{4}-\d\d-\d\d)", line)
@@ -98,7 +100,7 @@ def changes():
 
 
 def newest():
-    """What CHANGELOG.md tells of this version, with which it has to begin."""
+    """What CHANGELOG.md says of this version; the file has to begin with it."""
     found = changes()[0]
     if found[0] != VERSION:
         sys.exit(f"CHANGELOG.md begins with {found[0]}, and VERSION has {VERSION}")
@@ -106,5 +108,5 @@ def newest():
 
 
 def moment():
-    """The seconds of this version's day, at noon: files get them, so that the same source makes the same packages."""
+    """This version's day, at noon, in seconds. Files get this time, so that the same source makes the same packages."""
     return int(datetime.datetime.combine(newest()[1], datetime.time(12), datetime.timezone.utc).timestamp())

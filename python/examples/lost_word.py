@@ -1,5 +1,5 @@
 #!/usr/bin/env python3
-"""A bench: a driver that tries again, over the whole machine, whose drive loses a word of a sector once."""
+"""A test rig: a driver that tries again, on the whole machine, whose drive loses a word of a sector once."""
 import disks
 from telwyddus import BadPlan, Empty, Machine, Tray
 
@@ -40,7 +40,8 @@ class Driver:
 
 
 def bench(image, lost, tries):
-    """What a driver reads that tries so often, of a drive that loses the word so often; and what failed."""
+    """What a driver with this number of attempts reads of a drive that loses the word this number of times, and what
+    failed."""
     with Machine(f"drop 0 {C} {H} {PLACE} {lost}\n") as machine, Tray(image) as tray:
         machine.insert(0, tray)
         driver = Driver(machine)

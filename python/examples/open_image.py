@@ -1,5 +1,6 @@
 #!/usr/bin/env python3
-"""Opens an image with the program `floppy`, on files in memory: its sectors one by one, the fields of a track, and a flat file."""
+"""Opens an image with the program `floppy`, on files in memory: its sectors one by one, the fields of a track, and a
+flat file."""
 import disks
 from telwyddus import NoFile, Shelf
 
@@ -7,7 +8,7 @@ CYLINDERS, DAMAGED = 2, (1, 0, 3)
 
 
 class Image:
-    """An image on a shelf of its own."""
+    """An image on a shelf that holds only this image."""
 
     def __init__(self, image):
         self.shelf = Shelf()
@@ -20,7 +21,7 @@ class Image:
         self.shelf.close()
 
     def sector(self, c, h, r):
-        """Its bytes, or None where the program refuses to read it."""
+        """The sector's bytes, or None if the program refuses to read it."""
         self.shelf.put("job", f"insert 0 disk.rt\nack 0\nread 0 {c} {h} {r} 2 10000\ndump 10000 512\n".encode())
         status = self.shelf.run("play", "job")
         report = self.shelf.report().splitlines()
@@ -34,7 +35,7 @@ class Image:
                     yield (c, h, r), self.sector(c, h, r)
 
     def fields(self, c, h):
-        """The address fields of a track: the first cell of each, its key, and how its data are."""
+        """The address fields of a track: the first cell of each, its sector ID, and the state of its data."""
         assert self.shelf.run("survey", "disk.rt") == 0
         for line in self.shelf.report().splitlines():
             words = line.split()
@@ -47,7 +48,7 @@ def content(c, h, r):
 
 
 def disk(cylinders):
-    """A disk with a content of its own in each sector; one word of one sector is spoilt."""
+    """A disk in which each sector has other content, and one word of one sector is damaged."""
     made = disks.formatted(cylinders)
     for c in range(CYLINDERS):
         for h in range(2):
@@ -66,14 +67,14 @@ def check_sectors():
         for key, sector in image.sectors():
             assert sector == (None if key == DAMAGED else content(*key))
         print(f"72 sectors, of which {DAMAGED} is damaged")
-        # The three A1 of a field stand behind 12 bytes 00.
+        # The three A1 of a field come after 12 bytes 00.
         wanted = [((disks.address_place(r) + 12) * 16, (1, 0, r, 2), "10" if r == 3 else "ok") for r in range(1, 19)]
         assert list(image.fields(1, 0)) == wanted
         print("the fields of track 1 0 begin at the cells", ", ".join(str(cell) for cell, _, _ in wanted[:4]), "..")
 
 
 def check_flat():
-    """A whole disk goes out to a flat file, and comes in from it."""
+    """Exports a whole disk to a flat file, and imports it again."""
     whole = disk(80)
     flat = b"".join(content(c, h, r) if c < CYLINDERS else b"\xF6" * 512 for c in range(80) for h in range(2) for r in range(1, 19))
     with Shelf() as shelf:

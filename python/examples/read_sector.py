@@ -1,5 +1,6 @@
 #!/usr/bin/env python3
-"""Reads a sector of an image, and writes it, at the ports of the bare controller. DACK and TC are served here."""
+"""Reads a sector of an image, and writes it, at the ports of the bare controller. This program serves DACK and TC
+itself."""
 import disks
 from telwyddus import Controller, Lines, NotAsked, Signs, Tray
 
@@ -9,7 +10,7 @@ CONTENT = bytes((255 - 3 * i + C) % 256 for i in range(512))
 
 
 def serve(controller, memory, place):
-    """The DMA channel: bytes between memory and the controller while DRQ is up, TC with the last."""
+    """The DMA channel: it moves bytes between memory and the controller while DRQ is up, and gives TC with the last."""
     while Lines.DRQ in controller.behind and place < len(memory):
         if Lines.TO_MEMORY in controller.behind:
             taken = controller.dack_block_read(len(memory) - place)
@@ -23,7 +24,7 @@ def serve(controller, memory, place):
 
 
 def run(controller, memory=b"", most=1000000):
-    """Up to the interrupt; tells the device steps, and how many bytes were moved."""
+    """Runs up to the interrupt; returns the number of device steps, and of bytes that were moved."""
     steps = place = 0
     while Lines.INT not in controller.behind:
         place = serve(controller, memory, place)
@@ -44,7 +45,7 @@ def results(controller, length):
 
 
 def begin(controller):
-    """Drive 0 turns, the reset is over, and the heads are at the cylinder."""
+    """Ends the reset, starts the motor of drive 0, and moves the heads to the cylinder."""
     controller.write(0x3F2, 0x1C)
     controller.write(0x3F7, 0)
     run(controller)

@@ -1,6 +1,6 @@
 #!/usr/bin/env python3
-"""Single sectors by calls: a damaged image is read, a blank medium is formatted and written, an ImageDisk file made
-of it, and a flat file read and written."""
+"""Reads and writes single sectors by calls. It reads a damaged image, formats and writes a blank medium, makes an
+ImageDisk file of that, and reads and writes a flat file."""
 import disks
 from telwyddus import BadCrc, Changed, Disk, Found, NotFound, Tray, Unfit
 
@@ -19,7 +19,7 @@ def content(c, h, r):
 
 
 def damaged():
-    """An image with a content of its own in each sector; one word of one sector is spoilt."""
+    """An image in which each sector has other content, and one word of one sector is damaged."""
     made = disks.formatted(CYLINDERS)
     for c, h, r in places():
         made.write(r, content(c, h, r), track=2 * c + h)
@@ -45,7 +45,7 @@ def rescued(disk):
 
 
 def unfit_at(tray):
-    """The cylinder and head that keep a medium from having a flat file."""
+    """The cylinder and head of the track because of which a medium has no flat file."""
     try:
         tray.flat()
     except Unfit as refused:
@@ -53,7 +53,7 @@ def unfit_at(tray):
 
 
 def one_more():
-    """An image of 80 cylinders, one track of which has a sector more than the others."""
+    """An image of 80 cylinders in which one track has a sector more than the others."""
     made = disks.formatted(80, 250)
     made.tracks[2 * 7 + 1] = disks.layout(disks.standard(7, 1, 10), 0x20, 0xF6, 6250)
     return made.file()

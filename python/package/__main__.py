@@ -1,9 +1,11 @@
 """The program floppy on the files of the current folder: python -m telwyddus WORD..
 
-Its words, what it prints and its exit status are those of the program; docs/USING.md and its page have them. It runs on files in memory: on those
-of the folder that its words name, and for `play`, `int13` and `ports` also those that words of the text name. What it stored is written
-to the folder once it has ended, each file whole, in place of the old one. A file that may not be written isn't replaced, nor one in a folder
-that may not: status 6, and standard error says why. There are no planned faults: with FLOPPY_PLAN set nothing is run.
+Its arguments, its output and its exit status are those of the program; docs/USING.md and the program's manual page
+describe them. The program runs on files in memory. These are the files of the folder that its arguments name; for
+`play`, `int13` and `ports` they are also those that the text names. When the program has ended, each file that it
+stored is written to the folder whole, in place of the old one. A file that the user may not write isn't replaced, and
+neither is a file in a folder that the user may not write: the status is then 6, and standard error says why. Faults
+can't be planned: if FLOPPY_PLAN is set, nothing runs.
 """
 import os
 import re
@@ -11,16 +13,16 @@ import sys
 
 from telwyddus import NoFile, NoMemory, Shelf
 
-# A name that the program takes.
+# The form of a name that the program accepts.
 NAME = re.compile(r"[A-Za-z0-9_][A-Za-z0-9._-]{0,63}")
-# One byte more than any file that is loaded has.
+# One byte more than the largest file that is loaded.
 LONGEST = 5242895
 WITH_TEXT = ("play", "int13", "ports")
 BAD_WORDS, FAILED, NO_MEMORY = 2, 6, 7
 
 
 def content(name):
-    """The bytes of a file, as many as can count; None where there is no such file."""
+    """The bytes of a file, at most one more than any file may have; None if there is no such file."""
     try:
         with open(name, "rb") as file:
             return file.read(LONGEST)
@@ -29,7 +31,7 @@ def content(name):
 
 
 def names_of(words):
-    """The names that the words say, and those that the text says that they name; words of a text that are folders are none."""
+    """The names in the arguments, and those that the text may name; a word of the text that is a folder doesn't count."""
     said = set(words[1:])
     if len(words) == 2 and words[0] in WITH_TEXT and NAME.fullmatch(words[1]):
         text = (content(words[1]) or b"").decode("ascii", "replace").split()
@@ -38,7 +40,7 @@ def names_of(words):
 
 
 def replace(name, data):
-    """Writes a file beside the old one, which it replaces when it is whole, with its permissions."""
+    """Writes a file beside the old one, with the permissions of the old one, and then replaces the old one."""
     made = f".telwyddus-{os.getpid()}"
     mode = None
     if os.path.lexists(name):
@@ -65,7 +67,7 @@ def after(shelf, name):
 
 
 def run(words):
-    """Runs the program, and gives its status."""
+    """Runs the program, and returns its status."""
     with Shelf() as shelf:
         before = {name: content(name) for name in names_of(words)}
         for name, data in before.items():
