@@ -1,4 +1,4 @@
-/* A real BIOS on an emulated processor, a small AT around it, and the floppy machine behind its ports. */
+/* Runs a real BIOS on an emulated processor, with a small AT around it and the floppy machine at its ports. */
 #include "cpu.h"
 #include "floppy.h"
 #include "pc.h"

@@ -1,7 +1,8 @@
-; A boot sector that makes the calls of INT 13h that its bench lays out, for ever. A write of port 5E0 asks for the next one.
+; A boot sector that makes the calls of INT 13h which its test rig lays out, for ever. A write of port 5E0 asks for the
+; next one.
         bits 16
         org 0x7C00
-block   equ 0x0600                      ; AX, BX, CX, DX, ES of the call; AX and flags of its answer; ticks to wait in its place
+block   equ 0x0600                      ; AX, BX, CX, DX, ES of the call; AX and flags of its answer; ticks to wait instead of a call
         cli
         xor ax, ax
         mov ss, ax

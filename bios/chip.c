@@ -1,4 +1,5 @@
-/* A machine around the bare controller: channel 2 of an 8237, 1 MiB, and the latch of line 6; and what a plan has of the bus. */
+/* A machine around the bare controller: channel 2 of an 8237, 1 MiB of memory, the latch of interrupt line 6, and
+ * the parts of a plan that are about the bus. */
 #include "machine.h"
 #include <stdio.h>
 #include <string.h>
@@ -8,12 +9,12 @@ static uint16_t address, count;
 static uint8_t page, mode, command, status;
 static bool second_byte, is_masked = true, latch, line;
 
-/* ---- of a plan: steps behind port accesses, steps before a request is granted, interrupts without cause */
+/* ---- from a plan: the steps after port accesses, the steps before a request is granted, and spurious interrupts */
 
 typedef struct { uint32_t steps[64], left[64], count, at; } Delays;
 static Delays gaps, holds, strays;
-static uint32_t ahead, hold, until_stray;       /* steps that a gap made already; that a request waits yet; to the next stray */
-static bool is_asked;                           /* a request is up, and its hold was taken */
+static uint32_t ahead, hold, until_stray;       /* steps that a gap made already; steps that a request still waits; steps to the next spurious interrupt */
+static bool is_asked;                           /* a request is up, and its latency was taken from the plan */
 
 static uint32_t next_of(Delays *delays) {
     while (delays->at < delays->count && !delays->left[delays->at]) delays->at++;
@@ -46,7 +47,8 @@ bool bare_plan(const char *text) {
 
 static bool grants(void) { return !is_masked && !(command & 4) && (mode & 0xF0) == 0x40 && (mode & 0x0C) != 0x0C; }
 
-/* After every call: DMA while it is asked for and no hold is on it, and the line's edge. */
+/* Called after every call of the library: moves bytes by DMA while the controller asks and no latency is left, and
+ * looks for the line's edge. */
 static void attend(void) {
     uint8_t lines;
     while ((lines = chip_lines()) & CHIP_DRQ && grants()) {
@@ -72,7 +74,7 @@ static void attend(void) {
     line = lines & CHIP_INT;
 }
 
-/* Steps, at most so many, up to one in which anything changes; how many. */
+/* Makes steps, at most so many, up to one in which anything changes; returns how many it made. */
 static uint32_t pass(uint32_t most) {
     uint32_t made = most;
     if (hold && hold < made) made = hold;

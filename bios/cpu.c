@@ -1,4 +1,4 @@
-/* A processor on libx86emu, its interrupts, and time for the rest of the PC. */
+/* A processor on libx86emu, its interrupts, and the time for the rest of the PC. */
 #include "cpu.h"
 #include "floppy.h"
 #include "pc.h"
@@ -9,7 +9,7 @@ uint32_t cpu_per_word = 16, cpu_slice = 1;
 bool cpu_traces_int13;
 uint64_t cpu_int13_of[256];
 
-static uint64_t extra, done;            /* time besides instructions; word times that were run */
+static uint64_t extra, done;            /* time in addition to that of instructions; word times that were run */
 
 static void word_times(uint32_t n) {
     done += n;
@@ -49,7 +49,7 @@ static unsigned bus(x86emu_t *emu, u32 addr, u32 *val, unsigned type) {
         return 0;
     case X86EMU_MEMIO_W:
         p = place(addr, n);
-        if (!p) return 0;               /* the ROM is shadowed, so writable */
+        if (!p) return 0;               /* the ROM is shadowed, so it can be written */
         if ((addr >= 0x40 && addr < 0x44) || (addr >= 0xC0000 && addr < 0xC0800)) return 0;    /* the video ROM and INT 10h */
         for (unsigned i = 0; i < n; i++) p[i] = (uint8_t)(*val >> (8 * i));
         return 0;
@@ -66,7 +66,7 @@ static unsigned bus(x86emu_t *emu, u32 addr, u32 *val, unsigned type) {
     return 1;
 }
 
-/* Software interrupts pass here. */
+/* Software interrupts come through here. */
 static int interrupt(x86emu_t *emu, u8 num, unsigned type) {
     x86emu_regs_t *x = &emu->x86;
     if ((type & 0xFF) != INTR_TYPE_SOFT) return 0;
@@ -100,7 +100,7 @@ static void push16(uint16_t v) {
     if (p) { p[0] = (uint8_t)v; p[1] = (uint8_t)(v >> 8); }
 }
 
-/* A hardware interrupt. In real mode by hand; in protected mode by the library. */
+/* Makes a hardware interrupt: in real mode by itself, in protected mode by the library. */
 static void deliver(int vector) {
     x86emu_regs_t *x = &cpu->x86;
     if (x->R_CR0 & 1) {
@@ -129,7 +129,7 @@ static bool serve(void) {
     return true;
 }
 
-/* Halted: time passes until a line is up. */
+/* While the processor is halted, time passes until a line is up. */
 static void sleep_words(uint64_t most_words) {
     while (pc_pending() < 0 && floppy_counts.words < most_words) {
         extra += (uint64_t)cpu_per_word * cpu_slice;
@@ -140,7 +140,8 @@ static void sleep_words(uint64_t most_words) {
 const char *cpu_run(uint64_t most_words, bool (*is_over)(void)) {
     while (floppy_counts.words < most_words) {
         uint64_t now = cpu->x86.R_TSC + extra, next = (done + cpu_slice) * (uint64_t)cpu_per_word;
-        /* An interrupt that waits must not miss an STI; CLI: firmware opens them for a few instructions. */
+        /* While an interrupt waits, a stretch between STI and CLI must not be missed: firmware allows interrupts for
+         * a few instructions only. */
         bool waits = pc_pending() >= 0;
         cpu->max_instr = cpu->x86.R_TSC + (next > now && !waits ? next - now : 1);
         unsigned why = x86emu_run(cpu, X86EMU_RUN_MAX_INSTR);
@@ -156,7 +157,7 @@ const char *cpu_run(uint64_t most_words, bool (*is_over)(void)) {
     return "word times are over";
 }
 
-/* In place of a video BIOS: a ROM whose INT 10h is INT F1h, which is done here in C. */
+/* Stands in for a video BIOS: a ROM whose INT 10h is INT F1h, which is served here in C. */
 static void video_rom(void) {
     static const uint8_t rom[] = {0xCD, 0xF1, 0xCF};    /* int F1; iret */
     memcpy(pc_ram + 0xC0000 + 0x20, rom, sizeof rom);

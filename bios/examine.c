@@ -39,7 +39,7 @@ void tally_tell(const Tally *tally) {
     printf("\n");
 }
 
-/* ---- the snapshot, and trials that begin at it */
+/* ---- the snapshot, and trials that begin with it */
 
 static int to_snapshot = -1, from_snapshot = -1, trial_to = -1;
 static pid_t snapshot;
@@ -59,7 +59,7 @@ static void give_all(int to, const void *from, size_t length) {
     if (write(to, from, length) != (ssize_t)length) _exit(4);
 }
 
-/* What comes of another round at the snapshot; no finding where the trial itself ends early. */
+/* The result of another round from the snapshot on; there is no finding if the trial itself ends early. */
 static Tally try_round(const Round *round, bool tells) {
     int ends[2];
     Tally tally;
@@ -99,7 +99,7 @@ static Round without_pulses(const Round *round) {
     return other;
 }
 
-/* Heads were on another cylinder: why. */
+/* The heads were on another cylinder: this says why. */
 static Kind kind_of_elsewhere(const Round *round, const Tally *tally) {
     Round other = without_pulses(round);
     if (try_round(&other, false).elsewhere) return ASTRAY;
@@ -117,7 +117,7 @@ static bool still(const Round *round, Kind kind) {
     return has(&tally, kind);
 }
 
-/* Leaves out what can be left out, one fault or call at a time. */
+/* Makes the round smaller: leaves out whatever can be left out, one fault or call at a time. */
 static Round smaller(Round round, Kind kind) {
     for (bool again = true; again;) {
         again = false;
@@ -157,7 +157,7 @@ static void tell_example(const Round *round, Kind kind) {
 
 typedef struct { Tally tally; int wanted[KINDS]; } Order;
 
-/* In the snapshot: told the findings, it answers their kind. */
+/* Runs in the snapshot: it gets the findings, and answers their kind. */
 static _Noreturn void serve_snapshot(int from, int to, const Round *round) {
     Order order;
     Round drawn = *round;

@@ -1,6 +1,7 @@
-/* faults ROM IMAGE SEED FROM COUNT PER_WORD FIFO SLOW EXAMPLES: SeaBIOS boots on the bare controller, and then does COUNT rounds of calls of
- * INT 13h, each under a plan of its own. Each call is judged. FIFO is the byte of a CONFIGURE behind each reset, -1: none. Where SLOW isn't 0
- * heads move as slowly as SPECIFY says. */
+/* faults ROM IMAGE SEED FROM COUNT PER_WORD FIFO SLOW EXAMPLES: SeaBIOS boots on the bare controller, and then does
+ * COUNT rounds of calls of INT 13h. Each round has a plan of its own, and each call is judged. FIFO is the byte of a
+ * CONFIGURE that is sent after each reset; if it is -1, none is sent. If SLOW isn't 0, heads move as slowly as
+ * SPECIFY says. */
 #include "cpu.h"
 #include "examine.h"
 #include "floppy.h"
@@ -16,15 +17,15 @@ static bool is_done;
 
 static Round round_now;
 static Tally tally, of_round;           /* of all rounds; of this one */
-static uint64_t not_at_zero, not_at_zero_again;     /* floppy_counts.not_at_zero as this round began, and as its faults were taken away */
+static uint64_t not_at_zero, not_at_zero_again;     /* floppy_counts.not_at_zero at the beginning of this round, and when its faults were taken away */
 
-/* What the guest does: the round's calls, and then with no faults those that have to work again. */
+/* What the guest does: the calls of the round, and then, without faults, calls that have to work again. */
 static Call calls_again[170], call_now;
 static int at, again_count, again_at;
 static bool owes_reset, is_again, is_out, was_unheard;
 static uint8_t before[BUFFER_BYTES];    /* the buffer as the call got it */
 
-/* ---- a call is laid out for the guest, and its answer is taken */
+/* ---- a call is laid out for the guest, and its answer is read */
 
 static void set16(unsigned place, unsigned value) { pc_ram[place] = (uint8_t)value, pc_ram[place + 1] = (uint8_t)(value >> 8); }
 
@@ -45,7 +46,7 @@ static void lay(const Call *call) {
     memcpy(before, buffer, BUFFER_BYTES);
 }
 
-/* Memory that the call is not to write is as it was. */
+/* Memory that the call must not write is as it was. */
 static bool is_memory_kept(const Call *call) {
     size_t own = call->ah == READ ? call_length(call) : 0;
     return !call->es || !memcmp(pc_ram + 16 * call->es + own, before + own, BUFFER_BYTES - own);
@@ -57,8 +58,8 @@ static void plan(const char *text) {
     exit(3);
 }
 
-/* Without faults: a reset, a format of each track that isn't standard, and a sector that is written and read. Where a recalibration went unheard a
- * second one comes first, before any far seek. */
+/* The calls without faults: a reset, a format of each track that isn't standard, and a sector that is written and
+ * read. If the BIOS missed that a recalibration failed, a second recalibration comes first, before any far seek. */
 static void begin_again(void) {
     uint64_t state = round_now.number;
     uint8_t c = (uint8_t)random_below(&state, 80);
@@ -90,7 +91,7 @@ static void tell_call(bool is_error, Verdict verdict) {
     printf("%s%s\n", verdict > TOLD ? "  <- " : "", verdict > TOLD ? judge_why : "");
 }
 
-/* Once it may fail, behind a recalibration that didn't reach cylinder 0 and of which the controller told that. */
+/* This call may fail once, after a recalibration that didn't reach cylinder 0, if the controller reported that. */
 static void fails_again(void) {
     if (was_unheard || floppy_counts.not_at_zero == not_at_zero_again) {
         of_round.of[STUCK]++;
@@ -146,7 +147,7 @@ static void check_medium(void) {
     if (tells_calls) printf("    the medium isn't as it was known\n");
 }
 
-/* The guest asks for its next call. */
+/* Called when the guest asks for its next call. */
 static void asked(void) {
     static bool is_begun;
     if (!is_begun) judge_new(), begin_round(), is_begun = true;
@@ -180,7 +181,7 @@ static uint8_t *load(const char *name, size_t *length) {
     return bytes;
 }
 
-/* The PC with the BIOS and the disk of these files. */
+/* The PC with the BIOS and the disk in these files. */
 static void assemble(const char *bios, const char *image) {
     size_t length;
     pc_new(NULL);
@@ -207,7 +208,7 @@ int main(int count, char **words) {
     assemble(words[1], words[2]);
     if (atoi(words[8])) chip_strap_steps();
     const char *why = cpu_run(UINT64_MAX, is_over);
-    if (!is_done) {                     /* a call that doesn't come back */
+    if (!is_done) {                     /* a call doesn't come back */
         of_round.of[STUCK]++;
         if (tells_calls) printf("    "), call_tell(&call_now, stdout), printf(" doesn't come back: %s\n", why);
         if (next_round > 0) end_round();

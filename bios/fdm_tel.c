@@ -1,4 +1,4 @@
-/* Both faces of the library. Only this file knows its calls. */
+/* Adapts both objects of the library, the machine and the bare controller. Only this file knows the library's calls. */
 #include "machine.h"
 #include "telwyddus.h"
 #include <stdio.h>
@@ -26,7 +26,7 @@ static bool machine_insert(const uint8_t *image, size_t length) {
     return true;
 }
 
-/* The medium goes out for it. */
+/* The medium is taken out for that. */
 static uint8_t *machine_image(size_t *length) {
     telwyddus_tray tray = {0};
     uint8_t *image;
@@ -73,7 +73,7 @@ const Machine whole_machine = {machine_make, machine_insert, machine_image, mach
 
 void chip_make(void) { must(telwyddus_controller_new(&controller), "controller_new"); }
 
-static uint8_t lines; /* as the last call told them */
+static uint8_t lines; /* as the last call gave them */
 
 bool chip_insert(const uint8_t *image, size_t length) {
     telwyddus_tray tray = {0};

@@ -1,4 +1,4 @@
-/* The floppy machine on the bus, DMA, and the adapter. */
+/* The floppy machine on the bus, its DMA, and the adapter. */
 #include "floppy.h"
 #include <string.h>
 
@@ -21,7 +21,7 @@ static uint8_t raw_in(uint16_t port) {
     return value;
 }
 
-/* MSR has no side effect, so the adapter looks at it without a line in the log. */
+/* A read of MSR has no side effect, so the adapter looks at it without a line in the log. */
 static uint8_t peek_msr(void) { return machine->in(0x3F4); }
 
 static void raw_out(uint16_t port, uint8_t value) {
@@ -41,7 +41,7 @@ static bool raw_irq(void) {
     return was_set;
 }
 
-/* ---- DMA: what the PC programmed, to know which bytes pass */
+/* ---- DMA: what the PC programmed, from which this file knows the bytes that pass */
 
 static struct { bool flip; uint16_t base, count; uint8_t page, mode; } dma;
 
@@ -58,7 +58,7 @@ static void dma_snoop_out(uint16_t port, uint8_t v) {
     }
 }
 
-/* The region of the transfer, in at most two pieces since the address wraps in its page. */
+/* The region of the transfer. It has at most two pieces, since the address wraps within its page. */
 static void dma_copy(bool to_machine) {
     uint32_t page = (uint32_t)(dma.page & 15) << 16, left = dma.count + 1u, place = dma.base;
     while (left) {
@@ -70,20 +70,20 @@ static void dma_copy(bool to_machine) {
     }
 }
 
-/* ---- the adapter: MT, SK and several sectors per command, which the controller doesn't have
- *
- * A command for many sectors becomes many commands. DMA is set anew for each: with the whole count a write's FIFO takes bytes of
- * the next sector, which are lost when the command ends. */
+/* ---- the adapter: MT, SK and several sectors a command, which the controller doesn't have
+ * 
+ * A command for many sectors becomes many commands. DMA is set anew for each. If it were set to the whole count, the
+ * FIFO of a write would take bytes of the next sector, and these would be lost when the command ends. */
 
 static struct {
     int level;
     uint8_t cmd[9], given, need, cyl[4];
     bool held;                          /* its bytes are kept back */
-    bool data, mt;                      /* it reads or writes sectors; on both sides */
-    bool running, seeking;              /* such a command goes on by itself; after the adapter's own seek */
+    bool data, mt;                      /* it reads or writes sectors; it does so on both sides */
+    bool running, seeking;              /* such a command goes on by itself; it does so after a seek of the adapter's own */
     bool moving;                        /* a command that writes the PC's memory */
     bool sensing;                       /* ST0 of a SENSE INTERRUPT is the next byte */
-    uint32_t place, rest;               /* address within the page; bytes still to be moved */
+    uint32_t place, rest;               /* the address within the page; the bytes that are still to be moved */
     uint8_t result[7], at, left;        /* results kept for the PC */
 } A;
 
@@ -107,7 +107,7 @@ static void hidden_out(uint16_t port, uint8_t v) {
     raw_out(port, v);
 }
 
-/* DMA for the next sector alone; for the last one all that rests, so that no TC comes there. */
+/* Sets DMA for the next sector alone. For the last sector it sets all that is left, so that no TC comes there. */
 static void set_piece(void) {
     uint32_t n = last_sector() || A.rest < sector_bytes() ? A.rest : sector_bytes();
     hidden_out(0x0A, 0x06);
@@ -132,7 +132,7 @@ static void send_held(void) {
     for (int i = 0; i < A.need; i++) raw_out(0x3F5, A.cmd[i]);
 }
 
-/* The PC has given the last byte of a data command. */
+/* Called when the PC has given the last byte of a data command. */
 static void complete(uint8_t kind) {
     N.data_commands++;
     if (A.data || kind == 0x0D) dma_copy(true);
@@ -182,9 +182,9 @@ static void command_byte(uint8_t v) {
     if (!A.held) raw_out(0x3F5, v);
 }
 
-/* At the interrupt of a read or write: the next sector, or false where it is over. */
+/* Called at the interrupt of a read or write: begins the next sector, or returns false if the command is over. */
 static bool goes_on(void) {
-    if (peek_msr() != 0xD0) return true;        /* no end of it: swallowed */
+    if (peek_msr() != 0xD0) return true;        /* this isn't the end of the command: the interrupt isn't passed on */
     for (int i = 0; i < 7; i++) A.result[i] = raw_in(0x3F5);
     N.hidden += 7;
     if (!(A.result[0] & 0xC0) && A.rest > sector_bytes()) {
@@ -250,13 +250,13 @@ void floppy_out(uint16_t port, uint8_t v) {
     if (leaves_reset && floppy_fifo >= 0) configure();
 }
 
-/* The latch was set: what the adapter does with it; whether the PC is told. */
+/* The latch was set: does what the adapter has to do then, and returns whether the PC gets the interrupt. */
 static bool interrupt(void) {
     if (A.seeking) {
         A.seeking = false;
         hidden_out(0x3F5, 0x08);
         for (int i = 0; i < 2; i++, N.hidden++) raw_in(0x3F5);
-        raw_run(1);                     /* else INT could rise again unseen: NW comes in the first step */
+        raw_run(1);                     /* otherwise INT could rise again unseen: NW comes in the first step */
         send_held();
         return false;
     }

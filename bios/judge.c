@@ -8,7 +8,7 @@ char judge_why[200];
 
 static uint16_t known[TRACKS][TRACK_WORDS], now[TRACK_WORDS];
 static Fields fields[TRACKS];
-static uint8_t map[20];                 /* the tracks that the call wrote, as the library tells them */
+static uint8_t map[20];                 /* the tracks that the call wrote, as the library reports them */
 
 const Fields *judge_fields(uint8_t c, uint8_t h) { return &fields[2 * c + h]; }
 
@@ -27,14 +27,15 @@ static Verdict wrong(const char *why) {
     return WRONG;
 }
 
-/* Whether no track was written but this one; -1: none at all. */
+/* Whether no track was written but this one; if it is -1, whether none was written. */
 static bool only(int track) {
     for (int t = 0; t < TRACKS; t++)
         if (map[t / 8] >> t % 8 & 1 && t != track) return false;
     return true;
 }
 
-/* A planned cut at which the words from `begin` on are the new ones before it, and the old ones from it to the end. */
+/* Looks for a planned cut such that, from `begin` on, the words before it are the new ones, and those from it to the
+ * end are the old ones. */
 static bool is_cut(const Round *round, uint8_t c, uint8_t h, const uint16_t *wanted, const uint16_t *old, size_t begin, size_t count) {
     for (int i = 0; i < round->fault_count; i++) {
         const Fault *f = &round->faults[i];
@@ -45,7 +46,8 @@ static bool is_cut(const Round *round, uint8_t c, uint8_t h, const uint16_t *wan
     return false;
 }
 
-/* A written sector: its window is the new one, or an error was told and it is damaged, or is the old one. */
+/* Judges a written sector. Its window has to be the new one. If an error was reported, the sector may also be
+ * damaged, or have the old window. */
 static Verdict judge_window(const Round *round, const Field *field, uint8_t c, const uint8_t *bytes, bool is_error) {
     uint16_t wanted[WINDOW_WORDS];
     const uint16_t *old = known[2 * c + field->key[1]];
@@ -110,7 +112,7 @@ static Verdict judge_read(const Call *call, bool is_error, uint8_t heads, const 
     return WELL;
 }
 
-/* SeaBIOS says well of any verify, wherever the heads are. */
+/* SeaBIOS reports success for any verify, wherever the heads are. */
 static Verdict judge_verify(const Call *call, bool is_error) {
     if (!only(-1)) return wrong("a verify changed the medium");
     if (is_error) return TOLD;
@@ -137,7 +139,7 @@ Verdict judge(const Round *round, const Call *call, bool is_error, const uint8_t
     uint8_t heads = chip_cylinder();
     bool is_on_medium = heads < CYLINDERS, moves = call->ah == WRITE || call->ah == FORMAT || call->ah == READ;
     chip_written_tracks(map);
-    if (!is_on_medium) {                /* nothing can be read or written there; a format is done there all the same */
+    if (!is_on_medium) {                /* nothing can be read or written there; a format succeeds there all the same */
         if (!only(-1)) return wrong("the medium changed with the heads beside it");
         if (is_error || !moves) return is_error ? TOLD : WELL;
         if (call->ah != FORMAT) return wrong("said well with the heads beside the medium");

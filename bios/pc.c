@@ -97,7 +97,7 @@ static void timer_clocks(int i, uint32_t n) {
 static void timer_out(int i, uint8_t v) {
     if (i == 3) {
         int c = v >> 6;
-        if (c == 3) {                   /* read back: the counts alone */
+        if (c == 3) {                   /* read-back command: of the counts alone */
             for (int k = 0; k < 3 && !(v & 0x20); k++)
                 if (v >> (k + 1) & 1) { timer[k].latch = (uint16_t)timer[k].count; timer[k].latched = true; }
             return;

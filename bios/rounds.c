@@ -2,7 +2,7 @@
 #include "track.h"
 #include <string.h>
 
-/* ---- numbers by a seed */
+/* ---- random numbers from a seed */
 
 uint64_t random_next(uint64_t *state) {
     uint64_t z = *state += 0x9E3779B97F4A7C15;
@@ -15,7 +15,7 @@ uint32_t random_below(uint64_t *state, uint32_t limit) { return (uint32_t)(rando
 
 static bool one_in(uint64_t *state, uint32_t n) { return random_below(state, n) == 0; }
 
-/* From 1 to `most`, each length in bits as likely as another. */
+/* From 1 to `most`; each length in bits is as likely as another. */
 static uint16_t any_length(uint64_t *state, uint32_t most) {
     uint32_t bits = 1;
     while (bits < 16 && most >> bits) bits++;
@@ -80,7 +80,7 @@ static Call draw_call(uint64_t *state, uint8_t c, uint8_t h, const Call *before)
     return draw_sectors(state, READ, one_in(state, 4) ? (uint8_t)random_below(state, 80) : near, h);
 }
 
-/* ---- faults, near what the calls touch */
+/* ---- faults, near the places that the calls touch */
 
 static uint16_t draw_word(uint64_t *state, const Call *call) {
     uint32_t sector = call->r - 1u + random_below(state, call->count ? call->count : 1), begin = 146 + 682 * (sector % SECTORS);

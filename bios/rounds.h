@@ -1,4 +1,4 @@
-/* Rounds of calls of INT 13h under planned faults, drawn by a seed. */
+/* Random rounds, from a seed, of calls of INT 13h under planned faults. */
 #ifndef ROUNDS_H
 #define ROUNDS_H
 #include <stdbool.h>
@@ -26,7 +26,7 @@ enum { MOST_FAULTS = 8, MOST_CALLS = 10 };
 
 typedef struct {
     uint64_t number;
-    bool resets;                /* the guest resets the drive behind each error, as it should */
+    bool resets;                /* the guest resets the drive after each error, as it should */
     int fault_count, call_count;
     Fault faults[MOST_FAULTS];
     Call calls[MOST_CALLS];
@@ -37,7 +37,7 @@ uint32_t random_below(uint64_t *state, uint32_t limit);
 
 void round_draw(Round *round, uint64_t seed, uint64_t number);
 void round_plan(const Round *round, char *text, size_t room);
-void call_content(const Call *call, uint8_t *bytes);    /* of a write: 512 bytes a sector; of a format: its keys */
+void call_content(const Call *call, uint8_t *bytes);    /* of a write: 512 bytes a sector; of a format: its sector IDs */
 size_t call_length(const Call *call);                   /* bytes of the buffer that the call is about */
 void call_tell(const Call *call, FILE *to);
 

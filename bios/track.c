@@ -23,7 +23,7 @@ static uint16_t crc_of(uint16_t crc, uint8_t byte) {
     return crc;
 }
 
-/* The check behind three marks A1. */
+/* The CRC after three marks A1. */
 static uint16_t crc_begun(void) { return crc_of(crc_of(crc_of(0xFFFF, 0xA1), 0xA1), 0xA1); }
 
 static uint16_t cells_at(const uint16_t *words, size_t cell) {
@@ -38,7 +38,7 @@ static uint8_t byte_of(uint16_t cells) {
     return byte;
 }
 
-/* ---- as they are laid */
+/* ---- tracks as they are recorded */
 
 typedef struct { uint16_t *to; size_t at; int last; } Pen;
 
@@ -49,7 +49,7 @@ static void put(Pen *pen, uint8_t byte, int times) {
     }
 }
 
-/* 12 bytes 00, the marks, these bytes, and the check of all but the first. */
+/* 12 bytes 00, the marks, these bytes, and the CRC of all but the first. */
 static void put_field(Pen *pen, const uint8_t *bytes, size_t count) {
     uint16_t crc = crc_begun();
     put(pen, 0, 12);
@@ -84,9 +84,9 @@ void track_format(uint16_t words[TRACK_WORDS], uint8_t c, uint8_t h, unsigned fi
     put(&pen, 0x4E, TRACK_WORDS - (int)pen.at);
 }
 
-/* ---- as they are heard, at any phase of the cells */
+/* ---- tracks as they are read, at any phase of the cells */
 
-/* The bytes from a cell on, as many as have room on the track; whether their check is right. */
+/* Reads the bytes from a cell on, as many as fit on the track; returns whether their CRC is right. */
 static bool hear(const uint16_t *words, size_t cell, uint8_t *bytes, size_t count) {
     uint16_t crc = crc_begun();
     if (cell + 16 * count > 16 * TRACK_WORDS) return false;
@@ -94,7 +94,7 @@ static bool hear(const uint16_t *words, size_t cell, uint8_t *bytes, size_t coun
     return crc == 0;
 }
 
-/* The next cell behind three marks, from a cell on; past the track where there are none. */
+/* The next cell that comes after three marks, from a cell on; if there is none, a place past the end of the track. */
 static size_t behind_marks(const uint16_t *words, size_t cell) {
     uint64_t seen = 0;
     for (size_t at = cell; at < 16 * TRACK_WORDS; at++) {

@@ -1,9 +1,9 @@
-/* Reads sector 1 of a cylinder at the ports, with no driver: the bytes go to /tmp/a, and the result bytes are printed.
+/* Reads sector 1 of a cylinder at the ports, with no driver. The bytes go to /tmp/a, and the result bytes are
+ * printed.
  *   bare CYLINDER CONFIGURE         byte by byte at 3F5; CONFIGURE is the second byte of that command, hexadecimal
- *   bare CYLINDER CONFIGURE WAIT    by channel 2, which is unmasked WAIT microseconds behind the command
- * The heads are at cylinder 0, so another one wants implied seeks (40 in CONFIGURE).
- * The kernel keeps 64 KiB from 80000 for it (memmap=64K$0x80000).
- */
+ *   bare CYLINDER CONFIGURE WAIT    by channel 2, which is unmasked WAIT microseconds after the command
+ * The heads are at cylinder 0, so another cylinder needs implied seeks (40 in CONFIGURE).
+ * The kernel keeps the 64 KiB from 80000 on for this program (memmap=64K$0x80000). */
 #define _DEFAULT_SOURCE
 #include <fcntl.h>
 #include <stdio.h>
@@ -26,7 +26,7 @@ static double now(void) {
     return time.tv_sec + time.tv_nsec / 1e9;
 }
 
-/* The main status once a byte can pass. */
+/* The main status register, once a byte can pass. */
 static unsigned ready(void) {
     double end = now() + 5;
     unsigned status;
@@ -42,7 +42,7 @@ static void send(unsigned length, const unsigned char *command) {
     }
 }
 
-/* Bytes of data where there is no DMA, and then the results. */
+/* Reads the bytes of data, if there is no DMA, and then the results. */
 static void results(void) {
     unsigned status;
     answers = count = 0;
@@ -83,7 +83,8 @@ static void set_channel(void) {
     outb((LENGTH - 1) >> 8, 0x05);
 }
 
-/* Without DMA a byte waits for 16 microseconds, and Linux's own timer may take as long: then it is tried again. */
+/* Without DMA a byte waits for 16 microseconds, and Linux's own timer may take as long. Then the command is tried
+ * again. */
 static void read_bytes(const unsigned char *command) {
     for (int tries = 0; tries < 20; tries++) {
         send(9, command);

@@ -1,4 +1,5 @@
-"""What `run` boots from a floppy itself, through SeaBIOS: GRUB, SYSLINUX, memtest86+. As checks.py."""
+"""What `run` boots from a floppy itself, through SeaBIOS: GRUB, SYSLINUX, memtest86+. Each function is a check, as in
+checks.py."""
 import os
 import re
 import subprocess
@@ -9,14 +10,14 @@ from guests import Gone, Guest, md5, telwyddus
 
 
 def tool(place, *words):
-    """One of the programs that lie unpacked."""
+    """The file of one of the unpacked programs."""
     folders = [os.path.join(place.root, name) for name in ("usr/bin", "bin")]
     path = {**os.environ, "PATH": ":".join([*folders, os.environ["PATH"]]), "MTOOLS_SKIP_CHECK": "1"}
     subprocess.run([str(word) for word in words], check=True, stdout=subprocess.DEVNULL, stderr=subprocess.PIPE, env=path)
 
 
 def until(guest, pattern, most):
-    """Waits until the screen has a text; the screen."""
+    """Waits until the screen shows a text; returns the screen."""
     text, began = "", time.time()
     while time.time() - began < most and not re.search(pattern, text):
         time.sleep(0.1)
@@ -38,7 +39,7 @@ def boots(place, say, name, flat, pattern, most=400):
 
 
 def grub(place, say):
-    """GRUB: its core behind the boot sector, then a sum of a file of a FAT."""
+    """Boots GRUB, whose core comes after the boot sector, and has it compute a sum of a file on a FAT."""
     big = noise(80, 600000)
     put("big.bin", big)
     put("grub.cfg", b"md5sum (fd0)/big.bin\nls -l (fd0)/\necho GRUB ENDS\nsleep 1000\n")
@@ -58,7 +59,7 @@ def grub(place, say):
 
 
 def syslinux(place, say):
-    """SYSLINUX, and memtest86+ by it."""
+    """Boots SYSLINUX, which starts memtest86+."""
     if os.path.exists("syslinux.flat"):
         os.remove("syslinux.flat")
     tool(place, "mformat", "-C", "-f", "1440", "-i", "syslinux.flat", "::")
@@ -70,7 +71,7 @@ def syslinux(place, say):
 
 
 def memtest(place, say):
-    """memtest86+ by its own boot sector."""
+    """Boots memtest86+ from its own boot sector."""
     code = content(os.path.join(place.root, "boot/memtest86+x64.bin"))
     boots(place, say, "memtest", code + bytes(SECTORS * 512 - len(code)), r"Memtest86\+.*\d")
 

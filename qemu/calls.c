@@ -1,14 +1,16 @@
-/* calls DEVICE: does what each line asks of a diskette drive, and answers by a line. For the guest of `faults`; static.
- *
- *   write HOW FIRST COUNT SEED   sectors of noise by a seed; HOW is `direct`, or `cached`: through the cache, and fsync
- *   read HOW FIRST COUNT         answers a number of each sector's bytes
+/* calls DEVICE: does on a diskette drive what each line of input asks, and answers with a line. It is for the guest
+ * of `faults`, and is linked statically.
+ * 
+ *   write HOW FIRST COUNT SEED   sectors of noise from a seed; HOW is `direct`, or `cached`: through the cache, and
+ *   fsync
+ *   read HOW FIRST COUNT         answers with a number computed from each sector's bytes
  *   format CYLINDER HEAD         FDFMTBEG, FDFMTTRK, FDFMTEND
  *   flush                        FDFLUSH: cache and driver forget what they read
  *   pause MILLISECONDS
  *   quit
- *
- * An answer is `CALL well FORM ..`, or `CALL error FORM NUMBER`. FORM is how many sectors a track Linux takes the disk to have, 0 where it doesn't
- * know. */
+ * 
+ * An answer is `CALL well FORM ..`, or `CALL error FORM NUMBER`. FORM is how many sectors a track the disk has
+ * according to Linux, or 0 if Linux doesn't know. */
 #define _GNU_SOURCE
 #include <errno.h>
 #include <fcntl.h>
@@ -32,7 +34,7 @@ static uint64_t random_next(uint64_t *state) {
     return z ^ z >> 31;
 }
 
-/* The noise of a sector, by its place in the call. */
+/* The noise of a sector, which depends on the sector's place in the call. */
 static void fill(uint8_t *bytes, uint64_t seed, unsigned place) {
     uint64_t state = seed * 64 + place;
     for (int i = 0; i < 64; i++) {
@@ -53,7 +55,7 @@ static int error_of(ssize_t got, size_t wanted) {
     return got < 0 ? errno : EIO;
 }
 
-/* Closes the device, and begins the answer; whether all is well. */
+/* Closes the device, and begins the answer; returns whether all is well. */
 static int is_done(int fd, int error) {
     struct floppy_struct form = {0};
     if (fd >= 0) {
@@ -84,7 +86,7 @@ static void read_sectors(const char *how, unsigned first, unsigned count) {
     puts("");
 }
 
-/* The open without O_NDELAY finds the form of the disk, without which nothing is formatted. */
+/* An open without O_NDELAY lets Linux find the geometry of the disk. Without that nothing can be formatted. */
 static void format_track(unsigned cylinder, unsigned head) {
     struct format_descr track = {.device = 0, .head = head, .track = cylinder};
     int fd = open(device, O_RDWR), error = fd < 0 ? errno : 0;

@@ -1,5 +1,5 @@
-"""What `run` tries under one running Linux: each function is a check, given a place, a `say` of what came of it, and the guest, which goes on from
-one check to the next. They change its media and its speed."""
+"""What `run` tries under one running Linux. Each function is a check. It gets a place, a `say` that takes its results,
+and the guest, which goes on from one check to the next. The checks change the guest's media and its speed."""
 import os
 import random
 import re
@@ -39,13 +39,13 @@ def sum_of(said):
     return said.text.split("\n")[-1]
 
 
-NEW = noise(4, 80 * 42 * 512)       # what is written: /new in each guest
+NEW = noise(4, 80 * 42 * 512)       # what is written: it is the file /new in each guest
 FLAT = NEW[:SECTORS * 512]
 WRITE = "dd if=/new of=/dev/fd0 bs=18k count=80 conv=fsync,notrunc 2>&1; fresh"
 
 
 def shared(place, name):
-    """The Linux of SHARED."""
+    """The Linux of the checks in SHARED."""
     return Linux(place, name, telwyddus(speed=0), {"new": NEW})
 
 
@@ -60,7 +60,7 @@ def take_out(guest):
 
 
 def use_driver(guest, old, new):
-    """Changes the floppy driver."""
+    """Changes the guest's floppy driver."""
     guest.sh(f"rmmod {old}; insmod /modules/{new}.ko")
 
 
@@ -68,7 +68,7 @@ def figures(said):
     return f"{said.seconds:.1f} s in the guest, {said.cpu:.2f} s of the processor"
 
 
-# ---- it is read, written, formatted
+# ---- the disk is read, written, formatted
 
 
 def read(place, say, guest):
@@ -84,7 +84,7 @@ def read(place, say, guest):
 
 
 def write(place, say, guest):
-    """The whole disk is written and read back, and stored as its motor stops."""
+    """The whole disk is written and read back, and is stored when its motor stops."""
     for speed in (1, 0):
         name = f"write{speed}.rt"
         disk(place, name, 3)
@@ -97,7 +97,8 @@ def write(place, say, guest):
 
 
 def flat(place, say, guest):
-    """A flat file goes in, and comes out flat; one that can't be flat any more stays, and its cells lie beside."""
+    """A flat file goes in, and comes out flat. One that can't be flat any more stays as it is, and its cells are stored
+    in a file beside it."""
     put("flat.img", noise(13))
     put_in(guest, "flat.img")
     guest.sh(WRITE)
@@ -145,7 +146,7 @@ def formats(place, say, guest):
 
 
 def dense(place, say, guest):
-    """1.68 MB by the kernel, then 1.6 MB of sectors of 1,024 bytes by superformat."""
+    """The kernel formats 1.68 MB, and then superformat makes 1.6 MB of sectors of 1,024 bytes."""
     disk(place, "dense.rt", 96)
     put_in(guest, "dense.rt")
     use_driver(guest, "floppy", "floppy-raw")
@@ -169,7 +170,8 @@ def dense(place, say, guest):
 
 
 def superformat(place, say, guest):
-    """superformat of fdutils, told the drive's deviation. It measures that itself by a sector of size code 8, which the controller doesn't have."""
+    """superformat of fdutils formats a disk. It is given the drive's deviation: to measure that, it would use a sector
+    of size code 8, which the controller doesn't have."""
     disk(place, "super.rt", 8)
     put_in(guest, "super.rt", speed=1)
     use_driver(guest, "floppy", "floppy-raw")
@@ -184,7 +186,7 @@ def superformat(place, say, guest):
 
 
 def double_density(place, say, guest):
-    """A disk of 720 KB is found by itself; the second drive is written from it."""
+    """Linux detects a disk of 720 KB by itself, and the second drive is written with its content."""
     sectors = disk(place, "double.rt", 60, SECTORS * 256)
     other = disk(place, "double1.rt", 61)
     put_in(guest, "double.rt")
@@ -199,27 +201,27 @@ def double_density(place, say, guest):
     say(third.status == 0 and place.exported("double.rt")[0] == sectors[:40 * 9216] * 2 + sectors[80 * 9216:], "and so is it itself")
 
 
-# ---- commands one by one
+# ---- single commands
 
 KEY = "0 0 0 1 2 18 0x1b 0xff rate=0"
-# Words of fdrawcmd, and what its answer has: bytes of results, or a sum.
+# Arguments of fdrawcmd, and what its answer has: result bytes, or a sum.
 COMMANDS = [("version", "90"), ("dumpregs", None), ("recalibrate 0", None), ("seek 0 3", None), ("readid 0 rate=0", None), ("0x4a 0 rate=0 intr spin", None),
             ("sense 0", None), ("lock", "10"), ("unlock", "0"), ("perpendicular 0", None), ("partid", "80"), ("configure 0 0x1f 0", None),
             ("0x42 " + KEY + " cylinder=0 length=9216 read intr spin", None), ("0x56 " + KEY + " cylinder=0 intr spin", None), ("0x8f 0 2 intr", None)]
-# Words of fdrawcmd, and the bytes that they read. Linux sends its own CONFIGURE before each.
+# Arguments of fdrawcmd, and the bytes that they read. Linux sends its own CONFIGURE before each.
 READS = [("a cylinder", f"read {KEY} cylinder=0 length=18432", lambda sectors: sectors[:CYLINDER]),
          ("four sectors that end on head 1", "read 0 0 0 17 2 18 0x1b 0xff rate=0 cylinder=0 length=2048", lambda sectors: sectors[16 * 512:20 * 512])]
 
 
 def raw(guest, words):
-    """A command by fdrawcmd: its status, what it said, and the sum of the bytes."""
+    """Sends a command by fdrawcmd; returns its status, what it printed, and the sum of the bytes."""
     said = guest.sh(f"fdrawcmd {words} < /new > /tmp/out 2> /tmp/said; echo $?; tr '\\n' ' ' < /tmp/said; echo; sum /tmp/out")
     status, text, out = said.text.split("\n")
     return status, text.strip(), out
 
 
 def raw_commands(place, say, guest):
-    """Single commands by fdrawcmd."""
+    """Tries single commands by fdrawcmd."""
     sectors = disk(place, "raw.rt", 9)
     put_in(guest, "raw.rt")
     use_driver(guest, "floppy", "floppy-raw")
@@ -242,14 +244,14 @@ def raw_commands(place, say, guest):
     say(place.exported("raw.rt")[0] == sectors[:2 * CYLINDER] + NEW[:CYLINDER] + sectors[3 * CYLINDER:], "the stored image has what was written, and nothing else new")
 
 
-# ---- media come and go, and are bad
+# ---- media come and go, and are damaged
 
 
 WRITE_FIRST = "dd if=/new of=/dev/fd0 bs=512 count=1 conv=fsync,notrunc 2>&1; s=$?; fresh; (exit $s)"
 
 
 def refusal(guest, name, value):
-    """What QEMU says as it refuses a property; nothing where it takes it."""
+    """What QEMU says when it refuses a property; empty if it accepts it."""
     try:
         guest.set(name, value)
     except Refused as error:
@@ -258,7 +260,7 @@ def refusal(guest, name, value):
 
 
 def change(place, say, guest):
-    """Media are changed in use, taken out, and put in an empty drive."""
+    """Media are changed in use, taken out, and put into an empty drive."""
     disks = [disk(place, f"change{i}.rt", 20 + i) for i in range(3)]
 
     def reads(i):
@@ -284,7 +286,7 @@ def change(place, say, guest):
 
 
 def unstored(place, say, guest):
-    """A store that fails is told and stays pending; the disk stays in."""
+    """A store that fails is reported and stays pending; the disk stays in."""
     os.makedirs("folder", exist_ok=True)
     disk(place, "unstored.rt", 33)
     os.replace("unstored.rt", "folder/unstored.rt")
@@ -301,12 +303,12 @@ def unstored(place, say, guest):
 
 
 def word_of(record):
-    """Which word of a standard 1.44 MB track is one in the middle of a record's data."""
+    """The number of a word in the middle of a sector's data, on a standard 1.44 MB track."""
     return window_place(record) + 60
 
 
 def spoil(name, cylinder, head, record):
-    """Spoils that word in an image."""
+    """Damages that word in an image."""
     image = bytearray(content(name))
     at = shape_of(image).place(cylinder, head, word_of(record))
     image[at:at + 2] = b"\x55\x55" if image[at:at + 2] != b"\x55\x55" else b"\xAA\xAA"
@@ -314,7 +316,7 @@ def spoil(name, cylinder, head, record):
 
 
 def damaged(place, say, guest):
-    """Damaged sectors are errors, these and no others; ddrescue has the rest."""
+    """Exactly the damaged sectors give errors, and ddrescue gets the rest."""
     sectors = disk(place, "damaged.rt", 40)
     places = ((0, 1, 5), (40, 0, 18), (79, 1, 17))
     bad = [(c * 2 + h) * 18 + r - 1 for c, h, r in places]
@@ -336,7 +338,7 @@ def damaged(place, say, guest):
 
 
 def protected(place, say, guest):
-    """A protected disk is read, not written, not formatted; the tab can be moved."""
+    """A protected disk can be read, and can't be written or formatted. Its write-protect tab can be moved."""
     sectors = disk(place, "protected.rt", 50)
     before = content("protected.rt")
     put_in(guest, "protected.rt", is_protected=True)
@@ -360,7 +362,7 @@ def plan(guest, text):
 
 
 def planned(place, say, guest):
-    """Faults, held bytes and stray interrupts, planned while Linux runs."""
+    """Faults, delayed bytes and spurious interrupts are planned while Linux runs."""
     sectors = disk(place, "planned.rt", 80)
     put_in(guest, "planned.rt")
     for what, text in (("three words that drop out once", "drop 0 0 1 300 1\ndrop 0 40 0 1000 1\ndrop 0 79 1 12000 1\n"), ("lost pulses", "lose 0 3 2\nstick 0 20 1\n"),

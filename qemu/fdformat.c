@@ -1,4 +1,5 @@
-/* fdformat DEVICE [FIRST COUNT]: formats tracks by the ioctls of util-linux's program of this name, which Debian 12 doesn't have any more. */
+/* fdformat DEVICE [FIRST COUNT]: formats tracks by the same ioctls as util-linux's program of this name, which
+ * Debian 12 doesn't have any more. */
 #include <fcntl.h>
 #include <linux/fd.h>
 #include <stdio.h>

@@ -1,21 +1,25 @@
-"""Guests in the QEMU that `build` leaves: Linux, to which one talks line by line, and floppies that boot. For `run` and `faults`.
+"""Guests in the QEMU that `build` makes: Linux, to which a script talks line by line, and floppies that boot. For `run`
+and `faults`.
 
     place = Place("/path/WORK", "/path/floppy")             # as `build` and `guest` left it, and the program
     os.chdir(place.scratch)                                 # images lie here, and logs
-    place.imported(sectors, "disk.rt")                      # the image of a flat file
-    with Linux(place, "name", telwyddus("disk.rt", speed=0), {"new": b".."}) as guest:   # files of its root besides
-        said = guest.sh("dd if=/dev/fd0 of=/tmp/a bs=18k; sum /tmp/a")      # one line of the shell
+    place.imported(sectors, "disk.rt")                      # makes the image of a flat file
+    with Linux(place, "name", telwyddus("disk.rt", speed=0), {"new": b".."}) as guest:   # with more files for its root
+        said = guest.sh("dd if=/dev/fd0 of=/tmp/a bs=18k; sum /tmp/a")      # runs one line of the shell
         said.text, said.status                              # what it printed, stdout and stderr; its status
         said.seconds, said.cpu                              # in the guest, and of the host's processor for all of QEMU
-        guest.set("plan0", "plan.text")                     # a property of the device while the guest runs; Refused has QEMU's text
+        guest.set("plan0", "plan.text")                     # sets a property of the device while the guest runs;
+        Refused has QEMU's text
         guest.set("image0", ""), guest.get("image0")
-        guest.qmp("system_reset"), guest.ready()            # any command of QMP; waits until Linux has booted anew
-        guest.start("program"), guest.line(), guest.send("..\n")    # one that talks by itself: give it < /dev/ttyS1
+        guest.qmp("system_reset"), guest.ready()            # any command of QMP; waits until Linux has booted again
+        guest.start("program"), guest.line(), guest.send("..\n")    # a program that is talked to: give it < /dev/ttyS1
     place.exported("disk.rt")                               # (sectors or None, status, what was printed)
 
-At the end of `with` the guest's power is off, so the image is stored; guest.said() is what QEMU has said. Time is the guest's own (-icount), so that the
-host's load doesn't tell, an instruction taking 2 ** shift nanoseconds; clock="host" lets the host's pass. While nothing is asked the guest's time runs on, faster than the host's: guest.stop() and
-guest.go() stop it. A guest that says nothing for `most` host seconds is ended: Gone.
+At the end of `with` the guest's power is switched off, so the image is stored; guest.said() is what QEMU has printed.
+Time is the guest's own (-icount): an instruction takes 2 ** shift nanoseconds, so the host's load makes no difference.
+With clock="host" the host's time counts. While nothing is asked, the guest's time runs on, faster than the host's;
+guest.stop() stops it, and guest.go() lets it go on. A guest that says nothing for `most` seconds of the host is ended:
+Gone.
 """
 import hashlib
 import json
@@ -41,13 +45,13 @@ def md5(data):
 
 
 def telwyddus(image0="", image1="", **more):
-    """The device's words for QEMU."""
+    """QEMU's arguments for the device."""
     told = {"image0": image0, "image1": image1, **more}
     return ["-device", "telwyddus-fdc,id=fd," + ",".join(f"{name}={value}" for name, value in told.items() if value != "")]
 
 
 def qemus_own(*flats):
-    """QEMU's own controller, with flat files."""
+    """QEMU's arguments for its own controller, with flat files."""
     words = ["-device", "isa-fdc,id=fdc"]
     for i, name in enumerate(flats):
         words += ["-drive", f"if=none,id=d{i},file={name},format=raw", "-device", f"floppy,id=f{i},drive=d{i},bus=fdc.0,unit={i}"]
@@ -55,7 +59,7 @@ def qemus_own(*flats):
 
 
 def cpio(files):
-    """An archive of the form newc: by name the bytes of a file that can be run, or None for a folder."""
+    """A cpio archive in the format newc. It maps each name to the bytes of an executable file, or to None for a folder."""
     out = bytearray()
     for name, data in [*files.items(), ("TRAILER!!!", b"")]:
         mode, data, text = (0o040755, b"", name) if data is None else (0o100755, data, name)
@@ -74,7 +78,7 @@ class Place:
         os.makedirs(self.scratch, exist_ok=True)
 
     def program(self, *words):
-        """The program `floppy`, which takes plain names: its status, and what it printed."""
+        """Runs the program `floppy`, which takes plain names; returns its status, and what it printed."""
         done = subprocess.run([self.floppy, *words], stdout=subprocess.PIPE, text=True)
         return done.returncode, done.stdout
 
@@ -95,14 +99,14 @@ class Place:
 
 
 class Said:
-    """What came of a line of the shell."""
+    """The result of a line of the shell."""
 
     def __init__(self, text, status, seconds, cpu):
         self.text, self.status, self.seconds, self.cpu = text, status, seconds, cpu
 
 
 class Guest:
-    """A QEMU that runs."""
+    """A running QEMU."""
 
     def __init__(self, place, name, device, words=(), clock="own", shift=3, most=600):
         self.place, self.name, self.most, self.began = place, name, most, time.time()
@@ -122,7 +126,7 @@ class Guest:
         self.end(kind is None)
 
     def end(self, is_orderly=True):
-        """Ends it, by its power switch where all is well; what QEMU said is in `errors`."""
+        """Ends QEMU, by the guest's power switch if all is well; what QEMU printed is in `errors`."""
         try:
             if is_orderly and self.process.poll() is None:
                 self.qmp("quit")
@@ -136,12 +140,12 @@ class Guest:
             file.write("\n".join(self.log) + "\n" + self.errors)
 
     def said(self):
-        """What QEMU has said."""
+        """What QEMU has printed."""
         with open(f"{self.name}.errors") as file:
             return file.read()
 
     def cpu(self):
-        """Seconds of the host's processor."""
+        """The seconds of the host's processor that QEMU has used."""
         fields = open(f"/proc/{self.process.pid}/stat").read().rsplit(")", 1)[1].split()
         return (int(fields[11]) + int(fields[12])) / os.sysconf("SC_CLK_TCK")
 
@@ -241,7 +245,8 @@ class Guest:
 
 
 class Linux(Guest):
-    """Linux with busybox, and the floppy driver `driver`: floppy, or floppy-raw, which takes raw commands; or None for none yet."""
+    """Linux with busybox, and with the floppy driver `driver`: floppy, or floppy-raw, which takes raw commands, or None
+    for no driver yet."""
 
     def __init__(self, place, name, device, files=(), driver="floppy", append="", words=(), **more):
         initramfs = f"{name}.{os.getpid()}.initramfs"

@@ -1,4 +1,5 @@
-"""What `run` tries on machines of their own: each function is a check, given a place and a `say` of what came of it."""
+"""What `run` tries on machines of their own. Each function is a check; it gets a place and a `say` that takes its
+results."""
 import os
 import re
 import time
@@ -8,7 +9,7 @@ from guests import Guest, Linux, md5, qemus_own, telwyddus
 
 
 def probe(place, say):
-    """Linux finds a post-1991 82077 and the drives that there are."""
+    """Linux finds a post-1991 82077 and the drives that are there."""
     disk(place, "probe.rt", 1)
     for drives in (2, 1):
         with Linux(place, f"probe{drives}", telwyddus("probe.rt", drives=drives)) as guest:
@@ -25,7 +26,7 @@ def probe(place, say):
 
 
 def reset(place, say):
-    """system_reset in the middle of a read."""
+    """A system_reset comes in the middle of a read."""
     sectors = disk(place, "reset.rt", 65)
     with Linux(place, "reset", telwyddus("reset.rt")) as guest:
         guest.start("(sleep 5; echo NOW > /dev/ttyS1) & " + READ)
@@ -75,14 +76,14 @@ def moved(place, say):
 
 
 def other_machine(place, say):
-    """The machine type pc, whose own isa-fdc is moved away."""
+    """The machine type pc, whose own isa-fdc is moved out of the way."""
     sectors = disk(place, "pc.rt", 75)
     away = [word for name, value in (("iobase", "0x370"), ("irq", 5), ("dma", 3)) for word in ("-global", f"isa-fdc.{name}={value}")]
     with Linux(place, "pc", telwyddus("pc.rt", speed=0), words=["-M", "pc", *away]) as guest:
         say(sum_of(guest.sh(READ)) == md5(sectors), "on the machine type pc the whole disk is read")
 
 
-# What is tried, the words of bare.c, its result bytes, and the cylinder whose first sector is read.
+# What is tried, the arguments of bare.c, the result bytes, and the cylinder whose first sector is read.
 BARE = [("a sector is read without DMA, the FIFO off", "0 30", "40 80 00 00 00 01 02", 0),
         ("a sector is read without DMA, with the FIFO", "0 17", "40 80 00 00 00 01 02", 0),
         ("a sector is read by DMA, the FIFO off", "0 30 0", "00 00 00 01 00 01 02", 0),
@@ -92,9 +93,9 @@ BARE = [("a sector is read without DMA, the FIFO off", "0 30", "40 80 00 00 00 0
 
 
 def bare(place, say):
-    """At the ports, with no driver: without DMA, by implied seeks, and with a channel that is masked at first.
+    """Reads at the ports, with no driver: without DMA, by implied seeks, and with a channel that is masked at first.
 
-    The processor is a fast one, so that Linux's own timer doesn't take as long as a byte may wait.
+    The processor is a fast one, so that Linux's own timer takes less time than a byte may wait.
     """
     sectors = disk(place, "bare.rt", 78)
     with Linux(place, "bare", telwyddus("bare.rt"), driver=None, append="memmap=64K$0x80000", shift=1) as guest:
@@ -106,15 +107,15 @@ def bare(place, say):
                 say(said[0].startswith(results) and is_read, f"speed {speed}: {what}: {said[0]}")
 
 
-# ---- what it costs: alone, one behind the other
+# ---- what it costs: each check alone, one after the other
 
-# Reads by Linux's cache wait in its queue, which Linux looks at every 8 ms meanwhile: that is its own cost.
+# Reads through Linux's cache wait in its queue, which Linux looks at every 8 ms meanwhile: that is Linux's own cost.
 DIRECT = "dd if=/dev/fd0 of=/tmp/a bs=18k iflag=direct 2> /tmp/said; sum /tmp/a"
 CONTROLLERS = [("isa-fdc", [None]), ("telwyddus-fdc", [1, 0])]
 
 
 def costs(place, say):
-    """A whole disk read and written, beside QEMU's own controller."""
+    """A whole disk is read and written, and compared with QEMU's own controller."""
     sectors, cost = disk(place, "costs.rt", 90), {}
     put("costs.img", sectors)
     for what, speeds in CONTROLLERS:
@@ -134,7 +135,7 @@ def costs(place, say):
 
 
 def idles(place, say):
-    """30 idle seconds of the host, with a disk in that was read."""
+    """The cost of 30 seconds of the host in which the guest is idle, with a disk in that was read."""
     put("costs.img", disk(place, "costs.rt", 90))
     idle = {}
     for what, speeds in CONTROLLERS:

@@ -1,4 +1,5 @@
-"""A 1.44 MB medium as qemu/faults judges it: the tracks of an image file, by bios/track.c and with nothing of the library."""
+"""A 1.44 MB medium as qemu/faults judges it: the tracks of an image file, read by bios/track.c and without any part of
+the library."""
 import array
 import ctypes
 import os
@@ -22,7 +23,7 @@ class Fields(ctypes.Structure):
 
 
 def swapped(words):
-    """Between the order of an image file, the high byte first, and this machine's."""
+    """Converts words between the byte order of an image file, which has the high byte first, and that of this computer."""
     values = array.array("H", words)
     if sys.byteorder == "little":
         values.byteswap()
@@ -30,7 +31,7 @@ def swapped(words):
 
 
 class Tracks:
-    """The calls of track.c, compiled into a folder. Words are as an image file has them."""
+    """The functions of track.c, compiled into a folder. Words have the byte order of an image file."""
 
     def __init__(self, work):
         made = os.path.join(work, f"track.{os.getpid()}.so")
@@ -48,7 +49,8 @@ class Tracks:
         return swapped(bytes(words))
 
     def sectors(self, track):
-        """By key the sectors that have it, two behind a format that was cut: where the window begins, and the bytes, or None where they aren't whole."""
+        """The sectors by ID; after a format that was cut, an ID may have two. For each: where its window begins, and
+        its bytes, or None if it isn't whole."""
         found, by_key = Fields(), {}
         self.calls.track_fields(ctypes.byref(found), (ctypes.c_uint16 * WORDS).from_buffer_copy(swapped(track)))
         for field in found.fields[:found.count]:

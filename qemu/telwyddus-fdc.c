@@ -53,7 +53,10 @@ static void telwyddus_fdc_write(void *opaque, uint32_t port, uint32_t value)
     }
 }
 
-/* The reset pin. What was made ahead isn't told any more */
+/*
+ * The reset pin. A change of INT that was made ahead isn't passed on any
+ * more
+ */
 static void telwyddus_fdc_reset(DeviceState *dev)
 {
     TelwyddusFDC *s = TELWYDDUS_FDC(dev);
@@ -128,9 +131,9 @@ static void telwyddus_fdc_realize(DeviceState *dev, Error **errp)
 }
 
 /*
- * No step is made here: memory and the channel may be saved already. Files are
- * brought up to the state, so that this QEMU has nothing to store any more
- * while another one goes on with it.
+ * No step is made here, because memory and the channel may be saved already.
+ * The media are stored in their files first. So this QEMU has nothing left to
+ * store while another one goes on with the state.
  */
 static int telwyddus_fdc_pre_save(void *opaque)
 {

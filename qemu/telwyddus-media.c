@@ -46,7 +46,10 @@ static uint32_t telwyddus_sectors(TelwyddusFDC *s, unsigned bay,
     return code;
 }
 
-/* A name that no file has, for the cells of a medium in place of its sectors */
+/*
+ * A name that no file has. The cells of a medium go there if its sectors
+ * can't
+ */
 static const char *telwyddus_beside(TelwyddusBay *b)
 {
     for (unsigned i = 0; !b->beside; i++) {
@@ -71,7 +74,7 @@ static bool telwyddus_is_stored(TelwyddusFDC *s, unsigned bay)
               != TELWYDDUS_DONE;
 }
 
-/* What is to be stored of a medium that stays in, and the name for it */
+/* What has to be stored of a medium that stays in, and the name of the file */
 static const char *telwyddus_to_store(TelwyddusFDC *s, unsigned bay,
                                       uint8_t **bytes, size_t *length,
                                       Error **errp)
@@ -114,7 +117,7 @@ bool telwyddus_store(TelwyddusFDC *s, unsigned bay, Error **errp)
     if (!name) {
         return false;
     }
-    /* To a new file, which is renamed then */
+    /* Writes to a new file, and then renames it */
     if (!g_file_set_contents(name, (char *)bytes, length, &error)) {
         error_setg(errp, "%s", error->message);
         return false;
@@ -159,7 +162,7 @@ void telwyddus_store_still(TelwyddusFDC *s)
 
 /* ---- media in and out */
 
-/* The medium of a file of cells, or of sectors (1.44 MB or 720 KB) */
+/* Makes the medium of a file of cells, or of sectors (1.44 MB or 720 KB) */
 static bool telwyddus_read_file(const char *name, telwyddus_tray *tray,
                                 bool *is_flat, Error **errp)
 {
@@ -229,7 +232,7 @@ bool telwyddus_insert(TelwyddusFDC *s, unsigned bay, const char *name,
 
 /* ---- plans */
 
-/* The lines of plan0 that are the bus's; the library has looked at all */
+/* Takes the lines of plan0 for the bus; the library has checked all lines */
 static void telwyddus_plan_bus(TelwyddusFDC *s, const char *text)
 {
     g_auto(GStrv) lines = g_strsplit(text, "\n", -1);
@@ -341,7 +344,7 @@ static void telwyddus_get_protect(Object *obj, Visitor *v, const char *property,
     visit_type_bool(v, property, &is_protected, errp);
 }
 
-/* Moves the tab of what is in, and of what is put in later where it is set */
+/* Moves the tab of what is in, and, if set, of what is put in later */
 static void telwyddus_set_protect(Object *obj, Visitor *v, const char *property,
                                   void *opaque, Error **errp)
 {

@@ -2,12 +2,13 @@
  * A floppy controller whose work the library Telwyddus does: its time, its
  * interrupt and its DMA channel.
  *
- * The library moves by device steps, a word under the heads each. Behind each
- * access what is under way is made ahead at once, up to the change of INT that
- * it ends with: `at` is then the time at which the guest is told, by a timer.
- * Until then MSR and DIR answer what they did before, and every other access
- * counts the steps as passed first. So a command takes one timer, and the calls
- * of the library come in an order in which a bus could bring them.
+ * The library moves by device steps; in each a word passes under the heads.
+ * After each access the device makes what is under way ahead, at once, up to
+ * the change of INT with which it ends: `at` is then the time at which a timer
+ * passes the change on to the guest. Until then MSR and DIR answer what they
+ * did before, and every other access first counts the steps as passed. So a
+ * command takes one timer, and the calls of the library come in an order in
+ * which a bus could bring them.
  */
 
 #include "qemu/osdep.h"
@@ -17,11 +18,11 @@
 #include "trace.h"
 
 enum {
-    AHEAD = 4000000,    /* steps at once: READ TRACK may take 256 turns */
+    AHEAD = 4000000,    /* steps at once: READ TRACK can take 256 turns */
     SLICE = 32,         /* steps between looks while the guest has to act */
-    MOMENT = 20000,     /* nanoseconds in which the guest's OUT is over */
-    NOMINAL = 16000,    /* nanoseconds of a step between stray interrupts */
-    FIFO = 16,          /* bytes that are asked for at once, at most */
+    MOMENT = 20000,     /* nanoseconds after which a guest's OUT is over */
+    NOMINAL = 16000,    /* nanoseconds of a step, for spurious interrupts */
+    FIFO = 16,          /* the most bytes that are asked for at once */
 };
 
 void telwyddus_must(uint32_t code)
@@ -37,13 +38,16 @@ int64_t telwyddus_now(void)
     return qemu_clock_get_ns(QEMU_CLOCK_VIRTUAL);
 }
 
-/* Whether the guest has still to be told of a change of INT */
+/* Whether a change of INT has still to be passed on to the guest */
 static bool telwyddus_has_news(TelwyddusFDC *s)
 {
     return !!(s->lines & TELWYDDUS_INT) != s->is_up;
 }
 
-/* Changes alone: an I/O APIC takes each telling of level 1 for an edge */
+/*
+ * Passes on changes alone: an I/O APIC takes each call with level 1 for an
+ * edge
+ */
 void telwyddus_tell(TelwyddusFDC *s)
 {
     if (telwyddus_has_news(s)) {
@@ -70,7 +74,7 @@ void telwyddus_ask_step(TelwyddusFDC *s)
     s->step = MAX(1, word / MAX(1, s->speed));
 }
 
-/* Steps that surely change no line; UINT32_MAX where nothing is under way */
+/* Steps that surely change no line; UINT32_MAX if nothing is under way */
 static uint32_t telwyddus_quiet(TelwyddusFDC *s)
 {
     uint32_t steps;
@@ -79,7 +83,7 @@ static uint32_t telwyddus_quiet(TelwyddusFDC *s)
     return steps;
 }
 
-/* Steps up to a change of INT or DRQ; whether there was time for any */
+/* Makes steps up to a change of INT or DRQ; whether there was time for any */
 static bool telwyddus_run(TelwyddusFDC *s)
 {
     int64_t most = (s->until - s->at) / s->step;
@@ -94,7 +98,10 @@ static bool telwyddus_run(TelwyddusFDC *s)
     return true;
 }
 
-/* A planned hold of the next DACK; whether bytes are still asked for then */
+/*
+ * Makes the next DACK's planned latency; whether bytes are then still asked
+ * for
+ */
 static bool telwyddus_hold(TelwyddusFDC *s)
 {
     int64_t until = s->until;
@@ -105,7 +112,7 @@ static bool telwyddus_hold(TelwyddusFDC *s)
     return s->lines & TELWYDDUS_DRQ;
 }
 
-/* Passes bytes as they are asked for, and tells how many */
+/* Passes bytes as they are asked for, and returns how many */
 static int telwyddus_pass(TelwyddusFDC *s, int pos, int room)
 {
     IsaDmaClass *k = ISADMA_GET_CLASS(s->dma);
@@ -127,8 +134,9 @@ static int telwyddus_pass(TelwyddusFDC *s, int pos, int room)
 }
 
 /*
- * Steps up to a change of INT, or as long as there is time, with the bytes that
- * are asked for meanwhile: as far as the channel, at `pos`, has room for them.
+ * Makes steps up to a change of INT, or as long as there is time. Meanwhile it
+ * passes the bytes that are asked for, as far as the channel, at `pos`, has
+ * room for them.
  */
 static int telwyddus_make(TelwyddusFDC *s, int pos, int size)
 {
@@ -160,7 +168,7 @@ static void telwyddus_release(TelwyddusFDC *s)
     }
 }
 
-/* What the guest sees until that is due which is made ahead now */
+/* Keeps what the guest sees until the end of what is made ahead now */
 static void telwyddus_show(TelwyddusFDC *s)
 {
     s->msr = telwyddus_look(s, PORT_MSR);
@@ -169,8 +177,9 @@ static void telwyddus_show(TelwyddusFDC *s)
 }
 
 /*
- * The timer is due where the guest is to be told, or where it may have failed
- * to act: to unmask the channel, or to read or write a byte without DMA.
+ * The timer is due when the guest has to get a change, or when it may have
+ * failed to act: to unmask the channel, or to read or write a byte without
+ * DMA.
  */
 static void telwyddus_set_timer(TelwyddusFDC *s)
 {
@@ -190,8 +199,9 @@ static void telwyddus_set_timer(TelwyddusFDC *s)
 }
 
 /*
- * Behind steps made ahead. Without waiting (speed 0) a change is told as soon
- * as the guest can take it; where there is none, time goes by as ever.
+ * Called after steps were made ahead. Without waiting (speed 0) a change is
+ * passed on as soon as the guest can take it. If there is no change, time goes
+ * on as usual.
  */
 static void telwyddus_end_ahead(TelwyddusFDC *s)
 {
@@ -202,7 +212,7 @@ static void telwyddus_end_ahead(TelwyddusFDC *s)
     telwyddus_set_timer(s);
 }
 
-/* Where INT is up the guest has to act, so nothing is made ahead */
+/* While INT is up the guest has to act, so nothing is made ahead */
 void telwyddus_go_on(TelwyddusFDC *s)
 {
     int64_t from = s->at;
@@ -211,7 +221,7 @@ void telwyddus_go_on(TelwyddusFDC *s)
         telwyddus_show(s);
         telwyddus_make(s, 0, 0);
         if (s->lines & TELWYDDUS_DRQ) {
-            /* Comes to .._transfer and goes on there, if it isn't masked */
+            /* Calls .._transfer, which goes on, if it isn't masked */
             s->is_asking = s->is_held = true;
             ISADMA_GET_CLASS(s->dma)->hold_DREQ(s->dma, s->channel);
             s->is_asking = false;
@@ -221,7 +231,7 @@ void telwyddus_go_on(TelwyddusFDC *s)
     telwyddus_end_ahead(s);
 }
 
-/* Called by the device itself, or where the guest has unmasked the channel */
+/* Called by the device itself, or when the guest has unmasked the channel */
 int telwyddus_transfer(void *opaque, int nchan, int pos, int size)
 {
     TelwyddusFDC *s = opaque;
@@ -240,9 +250,10 @@ int telwyddus_transfer(void *opaque, int nchan, int pos, int size)
 }
 
 /*
- * Steps made ahead count as passed; else those that are due are made. A change
- * of the lines is told at once, and time goes on from there: where the host is
- * late, the guest has as long to act as ever.
+ * Counts the steps that were made ahead as passed, or else makes those that
+ * are due. A change of the lines is passed on at once, and time goes on from
+ * there. So the guest always has the same time to act, even if the host is
+ * late.
  */
 void telwyddus_settle(TelwyddusFDC *s)
 {
@@ -268,7 +279,7 @@ void telwyddus_tick(void *opaque)
     telwyddus_go_on(opaque);
 }
 
-/* An interrupt without cause; where INT is up there is no edge */
+/* A spurious interrupt; while INT is up there is no edge */
 void telwyddus_stray(void *opaque)
 {
     TelwyddusFDC *s = opaque;
