@@ -1,6 +1,8 @@
-/* speed idle | bytes | block [FIFO] - what tools/check counts the processor's instructions of: an emulated second in which nothing is under way
- * while a motor turns; or a whole disk of 1.44 MB that is read, a cylinder a command, byte by byte or as many at once as are asked for,
- * with the FIFO off, or on where FIFO is told. Only what `measured` does is counted. */
+/* speed idle | bytes | block [FIFO] - the work for which tools/check counts the processor's instructions.
+ *   idle   an emulated second in which nothing is under way while a motor turns
+ *   bytes  a whole disk of 1.44 MB that is read, a cylinder a command, byte by byte
+ *   block  the same, with as many bytes at once as are asked for
+ * The FIFO is on if FIFO is given, else off. Only what `measured` does is counted. */
 #include "guest.h"
 
 #define CYLINDER (36 * 512)

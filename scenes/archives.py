@@ -1,6 +1,6 @@
 """ImageDisk files of every kind of sector, surveys of odd fields, and disks in every phase laid out anew.
 
-Disks are reckoned by the rules of docs/FORMATS.md, word by word.
+The disks are computed by the rules of docs/FORMATS.md, word by word.
 """
 from book import Made, raw
 from disks import MARK, Disk, crc, encode, formatted, layout, marked, moved, window
@@ -13,7 +13,7 @@ def scenes(book):
 
 
 def damaged(content, deleted):
-    """A data field with the last bit of its check turned."""
+    """A data field with the last bit of its CRC inverted."""
     data = (b"\xF8" if deleted else b"\xFB") + content
     check = bytearray(crc(b"\xA1\xA1\xA1" + data))
     check[1] ^= 1
@@ -21,7 +21,7 @@ def damaged(content, deleted):
 
 
 def of_nine_types():
-    """The disk of the ImageDisk file with a sector of each type, whose only track is that of cylinder 1 and head 1."""
+    """The disk of the ImageDisk file with a sector of each type. Its only track is on cylinder 1, head 1."""
     keys = [(7 if i == 4 else 1, 0 if i == 2 else 1, r, 1) for i, r in enumerate((1, 6, 2, 7, 3, 8, 4, 9, 5))]
     track = layout(keys, 0x50, 0xF6, 6250)
     windows = [[GAP] * (18 + 256)]
@@ -57,7 +57,7 @@ def imagedisk(book):
 
 
 def address(n):
-    """The pieces of an address field of an odd key, and its words."""
+    """The pieces of an address field with an odd sector ID, and its words."""
     return [(100, GAP), (12, SYNC), list(marked(bytes([0xFE, 255, 0, 10, n]))[0][12:])]
 
 

@@ -1,9 +1,10 @@
-"""Parts of the machine alone, and a driver on its bench, call by call: `of parts` and `of bench`.
+"""Parts of the machine alone, and a driver on its test rig, call by call: `of parts` and `of bench`.
 
-A small diskette has three cylinders and two heads, and two sectors of 256 bytes on each track of cylinders 0 and 1: bytes 11 under
-head 0 and 22 under head 1 of cylinder 0, 33 and 44 of cylinder 1. What is wanted is counted by hand: an acknowledgement at the rate
-of the first try is one data command, and of 250 kbit/s, behind three tries at 500, a fourth; each attempt is another, and a sector
-that is written is read back by one of its own.
+A small diskette has three cylinders and two heads. Each track of cylinders 0 and 1 has two sectors of 256 bytes. The
+bytes are 11 under head 0 and 22 under head 1 of cylinder 0, and 33 and 44 on cylinder 1. The wanted numbers of data
+commands are counted by hand. An acknowledgement is one data command if the first rate is right. For 250 kbit/s it is a
+fourth command after three tries at 500. Each attempt is another data command, and a sector that is written is read back
+by one of its own.
 """
 from book import raw, text
 from vectors import of, on, on_nothing
@@ -15,7 +16,7 @@ def scenes(book):
 
 
 def told(book, verb, *calls):
-    """Calls are lines, or (LINE, WHAT IS TOLD)."""
+    """Calls are lines, or (LINE, ITS OUTPUT)."""
     pairs = [(call, None) if isinstance(call, str) else call for call in calls]
     on(book, text(";".join(line for line, _ in pairs)))
     of(book, verb, *(line if answer is None else f"{line} {answer}" for line, answer in pairs))
@@ -42,7 +43,7 @@ def parts(book):
     of(book, "start-tries", "3")
 
 
-# ---- a driver on its bench
+# ---- a driver on its test rig
 
 def bench(book, *calls):
     told(book, "bench", *calls)
@@ -69,7 +70,7 @@ def attempts(book):
           "lose 79", ("read 0 0 0 1 1 0", "data"), ("commands", 3), ("faults 0", 3 * 79), ("byte 0", "11"))
     book.scene("a driver tries each rate three times")
     bench(book, "insert 1 250",
-          # the second try at its rate is the fourth command
+          # the second try at the right rate is the fourth command
           "plan calm damaged", ("ack 1", "ok"), ("rate 1", 250), ("commands", 4),
           "plan" + 6 * " unmarked", ("ack 1", "ok"), ("rate 1", 500), ("commands", 10),
           ("set-rate 1 250", "ok"), ("read 1 0 1 2 1 0", "data"), ("byte 0", "22"))
@@ -80,19 +81,19 @@ def rewriting(book):
     bench(book, *DRIVEN,
           "plan unmarked", ("write 0 1 0 1 1 0 data", "ok"), ("commands", 4),
           "plan calm damaged", ("write 0 1 0 1 1 0 data", "ok"), ("commands", 8),
-          # and that of the second write fails too
+          # and the read after the second write fails too
           "plan calm damaged calm stalled", ("write 0 1 0 1 1 0 deleted", "ok"), ("commands", 14),
           ("read 0 1 0 1 1 4096", "deleted"))
     book.scene("a write is refused with the last refusal")
     bench(book, *DRIVEN,
           "plan stalled unmarked stalled", ("write 0 1 0 1 1 0 data", "refused 08"), ("commands", 4),
-          # what was written is damaged each time that it is read back
+          # what was written is damaged each time when it is read back
           "tries 2", "plan calm unmarked calm damaged", ("write 0 1 0 1 1 0 data", "refused 10"), ("commands", 8))
     book.scene("a format is repeated where it or a reading back fails")
     bench(book, *WITH_BLANK,
-          # one command that formats, and nine that read back
+          # one command formats, and nine read back
           ("format 0 0 1 80 229", "ok"), ("commands", 6 + 10),
-          # the format fails; the first record read back is damaged, and then the second
+          # the format fails; then the first sector that is read back is damaged, and then the second
           "plan stalled calm damaged", ("format 0 0 0 80 246", "ok"), ("commands", 16 + 1 + 2 + 10),
           # the diskette has no such track
           ("format 0 1 0 80 246", "refused 02"), ("commands", 29 + 3))

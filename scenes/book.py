@@ -1,4 +1,4 @@
-"""The book of scenes: what the program `test_scenes` is given, and what it must print.
+"""The book of scenes: the input of the program `test_scenes`, and what it must print.
 
 A part of the book is a module with a function `scenes(book)`. Lines of jobs and reports are separated by `;`.
 """
@@ -9,18 +9,18 @@ PARTS = ["worked", "jobs", "whole", "archives", "driver", "commands", "failing",
 
 
 class Made:
-    """A file: its bytes, reckoned in Python, and the lines by which the program makes the same ones."""
+    """A file: its bytes, computed in Python, and the lines by which the program makes the same bytes."""
 
     def __init__(self, data, *recipe):
         self.data, self.recipe = bytes(data), list(recipe)
 
     def with_bytes(self, place, new):
-        """Other bytes from a place on."""
+        """The same file with other bytes from a place on."""
         data = self.data[:place] + new + self.data[place + len(new):]
         return Made(data, *self.recipe, f"bytes {place} {new.hex().upper()}")
 
     def with_words(self, place, *words):
-        """Other words from a place of the first track on."""
+        """The same image with other words from a place of the first track on."""
         new = b"".join(word.to_bytes(2, "big") for word in words)
         start = 14 + 2 * place
         data = self.data[:start] + new + self.data[start + len(new):]
@@ -39,7 +39,7 @@ def text(lines):
 
 
 def raw(data):
-    """A short file by its bytes."""
+    """A short file, given by its bytes."""
     return Made(data, *("hex " + data[i:i + 60].hex().upper() for i in range(0, len(data), 60)))
 
 
@@ -52,12 +52,12 @@ def ended(lines):
 
 
 def told(name, data):
-    """What is printed of a file: its length, and CRC-32 by zlib."""
+    """The line that is printed for a file: its length, and its CRC-32 by zlib."""
     return "%s %d %08X" % (name, len(data), zlib.crc32(data))
 
 
 def runs_of(memory):
-    """How memory is printed: equal bytes as one with their number."""
+    """The line that is printed for memory: a run of equal bytes is written as the byte with their number."""
     runs = []
     for byte in memory:
         if runs and runs[-1][1] == byte:
@@ -84,7 +84,8 @@ class Book:
         self.both("scene " + name)
 
     def file(self, name, made):
-        """A file; the first time that a recipe of more than a text is followed, its sum is held against Python's."""
+        """Gives the scene a file. When a recipe that isn't only a text is used for the first time, its sum is compared
+        with Python's."""
         self.give("file " + name, *made.recipe)
         self.files.pop(name, None)
         self.files[name] = made.data
@@ -95,21 +96,21 @@ class Book:
             self.want(told(name, made.data))
 
     def watch(self, name):
-        """A file that isn't there, and that the run's words don't name."""
+        """Looks at a file that isn't there, and that the run's arguments don't name."""
         self.give("watch " + name)
         self.files[name] = None
 
     def plan(self, lines):
-        """The plan of faults and delays that the later runs have."""
+        """Gives later runs this plan of faults and delays."""
         self.file("faults", text(lines))
         self.plan_named("faults")
 
     def plan_named(self, name):
-        """Later runs have the plan of this name, whether or not there is one."""
+        """Gives later runs the plan of this name, whether or not such a file exists."""
         self.give("plan " + name)
 
     def plan_unnamed(self):
-        """Later runs have a plan whose name isn't text."""
+        """Gives later runs a plan whose name isn't text."""
         self.give("noname")
 
     def shelf(self, *calls):
@@ -119,18 +120,19 @@ class Book:
         self.give(*(f"sink {call}" for call in calls))
 
     def look(self, address, length):
-        """Later runs print this memory."""
+        """Has later runs print this memory."""
         self.give("ram %05X %d" % (address, length))
 
     def count(self, *names):
-        """Later runs print these counts: steps, commands, taken, stalls, direct, faults0, faults1."""
+        """Has later runs print these counts: steps, commands, taken, stalls, direct, faults0, faults1."""
         self.give("counts " + " ".join(names))
         self.counted = names
 
     # ---- what it does
 
     def run(self, words, report, status=0, stored=None, counts=None, memory=None):
-        """`stored` has the bytes of each file that is stored, `counts` the numbers of what is counted."""
+        """Runs the program. `stored` has the bytes of each file that is stored, `counts` the numbers of what is
+        counted."""
         self.runs += 1
         self.both("run " + words if words else "run")
         self.want(*split(report), f"status {status}")

@@ -1,7 +1,8 @@
-"""Commands of the machine in jobs: at each pace, with strays and holds.
+"""Commands of the machine in jobs: with each timing, with spurious interrupts and DMA latencies.
 
-The disk: three cylinders at 250 kbit/s, two sectors of 512 bytes under each head, of 11 and 22 on cylinder 0, 33 and 44 on
-cylinder 1; cylinder 2 is blank. Counts of commands are added up by hand, as are stalls, one for each request that is held too long.
+The disk has three cylinders at 250 kbit/s. Under each head there are two sectors of 512 bytes: 11 and 22 on cylinder 0,
+33 and 44 on cylinder 1; cylinder 2 is blank. Counts of commands are added up by hand. So are the counts of late DMA
+requests, one for each request that is delayed too long.
 """
 from book import Made
 from disks import Disk, layout, standard, window
@@ -32,7 +33,7 @@ def scenes(book):
 def paces(book):
     done = disk().write(1, b"\x33" * 512, True, 3)
     done.tracks[5] = layout(standard(2, 1, 9), 0x50, 0xF6, 6250)
-    # An acknowledgement looks at both rates, and a write and a format read back what they wrote.
+    # An acknowledgement looks at both rates. A write and a format read back what they wrote.
     commands = 2 + 1 + 2 + 1 + 10 + 1
     for name, plan in (("gaps of 0 steps", "gap 0 1000"), ("gaps of 1 step", "gap 1 1000"), ("gaps of 3 steps", "gap 3 1000"),
                        ("gaps of 200 steps", "gap 200 1000"),
@@ -50,8 +51,8 @@ SMALL_DISK = Made(Disk(1, 1, 800, 2, 0, [layout([(0, 0, 1, 2)], 16, 0x55, 800)])
 
 
 def strays(book):
-    """A small disk of one track of 800 words, one sector: a command on it ends once in 800 steps. Strays each 53 steps come at each
-    step of a turn within 53 turns."""
+    """A small disk of one track of 800 words with one sector: a command on it ends once in 800 steps. Spurious
+    interrupts that come each 53 steps hit each step of a revolution within 53 revolutions."""
     for name, request, answer, count, commands in (("read", "read 0 0 0 1 2 1000", "read ok", 60, 60),
                                                    ("write", "write 0 0 0 1 2 2000", "write ok", 30, 2 * 30),
                                                    ("acknowledgement", "ack 0", "ack ok", 30, 2 * 30)):
@@ -96,15 +97,16 @@ def overruns(book):
     book.count("commands", "stalls", "faults0")
     book.play(job + "read 0 0 0 1 2 1000;read 0 0 0 1 2 1000;dump 11FF 1", report + "read refused 08;read ok;011FF 11", 1,
               counts=(4, 1, 0))
-    # A read overruns at its first request. A write's first request fills the queue before the field comes, and the second is
-    # late. Of a format two keys are left in the queue at each further request, and the sectors between take hundreds of steps.
+    # A read overruns at its first request. A write's first request fills the FIFO before the field comes, and the
+    # second request is late. In a format, two sector IDs are left in the FIFO at each further request, and the sectors
+    # between take hundreds of steps.
     book.scene("holds of nine steps overrun reads and writes and no format")
     book.file("a.rt", DISK)
     book.plan("hold 9 8")
     book.count("stalls", "faults0")
     formatted = disk()
     formatted.tracks[1] = layout(standard(0, 1, 9), 0x50, 0xF6, 6250)
-    # What was in the queue is written behind the window's zeros, marks and mark byte.
+    # What was in the FIFO is written after the window's zeros, marks and mark byte.
     formatted.tracks[0][190:190 + 16 + 16] = window(bytes(512))[:16 + 16]
     book.play(job + "read 0 0 0 1 2 1000;read 0 0 0 1 2 1000;write 0 0 0 1 2 1000;format 0 0 1",
               report + "read refused 08;read refused 08;write refused 08;format ok", 1, {"a.rt": formatted.file()}, counts=(8, 0))

@@ -1,7 +1,8 @@
 """Commands of the controller at the ports: how each ends, what it reads, what it writes and what it formats.
 
-Result bytes come from the data sheet of the 82077AA, as docs/FORMATS.md sums it up; what is written and formatted from tools/disks.py.
-Memory is 00 at first. What is to be written comes into it by a READ DATA of a field that holds it.
+Result bytes come from the data sheet of the 82077AA, as docs/FORMATS.md sums it up. What is written and formatted comes
+from tools/disks.py. Memory is 00 at first. What is to be written comes into memory by a READ DATA of a field that holds
+it.
 """
 from accesses import *
 from book import Made
@@ -64,7 +65,7 @@ def reads(book):
         book.scene(f"a sector is read whose cells stand {phase} places on")
         book.file("a.rt", disk)
         book.look(0xFFFF, 514)
-        # Behind the last record stands the first one of the next cylinder.
+        # After the last sector comes the first one of the next cylinder.
         book.ports(START + channel(512) + data(0x46, 18) + lines(END), STARTED + lines(ended(0, 0, 0, 1, 0, 1, 2)),
                    memory=bytes(1) + F6 + bytes(1))
     book.scene("an early terminal count ends the bytes")
@@ -72,7 +73,7 @@ def reads(book):
     book.look(0xFFFF, 514)
     book.ports(START + channel(100) + data(0x46, 3) + lines(END), STARTED + lines(ended(0, 0, 0, 0, 0, 4, 2)),
                memory=bytes(1) + b"\xF6" * 100 + bytes(413))
-    # The mark F8, and 8A 91, the check over A1 A1 A1 F8 and 512 bytes F6.
+    # The mark F8, and 8A 91, the CRC over A1 A1 A1 F8 and 512 bytes F6.
     runs(book, "a deleted field sets the control mark", ONE.with_words(205, 0x554A).with_words(718, 0x4A44, 0x4929),
          channel(512) + data(0x46, 1) + END, ended(0, 0, 0x40, 0, 0, 2, 2))
 
@@ -101,20 +102,20 @@ def failures(book):
 # ---- what is written comes from a source disk, which is read into memory first
 
 def put(track, record, window):
-    """Puts the window of a record, or the beginning of it, in place."""
+    """Puts the window of a sector, or the beginning of it, in place."""
     place = 190 + 682 * (record - 1)
     track[place:place + len(window)] = window
 
 
 def source(content):
-    """A disk whose first sector holds this content, which repeats."""
+    """A disk whose first sector holds this content, repeated."""
     words = list(TRACK)
     put(words, 1, window((content * 512)[:512]))
     return Made(one_track(words), *ONE.recipe, "field 190 data " + content.hex().upper())
 
 
 def filled(content, code=0x46, end=END):
-    """The content of the source comes to 10000 (bay 1 has the source, whose motor turns too), and bay 0 is selected again."""
+    """Brings the content of the source to 10000 (bay 1 has the source, whose motor turns too), and selects bay 0 again."""
     return ("insert 1 s.rt;out 3F2 2D;wait 6250;" + channel(512) + send(code, 1, 0, 0, 1, 2, 0x12, 0x1B, 0xFF) + end
             + "out 3F2 1C;wait 6250;")
 
@@ -133,7 +134,7 @@ def with_source(book, name, disk, content, accesses, report, stored=None, memory
 
 
 def rewritten(record, content, deleted=False, phase=0):
-    """A window is written from a whole word on, whatever the cells of the address field before it."""
+    """A window is written from a whole word on, at whatever phase the cells of the address field before it are."""
     words = turned(TRACK, phase)
     put(words, record, window((content * 512)[:512], deleted))
     return words
@@ -168,7 +169,7 @@ def writes(book):
 
 
 def keys(count):
-    """The bytes of the keys of a track."""
+    """The bytes of the sector IDs of a track."""
     return b"".join(bytes(key) for key in standard(0, 0, count))
 
 
@@ -179,19 +180,19 @@ def format_track(sectors, gap3, bytes_there, end=LONG_END):
 def formats(book):
     with_source(book, "eighteen sectors are laid out", BLANK, keys(18), format_track(18, 0x6C, 72), ended(0, 0, 0, 0, 0, 0x12, 2),
                 one_track(TRACK))
-    # Behind the keys the channel has bytes left when the second index comes, so that it gives no terminal count.
+    # After the sector IDs the channel has bytes left when the second index comes, so it gives no terminal count.
     with_source(book, "a layout needs no terminal count", BLANK, keys(18) + b"\xEE" * 28, format_track(18, 0x6C, 100),
                 ended(0, 0, 0, 0, 0, 0x12, 2), one_track(TRACK))
     at_250 = Made(Disk(1, 1, 6250, 2).file(), "head 0 1 1 2 6250", "fillwords 6250 0000")
     nine = Disk(1, 1, 6250, 2, 0, [layout(standard(0, 0, 9), 0x50, 0xF6, 6250)])
     with_source(book, "nine sectors at 250 kbit per second are laid out", at_250, keys(9),
                 "out 3F7 02;" + format_track(9, 0x50, 36), ended(0, 0, 0, 0, 0, 9, 2), nine.file())
-    # The layout needs 12,548 words. Its beginning is laid.
+    # The layout needs 12,548 words. Its beginning is recorded.
     with_source(book, "a layout that does not fit has no mark", BLANK, keys(18), format_track(18, 115, 72),
                 ended(0x40, 1, 1, 0, 0, 0, 0), one_track(layout(standard(0, 0), 115, 0xF6, 12548)[:12500]))
     with_source(book, "at another rate nothing is laid", ONE, keys(18), "out 3F7 02;" + format_track(18, 0x6C, 72),
                 ended(0x40, 1, 0, 0, 0, 0, 0))
-    # All words up to the first key, which would begin with word 162.
+    # All words up to the first sector ID, which would begin with word 162.
     with_source(book, "a missing key byte is an overrun and closes the gate", BLANK, keys(18),
                 "out 00A 06;" + send(0x4D, 0, 2, 18, 0x6C, 0xF6) + LONG_END, ended(0x40, 0x10, 0, 0, 0, 0, 0),
                 one_track(TRACK[:162] + [0] * (12500 - 162)))
@@ -200,9 +201,10 @@ def formats(book):
 
 
 def gates(book):
-    # Both disks stand at word 10 of 12,500 when the first write begins, and its window at word 190: 30 of its words are written.
-    # Then bay 0 stands at word 6,480 and bay 1 at word 10, and the window of record 11 at word 7,010: 20 of its words are written.
-    # The next 7 are given to bay 1, whose gate the reset closed, and the last 503 to bay 0, whose gate was closed meanwhile.
+    # Both disks are at word 10 of 12,500 when the first write begins. Its window is at word 190, and 30 of its words
+    # are written. Then bay 0 is at word 6,480 and bay 1 at word 10. The window of record 11 is at word 7,010, and 20 of
+    # its words are written. The next 7 words go to bay 1, whose gate was closed by the reset, and the last 503 to bay
+    # 0, whose gate was closed meanwhile.
     bytes_00 = channel(512, mode=0x4A)
     words = window(bytes(512))
     first, second = list(TRACK), list(TRACK)

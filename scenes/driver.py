@@ -1,8 +1,9 @@
 """The driver in jobs: acknowledgements and rates, attempts, pulses that are lost, and what is refused at once.
 
-The disks: three cylinders of 900 words a track, two sectors of 256 bytes under each head, of 11 and 22 on cylinder 0, 33 and 44 on
-cylinder 1; cylinder 2 is blank. Counts of data commands are added up by hand: an acknowledgement looks for an id at 500 kbit/s and
-then at 250, three times where there is none; an attempt of a read is one, of a write two, of a format one and one for each record.
+The disks have three cylinders of 900 words a track. Under each head there are two sectors of 256 bytes: 11 and 22 on
+cylinder 0, 33 and 44 on cylinder 1; cylinder 2 is blank. Counts of data commands are added up by hand. An
+acknowledgement looks for a sector ID at 500 kbit/s and then at 250, three times if there is none. An attempt of a read
+is one data command, of a write two. An attempt of a format is one, and one more for each sector.
 """
 from book import Made
 from disks import Disk, formatted, layout, standard, window
@@ -53,7 +54,8 @@ def acknowledgements(book):
         "insert 0 a.rt;ack 0;eject 0;insert 0 e.rt;read 0 0 0 1 1 0;ack 0;read 0 0 0 1 1 0;eject 0;read 0 0 0 1 1 0;ack 0",
         "insert ok;ack ok;eject ok;insert ok;read refused 06;ack ok;read ok;eject ok;read refused 06;ack refused 80", 1,
         files={"a.rt": DISK, "e.rt": DISK_250}, count=["commands"], counts=(1 + 2 + 1,))
-    # Heads begin at track 0, so the only pulse of a round that tells a medium is the inward one to cylinder 1.
+    # Heads begin at track 0. So in a round that finds out whether there is a medium, the only pulse is the inward one
+    # to cylinder 1.
     job(book, "a lost pulse in each of three rounds leaves the change line set", "insert 0 a.rt;ack 0;ack 0",
         "insert ok;ack refused 80;ack ok", 1, plan="lose 0 0 4", count=["commands", "faults0"], counts=(1, 4))
     job(book, "a lost pulse in each of two rounds is made up for", "insert 0 a.rt;ack 0", "insert ok;ack ok",
@@ -93,7 +95,8 @@ def attempts(book):
 
 
 def pulses(book):
-    # A recalibration gives 79 pulses, and an attempt makes two. The last read reaches track 0 at its second one.
+    # A recalibration gives 79 pulses, and an attempt makes two recalibrations. The last read reaches track 0 at its
+    # second one.
     job(book, "without track 0 no data command is sent",
         "insert 0 a.rt;ack 0;tries 1;read 0 2 0 1 1 0;read 0 0 0 1 1 0;tries 3;read 0 0 0 1 1 0;read 0 0 0 1 1 0;dump 0 1",
         "insert ok;ack ok;tries ok;read refused 02;read refused 40;tries ok;read refused 40;read ok;00000 11", 1,
@@ -116,7 +119,7 @@ def edges(book):
 
 
 def put(track, window):
-    """Puts the window of the first record in place."""
+    """Puts the window of the first sector in place."""
     track[190:190 + len(window)] = window
 
 
@@ -143,14 +146,14 @@ def formats(book):
     done = Disk(2, 2, 6250, 2)
     for place, c, h in (1, 0, 1), (2, 1, 0):
         done.tracks[place] = layout(standard(c, h, 9), 0x50, 0xF6, 6250)
-    # The first record of cylinder 1 is damaged as it is read back, so the track is formatted again. Where the disk has no track
-    # a format goes nowhere, and nothing is read back.
+    # The first sector of cylinder 1 is damaged when it is read back, so the track is formatted again. If the disk has
+    # no such track, a format goes nowhere, and nothing is read back.
     job(book, "tracks are formatted and read back",
         "insert 0 e.rt;ack 0;rate 0 250;format 0 0 1;read 0 0 1 9 2 0;dump 1FF 1;format 0 1 0;format 0 2 0",
         "insert ok;ack ok;rate ok;format ok;read ok;001FF F6;format ok;format refused 02", 1,
         plan="drop 0 1 0 300 1", files={"e.rt": blank}, stored={"e.rt": done.file()},
         count=["commands", "faults0"], counts=(6 + 10 + 1 + (2 + 10) + 3 * 2, 1))
-    # Nine sectors of 512 bytes don't fit on 900 words: their beginning is laid.
+    # Nine sectors of 512 bytes don't fit on 900 words: their beginning is recorded.
     short = disk(250)
     short.tracks[0] = layout(standard(0, 0, 9), 0x50, 0xF6, 6250)[:900]
     job(book, "a layout that does not fit is tried three times", "insert 0 e.rt;ack 0;format 0 0 0", "insert ok;ack ok;format refused 02", 1,

@@ -1,7 +1,9 @@
-"""Calls of the outside that fail: each of the shelf and each of the sink in turn, up to the first that isn't made.
+"""Calls to the outside that fail: each call of the file store and each of the output in turn, up to the first that
+isn't made.
 
-A shelf that fails ends the program with status 6 and a sink with 8, with nothing more printed. A sink that fails takes nothing
-of the line. What was stored before stays stored: this comes from the order of loads and stores in docs/FORMATS.md.
+If the file store fails, the program ends with status 6, and if the output fails, with status 8; nothing more is
+printed. An output that fails takes nothing of the line. What was stored before stays stored. All this comes from the
+order of loads and stores in docs/FORMATS.md.
 """
 from book import Made, raw, text
 from disks import formatted
@@ -33,7 +35,7 @@ def each(book, what, files, words, stages, status=0):
 def jobs(book):
     each(book, "a job", {"a.rt": A_FIRST, "job": text("insert 0 a.rt;eject 0")}, "play job",
          [("load", "job"), ("load", "a.rt"), ("put", "insert ok"), ("store", "a.rt", A.data), ("put", "eject ok")])
-    # Both media are stored at the end, that of bay 0 first.
+    # Both media are stored at the end, the one of bay 0 first.
     each(book, "a job with two media", {"a.rt": A_FIRST, "b.rt": A_FIRST, "job": text("insert 1 b.rt;insert 0 a.rt")}, "play job",
          [("load", "job"), ("load", "b.rt"), ("put", "insert ok"), ("load", "a.rt"), ("put", "insert ok"),
           ("store", "a.rt", A.data), ("store", "b.rt", A.data)])

@@ -1,4 +1,5 @@
-"""Jobs and words of the command line. Reports come from the rules of docs/FORMATS.md, worked by hand; disks from tools/disks.py."""
+"""Jobs and arguments of the command line. Reports are worked out by hand from the rules of docs/FORMATS.md; disks come
+from tools/disks.py."""
 from book import Made, raw
 from disks import formatted
 from samples import *
@@ -56,8 +57,8 @@ def edges(book):
 
 
 def counts(book):
-    """A data command is a READ ID of an acknowledgement, an attempt of a read, a write or a format, and each sector read back.
-    An access past the driver is a medium put in or out, and each byte of a fill."""
+    """A data command is a READ ID of an acknowledgement, an attempt of a read, a write or a format, and each sector
+    that is read back. An access past the driver is a medium that is put in or out, and each byte of a fill."""
     for name, job, report, status, counted, stored in (
             ("an empty job", "", "", 0, (0, 0, 0, 0, 0), None),
             ("a medium put in and out", "insert 0 a.rt;ack 1;eject 1;insert 2 a.rt",
@@ -83,9 +84,9 @@ def whole_runs(book):
               "writedel 0 0 0 5 2 10200;read 0 0 0 5 2 20000;read 0 0 1 18 2 30000;dump 30000 1;format 0 0 1;eject 0",
               "insert ok;ack ok;read ok;10000 F6 F6;fill ok;write ok;writedel ok;read ok deleted;read ok;30000 A1;format ok;eject ok",
               stored={"a.rt": disk})
-    # An acknowledgement of 250 kbit/s is two data commands, a write reads back, and a format reads back nine sectors. Beside data
-    # commands interrupts are of the reset, three movements of an acknowledgement, and a seek of each attempt, behind a
-    # recalibration where it is a format or there is one try.
+    # An acknowledgement of 250 kbit/s is two data commands, a write reads back, and a format reads back nine sectors.
+    # The other interrupts are those of the reset, of three movements for an acknowledgement, and of a seek for each
+    # attempt. That seek comes after a recalibration if the attempt is of a format, or if there is only one try.
     disk = formatted(1, 250).write(5, bytes(512), True, step=654).file()
     book.scene("a job of each kind of request at 250 kbit per second")
     book.file("a.rt", Made(formatted(1, 250).file(), "disk 1 250"))
@@ -96,7 +97,7 @@ def whole_runs(book):
               "insert ok;read refused 06;ack ok;fill ok;write ok;writedel ok;read ok deleted;read ok;30000 A1;format ok;tries ok;"
               "read refused 04;rate ok;read refused 02;rate ok;unit refused busy;unit ok;read refused 06;eject ok", 1, {"a.rt": disk},
               counts=(2 + 2 * 2 + 2 + 10 + 2, 20 + 1 + 3 + 2 + 2 + 2 + 2 * 2, 1 + 512 + 1 + 1, 0, 0, 0))
-    # With one try a refused read is one data command; an acknowledgement of 250 kbit/s looks at 500 first.
+    # With one try, a refused read is one data command. An acknowledgement of 250 kbit/s looks at 500 first.
     disk = formatted(1, 250).write(9, b"\0" + b"\xF6" * 511, step=654).file()
     book.scene("a job of refusals")
     book.file("e.rt", Made(formatted(1, 250).file(), "disk 1 250"))

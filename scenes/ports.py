@@ -1,7 +1,8 @@
 """Texts of port accesses on the bare machine.
 
-What the ports give comes from the registers and result bytes of docs/FORMATS.md and of the data sheets of the 82077AA, the 8237A
-and the PC/AT's board, worked by hand; steps are added up from the waits; what memory holds comes from the disks of tools/disks.py.
+What the ports give is worked out by hand from the registers and result bytes of docs/FORMATS.md, and from the data
+sheets of the 82077AA, the 8237A and the PC/AT's board. Steps are added up from the waits. What memory holds comes from
+the disks of tools/disks.py.
 """
 from accesses import *
 from book import Made
@@ -20,7 +21,7 @@ def two_sectors():
 
 
 TWO = two_sectors()
-# Motor 0 on, out of reset, at speed; SPECIFY AF 02, CONFIGURE 00 07 00, 500 kbit/s. The disk then stands at word 10.
+# Motor 0 on, out of reset, at speed; SPECIFY AF 02, CONFIGURE 00 07 00, 500 kbit/s. The disk is then at word 10.
 START = "insert 0 a.rt;out 3F2 1C;wait 6260;irq;" + POLLED + send(3, 0xAF, 2, 0x13, 0, 7, 0) + "out 3F7 00;"
 STARTED = "insert ok;irq 1;" + WAS_POLLED
 READ_ID = send(0x4A, 0)
@@ -51,7 +52,7 @@ def answers_of_an_empty_machine(book):
                "out 3F5 08;in 3F4;in 3F5;in 3F5;in 3F4;out 3F5 1F;in 3F4;in 3F5;in 3F4;eject 0;eject 2",
                "irq 0;in 3F4 00;in 123 FF;in ABCD FF;irq 1;irq 0;irq 0;in 3F4 80;in 3F4 D0;in 3F5 C0;in 3F5 00;in 3F4 80;"
                "in 3F4 D0;in 3F5 80;in 3F4 80;eject refused empty;eject refused 01", 1)
-    # The poll comes in the first step behind the access that ends the reset: in the gap, or in none.
+    # The poll comes in the first step after the access that ends the reset: either in the gap after it, or not in it.
     for name, plan, told in (("of one step", "gap 1 1", "irq 1;irq 0;irq 0"), ("of no step", "gap 0 1", "irq 0;irq 1;irq 0")):
         book.scene("a gap " + name + " runs behind the access")
         book.plan(plan)
@@ -119,13 +120,14 @@ def searches(book):
     book.count("steps", "commands", "taken")
     book.ports("out 3F2 1C;wait 1;" + READ_ID + "wait 65535;in 3F4;wait 1;in 3F4;in 3F5;in 3F5;in 00A",
                "in 3F4 10;in 3F4 D0;in 3F5 40;in 3F5 01;in 00A FF", counts=(65537, 1, 0))
-    # Motor 0 stays on and drive 2 isn't there. The disk turns on to word 410; the second address field ends with word 757.
+    # Motor 0 stays on and drive 2 isn't there. The disk turns on to word 410; the second address field ends with word
+    # 757.
     book.scene("a search waits while no drive is selected")
     book.file("a.rt", TWO)
     book.count("steps", "commands", "direct")
     book.ports(START + "out 3F2 1E;" + READ_ID + "wait 10000;in 3F4;irq;out 3F2 1C;wait 347;irq;wait 1;irq;" + lines(RESULTS),
                STARTED + "in 3F4 10;irq 0;irq 0;irq 1;" + lines(answers(0, 0, 0, 0, 0, 2, 2)), counts=(6260 + 10348, 1, 1 + 1))
-    # A stray comes at step 6300. The first address field ends with word 167, and word 50 passed first.
+    # A spurious interrupt comes at step 6300. The first address field ends with word 167, and word 50 passed first.
     book.scene("an id is read behind a stray interrupt")
     book.file("a.rt", TWO)
     book.plan("stray 6300 1")

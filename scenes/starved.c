@@ -1,5 +1,5 @@
-/* For `starved`: a library to preload that refuses the allocation of number FAIL_AT, or with FAIL_ON each from that one on, and
-   writes the number of all to the file FAIL_COUNT. */
+/* For `starved`: a library to preload. It refuses the allocation of number FAIL_AT, or with FAIL_ON each one from
+ * that on. It writes the number of all allocations to the file FAIL_COUNT. */
 #define _GNU_SOURCE
 #include <dlfcn.h>
 #include <errno.h>

@@ -1,12 +1,12 @@
 """Pure functions on vectors: `of VERB ARGUMENTS` asks one about the bytes of the last file.
 
-What is wanted comes from published vectors, from tables worked by hand, and from tools/disks.py. Words of a track are counted from
-the index on, its cells in sixteens from the first cell of the first word.
+The wanted results come from published vectors, from tables worked out by hand, and from tools/disks.py. The words of a
+track are counted from the index on. Its cells are counted in sixteens from the first cell of the first word.
 """
 from book import Made, raw, text
 from disks import Disk, layout, marked, turned, word_of
 
-GAP, SYNC, FILL, MARK, INDEX_MARK = 0x9254, 0xAAAA, 0x5514, 0x4489, 0x5224    # 4E, 00 and F6 behind a bit 0; the marks
+GAP, SYNC, FILL, MARK, INDEX_MARK = 0x9254, 0xAAAA, 0x5514, 0x4489, 0x5224    # 4E, 00 and F6 after a bit 0; the marks
 
 
 def scenes(book):
@@ -14,7 +14,7 @@ def scenes(book):
         part(book)
 
 
-# ---- how it is written
+# ---- how results are written
 
 def of(book, asked, *wanted):
     book.both("of " + asked)
@@ -30,7 +30,7 @@ def on_nothing(book):
 
 
 def runs(values, digits):
-    """Equal values behind one another, as one with their number."""
+    """Equal values in a row are written as the value with their number."""
     found = []
     for value in values:
         if found and found[-1][1] == value:
@@ -54,7 +54,7 @@ def track(words, *recipe, protected=0):
 
 
 def by_hand(*pieces):
-    """A track of pieces `(TIMES, WORD)` and of lists of words."""
+    """A track made of pieces `(TIMES, WORD)` and of lists of words."""
     words, recipe = [], []
     for piece in pieces:
         if isinstance(piece, tuple):
@@ -76,9 +76,9 @@ def laid(keys, words, gap3=0x6C, fill=0xF6):
 
 # ---- cells, and words of fields
 
-# FE 00 00 01 01 behind a mark, and the check FA0C.
+# FE 00 00 01 01 after a mark, and the CRC FA0C.
 ADDRESS = [0x5554, 0xAAAA, 0xAAAA, 0xAAA9, 0x2AA9, 0x5544, 0xAA52]
-# FB or F8 behind a mark, and the check over it and 256 bytes F6: CAB7 or 8B0F.
+# FB or F8 after a mark, and the CRC over it and 256 bytes F6: CAB7 or 8B0F.
 NORMAL, DELETED = (0x5545, 0x5244, 0x4515), (0x554A, 0x4A45, 0x2A55)
 
 
@@ -108,12 +108,12 @@ def cells(book):
 
 # ---- what is found on tracks
 
-CONTENT, PLACE = 16 * 120, 16 * 72    # the first cells of the content and of the address field behind three marks
+CONTENT, PLACE = 16 * 120, 16 * 72    # the first cells of the content and of the address field, after three marks
 END = 378                             # the words up to the end of the data field
 
 
 def one_sector(marks=3, data=NORMAL):
-    """A track with one sector of 256 bytes F6, written down by hand."""
+    """A track with one sector of 256 bytes F6, written out by hand."""
     return by_hand((60, GAP), (12, SYNC), (marks, MARK), ADDRESS, (22, GAP), (12, SYNC), (marks, MARK), [data[0]], (256, FILL),
                    [data[1], data[2], 0x1254], (20, GAP))
 
@@ -177,9 +177,10 @@ def layouts(book):
     of(book, "stream 2 16 246 1401", told + runs(words[since:], 4))
     book.scene("the gap with which so many sectors can be formatted")
     on_nothing(book)
-    # 146 words stand before the first sector, and a sector has 574 and its gap. At 500 kbit/s there are 12,500 words: 19 sectors
-    # end at 146 + 19 * (574 + 76) = 12,496, with 76 + 4 behind the last; 21 with a gap of 14 are too long still, and 16 is the
-    # least. At 250 kbit/s there are 6,250, and 10 sectors end at 146 + 10 * (574 + 36) = 6,246.
+    # There are 146 words before the first sector, and a sector has 574 words and its gap. At 500 kbit/s a track has
+    # 12,500 words. 19 sectors end at 146 + 19 * (574 + 76) = 12,496, so 76 + 4 words come after the last. 21 sectors
+    # with a gap of 14 are still too long, and 16 is the smallest gap. At 250 kbit/s a track has 6,250 words, and 10
+    # sectors end at 146 + 10 * (574 + 36) = 6,246.
     for asked, wanted in (("18 500", "gap 108"), ("9 250", "gap 80"), ("19 500", "gap 76"), ("21 500", "no gap"),
                           ("10 250", "gap 36"), ("11 250", "no gap")):
         of(book, "gap 2 " + asked, wanted)
@@ -199,7 +200,7 @@ def regular(book):
         on(book, one.with_words(word, MARK))
         of(book, "regular 0 0", wanted)
     book.scene("a sector has room up to 67 words behind its content")
-    # 158 words before the marks, 10 of the address field, and 67 more than the content
+    # 158 words before the marks, 10 of the address field, and 67 in addition to the content
     for words, wanted in (747, "regular"), (746, "not regular"):
         on(book, laid([(0, 0, 1, 2)], words))
         of(book, "regular 0 0", wanted)
@@ -237,7 +238,7 @@ def turns(book):
     of(book, "turn 0 0 1 2", "bad check")
     book.scene("a data field that the index cuts is none")
     on(book, two)
-    # The address field ends with word 167, the data mark is word 205, and the content words 206 to 717.
+    # The address field ends with word 167, the data mark is word 205, and the content is words 206 to 717.
     for words, wanted in ((200, " none"), (204, " none"), (206, " none"), (207, " data none"), (400, " data 193xF6 none"),
                           (719, " data 512xF6 none"), (720, " data 512xF6 good")):
         of(book, f"turns {words}", "turn mark address 0 0 1 2" + wanted)
@@ -317,9 +318,9 @@ IMD_TEXT = b"IMD 1.18: 01/01/2000 00:00:00\r\n\x1A"
 
 
 def nine_types():
-    """A track at 250 kbit/s of cylinder 1 and head 1, with nine sectors of 256 bytes: each type once, the records interleaved,
-    one sector with another cylinder and one with another head. The file comes with the ends of its parts, which a reader
-    asks for one by one."""
+    """A track at 250 kbit/s of cylinder 1 and head 1, with nine sectors of 256 bytes. Each type comes once, the sectors
+    are interleaved, one sector has another cylinder, and one has another head. The file is given with the ends of
+    its parts, which a reader asks for one by one."""
     parts = [bytes([5, 1, 0xC1, 9, 1]), bytes([1, 6, 2, 7, 3, 8, 4, 9, 5]), bytes([1, 1, 1, 1, 7, 1, 1, 1, 1]),
              bytes([1, 1, 0, 1, 1, 1, 1, 1, 1]), b"\0"]
     for fill in range(4):
@@ -337,7 +338,7 @@ def imagedisk_prefixes(book):
     on(book, raw(data))
     wanted = ["from 0 on bad magic"]
     wanted += [f"from {have} on too short, {have + 1} needed" for have in range(4, 32)]    # one byte more of the text
-    wanted += ["from 32 on whole"]                                                         # no track
+    wanted += ["from 32 on whole"]                                                         # without a track
     begin = 33
     for end in ends:
         wanted.append(f"from {begin} on too short, {end} needed")
@@ -365,7 +366,7 @@ def flat_files(book):
 # ---- texts
 
 def lines(book, kind, pairs):
-    """Each line alone is a text: what is understood is told once more, in its plain spelling."""
+    """Each line alone is a text: what is understood is printed again in its plain spelling."""
     recipe, data, wanted = [], b"", []
     for line, told in pairs:
         line = line.encode() if isinstance(line, str) else line
@@ -516,14 +517,14 @@ def rescues(book):
 # ---- the service of INT 13h
 
 def calls_of(book, *calls):
-    """Calls are (REGISTERS, CODE, MOVED, WORK, REGISTERS BEHIND IT)."""
+    """Calls are (REGISTERS, CODE, MOVED, WORK, REGISTERS AFTER IT)."""
     on(book, text(";".join(f"{before} {code:02X} {moved}" for before, code, moved, _, _ in calls)))
     of(book, "int13", *(line for *_, work, after in calls for line in (work, after)))
 
 
-# AX behind the functions 00 to 1F with AL 00 and drive 1, of which the change is seen.
+# AX after the functions 00 to 1F with AL 00 and drive 1, whose change was seen.
 AX_BEHIND = [0x0000, 0x4000] + 6 * [0x0100] + [0x0000] + 12 * [0x0100] + [0x0200, 0x0600] + 9 * [0x0100]
-CLEAR, KEEPING = (0x00, 0x08, 0x15), (0x01, 0x15)    # those that clear the carry, and those that keep the status
+CLEAR, KEEPING = (0x00, 0x08, 0x15), (0x01, 0x15)    # the functions that clear the carry, and those that keep the status
 
 
 def services(book):
@@ -564,7 +565,7 @@ def services(book):
 # ---- chips
 
 def channel(book, *accesses):
-    """Accesses are lines, or (LINE, WHAT IS TOLD)."""
+    """Accesses are lines, or (LINE, ITS OUTPUT)."""
     given = [access if isinstance(access, str) else access[0] for access in accesses]
     on(book, text(";".join(given)))
     of(book, "channel", *(line for access in accesses for line in ([access] if isinstance(access, str) else access)))
@@ -577,7 +578,7 @@ def chips(book):
             ("peek 1FFFF", "A5"), ("peek 10000", "5A"), ("peek 20000", "00"))
     book.scene("a channel grants by its mask and its mode")
     channel(book, "out 00D 00", ("give", "not granted"), "out 00B 46", "out 00A 02", ("take 11", "last"), "out 00A 02",
-            # with automatic reload, which isn't granted
+            # with auto-initialize, which isn't granted
             "out 00B 56", ("take 11", "not granted"))
     book.scene("a channel reads memory")
     channel(book, "poke 12345 C3", "out 081 01", "out 004 45", "out 004 23", "out 00B 4A", "out 00E 00", ("give", "C3 last"),

@@ -1,6 +1,6 @@
 """Commands on whole disks and on files: formats, copies, ImageDisk files, calls of the BIOS, rescues.
 
-Reports come from the rules of docs/FORMATS.md, worked by hand; disks from tools/disks.py.
+Reports are worked out by hand from the rules of docs/FORMATS.md; disks come from tools/disks.py.
 """
 from book import Made, raw, text
 from disks import Disk, formatted, layout, standard
@@ -15,12 +15,12 @@ def scenes(book):
 def disks(book):
     book.scene("one cylinder of either rate is formatted")
     book.count("commands")
-    # A format is one data command and one for each sector that is read back; an acknowledgement finds no mark at either
-    # rate in three tries.
+    # A format is one data command, and one more for each sector that is read back. An acknowledgement finds no mark at
+    # either rate in three tries.
     book.run("format a.rt 1", "format ok 2", stored={"a.rt": formatted(1).file()}, counts=(6 + 2 * 19,))
     book.run("formatdd e.rt 1", "format ok 2", stored={"e.rt": formatted(1, 250).file()}, counts=(6 + 2 * 10,))
-    # A copy looks for an id at both rates for the one disk and three times for the other, which is blank; then each record is
-    # read, written and read back.
+    # A copy looks for a sector ID at both rates on the one disk. It does so three times on the other disk, which is
+    # blank. Then each sector is read, written and read back.
     book.run("copy e.rt b.rt", "copy ok 18", stored={"b.rt": formatted(1, 250).file()}, counts=(2 + 6 + 2 * 10 + 18 * 3,))
     book.run("verify b.rt", "verify 18 of 18", counts=(2 + 18,))
     made = formatted(2).write(5, b"\x11" * 512, True, track=3).write(18, b"\x11" * 512, track=1).file()

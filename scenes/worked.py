@@ -1,7 +1,7 @@
 """Worked examples: runs of the program with their whole reports and all that they store.
 
-Reports and reasons come from the rules of docs/FORMATS.md, worked by hand; stored disks from tools/disks.py; the workload's count
-and sum from its draws, reckoned here.
+Reports and their reasons are worked out by hand from the rules of docs/FORMATS.md. Stored disks come from
+tools/disks.py. The workload's count and sum come from its random draws, which are computed here.
 """
 from book import Made, raw, text
 from disks import Disk, crc, formatted, layout, standard, window
@@ -33,7 +33,8 @@ def reading(book):
     book.scene("two sectors of one key that are both damaged")
     book.file("a.rt", A_TWICE_BOTH_DAMAGED)
     book.play(READ, NOT_READ + "10", 1)
-    # Which of the two an attempt meets is free, and so is memory behind a refusal. Here each meets the damaged one.
+    # The rules leave open which of the two sectors an attempt meets, and what memory holds after a refusal. Here each
+    # attempt meets the damaged one.
     book.scene("two sectors of one key of which one is damaged")
     book.file("a.rt", A_TWICE_DAMAGED)
     book.play(READ, NOT_READ + "10", 1)
@@ -147,15 +148,17 @@ def faulty(book):
 
 
 def torn(book):
-    """A whole write, and three that stop at words 209, 208 and 207, so that words 207 to 209 are each the first that the next left.
+    """A whole write, and three that stop at words 209, 208 and 207. So each of the words 207 to 209 is the first that
+    the next write left.
 
-    They record 34, 34 and 3F, each after a bit 1, so without a first clock, and each stands behind a bit 0 of the next write. So
-    their clocks are lost as those of three A1 that begin at cell 6 of word 206, and the bits behind them are an address field.
-    The check that the whole write left is that of the content in the end: 01 10 21 is the check's polynomial.
+    They record 34, 34 and 3F, each after a bit 1, so without a first clock, and each comes after a bit 0 of the next
+    write. So their clocks are missing as those of three A1 are, which begin at cell 6 of word 206, and the bits after
+    them are an address field. The CRC that the whole write left is that of the content at the end: 01 10 21 is the
+    polynomial of the CRC.
     """
     marks, key = b"\xA1\xA1\xA1\xFE", bytes([0, 0, 19, 2])
     field = marks + key + crc(marks + key)
-    bits = (1 << 8 * len(field) | int.from_bytes(field, "big")) << 5     # the field's bits behind 001
+    bits = (1 << 8 * len(field) | int.from_bytes(field, "big")) << 5     # the field's bits after 001
     stream = bits.to_bytes(len(field) + 1, "big")
     assert stream[:4] == b"\x34\x34\x34\x3F"
     disk = Disk(1, 1, tracks=[layout([(0, 0, 1, 2)])])
@@ -315,7 +318,7 @@ def flat_files(book):
 
 
 def exercised(seed, count):
-    """The last line of the generated workload, from its draws, and the status."""
+    """The last line of the generated workload, computed from its random draws, and the status."""
     x, done, refused, total, bytes_of = seed, 0, 0, 0, {}
 
     def draw():
