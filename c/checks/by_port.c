@@ -1,8 +1,8 @@
 /* by_port - the non-DMA mode: SPECIFY sets ND, and the bytes of data commands pass at the data port.
- *
- * At each look MSR and INT say whether a byte is asked for: F0 and up for one to be read, B0 and up for one to be written, 30 and down
- * else. How many pass one behind the other, with no step between, is what the FIFO's rule in the 82077AA data sheet makes of its
- * threshold. DRQ stays down. */
+ * 
+ * At each look MSR and INT say whether a byte is asked for. MSR is F0 with INT up for a byte to be read, B0 with INT
+ * up for a byte to be written, and else 30 with INT down. How many bytes pass one after the other, with no step
+ * between, follows from the threshold by the FIFO's rule in the 82077AA data sheet. DRQ stays down. */
 #include "texts.h"
 #include "flat.h"
 
@@ -19,18 +19,18 @@ static uint8_t *sector(int c, int h, int r) { return flat + ((c * 2 + h) * 18 + 
 
 /* ---- bytes at the port */
 
-/* What passed: how many bytes, in which portions, and whether MSR, INT and DRQ were as they have to be at each look. */
+/* What passed: how many bytes, in which portions, and whether MSR, INT and DRQ were right at each look. */
 static size_t passed;
 static int portion[2 * TRACK], portions, is_as_wanted;
 
-/* MSR, which has to be that of execution or `asks`, with INT. */
+/* Reads MSR, which has to be that of execution or `asks`, and checks INT with it. */
 static int is_asked(uint8_t asks) {
     uint8_t is = status();
     is_as_wanted = is_as_wanted && (is == 0x30 || is == asks) && is_int() == (is == asks) && !has_line(&guest, TELWYDDUS_DRQ);
     return is == asks;
 }
 
-/* Bytes pass while they are asked for, so many at most. */
+/* Lets bytes pass while they are asked for, and at most so many. */
 static void pass_portion(uint8_t asks, uint8_t *place, size_t count, int tells) {
     size_t before = passed;
     for (; passed < count && is_asked(asks); passed++) {
@@ -43,7 +43,7 @@ static void pass_portion(uint8_t asks, uint8_t *place, size_t count, int tells) 
     if (passed == count && tells) MUST(telwyddus_controller_tc(&guest.controller, &guest.lines));
 }
 
-/* Runs up to the results, which are read. Behind the last byte none may be asked for. */
+/* Runs up to the results, and reads them. After the last byte no further one may be asked for. */
 static void pass(const char *sent, uint8_t asks, uint8_t *place, size_t count, int tells) {
     uint32_t made;
     passed = 0;
@@ -61,7 +61,8 @@ static void pass(const char *sent, uint8_t asks, uint8_t *place, size_t count, i
     is_as_wanted = is_as_wanted && !is_int();
 }
 
-/* The bytes of each of so many fields passed in such portions: the first, then more and more, and the rest at last. */
+/* The bytes of each of so many fields passed in portions of these sizes: `first` the first, `more` the later ones,
+ * and the last has what is left. */
 static int are_portions(size_t field, int fields, int first, int more) {
     int at = 0;
     for (int i = 0; i < fields; i++) {
@@ -83,7 +84,8 @@ static void expect_passed(int is_so, size_t count, const char *wanted, const cha
 
 /* ---- whole tracks */
 
-/* Options of CONFIGURE, the bytes of a portion to the host, and from it: the first of a field, and those behind it. */
+/* Options of CONFIGURE, and the bytes of a portion to the host and from it: of the first portion of a field, and of
+ * the later ones. */
 typedef struct {
     const char *sent, *what;
     int read, first, written;
@@ -108,7 +110,7 @@ static void whole_track(const Mode *mode, uint8_t salt) {
     expect(memcmp(buffer, written, TRACK) == 0, "what is read was written");
 }
 
-/* A track is formatted, and each of its sectors read. */
+/* Formats a track, and reads each of its sectors. */
 static void whole_format(const Mode *mode) {
     uint8_t keys[72];
     size_t same = 0;
@@ -166,7 +168,7 @@ static void others(void) {
     expect_result(1, "40 10 00 02 00 05 02", "with OR");
 }
 
-/* DOR keeps INT and DRQ in: MSR says what it says. */
+/* DOR keeps INT and DRQ from the bus: MSR says the same as without that. */
 static void gate(void) {
     size_t count = 0;
     int is_down = 1;

@@ -1,26 +1,27 @@
 /* commands - each command of the bare controller, as the 82077AA data sheet has it.
- *
- * What is wanted stands here as it was worked out by hand from the data sheet and docs/C.md. Where something else comes it is
- * printed, and the rest is tried all the same. The bytes that pass without DMA are tried by by_port.c, several sectors a command
- * by several.c. */
+ * 
+ * The wanted results were worked out by hand from the data sheet and docs/C.md. If another result comes, it is
+ * printed, and the rest is tried all the same. by_port.c tries the bytes that pass without DMA, and several.c tries
+ * several sectors a command. */
 #include "texts.h"
 #include "flat.h"
 
 #define CYLINDERS 8
 #define SMALL (14 + CYLINDERS * 2 * 25000)
 #define ENDLESS (sizeof buffer)
-#define LATEST 65536            /* steps up to INT, where nothing is found */
+#define LATEST 65536            /* steps up to INT, if nothing is found */
 
 static uint8_t flat[FLAT], image[SMALL], now[SMALL], blank[SMALL], buffer[36 * 512];
 
-/* ---- the disk, and what every part here does */
+/* ---- the disk, and what every part of this file does */
 
 static uint8_t *sector(int c, int h, int r) { return flat + ((c * 2 + h) * 18 + r - 1) * 512; }
 
-/* A cell of a standard sector in the image: of the word at a place behind the first 00 before its key. */
+/* A cell of a standard sector in the image: a cell of the word at a place counted from the first 00 before its
+ * sector ID. */
 static void damage(int c, int h, int r, int place) { image[14 + (c * 2 + h) * 25000 + (146 + 682 * (r - 1) + place) * 2 + 1] ^= 0x01; }
 
-/* Of cylinder 3, head 1, the content of record 9 is damaged; of cylinder 5, head 0, each key. */
+/* On cylinder 3, head 1, the content of record 9 is damaged; on cylinder 5, head 0, each sector ID is. */
 static void make_disk(void) {
     for (size_t i = 0; i < FLAT; i++) flat[i] = (uint8_t)(i * 31 + i / 512 * 7);
     import_some(flat, image, CYLINDERS);
@@ -28,7 +29,7 @@ static void make_disk(void) {
     for (int r = 1; r <= 18; r++) damage(5, 0, r, 18);
 }
 
-/* DOR selects a drive, and both motors are on. */
+/* Selects a drive by DOR, with both motors on. */
 static void choose(uint8_t drive) { out(&guest, DOR, (uint8_t)(0x3C | drive)); }
 
 static int heads(uint32_t bay) {
@@ -43,7 +44,7 @@ static int is_written(uint32_t bay) {
     return written;
 }
 
-/* A reset, by DSR or by DOR, and the four results behind it. Drive 0 is selected. */
+/* Makes a reset, by DSR or by DOR, and reads the four results after it. Drive 0 is selected. */
 static void wake(int by_dsr) {
     if (by_dsr) out(&guest, MSR, 0x80);
     else out(&guest, DOR, 0x38), out(&guest, DOR, 0x3C);
@@ -51,7 +52,7 @@ static void wake(int by_dsr) {
     for (int i = 0; i < 4; i++) sense_interrupt(&guest);
 }
 
-/* A data command with a channel of so many bytes, of which so many are to pass. */
+/* Does a data command with a channel of so many bytes, of which so many have to pass. */
 static void does(const char *sent, size_t count, size_t passed, const char *wanted, const char *what) {
     int is_so = execute(sent, buffer, count);
     if (guest.passed != passed) printf("  %lu bytes passed, %lu wanted\n", (unsigned long)guest.passed, (unsigned long)passed);
@@ -74,7 +75,7 @@ static void lay(uint8_t head, uint8_t c, const char *records) {
 
 #define ALL "01 02 03 04 05 06 07 08 09 0A 0B 0C 0D 0E 0F 10 11 12"
 
-/* The buffer has these sectors of the flat file, one behind the other. */
+/* Fills the buffer with these sectors of the flat file, one after the other. */
 static int has_sectors(int c, int h, const char *records) {
     uint8_t numbers[36];
     int count = bytes_of(records, numbers), same = 0;
@@ -123,7 +124,7 @@ static void settings(void) {
     gives("0E", "07 05 00 09 DF 02 0B 00 57 2A", "and its EOT, though it is refused");
 }
 
-/* Which drives are perpendicular stands in bits 5 to 2, GAP and WGATE in bits 1 and 0, LOCK in bit 7. */
+/* Bits 5 to 2 say which drives are perpendicular, bits 1 and 0 are GAP and WGATE, and bit 7 is LOCK. */
 static void perpendicular(void) {
     gives("94", "10", "LOCK gives its bit");
     gives("0E", "07 05 00 09 DF 02 0B 80 57 2A", "DUMPREG gives LOCK");
@@ -161,7 +162,7 @@ static void resets(void) {
     gives("12 80", "", "all of PERPENDICULAR MODE is off again");
 }
 
-/* How many bytes of a READ pass, one behind the other, once they are asked for. */
+/* How many bytes of a READ pass one after the other once they are asked for. */
 static int first_request(void) {
     int count = 0;
     uint8_t byte;
@@ -190,9 +191,9 @@ static void locked_fifo(void) {
     expect(first_request() == 1, "without LOCK a reset turns the FIFO off");
 }
 
-/* ---- codes */
+/* ---- command codes */
 
-/* A code, the bits that may be 1 besides (of READ ID also those that it doesn't have), and how many bytes follow. */
+/* A code, the bits that may also be 1 (for READ ID also bits that it doesn't have), and how many bytes follow. */
 typedef struct {
     uint8_t code, bits;
     int count;
@@ -210,7 +211,8 @@ static int parameters(int code) {
     return -1;
 }
 
-/* It takes as many bytes as its command has, all of them 00; where there is none its one result byte is 80, and no INT comes. */
+/* A code takes as many bytes as its command has, all of them 00. If there is no such command, its one result byte is
+ * 80, and no INT comes. */
 static int is_taken(int code) {
     int count = parameters(code), is_so = 1;
     wake(0);
@@ -267,7 +269,7 @@ static void relative(void) {
     choose(0);
 }
 
-/* Seeks of both drives, one sent while the other one moves. */
+/* Seeks of both drives, one of them sent while the other drive moves. */
 static void overlapped(void) {
     int is_so = 1;
     say("0F 00 0A");
@@ -324,7 +326,7 @@ static void in_turn(void) {
     expect(heads(0) == 1 && heads(1) == 4, "each drive is where it was sent last");
 }
 
-/* What needs no heads is done while they move. */
+/* Commands that need no heads are done while heads move. */
 static void while_moving(void) {
     uint32_t made;
     moves("07 00", "20 00", "RECALIBRATE");
@@ -350,9 +352,9 @@ static void while_moving(void) {
     moves("07 00", "20 00", "RECALIBRATE");
 }
 
-/* ---- commands that are held while heads move, and those behind a seek that wasn't sensed */
+/* ---- commands that are held while heads move, and commands after a seek without SENSE INTERRUPT */
 
-/* Sent while drive 0 goes from cylinder 0 to 5; once it is there MSR is this. */
+/* Sent while drive 0 goes from cylinder 0 to 5. Once the heads are there, MSR is this. */
 static void is_held(const char *sent, uint8_t then, const char *what) {
     int is_so = 1;
     say("0F 00 05");
@@ -415,7 +417,7 @@ static void unsensed(void) {
 
 /* ---- commands that this medium can't have */
 
-/* INT comes with ST0, ST1, ST2 and this key; no byte passes. */
+/* INT comes with ST0, ST1, ST2 and this sector ID; no byte passes. */
 static int is_refused(const uint8_t *bytes, int count, uint8_t st1, const uint8_t *key) {
     const uint8_t wanted[] = {(uint8_t)(0x40 | (bytes[1] & 7)), st1, 0, key[0], key[1], key[2], key[3]};
     channel(&guest, buffer, 0);
@@ -430,7 +432,7 @@ static int is_refused(const uint8_t *bytes, int count, uint8_t st1, const uint8_
     return 0;
 }
 
-/* A code with a size code, at head 1 of drive 1. A FORMAT and a READ ID name no key. */
+/* A code with a size code, at head 1 of drive 1. A FORMAT and a READ ID name no sector ID. */
 static int is_refused_with(uint8_t code, uint8_t n, uint8_t st1) {
     static const uint8_t none[] = {0, 0, 0, 0};
     const uint8_t nine[] = {code, 0x05, 3, 1, 9, n, 18, 0x1B, 0xFF}, six[] = {code, 0x05, n, 9, 0x1B, 0xF6};
@@ -441,7 +443,7 @@ static int is_refused_with(uint8_t code, uint8_t n, uint8_t st1) {
     }
 }
 
-/* Each of them; where address marks pass ND is set with MFM, else MA. */
+/* Tries each of them. If address marks pass, ND is set with MFM; else MA is. */
 static void refused_by(int has_marks, const char *what) {
     static const uint8_t single[] = {0x02, 0x05, 0x85, 0x09, 0x06, 0xA6, 0x0C, 0x0A, 0x0D, 0x16, 0xB6}, sizes[] = {0x00, 0x07, 0x08, 0xFF};
     static const uint8_t sized[] = {0x42, 0x45, 0xC5, 0x49, 0x46, 0xE6, 0x4C, 0x4D, 0x56, 0xD6};
@@ -452,7 +454,7 @@ static void refused_by(int has_marks, const char *what) {
     expect(refused == 11 + 10 * 4, what);
 }
 
-/* The medium of bay 1 is as it went in. */
+/* The medium of bay 1 is the same as when it went in. */
 static void is_untouched(const uint8_t *wanted, const char *what) {
     size_t told;
     MUST(telwyddus_controller_image(&guest.controller, 1, now, SMALL, &told));
@@ -485,7 +487,7 @@ static void refusals(void) {
     expect(is_refused(damaged, 9, 0x04, damaged + 2), "where no address field is intact: ND, since address marks pass");
 }
 
-/* ---- which cylinder passes, and which key */
+/* ---- which cylinder passes, and which sector ID */
 
 static void cylinders(void) {
     seek(&guest, 4);
@@ -549,7 +551,7 @@ static void verify(void) {
     gives("0E", "04 ?? ?? ?? ?? ?? 01 ?? ?? ??", "as DUMPREG says, and its EOT");
 }
 
-/* Record 5 of cylinder 3, head 0, is deleted; record 9 of head 1 damaged. */
+/* Record 5 of cylinder 3, head 0, is deleted; record 9 of head 1 is damaged. */
 static void verify_marks(void) {
     uint8_t byte;
     seek(&guest, 3);

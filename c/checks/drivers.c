@@ -1,7 +1,9 @@
-/* drivers - what the drivers of three systems do at the bare controller, byte by byte, and what they are to make of it.
- *
- * Of Linux its reset, the questions by which it tells controllers apart, a first access to a disk, and its transfers without DMA; of
- * FreeBSD and NetBSD what they probe a controller and drives by. An interrupt is an edge here, as at an 8259. */
+/* drivers - does what the drivers of three systems do at the bare controller, byte by byte, and checks their
+ * conclusions.
+ * 
+ * For Linux this is its reset, the questions by which it distinguishes controllers, a first access to a disk, and
+ * its transfers without DMA. For FreeBSD and NetBSD it is how they probe a controller and drives. An interrupt is an
+ * edge here, as at an 8259. */
 #include "texts.h"
 #include "flat.h"
 
@@ -9,7 +11,7 @@
 #define SMALL (14 + CYLINDERS * 2 * 25000)
 
 static uint8_t flat[FLAT], image[SMALL], buffer[36 * 512], reply[16];
-static int line;                /* INT, as it was seen last */
+static int line;                /* INT, as it was at the last look */
 
 /* Runs up to an edge of INT, with the channel. */
 static int interrupts(unsigned long most) {
@@ -74,7 +76,7 @@ static int result(void) {
     return -1;
 }
 
-/* floppy_interrupt: the result bytes; or up to four SENSE INTERRUPTs until one is of the drive. */
+/* floppy_interrupt: reads the result bytes, or sends up to four SENSE INTERRUPTs until one is of the drive. */
 static int inr(int unit) {
     int count = result(), left = 4;
     if (count != 0) return count;
@@ -94,10 +96,10 @@ static void linux_reset(int by_dsr, const char *what) {
     expect(comes && count == 2 && then == 0, what);
 }
 
-/* need_more_output: whether the controller takes a further byte. */
+/* need_more_output: whether the controller takes another byte. */
 static int takes_more(void) { return (ready() & (RQM | DIO | NON_DMA)) == RQM; }
 
-/* get_fdc_version: an 82077 of 1991 or later. */
+/* get_fdc_version: finds an 82077 of 1991 or later. */
 static void linux_version(void) {
     int sent = output("0E");
     expect(sent == 0 && is_reply(result(), "?? ?? ?? ?? ?? ?? ?? ?? ?? ??"), "Linux: DUMPREG has ten bytes: no 8272A");
@@ -132,7 +134,7 @@ static void linux_open(void) {
     linux_seek("0F 00 00", "20 00", "SEEK to 0");
 }
 
-/* setup_rw_floppy by DMA, and what rw_interrupt makes of its results. */
+/* setup_rw_floppy by DMA, and what rw_interrupt concludes from the results. */
 static void linux_read(void) {
     channel(&guest, buffer, sizeof buffer);
     int sent = output("E6 00 00 00 01 02 12 1B FF"), comes = interrupts(1000000), count = inr(0);
@@ -142,7 +144,8 @@ static void linux_read(void) {
     expect(sectors == 36 && memcmp(buffer, flat, sizeof buffer) == 0, "of 36 sectors, as its driver counts them");
 }
 
-/* floppy_hardint: at an edge bytes pass while MSR asks for them. What is left, once the results are there; else -1. */
+/* floppy_hardint: at an edge bytes pass while MSR asks for them. Returns how many are left once the results are
+ * there, else -1. */
 static long pass_bytes(uint8_t *place, long count) {
     while (interrupts(200000)) {
         for (; count > 0 && (inb(MSR) & (NON_DMA | RQM)) == (NON_DMA | RQM); count--, place++) {
@@ -162,7 +165,7 @@ static void passes(const char *sent, uint8_t *place, long bytes, const char *wan
     expect(taken && left == 0 && is_reply(count, wanted), what);
 }
 
-/* floppy=nodma. Reads and writes end with EN, which the driver then takes for none. */
+/* floppy=nodma. Reads and writes end with EN, which the driver then doesn't take for an error. */
 static void linux_without_dma(void) {
     static uint8_t keys[72], written[18 * 512];
     expect(output("03 AF 03") == 0, "Linux without DMA: SPECIFY");

@@ -1,6 +1,6 @@
-/* drives - what is done to drives and their media while they turn: the tab, the shape, single tracks, flat files, the tracks that were written,
- * the cable, a plan anew, the reset pin, the name that a state begins with, its most length, and states without media. It makes its own
- * disk. */
+/* drives - what is done to drives and their media while they turn: the write-protect tab, the shape, single tracks,
+ * flat files, and the tracks that were written. It also tries the cable, a new plan, the reset pin, the first bytes
+ * of a state, its greatest length, and states without media. It makes its own disk. */
 #include "common.h"
 
 enum { WORDS = 12500, SECTOR = 512, SIDE = 18, FLAT = 1474560 };
@@ -23,7 +23,7 @@ static void run(uint32_t most) {
     MUST(telwyddus_controller_run(&controller, most, &made, &lines));
 }
 
-/* A command, with bytes by DMA where there are any, up to its results; how many bytes passed. */
+/* Does a command up to its results, with bytes by DMA if it has any; returns how many bytes passed. */
 static size_t command(const uint8_t *bytes, size_t count, uint8_t *data, size_t length, uint8_t results[7]) {
     size_t moved = 0, wanted;
     for (size_t i = 0; i < count; i++) out(0x3F5, bytes[i]);
@@ -42,7 +42,8 @@ static size_t command(const uint8_t *bytes, size_t count, uint8_t *data, size_t 
     return moved;
 }
 
-/* Out of reset, bay 0, its motor, 500 kbit/s, and the heads over cylinder 0; ST0 of the RECALIBRATE. */
+/* Takes the controller out of reset, with bay 0, its motor, 500 kbit/s, and the heads over cylinder 0; returns ST0
+ * of the RECALIBRATE. */
 static uint8_t begin(void) {
     out(0x3F2, 0x00);
     out(0x3F2, 0x1C);
@@ -80,7 +81,7 @@ static void shapes(telwyddus_tray *tray) {
     MUST(telwyddus_tray_protect(tray, 0));
 }
 
-/* The tray's flat file of a geometry is what the tray was made of. */
+/* The tray's flat file of a geometry is the file that the tray was made of. */
 static int gives_back(telwyddus_tray *tray, uint8_t cylinders, uint8_t heads, uint8_t sectors, uint8_t n, uint16_t kilobits) {
     size_t length = 0, wanted = (size_t)cylinders * heads * sectors * (128u << n);
     uint8_t cylinder = 7, head = 7;
@@ -91,7 +92,7 @@ static int gives_back(telwyddus_tray *tray, uint8_t cylinders, uint8_t heads, ui
     return length == wanted && memcmp(again, flat, wanted) == 0 && cylinder == 7 && head == 7;
 }
 
-/* The tray has no flat file of a geometry: it answers so, and tells a cylinder and a head. */
+/* The tray has no flat file of a geometry: the call says so, and gives a cylinder and a head. */
 static int has_none(telwyddus_tray *tray, uint8_t cylinders, uint8_t heads, uint8_t sectors, uint16_t kilobits, uint32_t code, int place) {
     size_t length = 5;
     uint8_t cylinder = 7, head = 7;
@@ -255,7 +256,8 @@ static void states(void) {
     free(bytes);
 }
 
-/* Two media of the most cylinders, heads and words, and planned faults: the longest state is within what the header says, and near it. */
+/* With two media of the most cylinders, heads and words, and with planned faults, the longest state is within the
+ * bound of the header, and near it. */
 static void longest(void) {
     enum { WHOLE = 14 + 80 * 2 * 16384 * 2 };
     static const uint8_t head[14] = {'R', 'T', 'I', 'M', 'A', 'G', 'E', '2', 0, 80, 2, 0, 0x40, 0};
@@ -287,7 +289,7 @@ static uint8_t *state_of(telwyddus_controller *of, size_t *length) {
     return bytes;
 }
 
-/* The bytes of a sector under way from one place to another; with the last the results. */
+/* Passes the bytes of a sector that is under way, from one place to another; with the last one the results come. */
 static void take(uint8_t *data, size_t from, size_t to, uint8_t results[7]) {
     for (size_t at = from; at < to;) {
         if (!(lines & TELWYDDUS_DRQ)) {
@@ -319,7 +321,7 @@ static void goes_on_bare(void) {
     free(bytes);
 }
 
-/* What was written before a bare state is restored is told after it too. */
+/* What was written before a bare state is restored is still reported after that. */
 static void joins_writes(void) {
     uint8_t results[7], sector[SECTOR], written;
     telwyddus_tracks map;
@@ -337,7 +339,7 @@ static void joins_writes(void) {
     free(bytes);
 }
 
-/* Bytes are refused by a controller, which stays. */
+/* A controller refuses these bytes, and stays as it was. */
 static void refuses(telwyddus_controller *other, const uint8_t *bytes, size_t length, uint32_t code, const char *what) {
     size_t before, behind;
     uint8_t *was = state_of(other, &before);

@@ -11,9 +11,9 @@ enum { EIS = 0x40, FIFO_OFF = 0x20 };
 
 typedef struct {
     telwyddus_controller controller;
-    uint8_t *place;             /* the channel: where its next byte lies, */
-    size_t left, passed;        /* how many are still to pass, the terminal count with the last, and how many passed */
-    uint8_t lines;              /* as the last call told them */
+    uint8_t *place;             /* the channel: where its next byte is, */
+    size_t left, passed;        /* how many are still to pass, with the terminal count after the last, and how many passed */
+    uint8_t lines;              /* as the last call gave them */
     unsigned long steps;        /* device steps so far */
     uint8_t result[10];         /* the result bytes of the last command, */
     int results;                /* and how many it had */
@@ -26,7 +26,7 @@ static inline void need(int is_so, const char *what) {
     }
 }
 
-/* The lines that a call told are those that there are. */
+/* The lines that a call gave are those that there are. */
 static inline void compare_lines(Guest *guest) {
     uint8_t lines;
     MUST(telwyddus_controller_lines(&guest->controller, &lines));
@@ -35,7 +35,7 @@ static inline void compare_lines(Guest *guest) {
 
 /* ---- the channel */
 
-/* Bytes pass while they are asked for, and the terminal count is told with the last. */
+/* Lets bytes pass while they are asked for, and calls the terminal count after the last. */
 static inline uint8_t serve(Guest *guest) {
     MUST(telwyddus_controller_lines(&guest->controller, &guest->lines));
     while (guest->lines & TELWYDDUS_DRQ) {
@@ -56,7 +56,7 @@ static inline void channel(Guest *guest, uint8_t *place, size_t count) {
     guest->passed = 0;
 }
 
-/* Up to so many steps, and whether INT is up. */
+/* Makes up to so many steps; returns whether INT is up. */
 static inline int run(Guest *guest, uint32_t most) {
     uint8_t lines = serve(guest);
     while (!(lines & TELWYDDUS_INT) && most > 0) {
@@ -95,12 +95,12 @@ static inline void out(Guest *guest, uint16_t port, uint8_t value) {
     compare_lines(guest);
 }
 
-/* The bytes of a command, while the controller takes them. */
+/* Sends the bytes of a command, as long as the controller takes them. */
 static inline void put(Guest *guest, const uint8_t *bytes, int count) {
     for (int i = 0; i < count && (in(guest, MSR) & (RQM | DIO)) == RQM; i++) out(guest, BYTES, bytes[i]);
 }
 
-/* Runs a command to its end, where it has one to come, and reads its result bytes. */
+/* Runs a command to its end, if it has one, and reads its result bytes. */
 static inline void finish(Guest *guest) {
     if (in(guest, MSR) & BUSY && !(in(guest, MSR) & RQM)) need(run(guest, 20000000), "the command ends");
     for (guest->results = 0; (in(guest, MSR) & (RQM | DIO | BUSY)) == (RQM | DIO | BUSY); guest->results++) {
@@ -115,7 +115,7 @@ static inline void command(Guest *guest, const uint8_t *bytes, int count) {
     finish(guest);
 }
 
-/* A command of nine bytes, with a channel of so many. */
+/* Sends a command of nine bytes, with a channel of so many bytes. */
 static inline void transfer(Guest *guest, const uint8_t *bytes, uint8_t *place, size_t count) {
     channel(guest, place, count);
     command(guest, bytes, 9);
@@ -149,8 +149,8 @@ static inline void recalibrate(Guest *guest) {
     move_heads(guest, bytes, 2, 0);
 }
 
-/* Out of reset, with drive 0 and its motor on, at 500 kbit/s; the four interrupts behind a reset are taken, and the heads are on
- * cylinder 0, where the controller takes them to be behind a reset. */
+/* Takes the controller out of reset, with drive 0 and its motor on, at 500 kbit/s. The four interrupts after a reset
+ * are taken. The heads are on cylinder 0, where the controller believes them to be after a reset. */
 static inline void start(Guest *guest) {
     out(guest, DOR, 0x18);
     out(guest, DOR, 0x1C);

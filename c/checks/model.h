@@ -1,6 +1,7 @@
-/* A disk and a controller as a program reckons them: what each sector has, where the heads are, what commands set, and which results
- * wait. Each command says what it answers and which bytes pass, by the 82077AA data sheet and docs/C.md; nothing here asks the library.
- *
+/* A disk and a controller as this program computes them: what each sector has, where the heads are, what commands
+ * set, and which results wait. Each command says what it answers and which bytes pass, by the 82077AA data sheet and
+ * docs/C.md. Nothing here asks the library.
+ * 
  * The disk has standard tracks of 18 sectors, and one drive is selected throughout. */
 #ifndef MODEL_H
 #define MODEL_H
@@ -25,7 +26,7 @@ typedef struct {
     Sector sectors[FORMATTED][2][18];
     int heads;                  /* the cylinder under the heads */
     int cylinders[4];           /* the present cylinder number of each drive */
-    int pending[4];             /* ST0 of each drive's result, -1 where there is none */
+    int pending[4];             /* ST0 of each drive's result, -1 if there is none */
     uint8_t step_rate, head_load, last_sector, perpendicular, options, precompensation;
     int is_locked, is_strapped;
 } Model;
@@ -42,7 +43,7 @@ static inline void one_byte(Outcome *out, int byte) {
     out->results = 1;
 }
 
-/* Seven bytes, with the head and the drive of a command. */
+/* Seven result bytes, with the head and the drive of a command. */
 static inline void seven(Outcome *out, const uint8_t *sent, int st0, int st1, int st2, const uint8_t *key) {
     out->results = 7;
     out->result[0] = (uint8_t)(st0 | (sent[UNIT] & 7));
@@ -64,7 +65,7 @@ static inline void reckon_seek(Model *model, int drive, int target) {
     model->pending[drive] = 0x20 | drive;
 }
 
-/* At most 79 pulses; no more are needed from cylinder 79 on. */
+/* Moves by at most 79 pulses; no more are needed from cylinder 79 on. */
 static inline void reckon_recalibrate(Model *model, int drive) {
     int is_there = model->heads <= 79;
     model->heads = is_there ? 0 : model->heads - 79;
@@ -91,7 +92,7 @@ static inline void reckon_sense(Model *model, Outcome *out) {
 
 /* ---- what is set */
 
-/* A reset by DOR or DSR, and the poll behind it. */
+/* A reset by DOR or DSR, and the poll after it. */
 static inline void reckon_reset(Model *model) {
     for (int drive = 0; drive < 4; drive++) {
         model->cylinders[drive] = 0;
@@ -123,17 +124,17 @@ static inline int head_of(const uint8_t *sent) { return sent[UNIT] >> 2 & 1; }
 
 static inline int has_marks(const Model *model) { return model->heads < FORMATTED; }
 
-/* It begins: the result of its drive goes. */
+/* A data command begins: the waiting result of its drive is dropped. */
 static inline void begin_data(Model *model, const uint8_t *sent) { model->pending[sent[UNIT] & 3] = -1; }
 
-/* One of sectors: the heads first go where it says, if seeks are implied. */
+/* A command of sectors begins: if seeks are implied, the heads first go to the cylinder that it names. */
 static inline void begin_sectors(Model *model, const uint8_t *sent) {
     begin_data(model, sent);
     model->last_sector = sent[EOT];
     if (model->is_strapped || model->options & EIS) move_to(model, sent[UNIT] & 3, sent[KEY]);
 }
 
-/* The sector of its key, where the track has an intact one. */
+/* The sector with its ID, if the track has an intact one. */
 static inline Sector *sector_of(Model *model, const uint8_t *sent) {
     const uint8_t *key = sent + KEY;
     if (!has_marks(model) || key[0] != model->heads || key[1] != head_of(sent) || key[2] < 1 || key[2] > 18 || key[3] != 2) return NULL;
@@ -141,7 +142,7 @@ static inline Sector *sector_of(Model *model, const uint8_t *sent) {
     return sector->has_bad_key ? NULL : sector;
 }
 
-/* The command at the sector behind. */
+/* The same command at the next sector. */
 static inline void next_sector(uint8_t *at) {
     uint8_t *key = at + KEY;
     if (key[2] != at[EOT]) {
@@ -159,7 +160,7 @@ static inline int is_at_last(const uint8_t *at) { return at[RECORD] == at[EOT] &
 
 static inline size_t least(size_t one, size_t other) { return one < other ? one : other; }
 
-/* The bytes of a sector pass, so many in all at most. What isn't given is 00. */
+/* Passes the bytes of a sector, up to so many in all. Bytes that aren't given are 00. */
 static inline void pass_sector(Sector *sector, const uint8_t *sent, size_t count, const uint8_t *given, Outcome *out) {
     size_t moved = least(512, count - out->passed);
     if (is_writing(sent)) {
@@ -171,7 +172,7 @@ static inline void pass_sector(Sector *sector, const uint8_t *sent, size_t count
     out->passed += moved;
 }
 
-/* No sector has the key. The FIFO has taken bytes for it all the same. */
+/* No sector has the ID. The FIFO has taken bytes for it all the same. */
 static inline void miss(const Model *model, const uint8_t *at, size_t count, int cm, Outcome *out) {
     size_t room = model->options & FIFO_OFF ? 1 : 16;
     if (is_writing(at)) out->passed += least(room, count - out->passed);
@@ -179,13 +180,14 @@ static inline void miss(const Model *model, const uint8_t *at, size_t count, int
     else seven(out, at, 0x40, 0x01, cm, at + KEY);
 }
 
-/* Where a command of sectors stands: its bytes at a sector, how many a VERIFY with EC has left (else -1), and CM. */
+/* How far a command of sectors is: its bytes at a sector, how many sectors a VERIFY with EC still has (else -1), and
+ * CM. */
 typedef struct {
     uint8_t at[9];
     int left, cm;
 } Course;
 
-/* Its results at this sector, if it ends there; else 0. */
+/* The command's results at this sector, if it ends there; else 0. */
 static inline int ends_at(const Course *course, int is_other, size_t count, Outcome *out) {
     const uint8_t *at = course->at;
     uint8_t behind[9];
@@ -199,7 +201,7 @@ static inline int ends_at(const Course *course, int is_other, size_t count, Outc
     return 1;
 }
 
-/* A sector of it. Tells whether it ends there. */
+/* Does one sector of the command. Returns whether the command ends there. */
 static inline int reckon_sector(Model *model, Course *course, size_t count, const uint8_t *given, Outcome *out) {
     uint8_t *at = course->at;
     Sector *sector = sector_of(model, at);
@@ -221,7 +223,8 @@ static inline int reckon_sector(Model *model, Course *course, size_t count, cons
     return 0;
 }
 
-/* READ DATA, READ DELETED DATA, WRITE DATA, WRITE DELETED DATA, with the terminal count behind so many bytes, and VERIFY. */
+/* READ DATA, READ DELETED DATA, WRITE DATA, WRITE DELETED DATA, with the terminal count after so many bytes; and
+ * VERIFY. */
 static inline void reckon_sectors(Model *model, const uint8_t *sent, size_t count, const uint8_t *given, Outcome *out) {
     Course course;
     memcpy(course.at, sent, 9);
@@ -233,7 +236,7 @@ static inline void reckon_sectors(Model *model, const uint8_t *sent, size_t coun
     while (!reckon_sector(model, &course, count, given, out)) {}
 }
 
-/* READ TRACK of a formatted one, whose keys are intact: so many sectors from the index on, over and over. */
+/* READ TRACK of a formatted track whose sector IDs are intact: so many sectors from the index on, over and over. */
 static inline void reckon_track(Model *model, const uint8_t *sent, size_t count, Outcome *out) {
     int most = sent[EOT] == 0 ? 256 : sent[EOT], is_met = 0, st1 = 0, st2 = 0, is_counted = 0;
     begin_sectors(model, sent);
@@ -250,7 +253,7 @@ static inline void reckon_track(Model *model, const uint8_t *sent, size_t count,
     seven(out, sent, st1 ? 0x40 : 0, st1, st2, sent + KEY);
 }
 
-/* One without MFM, or of a size that no field has. Where it names a key that is given back. */
+/* A command without MFM, or of a size that no field has. If it names a sector ID, it gets that ID back. */
 static inline void reckon_unfit(Model *model, const uint8_t *sent, Outcome *out) {
     static const uint8_t none[] = {0, 0, 0, 0};
     int kind = sent[0] & KIND, has_key = kind != OF_READ_ID && kind != OF_FORMAT;
@@ -261,7 +264,7 @@ static inline void reckon_unfit(Model *model, const uint8_t *sent, Outcome *out)
     seven(out, sent, 0x40, has_marks(model) && sent[0] & 0x40 ? 0x04 : 0x01, 0, has_key ? sent + KEY : none);
 }
 
-/* READ ID. Its record is any of the track: it is told as 00. */
+/* READ ID. It gives the ID of any sector of the track; here its record is 00, which stands for any. */
 static inline void reckon_id(Model *model, const uint8_t *sent, Outcome *out) {
     const uint8_t none[] = {0, 0, 0, 0}, key[] = {(uint8_t)model->heads, (uint8_t)head_of(sent), 0, 2};
     begin_data(model, sent);

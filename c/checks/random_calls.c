@@ -1,7 +1,9 @@
-/* random_calls CALLS SEED - so many random calls of all that the library has, on a few slots of each kind. Each answers a code that is
- * right for what the slots hold, or one of those that the header has for it; what is handed out stays where it has to; the lines that a
- * call tells are those that there are; quiet device steps change no line; and at the end no block is out. Now and then a request for memory
- * is refused, by a heap that stands in place of c/heap.c: then NO_MEMORY may come, and nothing has changed. */
+/* random_calls CALLS SEED - makes so many random calls, of all calls in the library, on a few slots of each kind.
+ * 
+ * Each call answers a code that is right for what the slots hold, or one of those that the header has for it. What a
+ * call hands out stays as it was if the header says so. The lines that a call gives are those that there are. Quiet
+ * device steps change no line. At the end no memory block is in use. Now and then a heap that replaces c/heap.c
+ * refuses a request for memory: then NO_MEMORY may come, and nothing has changed. */
 #include "common.h"
 #include <stdbool.h>
 
@@ -9,8 +11,8 @@
 
 typedef struct { bool is_ok; void *at; } tried;
 static char nothing;
-static int served = -1; /* how many requests are served before one is refused; all, below 0 */
-static long blocks;     /* how many are out */
+static int served = -1; /* how many requests are served before one is refused; all, if below 0 */
+static long blocks;     /* how many blocks are in use */
 static bool was_short;  /* a request was refused in the last call */
 
 static bool refuses(void) {
@@ -37,10 +39,10 @@ void rattle_dealloc(void *at) {
     free(at);
 }
 
-/* ---- what is drawn */
+/* ---- random choices */
 
 static uint64_t seed;
-static unsigned long calls, refused, whole; /* calls; those that answered anything but DONE; how many are to be made */
+static unsigned long calls, refused, whole; /* calls so far; those that answered anything but DONE; how many calls are to be made */
 
 static unsigned below(unsigned bound) {
     seed = seed * 6364136223846793005u + 1442695040888963407u;
@@ -49,14 +51,14 @@ static unsigned below(unsigned bound) {
 
 static uint8_t byte(void) { return (uint8_t)below(256); }
 
-/* ---- what is asked of a code */
+/* ---- how a code is checked */
 
 static void fail(const char *call, uint32_t code, const char *what) {
     printf("call %lu: %s: %s: %s\n", calls, call, telwyddus_code_name(code), what);
     exit(1);
 }
 
-/* A call, in which a request for memory may be refused. */
+/* Makes a call in which a request for memory may be refused. */
 #define CALL(call) (calls++, was_short = false, served = below(40) ? -1 : (int)below(8), the_call = #call, the_code = (call), served = -1, refused += the_code != TELWYDDUS_DONE)
 static const char *the_call;
 static uint32_t the_code;
@@ -65,14 +67,14 @@ static void so(bool is, const char *what) {
     if (!is) fail(the_call, the_code, what);
 }
 
-/* It was done, or answered what was wanted in place of that; or memory was short. True where it was done. */
+/* The call was done, or answered the wanted other code; or memory was short. True if it was done. */
 static bool wanted(uint32_t want) {
     if (the_code == TELWYDDUS_NO_MEMORY && was_short) return false;
     so(the_code == want, telwyddus_code_name(want));
     return want == TELWYDDUS_DONE;
 }
 
-/* The same of several codes, with DONE among them or not. */
+/* The same with several codes, with DONE among them or not. */
 #define AMONG(...) among((const uint32_t[]){__VA_ARGS__}, sizeof (const uint32_t[]){__VA_ARGS__} / sizeof(uint32_t))
 static bool among(const uint32_t *codes, size_t count) {
     if (the_code == TELWYDDUS_NO_MEMORY && was_short) return false;
@@ -82,10 +84,10 @@ static bool among(const uint32_t *codes, size_t count) {
     return false;
 }
 
-/* ---- what the slots hold, as it is to be */
+/* ---- what the slots should hold */
 
-/* A medium: whether there is one; the length of its image file, its cylinders and the words of a track, 0 where they aren't known; and whether
- * it is protected, where that was told last. */
+/* A medium: whether there is one; the length of its image file, its cylinders and the words of a track, each 0 if it
+ * isn't known; and whether it is write-protected, as last reported. */
 typedef struct { bool is; size_t image; unsigned cylinders; size_t words; bool is_protected; } Medium;
 typedef struct { bool is; Medium bay[2]; bool is_pulled[2]; } Drives;
 typedef struct { bool is; uint8_t bytes[5 << 20]; size_t length; Drives drives; } State;
@@ -97,12 +99,13 @@ static telwyddus_disk disks[2];
 static telwyddus_shelf shelves[2];
 static struct { bool is; Medium medium; } tray_is[4];
 static Drives controller_is[2], machine_is[2], disk_is[2];
-static struct { bool is, knows; size_t length; uint8_t first; } shelf_is[2]; /* a file "note", which no run touches, where it is known */
+static struct { bool is, knows; size_t length; uint8_t first; } shelf_is[2]; /* a file "note", which no run changes, if it is known */
 static State controller_state, machine_state, bare_state;
 
 static uint32_t missing(bool is) { return is ? TELWYDDUS_DONE : TELWYDDUS_EMPTY; }
 
-/* ---- buffers that a call writes to: 16 bytes behind one stay, and where it isn't done its edges too */
+/* ---- buffers that a call writes to: the 16 bytes after one stay, and if the call isn't done, the bytes at its
+ * edges stay too */
 
 #define POOL (5 << 20)
 static uint8_t pool[POOL + 16], given[POOL];
@@ -120,7 +123,7 @@ static void kept(size_t room, size_t from) {
     for (size_t i = room > 64 && room - 64 > from ? room - 64 : room; i < room; i++) so(pool[i] == 0xA5, "the rest of the buffer is left");
 }
 
-/* A room for so many bytes, that isn't known: none, too little, exactly, more. */
+/* A random length of a buffer for so many bytes: 0, one too short, exact, or longer. */
 static size_t draw_room(size_t size) {
     switch (below(4)) {
     case 0: return 0;
@@ -132,7 +135,7 @@ static size_t draw_room(size_t size) {
 
 static uint8_t *buffer(size_t room) { return room == 0 && below(2) ? NULL : pool; }
 
-/* A call has written a file of this size, where it is known, and told its length. */
+/* A call has written a file of this size, if the size is known, and given its length. */
 static void wrote(uint32_t want, size_t room, size_t told, size_t size) {
     const size_t untold = (size_t)-1;
     bool is_served = want == TELWYDDUS_DONE;
@@ -161,7 +164,7 @@ static void tray_blank(void) {
     tray_is[at].medium = (Medium){true, 14 + cylinders * 4 * words, cylinders, words, false};
 }
 
-/* Of a file, a part of it, another one, or none. */
+/* Makes a tray from a file, a part of it, another file, or no bytes. */
 static void tray_read(void) {
     unsigned at = below(4), way = below(6);
     size_t length = way == 0 ? 0 : way == 1 ? sizeof sample - 1 : sizeof sample;
@@ -182,7 +185,8 @@ static void tray_read_flat(void) {
     tray_is[at].medium = (Medium){true, 14 + 160 * 12500, 80, 6250, false};
 }
 
-/* Of another geometry: a small one, one that there isn't, one with no room on its tracks, and a file of another length. */
+/* Makes a tray from a file of another geometry: a small one, one that isn't valid, one that doesn't fit on its
+ * tracks, and a file of another length. */
 static void tray_read_flat_as(void) {
     unsigned at = below(4), way = below(5), heads = 1 + below(2), sectors = way == 2 ? 200 : 1 + below(9);
     uint8_t cylinders = way == 1 ? (uint8_t)(below(2) ? 0 : 81 + below(100)) : 1;
@@ -215,7 +219,7 @@ static void tray_free(void) {
     tray_is[at].is = false;
 }
 
-/* The image file, or what is made of it. */
+/* Writes the image file, or another file made of the medium. */
 static void tray_write(void) {
     unsigned at = below(4), way = below(9);
     bool no_form = way == 8 && below(4) == 0;
@@ -240,7 +244,7 @@ static unsigned here; /* the controller that calls go to */
 
 static bool is_here(void) { return controller_is[here].is; }
 
-/* The lines that there are, or none where there is no controller. */
+/* The lines that there are, or none if there is no controller. */
 static uint8_t lines_now(void) {
     uint8_t lines = 0xEE;
     CALL(telwyddus_controller_lines(&controllers[here], &lines));
@@ -249,7 +253,7 @@ static uint8_t lines_now(void) {
     return is_here() ? lines : 0;
 }
 
-/* A call that tells the lines has told them, if there is a controller. */
+/* A call that gives the lines has given them, if there is a controller. */
 static void lines_told(uint8_t lines) {
     if (!is_here()) so(lines == 0xEE, "the lines are left");
     else if (below(4) == 0) {
@@ -260,7 +264,7 @@ static void lines_told(uint8_t lines) {
     }
 }
 
-/* The same of one of the controllers. */
+/* The same for one of the controllers. */
 static void told_of(unsigned at, uint8_t lines) {
     unsigned before = here;
     here = at;
@@ -268,7 +272,7 @@ static void told_of(unsigned at, uint8_t lines) {
     here = before;
 }
 
-/* ---- media between trays and bays, at each kind that has bays */
+/* ---- media between trays and bays, for each kind of object that has bays */
 
 static bool is_bay(uint32_t bay) { return bay < 2; }
 
@@ -364,7 +368,7 @@ static uint8_t read_port(uint16_t port) {
     return value;
 }
 
-/* Any access, or the bytes of a command that there is. */
+/* Any access, or the bytes of a valid command. */
 static void access_ports(void) {
     static const uint8_t codes[] = {0xE6, 0x46, 0xC5, 0x45, 0x4C, 0x49, 0x66, 0x4A, 0x4D, 0x42, 0x56, 0x07, 0x0F, 0x8F, 0xCF, 0x08, 0x08, 0x04, 0x03, 0x13,
         0x94, 0x14, 0x0E, 0x12, 0x10, 0x06, 0x11};
@@ -383,7 +387,7 @@ static void access_ports(void) {
     }
 }
 
-/* Steps that surely change no line change none. */
+/* Steps that are said to change no line change none. */
 static void make_quiet(void) {
     uint32_t most = below(3) ? below(70000) : UINT32_MAX, steps = 0xEEEEEEEE, made = 0;
     uint8_t before = lines_now(), lines = 0xEE;
@@ -458,7 +462,7 @@ static void pass_bytes(void) {
     else give_bytes(before);
 }
 
-/* A guest goes on with one controller for some calls. */
+/* A guest uses one controller for some calls. */
 static void drive(void) {
     here = below(2);
     for (unsigned i = below(40); i > 0; i--) {
@@ -469,7 +473,7 @@ static void drive(void) {
     }
 }
 
-/* ---- what a front end asks of a controller */
+/* ---- what a front end asks a controller */
 
 static void look(void) {
     unsigned at = below(2);
@@ -495,7 +499,7 @@ static void look(void) {
     }
 }
 
-/* The medium in a bay, if any, and what a call on it answers. */
+/* The medium in a bay, if there is one, and what a call on it answers. */
 static Medium medium_in(unsigned at, uint32_t bay) {
     return controller_is[at].is && is_bay(bay) ? controller_is[at].bay[bay] : (Medium){.is = false};
 }
@@ -554,7 +558,7 @@ static void rig(void) {
     }
 }
 
-/* ---- what a medium is, in a tray or in a bay: its shape, its tab, its tracks */
+/* ---- a medium in a tray or in a bay: its shape, its write-protect tab, its tracks */
 
 static uint16_t words[20000], other[20000];
 
@@ -627,12 +631,12 @@ static void saved(State *state, const Drives *drives, size_t room, size_t told) 
     memcpy(state->bytes, pool, told);
 }
 
-/* The bytes were a state of this kind, or weren't. */
+/* The bytes were a state of this kind, or were not. */
 static void restored(const State *state, Drives *drives, bool is_state) {
     if (wanted(state->is && is_state ? TELWYDDUS_DONE : TELWYDDUS_BAD_STATE)) *drives = state->drives;
 }
 
-/* They were one without media that the media in the bays are alike to, or weren't. Rates aren't known here. */
+/* The bytes were a state without media that fits the media in the bays, or were not. Rates aren't known here. */
 static void restored_bare(const State *state, Drives *drives, bool is_state) {
     bool differs = false;
     for (int bay = 0; bay < 2; bay++) {
@@ -652,7 +656,7 @@ static void move_state(void) {
     size_t length = way == 0 ? 0 : way == 1 ? state->length / 2 : state->length;
     const uint8_t *bytes = state->bytes;
     uint8_t lines = 0xEE;
-    if (way == 2 && length > 0) { /* behind another name */
+    if (way == 2 && length > 0) { /* after another name */
         memcpy(pool, bytes, length);
         bytes = pool;
     }
@@ -707,7 +711,7 @@ static void machine_time(unsigned at) {
     }
 }
 
-/* Bytes go in and come out again; or their range isn't within memory. */
+/* Bytes go in and come out again, or else their range isn't within memory. */
 static void machine_memory(unsigned at) {
     const size_t memory = 1 << 20;
     size_t length = below(600), address = below(4) ? below(1 << 20) : memory - length + below(3) - 1;
@@ -789,7 +793,7 @@ static void use_shelf(void) {
 
 /* ---- single sectors */
 
-/* What any call of a desk on a bay answers, before it looks at the track. True where it does look. */
+/* What any call of a disk object on a bay answers before it looks at the track. True if it does look. */
 static bool reaches(unsigned at, uint32_t bay) {
     if (disk_is[at].is && is_bay(bay)) return true;
     wanted(disk_is[at].is ? TELWYDDUS_OUT_OF_RANGE : TELWYDDUS_EMPTY);

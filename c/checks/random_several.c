@@ -1,13 +1,15 @@
-/* random_several COMMANDS [SEED] - random commands of several sectors against the same ones sent sector by sector.
- *
- * Two controllers have the same disk. One takes each command as it is; at the other each sector is a command of its own, with EOT
- * as its record and the terminal count behind it. The bytes that pass are to be the same, the results those that the rules in
- * docs/C.md make of the single ones, and the images the same. Each 250 commands begin with a fresh disk, some of whose sectors are
- * deleted, or damaged in the key, the data mark or the data.
- *
- * Behind each fourth one a third controller gets a command of any kind, or some: several sectors by DMA or at the data port, VERIFY,
- * READ TRACK, what no medium can have, seeks of four drives one upon the other, settings, resets. What comes of it is reckoned by
- * model.h alone. */
+/* random_several COMMANDS [SEED] - compares random commands of several sectors with the same commands sent sector by
+ * sector.
+ * 
+ * Two controllers have the same disk. One takes each command as it is. The other gets a command of its own for each
+ * sector, with EOT as its record and the terminal count after it. The same bytes have to pass. The results have to
+ * be those that the rules in docs/C.md make of the single results, and the images have to be the same. Each 250
+ * commands begin with a fresh disk, some of whose sectors are deleted, or damaged in the sector ID, the data mark or
+ * the data.
+ * 
+ * After each fourth command, a third controller gets one or more commands of any kind: several sectors by DMA or at
+ * the data port, VERIFY, READ TRACK, what no medium can have, overlapping seeks of four drives, settings, resets.
+ * Their results are computed by model.h alone. */
 #include "guest.h"
 #include "flat.h"
 #include "model.h"
@@ -22,11 +24,11 @@ enum { WHOLE, BAD_KEY, BAD_MARK, BAD_DATA };
 typedef struct {
     uint8_t code, head, key[4], eot;    /* key: C, H, R, N */
     uint8_t cylinder;                   /* where the heads are */
-    int is_strapped, options;           /* how seeks are implied, if so */
+    int is_strapped, options;           /* how seeks are implied, if they are */
     size_t count;
 } Command;
 
-/* What the rules say of a command, from the single ones. */
+/* What the rules say of a command, computed from the single ones. */
 typedef struct {
     size_t passed;
     uint8_t result[7];
@@ -48,12 +50,12 @@ static unsigned below(unsigned bound) {
 /* ---- disks */
 
 static void damage(int c, int h, int r, int kind) {
-    static const int words[] = {0, 16 + 2, 44 + 15, 44 + 16 + 300};   /* from the 00s before the key on */
+    static const int words[] = {0, 16 + 2, 44 + 15, 44 + 16 + 300};   /* from the 00s before the sector ID on */
     uint8_t *low = disk + 14 + (c * 2 + h) * 25000 + (146 + 682 * (r - 1) + words[kind]) * 2 + 1;
     *low ^= 0x01;
 }
 
-/* A fresh disk for both. Deleted sectors are written by single commands. */
+/* Makes a fresh disk for both. Deleted sectors are written by single commands. */
 static void fresh_disk(void) {
     Guest writer;
     memcpy(disk, image, SMALL);
@@ -99,10 +101,10 @@ static int mark_at(const Command *at) {
     return at->cylinder < CYLINDERS && r >= 1 && r <= 18 && is_deleted[at->cylinder][at->head][r];
 }
 
-/* The mark of the sector isn't of those that are wanted. */
+/* The mark of the sector isn't a wanted one. */
 static int is_other(const Command *at) { return !is_write(at) && mark_at(at) != wants_deleted(at); }
 
-/* The sector behind. */
+/* The next sector. */
 static void go_on(Command *at) {
     if (at->key[2] != at->eot) {
         at->key[2]++;
@@ -182,10 +184,10 @@ static void reckon(const Command *command_sent, uint8_t *place, Wanted *wanted) 
 
 /* ---- random commands */
 
-/* Seeks are implied. */
+/* Whether seeks are implied. */
 static int implies(const Command *now) { return now->is_strapped || now->options & EIS; }
 
-/* A field may have its size. One that no field has implies no seek. */
+/* Whether a field may have its size. A size that no field has implies no seek. */
 static int is_sized(const Command *now) { return now->key[3] >= 1 && now->key[3] <= 6; }
 
 static void draw(Command *now) {
@@ -211,7 +213,7 @@ static void draw(Command *now) {
     if (!implies(now) && below(30) == 0) now->key[0]++;
 }
 
-/* The command as it is, at the first controller. */
+/* Sends the command as it is to the first controller. */
 static void send_whole(const Command *now, uint8_t *place) {
     const uint8_t bytes[] = {now->code, (uint8_t)(now->head << 2), now->key[0], now->key[1], now->key[2], now->key[3], now->eot, 0x1B, 0xFF};
     configure(&several, (uint8_t)now->options);
@@ -250,7 +252,7 @@ static void try_one(unsigned long number) {
         || memcmp(given, taken, several.passed) != 0) report(number, &now, &wanted);
 }
 
-/* ---- commands of any kind, against what model.h reckons */
+/* ---- commands of any kind, compared with what model.h computes */
 
 #define OTHER (14 + FORMATTED * 2 * 25000)
 
@@ -258,9 +260,9 @@ static Guest chip;
 static Model model;
 static Outcome reckoned;
 static uint8_t moved[MODEL_MOST + 512];
-static unsigned long tried[4];      /* data commands by DMA, at the port; seeks; questions and settings */
+static unsigned long tried[4];      /* data commands by DMA; data commands at the port; seeks; questions and settings */
 
-/* Cylinders 0 to 3 are whole. Of cylinder 4 some contents are damaged, of 5 some keys. */
+/* Cylinders 0 to 3 are whole. On cylinder 4 some contents are damaged, on cylinder 5 some sector IDs. */
 static void begin_others(void) {
     static uint8_t start_image[OTHER];
     memcpy(start_image, image, OTHER);
@@ -280,7 +282,7 @@ static void begin_others(void) {
     make_guest(&chip, start_image, OTHER);
 }
 
-/* What the last command answered is what was reckoned; of a READ ID any record of the track is. */
+/* The last command answered what was computed; for a READ ID that is any record of the track. */
 static void compare(const uint8_t *sent, size_t passed) {
     int is_id = (sent[0] & 0x5F) == 0x4A && reckoned.result[6] == 2;
     if (is_id && chip.result[5] >= 1 && chip.result[5] <= 18) reckoned.result[5] = chip.result[5];
@@ -314,7 +316,7 @@ static void dump(void) {
     ask(sent, 1);
 }
 
-/* Its bytes pass at the data port, with the terminal count behind so many. Tells how many passed. */
+/* Passes its bytes at the data port, with the terminal count after so many. Returns how many passed. */
 static size_t pass_by_port(uint8_t *place, size_t most) {
     size_t passed = 0;
     uint32_t made;
@@ -335,7 +337,7 @@ static size_t pass_by_port(uint8_t *place, size_t most) {
     return 0;
 }
 
-/* A data command, of which `reckoned` is told already. */
+/* Sends a data command for which `reckoned` has been computed already. */
 static void send(const uint8_t *sent, int bytes, size_t most) {
     int is_by_port = model.head_load & 1;
     size_t passed;
@@ -364,7 +366,7 @@ static void await_heads(void) {
     need(in(&chip, MSR) & RQM, "heads stand");
 }
 
-/* A command that moves heads; where others still move it waits. */
+/* Sends a command that moves heads. If others still move, the command waits. */
 static void move(const uint8_t *sent, int bytes) {
     for (int i = 0; i < 800 && !(in(&chip, MSR) & RQM); i++) make_steps(&chip, 1);
     put(&chip, sent, bytes);
@@ -382,7 +384,7 @@ static void try_seek(int drive) {
     }
 }
 
-/* Seeks one upon the other; their results are taken, or some of them. */
+/* Overlapping seeks; their results are taken, or some of them are. */
 static void try_seeks(void) {
     int count = (int)(1 + below(3)), senses = (int)below(6);
     for (int i = 0; i < count; i++) {
@@ -393,7 +395,7 @@ static void try_seeks(void) {
     for (int i = 0; i < senses; i++) sense_once();
 }
 
-/* The heads go to a cylinder, by drive 0, and its number may be another. */
+/* Moves the heads of drive 0 to a cylinder, whose number may be another one. */
 static void go_to(int cylinder, int is_in_step) {
     static const uint8_t recalibrate_it[] = {0x07, 0};
     int offset = model.cylinders[0] - model.heads;
@@ -451,7 +453,7 @@ static void try_setting(void) {
 
 /* ---- data commands */
 
-/* Nine bytes with a key of a cylinder, mostly one that is there. */
+/* Nine bytes with a sector ID of a cylinder, mostly one that is there. */
 static void draw_sectors(uint8_t *sent, uint8_t code, int cylinder) {
     uint8_t head = (uint8_t)below(2);
     sent[0] = code;
@@ -465,7 +467,7 @@ static void draw_sectors(uint8_t *sent, uint8_t code, int cylinder) {
     sent[COUNT] = (uint8_t)(below(4) ? below(40) : 0xFF);
 }
 
-/* Deleted sectors are on cylinders 0 and 1 alone, where none is damaged. */
+/* Deleted sectors are only on cylinders 0 and 1, where none is damaged. */
 static void try_sectors(void) {
     static const uint8_t codes[] = {READ, READ, WRITE, WRITE, READ_DELETED, WRITE_DELETED, 0x56, 0x56};
     uint8_t sent[9], code = codes[below(8)];
@@ -482,7 +484,7 @@ static void try_sectors(void) {
     send(sent, 9, most);
 }
 
-/* Of cylinders 2 to 4, on which no sector is deleted and all keys are intact. */
+/* This is on cylinders 2 to 4, on which no sector is deleted and all sector IDs are intact. */
 static void try_track(void) {
     uint8_t sent[9];
     int cylinder = (int)(2 + below(3));
@@ -524,7 +526,7 @@ static void try_other(void) {
     if (below(4) == 0) sense_once();
 }
 
-/* At last each sector is read. */
+/* At the end each sector is read. */
 static void end_others(void) {
     static const uint8_t specify[9] = {0x03, 0xDF, 0x02}, off[9] = {0x13, 0, 0x20, 0};
     model.step_rate = 0xDF, model.head_load = 0x02, reckoned.results = 0;

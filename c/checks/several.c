@@ -1,10 +1,11 @@
 /* several - commands of several sectors at the bare controller, as a BIOS and DOS send them.
- *
- * A guest writes whole cylinders of 36 sectors, in one command each, and reads them back; `export` on a shelf then gives the flat
- * file that was wanted. Then one command for each rule of MT, SK, EOT and the terminal count: how many bytes pass, and what its
- * result bytes are by the table in docs/C.md; also of VERIFY and READ TRACK, and with the bytes at the data port; what is told of
- * seeks with the strap for step times and without; and that nothing happens while it is held in reset. At last it
- * formats a track with 21 sectors, and the disk has no flat file. */
+ * 
+ * A guest writes whole cylinders of 36 sectors, in one command each, and reads them back; `export` on a shelf then
+ * gives the wanted flat file. Then there is one command for each rule of MT, SK, EOT and the terminal count. It
+ * checks how many bytes pass, and the result bytes by the table in docs/C.md. The program does the same for VERIFY
+ * and READ TRACK, and with the bytes at the data port. It checks what is reported about seeks with the strap for
+ * step times and without, and that nothing happens while the controller is held in reset. At last it formats a track
+ * with 21 sectors, and the disk then has no flat file. */
 #include "guest.h"
 #include "flat.h"
 
@@ -46,7 +47,7 @@ static void whole_cylinders(void) {
 typedef struct {
     const char *what;
     uint8_t bytes[9];
-    size_t count, passed;       /* bytes of the channel; bytes that are to pass */
+    size_t count, passed;       /* bytes of the channel; bytes that have to pass */
     uint8_t wanted[7];
 } Case;
 
@@ -98,7 +99,7 @@ static const Case marks[] = {
     {"READ DELETED with MT", {READ_DELETED | MT, 0, 10, 0, 17, 2, 18, GAP}, 4 * 512, 4 * 512, {0x04, 0, 0, 10, 1, 3, 2}},
 };
 
-/* Where the deleted sector's data are damaged. */
+/* The place at which the deleted sector's data are damaged. */
 static const Case bad_checks[] = {
     {"SK 1, its check is bad: it is passed over all the same", {READ | SK, 0, 9, 0, 3, 2, 18, GAP}, 5 * 512, 5 * 512, {0x00, 0, 0x40, 9, 0, 9, 2}},
     {"and where it is the last", {READ | SK, 0, 9, 0, 5, 2, 5, GAP}, 512, 0, {0x40, 0x80, 0x40, 9, 0, 5, 2}},
@@ -114,7 +115,7 @@ static int is_all(const uint8_t *bytes, size_t count, uint8_t value) {
 
 static int is_sector(const uint8_t *bytes, int c, int h, int r) { return memcmp(bytes, sector(flat, c, h, r), 512) == 0; }
 
-/* What a read gave is what `flat` has there. */
+/* What a read gave is what `flat` has at that place. */
 static void reads(void) {
     TRY(ends);
     try_one(&ends[0]);
@@ -134,7 +135,7 @@ static void writes(void) {
     try_one(&beyond);
 }
 
-/* Another disk is put in, which is the same but for a cell of the data of sector 5 on cylinder 9, head 0. */
+/* Puts in another disk, which is the same except for a cell of the data of sector 5 on cylinder 9, head 0. */
 static void damage(void) {
     telwyddus_tray tray = {0};
     image_of(&guest, image, IMAGE);
@@ -160,7 +161,8 @@ static void deleted(void) {
     try_one(&marks[4]);
 }
 
-/* ---- commands that this medium can't have, those sent while heads move, and those that move no byte by the channel */
+/* ---- commands that this medium can't have, commands sent while heads move, and commands that move no byte by the
+ * channel */
 
 static void refused(const char *what, const uint8_t *bytes, int count) {
     channel(&guest, buffer, 512);
@@ -221,7 +223,7 @@ static void verifies(void) {
     check(is_sector(buffer, 12, 1, 1) && is_sector(buffer + 512, 12, 1, 2) && is_sector(buffer + 1024, 12, 1, 3), "its bytes are those of the sectors from the index on");
 }
 
-/* A cylinder by the data port, which ends with EN. */
+/* Reads a cylinder by the data port, which ends with EN. */
 static void by_port(void) {
     static const uint8_t polled[] = {0x03, 0xDF, 0x03}, served[] = {0x03, 0xDF, 0x02}, bytes[] = {READ | MT, 0, 13, 0, 1, 2, 18, GAP};
     static const uint8_t wanted[] = {0x44, 0x80, 0, 13, 1, 18, 2};
@@ -261,14 +263,14 @@ static void seeks(void) {
     configure(&guest, FIFO_OFF | EIS);
 }
 
-/* SENSE INTERRUPT tells this. */
+/* SENSE INTERRUPT gives this. */
 static int is_sensed(uint8_t status, uint8_t number) {
     sense_interrupt(&guest);
     return guest.results == 2 && guest.result[0] == status && guest.result[1] == number;
 }
 
-/* A SEEK whose last byte comes before the first device step behind a reset, and a RECALIBRATE from further out than its 79 pulses go:
- * the same is told with the strap for step times and without. */
+/* A SEEK whose last byte comes before the first device step after a reset, and a RECALIBRATE from farther out than
+ * its 79 pulses reach: each gives the same results with the strap for step times and without. */
 static void step_times(uint8_t strap) {
     static const uint8_t fast[] = {0x03, 0xFF, 0x02}, near[] = {0x0F, 0, 3}, home[] = {0x07, 0};
     int polls = 0;
@@ -292,7 +294,7 @@ static void step_times(uint8_t strap) {
     MUST(telwyddus_controller_strap_steps(&guest.controller, 0));
 }
 
-/* Held in reset nothing is under way: no timer is needed. */
+/* While the controller is held in reset nothing is under way, so no timer is needed. */
 static void held(void) {
     uint32_t quiet;
     out(&guest, DOR, 0x08);
@@ -301,7 +303,7 @@ static void held(void) {
     start(&guest);
 }
 
-/* What a guest does within a command: nothing comes of it. */
+/* What a guest does within a command has no effect. */
 static void within(void) {
     const uint8_t bytes[] = {READ | MT, 0, 30, 0, 1, 2, 18, GAP}, sector_one[] = {0x00, 0, 0, 30, 0, 2, 2};
     channel(&guest, buffer, 512);
@@ -323,7 +325,7 @@ static void early_count(void) {
     check(guest.results == 7 && memcmp(guest.result, none, 7) == 0 && guest.passed == 0, "the terminal count within an implied seek: no byte passes, one sector is searched");
 }
 
-/* A command of four sectors, of which so many bytes pass. */
+/* Sends a command of four sectors, of which so many bytes pass. */
 static void begin_four(size_t bytes_passed) {
     const uint8_t bytes[] = {READ | MT, 0, 60, 0, 1, 2, 18, GAP};
     channel(&guest, buffer, 4 * 512);
@@ -331,7 +333,7 @@ static void begin_four(size_t bytes_passed) {
     while (guest.passed < bytes_passed) need(!run(&guest, 1), "it goes on");
 }
 
-/* The medium is taken out so many steps behind that. */
+/* Takes the medium out so many steps after that. */
 static void take_medium(size_t bytes_passed, uint32_t steps, size_t passed, const uint8_t *wanted, const char *what) {
     telwyddus_tray tray = {0};
     begin_four(bytes_passed);
@@ -345,7 +347,7 @@ static void take_medium(size_t bytes_passed, uint32_t steps, size_t passed, cons
     MUST(telwyddus_tray_free(&tray));
 }
 
-/* The channel serves no more behind some bytes of the second sector. */
+/* The channel serves no more after some bytes of the second sector. */
 static void starve(void) {
     static const uint8_t wanted[] = {0x40, 0x10, 0, 60, 0, 2, 2};
     begin_four(600);
@@ -355,7 +357,7 @@ static void starve(void) {
     check(guest.results == 7 && memcmp(guest.result, wanted, 7) == 0, "bytes aren't taken: OR at their sector");
 }
 
-/* The same disk, protected. */
+/* The same disk, write-protected. */
 static void protect(void) {
     static const Case write = {"a protected medium: NW", {WRITE | MT, 0, 60, 0, 1, 2, 18, GAP}, 1024, 1, {0x40, 0x02, 0, 60, 0, 1, 2}};
     telwyddus_tray tray = {0};
@@ -381,7 +383,7 @@ static void breaks(void) {
 
 /* ---- what a flat sector file can't have */
 
-/* A track with so many sectors of 512 bytes. */
+/* Formats a track with so many sectors of 512 bytes. */
 static void format(uint8_t c, uint8_t h, uint8_t count, uint8_t gap) {
     const uint8_t bytes[] = {FORMAT, (uint8_t)(h << 2), 2, count, gap, 0xF6};
     for (uint8_t r = 1; r <= count; r++) {
@@ -394,7 +396,7 @@ static void format(uint8_t c, uint8_t h, uint8_t count, uint8_t gap) {
     need(guest.results == 7 && (guest.result[0] & 0xC0) == 0 && guest.left == 0, "a track is formatted");
 }
 
-/* What a tray answers of the guest's disk, and the track that it tells. */
+/* What a tray answers for the guest's disk, and the track that it names. */
 static uint32_t flat_code(uint8_t *c, uint8_t *h) {
     telwyddus_tray tray = {0};
     size_t told;

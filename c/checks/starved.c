@@ -1,7 +1,8 @@
-/* starved IMAGE EACH - memory is refused, request by request: each call is done then, or answers NO_MEMORY; a medium is where it was; and
- * what was refused is done when it is tried again. Nothing is lost, for which this program counts blocks, and valgrind looks. Its heap
- * stands in place of c/heap.c. IMAGE is a formatted disk of one cylinder at 250 kbit/s. A flat file takes some thousand requests: EACH is
- * 1 where each of them is refused, 97 for each 97th. */
+/* starved IMAGE EACH - refuses memory, request by request. Each call is then done, or answers NO_MEMORY; a medium
+ * stays where it was; and a call that was refused is done when it is tried again. Nothing is lost: this program
+ * counts blocks, and valgrind looks too. The program's heap replaces c/heap.c. IMAGE is a formatted disk of one
+ * cylinder at 250 kbit/s. A flat file takes some thousand requests. If EACH is 1, each of them is refused; if it is
+ * 97, each 97th is. */
 #include "common.h"
 #include <stdbool.h>
 
@@ -11,8 +12,8 @@
 
 typedef struct { bool is_ok; void *at; } tried;
 static char nothing;
-static long left = -1; /* how many requests are served before one is refused; all, below 0 */
-static long blocks;    /* how many are out */
+static long left = -1; /* how many requests are served before one is refused; all, if below 0 */
+static long blocks;    /* how many blocks are in use */
 static bool was_short; /* a request was refused in the call that is tried */
 
 static bool refuses(void) {
@@ -41,8 +42,8 @@ void rattle_dealloc(void *at) {
 
 /* ---- calls */
 
-/* A call is done, or answers NO_MEMORY where a request was refused in it; then it is done when it is tried again. One that takes no
- * memory is a MUST. */
+/* A call is done, or answers NO_MEMORY if a request was refused in it. Then it is done when it is tried again. A
+ * call that takes no memory is a MUST. */
 #define TRY(call) do { if (REFUSED(call)) MUST(call); } while (0)
 #define REFUSED(call) (was_short = false, is_refused((call), #call, __LINE__))
 
@@ -68,7 +69,7 @@ static void is_image(telwyddus_tray *tray, const char *what) {
 
 /* ---- scenarios */
 
-/* A medium goes into a drive, is looked at there, and goes out again. */
+/* A medium goes into a drive, is looked at there, and comes out again. */
 static void move(void) {
     telwyddus_controller controller = {0};
     telwyddus_tray tray = {0}, back = {0};
@@ -89,7 +90,7 @@ static void move(void) {
     MUST(telwyddus_controller_free(&controller));
 }
 
-/* A state is restored over another one, and into an empty slot. Behind a refusal the slot is as it was. */
+/* A state is restored over another one, and into an empty slot. After a refusal the slot is as it was. */
 static void restore(void) {
     static uint8_t state[ROOM], was[ROOM], now[ROOM];
     telwyddus_controller controller = {0}, again = {0};
@@ -130,7 +131,7 @@ static void is_as(telwyddus_controller *controller, const uint8_t *state, size_t
     is_so(told == length && memcmp(now, state, told) == 0, "the controller is as it was");
 }
 
-/* A state without its media, which are in both bays. Each medium is in its bay behind a refusal. */
+/* A state is restored without its media, which are in both bays. After a refusal each medium is in its bay. */
 static void bare(void) {
     static uint8_t state[ROOM], whole[ROOM];
     telwyddus_controller controller = {0};
@@ -171,7 +172,8 @@ static void run(void) {
     MUST(telwyddus_shelf_free(&shelf));
 }
 
-/* Sectors at a desk: one is written and read, and its track formatted again. Only the desk itself and an eject take memory. */
+/* Sectors by a disk object: one is written and read, and its track is formatted again. Only `new` and an eject take
+ * memory. */
 static void sectors(void) {
     telwyddus_disk disk = {0};
     telwyddus_tray tray = {0}, back = {0};
@@ -208,7 +210,7 @@ static void blank(void) {
     MUST(telwyddus_tray_free(&tray));
 }
 
-/* What stands on a medium, which goes through an ImageDisk file. */
+/* A medium is surveyed, and goes through an ImageDisk file. */
 static void archive(void) {
     telwyddus_tray tray = {0}, again = {0};
     size_t told, wanted;
@@ -225,7 +227,7 @@ static void archive(void) {
     MUST(telwyddus_tray_free(&again));
 }
 
-/* The medium of a flat sector file: that file again, and its last sector is read at a desk. */
+/* The medium of a flat sector file gives that file again, and its last sector is read by a disk object. */
 static void flat(void) {
     static uint8_t file[737280], again[737280];
     size_t told = 0;
@@ -249,7 +251,7 @@ static void flat(void) {
     MUST(telwyddus_disk_free(&disk));
 }
 
-/* Requests are refused, one in each round, until a round has no more: each of them, or only each of so many. */
+/* Refuses requests, one in each round, until a round has no more requests: each of them, or only each of so many. */
 static void rounds(void (*part)(void), const char *name, long each) {
     long refused = 0;
     for (long served = 0;; served += each, refused++) {

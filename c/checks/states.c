@@ -1,10 +1,11 @@
-/* states COMMANDS [SEED] - states saved in the middle of random commands, and restored into another slot.
- *
- * A command runs on one controller up to a random access, DACK byte or device step. There its state is saved and restored into a
- * second slot, and from there on both get the same calls: each answer is to be the same, and at the end the images and the bytes of
- * both states. The next command goes on with the restored one. Of each tenth state the bytes are spoilt: they are refused, or are
- * those of another state. Before that a state is taken in each stage of a command that a random one may miss. Then the same for a
- * tenth of the commands on machines, whose drives have planned faults, and which a plan delays and disturbs. */
+/* states COMMANDS [SEED] - saves states in the middle of random commands, and restores them into another slot.
+ * 
+ * A command runs on one controller up to a random access, DACK byte or device step. There its state is saved and
+ * restored into a second slot. From there on both slots get the same calls: each answer has to be the same, and so
+ * have the images and the bytes of both states at the end. The next command goes on with the restored controller.
+ * The bytes of each tenth state are damaged: they are then refused, or are those of another state. Before all this,
+ * a state is taken in each stage of a command that a random one may miss. At the end the same is done for a tenth of
+ * the commands on machines whose drives have planned faults, and which a plan delays and disturbs. */
 #include "common.h"
 
 enum { DOR = 0x3F2, MSR = 0x3F4, BYTES = 0x3F5, CCR = 0x3F7 };
@@ -12,12 +13,12 @@ enum { RQM = 0x80, DIO = 0x40, NON_DMA = 0x20, BUSY = 0x10 };
 enum { READ = 0x46, READ_DELETED = 0x4C, WRITE = 0x45, WRITE_DELETED = 0x49, FORMAT = 0x4D, READ_ID = 0x4A, READ_TRACK = 0x42, VERIFY = 0x56, MT = 0x80, SK = 0x20 };
 
 #define ROOM (4 << 20)          /* for the bytes of a state */
-#define MOST (40 * 512)         /* bytes of a channel */
+#define MOST (40 * 512)         /* the most bytes of a channel */
 #define ROUND 10                /* commands on one machine */
-#define SPARE 2                 /* the slot for spoilt bytes */
+#define SPARE 2                 /* the slot for damaged bytes */
 #define NEVER 4000000000u       /* more than any count of accesses and steps */
 
-/* What controllers and machines have in common, by the number of a slot. */
+/* What controllers and machines have in common, for the slot of a number. */
 typedef struct {
     const char *name;
     uint32_t (*save)(int at, uint8_t *out, size_t room, size_t *length);
@@ -27,12 +28,12 @@ typedef struct {
     uint32_t (*insert)(int at, uint32_t bay, telwyddus_tray *tray);
     uint32_t (*eject)(int at, uint32_t bay, telwyddus_tray *tray);
     uint32_t (*end)(int at);
-    int (*await)(unsigned long most);   /* up to so many steps, and whether the interrupt came */
+    int (*await)(unsigned long most);   /* makes up to so many steps; returns whether the interrupt came */
 } Kind;
 
-static uint8_t told[3];         /* the lines of each controller, as its last call told them */
+static uint8_t told[3];         /* the lines of each controller, as its last call gave them */
 
-/* After the names come further arguments of what tells lines. */
+/* The names are followed by further arguments of a call that gives lines. */
 #define KIND(kind, in, out, ...) \
     static telwyddus_##kind kind##s[3]; \
     static int await_##kind(unsigned long most); \
@@ -54,9 +55,9 @@ static const size_t lengths[2] = {14 + 4 * 2 * 25000, 14 + 3 * 2 * 12500};
 static uint8_t images[2][14 + 4 * 2 * 25000];
 
 static const Kind *kind;
-static int now, both;           /* the slot that calls go to, and whether they go to the other one too */
+static int now, both;           /* the slot that calls go to, and whether they also go to the other one */
 static enum { IN_BYTES, IN_EXECUTION, IN_RESULTS, BEHIND } phase, aim;
-static unsigned long until;     /* accesses, DACK bytes and device steps up to the state, of those in the phase that is aimed at */
+static unsigned long until;     /* accesses, DACK bytes and device steps up to the state, counted in the phase that is aimed at */
 static unsigned long number, differences, taken[4], refused, others;
 static uint8_t state[ROOM], again[ROOM], kept[ROOM];
 static uint64_t seed;
@@ -87,7 +88,8 @@ static size_t save(int at, uint8_t *bytes) {
     return length;
 }
 
-/* Bytes that are no state are refused, and the slot stays as it was. Where they may be another state, it has these bytes. */
+/* Bytes that aren't a state are refused, and the slot stays as it was. If they can be another state, that state has
+ * these bytes. */
 static void try_bytes(const uint8_t *bytes, size_t length, int may_be) {
     size_t before = save(SPARE, kept);
     uint32_t code = kind->restore(SPARE, bytes, length);
@@ -115,7 +117,7 @@ static void spoil(size_t length) {
     try_bytes(state, length - 1, 0);
     try_bytes(state, 0, 0);
     for (int i = 0; i < 6; i++) {
-        /* anywhere, or near either end, where no medium is */
+        /* at any place, or near either end, where no medium is */
         size_t at = i % 3 == 0 ? below((unsigned)length) : i % 3 == 1 ? below(300) : length - 1 - below(300);
         uint8_t was = state[at];
         state[at] ^= (uint8_t)(1 + below(255));
@@ -124,7 +126,7 @@ static void spoil(size_t length) {
     }
 }
 
-/* The state is saved and restored into the other slot, which holds an earlier one or nothing. */
+/* Saves the state and restores it into the other slot, which holds an earlier one or nothing. */
 static void take_state(void) {
     size_t length = save(now, state);
     if (below(3) == 0) kind->end(1 - now);
@@ -143,14 +145,14 @@ static void draw_turn(void) {
 
 static int counts_down(void) { return !both && phase == aim; }
 
-/* Before each access and each DACK byte. */
+/* Called before each access and each DACK byte. */
 static void turn(void) {
     if (!counts_down()) return;
     if (until == 0) take_state();
     else until--;
 }
 
-/* So many of the steps are made before the state is taken. */
+/* Makes so many of the steps before the state is taken. */
 static uint32_t steps_before(unsigned long most) {
     if (counts_down() && until == 0) take_state();
     return (uint32_t)(counts_down() && most > until ? until : most);
@@ -171,7 +173,7 @@ static void out(uint16_t port, uint8_t value) {
     for (int i = 0; i <= both; i++) MUST(kind->write(now ^ i, port, value));
 }
 
-/* The medium of a bay goes out and in again. */
+/* Takes the medium of a bay out and puts it in again. */
 static void change(uint32_t bay) {
     turn();
     for (int i = 0; i <= both; i++) {
@@ -185,8 +187,8 @@ static void change(uint32_t bay) {
 /* ---- the controller's lines, lights and channel */
 
 static uint8_t memory[MOST];
-static size_t place, left;      /* of the channel: the next byte, and how many are to come */
-static int counts;              /* it tells the terminal count with the last */
+static size_t place, left;      /* of the channel: the next byte, and how many are still to come */
+static int counts;              /* it gives the terminal count with the last byte */
 
 static uint8_t lines(void) {
     uint8_t value[2] = {0, 0};
@@ -217,7 +219,7 @@ static void make_step(void) {
     for (int i = 0; i <= both; i++) MUST(telwyddus_controller_step(&controllers[now ^ i], &told[now ^ i]));
 }
 
-/* A byte passed. The terminal count is told with the last, or isn't. */
+/* A byte passed. If it was the last, the terminal count is given, or isn't. */
 static void count_byte(void) {
     place++;
     if (left == 0 || --left > 0 || !counts) return;
@@ -236,7 +238,7 @@ static void pass_byte(int to_memory) {
     count_byte();
 }
 
-/* Bytes pass while they are asked for; now and then the channel is late. */
+/* Lets bytes pass while they are asked for; now and then the channel is late. */
 static uint8_t serve(void) {
     for (;;) {
         uint8_t value = lines();
@@ -279,7 +281,7 @@ static int await_machine(unsigned long most) {
     return 0;
 }
 
-/* So many bytes pass between the controller and memory at 20000. */
+/* Passes so many bytes between the controller and memory at 20000. */
 static void set_channel(int to_memory, size_t count) {
     if (kind == &controller_kind) {
         place = 0;
@@ -298,7 +300,7 @@ static void set_channel(int to_memory, size_t count) {
 
 static uint8_t dor;
 
-/* The controller out of reset, and its four interrupts taken. */
+/* Takes the controller out of reset, and takes its four interrupts. */
 static void reset(void) {
     out(DOR, dor & 0xFB);
     out(DOR, dor);
@@ -315,14 +317,15 @@ static void choose_bay(int bay) {
     out(CCR, rates[bay]);
 }
 
-/* The bytes of a command, while the controller takes them. */
+/* Sends the bytes of a command, as long as the controller takes them. */
 static void put(const uint8_t *bytes, int count) {
     phase = IN_BYTES;
     for (int i = 0; i < count && (in(MSR) & (RQM | DIO)) == RQM; i++) out(BYTES, bytes[i]);
     phase = IN_EXECUTION;
 }
 
-/* Without DMA bytes pass at the data port while MSR asks for them, so many at most; now and then a guest is late. */
+/* Without DMA: lets bytes pass at the data port while MSR asks for them, at most so many; now and then a guest is
+ * late. */
 static void pass_by_port(size_t most, int may_be_late) {
     for (long i = 0; i < 100000 && place < most; i++) {
         uint8_t status = in(MSR);
@@ -337,7 +340,7 @@ static void pass_by_port(size_t most, int may_be_late) {
     }
 }
 
-/* A command goes on to its end, where it has one to come, and its result bytes are read. */
+/* Runs a command to its end, if it has one, and reads its result bytes. */
 static void finish(void) {
     for (int i = 0; i < 30; i++) {
         uint8_t status = in(MSR);
@@ -387,7 +390,7 @@ static void set_options(void) {
     }
 }
 
-/* Sectors from one on; on a machine one. */
+/* Several sectors, beginning with one; on a machine only one sector. */
 static void move_sectors(int bay, int cylinder, int head) {
     static const uint8_t codes[] = {READ, READ, READ_DELETED, WRITE, WRITE, WRITE_DELETED};
     uint8_t code = codes[below(6)], r = (uint8_t)(1 + below(sectors[bay])), eot = r;
@@ -418,7 +421,7 @@ static void format(int bay, int cylinder, int head) {
     command(bytes, 6);
 }
 
-/* One of the small ones, or a byte that may be no command. */
+/* One of the short commands, or a byte that may not be a command. */
 static void ask(int bay, int head) {
     static const uint8_t codes[] = {READ_ID, READ_ID, 0x04, 0x08, 0x10, 0x0E};
     uint8_t code = below(8) ? codes[below(6)] : (uint8_t)below(256);
@@ -428,7 +431,7 @@ static void ask(int bay, int head) {
 
 /* ---- what the controller alone has */
 
-/* VERIFY, READ TRACK, or one that this medium can't have. */
+/* VERIFY, READ TRACK, or a command that this medium can't have. */
 static void look_at_sectors(int bay, int cylinder, int head) {
     static const uint8_t codes[] = {VERIFY, VERIFY | MT, VERIFY | SK, READ_TRACK, READ_TRACK, 0x02, 0x05, 0x06, 0x0A, 0x0D, READ, WRITE};
     uint8_t code = codes[below(12)], r = (uint8_t)(1 + below(sectors[bay])), n = code == READ || code == WRITE ? (uint8_t)(7 * below(2)) : 2;
@@ -514,7 +517,7 @@ static void compare_memories(void) {
     same(memcmp(state, again, MOST) == 0, 1, "memory is the same");
 }
 
-/* The next command goes on with the restored one. */
+/* The next command goes on with the restored controller. */
 static void settle(void) {
     if (!both) take_state();
     if (kind == &controller_kind) compare_controllers();
@@ -600,9 +603,9 @@ static void run_commands(const Kind *with, unsigned long commands) {
         kind->name, taken[IN_BYTES], taken[IN_EXECUTION], taken[IN_RESULTS], taken[BEHIND], refused, others);
 }
 
-/* ---- a state in each stage that a random one may miss */
+/* ---- a state in each stage that a random command may miss */
 
-/* The state is taken here, the command goes on, and the next stage is tried with the restored controller. */
+/* Takes the state here, lets the command go on, and tries the next stage with the restored controller. */
 static void take_here(void) {
     const uint8_t sense[] = {0x08};
     take_state();
@@ -618,7 +621,7 @@ static void make_steps(int count) {
     for (int i = 0; i < count; i++) make_step();
 }
 
-/* Up to so many bytes of the channel. */
+/* Runs up to so many bytes of the channel. */
 static void pass_some(size_t count) {
     for (long i = 0; i < 100000 && place < count; i++) {
         if (lines() & TELWYDDUS_DRQ) pass_byte(1);
@@ -741,8 +744,9 @@ static void each_stage(void) {
     check(differences == 0, "a state of each stage of the controller's commands went on as the one that was saved");
 }
 
-/* The bytes of a controller that was just made, field by field: it is held in reset at 250 kbit/s, with polling on and its poll due, and
- * its FIFO off with a threshold of one byte; the change lines of both empty drives are up. Counts have eight bytes, the low one first. */
+/* The bytes of a controller that was just made, field by field. It is held in reset at 250 kbit/s. Polling is on,
+ * and its poll is due. The FIFO is off, with a threshold of one byte. The change lines of both empty drives are up.
+ * Counts have eight bytes, the low one first. */
 static void made_as_written(void) {
     static const uint8_t wanted[198] = {
         'T', 'E', 'L', 'W', 'Y', 'D', 'D', 2,
@@ -764,7 +768,7 @@ static void made_as_written(void) {
         0, 0, 0, 0, 0, 0, 0, 0, 0, 0, 0, 0, 0, 0, 0, 0, 0, 0, 0, 0,
         0, 0, 0, 0, 0, 0, 0, 0, 0, 0, 0,    /* nothing in front, no bytes, no strap, no EIS */
         0,                                  /* nothing is under way */
-        0, 0, 0, 0, 0, 0, 0, 0, 0,          /* the last command: code, HD, key, EOT, gap, length */
+        0, 0, 0, 0, 0, 0, 0, 0, 0,          /* the last command: code, HD, sector ID, EOT, gap, length */
         0,                                  /* no bytes of the next */
         0, 0, 0, 0, 0, 0, 0, 0, 0,          /* no results of the drives, their cylinders, INT */
         0, 0, 0, 0, 0, 32, 0, 0,            /* SPECIFY, EOT, LOCK, PERPENDICULAR, CONFIGURE: EFIFO; PRETRK; nothing to tell again */

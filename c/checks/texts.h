@@ -1,11 +1,12 @@
-/* A guest whose commands, and what is wanted of them, are texts of hexadecimal bytes, as "0F 00 0C". In what is wanted ?? is any byte. */
+/* A guest whose commands and wanted results are texts of hexadecimal bytes, such as "0F 00 0C". In wanted results ??
+ * is any byte. */
 #ifndef TEXTS_H
 #define TEXTS_H
 #include "guest.h"
 
 static Guest guest;
-static int wrong;               /* how much of what was expected isn't so, */
-static const char *first_wrong[20];     /* and the first of it */
+static int wrong;               /* how many expectations failed, */
+static const char *first_wrong[20];     /* and the first of them */
 
 static inline void expect(int is_so, const char *what) {
     printf("%s: %s\n", what, is_so ? "yes" : "NO");
@@ -14,7 +15,7 @@ static inline void expect(int is_so, const char *what) {
     wrong++;
 }
 
-/* At the end: nothing was otherwise. */
+/* Checks at the end that no expectation failed. */
 static inline void expect_no_more(void) {
     MUST(telwyddus_controller_free(&guest.controller));
     for (int i = 0; i < wrong && i < 20; i++) printf("isn't so: %s\n", first_wrong[i]);
@@ -39,7 +40,7 @@ static inline int are_bytes(const uint8_t *bytes, int count, const char *text) {
     return at == count;
 }
 
-/* The last command gave these result bytes, and what else is wanted of it is so. */
+/* The last command gave these result bytes, and the further condition holds. */
 static inline void expect_result(int is_so, const char *wanted, const char *what) {
     int same = are_bytes(guest.result, guest.results, wanted);
     expect(is_so && same, what);
@@ -54,14 +55,14 @@ static inline void expect_result(int is_so, const char *wanted, const char *what
 static inline int is_int(void) { return has_line(&guest, TELWYDDUS_INT); }
 static inline uint8_t status(void) { return in(&guest, MSR); }
 
-/* Its bytes, while the controller takes them. */
+/* Sends the bytes of the command, as long as the controller takes them. */
 static inline void say(const char *sent) {
     uint8_t bytes[9];
     int count = bytes_of(sent, bytes);
     put(&guest, bytes, count);
 }
 
-/* A command that isn't executed: its result bytes are there at once, and INT stays. */
+/* A command that isn't executed: its result bytes are there at once, and INT stays as it is. */
 static inline void gives(const char *sent, const char *wanted, const char *what) {
     int line = is_int(), stays;
     say(sent);
@@ -70,13 +71,13 @@ static inline void gives(const char *sent, const char *wanted, const char *what)
     expect_result(stays && is_int() == line, wanted, what);
 }
 
-/* SENSE INTERRUPT, behind which INT is down. */
+/* SENSE INTERRUPT, after which INT is down. */
 static inline void senses(const char *wanted, const char *what) {
     sense_interrupt(&guest);
     expect_result(!is_int(), wanted, what);
 }
 
-/* A command that moves heads: INT comes with its end. */
+/* A command that moves heads: INT comes at its end. */
 static inline void moves(const char *sent, const char *wanted, const char *what) {
     int was_down = !is_int();
     say(sent);
@@ -85,7 +86,8 @@ static inline void moves(const char *sent, const char *wanted, const char *what)
     expect_result(was_down && comes && !is_int(), wanted, what);
 }
 
-/* A data command with a channel of so many bytes. Tells whether INT was down up to its results, up with them, and fell with the first. */
+/* Does a data command with a channel of so many bytes. Returns whether INT was down up to its results, up with them,
+ * and fell at the first. */
 static inline int execute(const char *sent, uint8_t *place, size_t count) {
     channel(&guest, place, count);
     say(sent);
