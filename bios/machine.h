@@ -38,9 +38,9 @@ void chip_strap(void);                  /* seeks are implied from now on */
 void chip_strap_steps(void);            /* heads move as slowly as SPECIFY says */
 bool chip_plan(const char *text, size_t *line); /* drive A's faults from now on; false: the line of this number isn't understood */
 
-/* The medium in drive A, read past the drive: the words of a track; which tracks were written since the last call of
- * this (track 2 * cylinder + head is bit t % 8 of byte t / 8); its flat file, if it has one; and the cylinder under
- * the heads. */
+/* The medium in drive A, read past the drive. There are calls for the words of a track, for the tracks that were
+ * written since the last call, for its flat file, if it has one, and for the cylinder under the heads. Of the
+ * written tracks, track 2 * cylinder + head is bit t % 8 of byte t / 8. */
 void chip_track(uint8_t cylinder, uint8_t head, uint16_t *words, size_t count);
 void chip_written_tracks(uint8_t map[20]);
 bool chip_flat(uint8_t *bytes, size_t length);

@@ -28,11 +28,13 @@
  * and an object that its medium goes into is a call on two slots.
  *
  * WHAT YOU GET. Each call answers a code from the list below. If the code is TELWYDDUS_DONE, the call has set what
- * it hands out through pointers. If the code is another one, it has left them as they were, with these exceptions:
- * the length for TELWYDDUS_TOO_SHORT; the line for TELWYDDUS_BAD_PLAN; the cylinder and head for TELWYDDUS_UNFIT;
- * and the lines, which are set whenever the slot holds a controller after the call. After any other code than DONE
- * the object is as it was too, and so are its drives and media, unless the comment of the call says more. Compilers
- * warn if you ignore the code of a call that can fail in a way that you can't foresee.
+ * it hands out through pointers. If the code is another one, it has left them as they were, except
+ *   - the length, for TELWYDDUS_TOO_SHORT;
+ *   - the line, for TELWYDDUS_BAD_PLAN;
+ *   - the cylinder and head, for TELWYDDUS_UNFIT;
+ *   - the lines, which are set whenever the slot holds a controller after the call.
+ * After any other code than DONE the object is as it was too, and so are its drives and media, unless the comment of
+ * the call says more. Compilers warn if you ignore the code of a call that can fail in a way that you can't foresee.
  *
  * FULL SLOTS. Some calls make something in a slot: new, new_planned, blank, read, read_flat, read_imd, and eject (in
  * the tray). Such a call looks at that slot first. If it holds something already, the answer is TELWYDDUS_FULL,
@@ -133,18 +135,18 @@ TELWYDDUS_NEWS uint32_t telwyddus_tray_blank(telwyddus_tray *tray, uint8_t cylin
  * has all sectors of the file, and no others. DONE, FULL, NO_MEMORY, BAD_IMAGE for any other length. */
 TELWYDDUS_NEWS uint32_t telwyddus_tray_read_flat(telwyddus_tray *tray, const uint8_t *bytes, size_t length);
 
-/* Makes a tray with the medium of a flat sector file of another geometry: 1 to 80 cylinders, 1 or 2 heads, and on
- * each track the sectors 1 to `sectors`, of 128 << n bytes (n is 1 to 6), at 500 or 250 kbit/s. For example, 40, 2,
- * 9, 2, 250 is 360 KB, and 80, 2, 20, 2, 500 is 1.6 MB. UNFIT if a track has no room for so many sectors with a gap
- * 3 of 16 bytes, as for the 21 sectors of 1.68 MB. DONE, FULL, NO_MEMORY, OUT_OF_RANGE if the numbers aren't such a
- * geometry, BAD_IMAGE for another length, UNFIT. */
+/* Makes a tray with the medium of a flat sector file of another geometry. It has 1 to 80 cylinders, 1 or 2 heads,
+ * and on each track the sectors 1 to `sectors`, of 128 << n bytes (n is 1 to 6), at 500 or 250 kbit/s. For example,
+ * 40, 2, 9, 2, 250 is 360 KB, and 80, 2, 20, 2, 500 is 1.6 MB. UNFIT if a track has no room for so many sectors with
+ * a gap 3 of 16 bytes, as for the 21 sectors of 1.68 MB. DONE, FULL, NO_MEMORY, OUT_OF_RANGE if the numbers aren't
+ * such a geometry, BAD_IMAGE for another length, UNFIT. */
 TELWYDDUS_NEWS uint32_t telwyddus_tray_read_flat_as(telwyddus_tray *tray, const uint8_t *bytes, size_t length, uint8_t cylinders,
     uint8_t heads, uint8_t sectors, uint8_t n, uint16_t kilobits);
 
-/* Writes the flat sector file of the tray's medium to the beginning of a buffer. The file has, of 80 cylinders and
- * two heads, the sectors 1 to 18 at 500 kbit/s or 1 to 9 at 250, each of 512 bytes. *length is the length of the
- * file, and is set too if the buffer is too short. The file has each sector of the medium, or the call answers
- * UNFIT.
+/* Writes the flat sector file of the tray's medium to the beginning of a buffer. The file is of 80 cylinders and two
+ * heads. It has the sectors 1 to 18 of each track at 500 kbit/s, or 1 to 9 at 250, each of 512 bytes. *length is the
+ * length of the file, and is set too if the buffer is too short. The file has each sector of the medium, or the call
+ * answers UNFIT.
  * It is UNFIT if an ImageDisk file can't have a track either. It is also UNFIT if a track has more sectors than
  * these, or has one that is marked deleted, or lacks one of these, or has one of them damaged. The cylinder and head
  * of the first such track are set; both are 255 if the medium has another geometry. DONE, EMPTY, NO_MEMORY,
@@ -333,7 +335,7 @@ TELWYDDUS_CALL uint32_t telwyddus_controller_reset(telwyddus_controller *control
 
 /* Pulls the cable of a bay's drive if `on` is 0, and puts it in again otherwise. At first both cables are in. A PC
  * with one drive has the cable of bay 1 pulled.
- * A drive whose cable is pulled is absent, as the drives of bays 2 and 3 are: its lines stay low, the heads move
+ * A drive whose cable is pulled is absent, as the drives of bays 2 and 3 are. Its lines stay low, its heads move
  * nowhere and are never over track 0, and no word comes. `bay` gives cylinder 82 for it. Once the cable is in again,
  * the drive's heads, change line and planned faults are as they were.
  * A cable can't be pulled while a medium is in the drive: HAS_MEDIUM. A drive whose cable is pulled takes no medium:
@@ -379,9 +381,9 @@ TELWYDDUS_NEWS uint32_t telwyddus_controller_plan(telwyddus_controller *controll
  * set too if the buffer is too short. DONE, EMPTY, NO_MEMORY, TOO_SHORT. */
 TELWYDDUS_NEWS uint32_t telwyddus_controller_save(telwyddus_controller *controller, uint8_t *out, size_t room, size_t *length);
 
-/* The most bytes that a controller's state has, whatever media are in: a buffer of this size is never too short.
- * `faults` is how many faults the plans of both bays have, one for each line, also counting those that have come; 0
- * without plans. */
+/* The most bytes that a controller's state has, whatever media are in. A buffer of this size is never too short.
+ * `faults` is how many faults the plans of both bays have, one for each line. Faults that have come already count
+ * too. Without plans it is 0. */
 #define TELWYDDUS_CONTROLLER_STATE_MOST(faults) ((size_t)10486812 + (size_t)10 * (size_t)(faults))
 
 /* Makes the slot hold the controller that was saved, in place of what it holds, which is freed. If the slot holds

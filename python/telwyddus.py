@@ -16,7 +16,7 @@ import os
 
 
 def found():
-    """Where the shared library is."""
+    """The path of the shared library."""
     name = "libtelwyddus.so"
     beside = os.path.join(os.path.dirname(os.path.abspath(__file__)), name)
     return os.environ.get("TELWYDDUS_LIBRARY") or (beside if os.path.isfile(beside) else name)

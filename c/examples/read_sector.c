@@ -27,7 +27,7 @@ static uint8_t serve(void) {
     return lines;
 }
 
-/* Runs up to `most` steps, with the channel, and stops where INT is up. */
+/* Runs up to `most` steps, with the channel, and stops when INT is up. */
 static int run(unsigned long most) {
     while (!(serve() & TELWYDDUS_INT) && most > 0) {
         uint32_t made;

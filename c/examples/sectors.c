@@ -170,7 +170,7 @@ static void is_unfit(telwyddus_tray *tray, uint8_t c, uint8_t h, const char *wha
     check(code == TELWYDDUS_UNFIT && cylinder == c && head == h && told == 7 && out[0] == 0x55, what);
 }
 
-/* Where the track that begins there in an ImageDisk file ends. */
+/* The place at which the track that begins there in an ImageDisk file ends. */
 static size_t track_end(const uint8_t *file, size_t at) {
     size_t count = file[at + 3], size = (size_t)128 << file[at + 4];
     at += 5 + count;
