@@ -71,7 +71,7 @@ static void dma_copy(bool to_machine) {
 }
 
 /* ---- the adapter: MT, SK and several sectors a command, which the controller doesn't have
- * 
+ *
  * A command for many sectors becomes many commands. DMA is set anew for each. If it were set to the whole count, the
  * FIFO of a write would take bytes of the next sector, and these would be lost when the command ends. */
 

@@ -1,14 +1,14 @@
 /* calls DEVICE: does on a diskette drive what each line of input asks, and answers with a line. It is for the guest
  * of `faults`, and is linked statically.
- * 
- *   write HOW FIRST COUNT SEED   sectors of noise from a seed; HOW is `direct`, or `cached`: through the cache, and
- *   fsync
+ *
+ *   write HOW FIRST COUNT SEED   sectors of noise from a seed; HOW is `direct`, or `cached`: through the cache,
+ *                                and then fsync
  *   read HOW FIRST COUNT         answers with a number computed from each sector's bytes
  *   format CYLINDER HEAD         FDFMTBEG, FDFMTTRK, FDFMTEND
  *   flush                        FDFLUSH: cache and driver forget what they read
  *   pause MILLISECONDS
  *   quit
- * 
+ *
  * An answer is `CALL well FORM ..`, or `CALL error FORM NUMBER`. FORM is how many sectors a track the disk has
  * according to Linux, or 0 if Linux doesn't know. */
 #define _GNU_SOURCE

@@ -8,8 +8,7 @@ and `faults`.
         said = guest.sh("dd if=/dev/fd0 of=/tmp/a bs=18k; sum /tmp/a")      # runs one line of the shell
         said.text, said.status                              # what it printed, stdout and stderr; its status
         said.seconds, said.cpu                              # in the guest, and of the host's processor for all of QEMU
-        guest.set("plan0", "plan.text")                     # sets a property of the device while the guest runs;
-        Refused has QEMU's text
+        guest.set("plan0", "plan.text")                     # sets a property while the guest runs; Refused has QEMU's text
         guest.set("image0", ""), guest.get("image0")
         guest.qmp("system_reset"), guest.ready()            # any command of QMP; waits until Linux has booted again
         guest.start("program"), guest.line(), guest.send("..\n")    # a program that is talked to: give it < /dev/ttyS1

@@ -1,5 +1,5 @@
 /* by_port - the non-DMA mode: SPECIFY sets ND, and the bytes of data commands pass at the data port.
- * 
+ *
  * At each look MSR and INT say whether a byte is asked for. MSR is F0 with INT up for a byte to be read, B0 with INT
  * up for a byte to be written, and else 30 with INT down. How many bytes pass one after the other, with no step
  * between, follows from the threshold by the FIFO's rule in the 82077AA data sheet. DRQ stays down. */

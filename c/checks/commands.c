@@ -1,5 +1,5 @@
 /* commands - each command of the bare controller, as the 82077AA data sheet has it.
- * 
+ *
  * The wanted results were worked out by hand from the data sheet and docs/C.md. If another result comes, it is
  * printed, and the rest is tried all the same. by_port.c tries the bytes that pass without DMA, and several.c tries
  * several sectors a command. */

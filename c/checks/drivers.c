@@ -1,6 +1,6 @@
 /* drivers - does what the drivers of three systems do at the bare controller, byte by byte, and checks their
  * conclusions.
- * 
+ *
  * For Linux this is its reset, the questions by which it distinguishes controllers, a first access to a disk, and
  * its transfers without DMA. For FreeBSD and NetBSD it is how they probe a controller and drives. An interrupt is an
  * edge here, as at an 8259. */

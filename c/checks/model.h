@@ -1,7 +1,7 @@
 /* A disk and a controller as this program computes them: what each sector has, where the heads are, what commands
  * set, and which results wait. Each command says what it answers and which bytes pass, by the 82077AA data sheet and
  * docs/C.md. Nothing here asks the library.
- * 
+ *
  * The disk has standard tracks of 18 sectors, and one drive is selected throughout. */
 #ifndef MODEL_H
 #define MODEL_H

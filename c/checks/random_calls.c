@@ -1,5 +1,5 @@
 /* random_calls CALLS SEED - makes so many random calls, of all calls in the library, on a few slots of each kind.
- * 
+ *
  * Each call answers a code that is right for what the slots hold, or one of those that the header has for it. What a
  * call hands out stays as it was if the header says so. The lines that a call gives are those that there are. Quiet
  * device steps change no line. At the end no memory block is in use. Now and then a heap that replaces c/heap.c

@@ -1,12 +1,12 @@
 /* random_several COMMANDS [SEED] - compares random commands of several sectors with the same commands sent sector by
  * sector.
- * 
+ *
  * Two controllers have the same disk. One takes each command as it is. The other gets a command of its own for each
  * sector, with EOT as its record and the terminal count after it. The same bytes have to pass. The results have to
  * be those that the rules in docs/C.md make of the single results, and the images have to be the same. Each 250
  * commands begin with a fresh disk, some of whose sectors are deleted, or damaged in the sector ID, the data mark or
  * the data.
- * 
+ *
  * After each fourth command, a third controller gets one or more commands of any kind: several sectors by DMA or at
  * the data port, VERIFY, READ TRACK, what no medium can have, overlapping seeks of four drives, settings, resets.
  * Their results are computed by model.h alone. */

@@ -1,5 +1,5 @@
 /* several - commands of several sectors at the bare controller, as a BIOS and DOS send them.
- * 
+ *
  * A guest writes whole cylinders of 36 sectors, in one command each, and reads them back; `export` on a shelf then
  * gives the wanted flat file. Then there is one command for each rule of MT, SK, EOT and the terminal count. It
  * checks how many bytes pass, and the result bytes by the table in docs/C.md. The program does the same for VERIFY

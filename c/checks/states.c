@@ -1,5 +1,5 @@
 /* states COMMANDS [SEED] - saves states in the middle of random commands, and restores them into another slot.
- * 
+ *
  * A command runs on one controller up to a random access, DACK byte or device step. There its state is saved and
  * restored into a second slot. From there on both slots get the same calls: each answer has to be the same, and so
  * have the images and the bytes of both states at the end. The next command goes on with the restored controller.

@@ -1,5 +1,5 @@
 /* planned_fault IMAGE C H R WANTED
- * 
+ *
  * A test rig in C: the whole machine, whose first drive loses one word of a sector once. It puts the image file
  * IMAGE into bay 0 and reads the sector C H R through ports, channel 2 and IRQ 6. The first read fails by its CRC;
  * the second gives the file WANTED. */

@@ -1,5 +1,5 @@
 /* read_sector IMAGE BAY RATE C H R WANTED CONTENT AFTER
- * 
+ *
  * Puts the image file IMAGE into BAY, reads the sector C H R at RATE (500 or 250) at the ports of the bare
  * controller, and compares its 512 bytes with the file WANTED. Then it writes the file CONTENT to that sector, takes
  * the image while the medium is in, and compares the image with the file AFTER. At the end a reset cuts a last write

@@ -1,5 +1,5 @@
 /* sectors IMAGE BAY RATE C H R WANTED CONTENT AFTER FORMATTED FILLED FLAT
- * 
+ *
  * Reads and writes single sectors by calls, in BAY (0 or 1), at RATE (500 or 250).
  *   - It reads the sector C H R of the image file IMAGE, and compares it with the file WANTED. Then it writes the
  *     file CONTENT to that sector, and compares the image that comes out with the file AFTER.
