@@ -192,7 +192,7 @@ typedef struct telwyddus_shape {
     uint8_t cylinders, heads, is_protected;
 } telwyddus_shape;
 
-/* Gives that of the tray's medium. DONE, EMPTY, NO_MEDIUM. */
+/* Gives the shape of the tray's medium. DONE, EMPTY, NO_MEDIUM. */
 TELWYDDUS_CALL uint32_t telwyddus_tray_shape(telwyddus_tray *tray, telwyddus_shape *shape);
 
 /* Moves the write-protect tab of the tray's medium: if `on` isn't 0, the medium is write-protected. Image files keep
@@ -252,9 +252,9 @@ TELWYDDUS_CALL uint32_t telwyddus_controller_free(telwyddus_controller *controll
 TELWYDDUS_CALL uint32_t telwyddus_controller_strap_seeks(telwyddus_controller *controller, uint8_t on);
 
 /* Another strap. If `on` isn't 0, the pulses of SEEK and RELATIVE SEEK come in the time that SPECIFY sets, so that
- * the heads can be heard. So do the pulses of RECALIBRATE for the cylinders that the controller has counted. Without
- * the strap a pulse comes in each word time. ST0 and the cylinder that SENSE INTERRUPT gives are the same with the
- * strap and without. It is off at first. DONE, EMPTY. */
+ * the heads can be heard. So do the pulses of RECALIBRATE for the cylinders that the controller has counted. All
+ * other pulses come one in each word time, and so do all pulses if the strap is off. ST0 and the cylinder that SENSE
+ * INTERRUPT gives are the same with the strap and without. It is off at first. DONE, EMPTY. */
 TELWYDDUS_CALL uint32_t telwyddus_controller_strap_steps(telwyddus_controller *controller, uint8_t on);
 
 /* Reads or writes a port, 3F0 to 3F7. A port that nothing answers gives FF. A read of any port except 3F5 changes
@@ -268,10 +268,11 @@ TELWYDDUS_CALL uint32_t telwyddus_controller_step(telwyddus_controller *controll
 TELWYDDUS_CALL uint32_t telwyddus_controller_run(telwyddus_controller *controller, uint32_t most, uint32_t *made, uint8_t *lines);
 
 /* A number of device steps that surely change neither INT nor DRQ, as long as no other call comes between. It is
- * `most` or 0.
- * It is `most` if no command is executed or held, no heads move, and no INT of a seek or a reset is still to come.
- * It is also `most` while the controller is held in reset. You need no timer then. It is `most` too if DOR lets no
- * line out, no command is executed or held, and no pulse of strap_steps is still to come. Else it is 0. DONE, EMPTY. */
+ * `most` or 0. It is `most` in these cases:
+ *   - No command is executed or held, no heads move, and no INT of a seek or a reset is still to come.
+ *   - The controller is held in reset.
+ *   - DOR lets no line out, no command is executed or held, and no pulse of strap_steps is still to come.
+ * In the first two cases no timer is needed. DONE, EMPTY. */
 TELWYDDUS_CALL uint32_t telwyddus_controller_quiet(telwyddus_controller *controller, uint32_t most, uint32_t *steps);
 
 /* Gives the lines: INT, DRQ, whether bytes go to memory, and INDEX of the drive that DOR selects. INDEX is up in the

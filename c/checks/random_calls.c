@@ -99,7 +99,7 @@ static telwyddus_disk disks[2];
 static telwyddus_shelf shelves[2];
 static struct { bool is; Medium medium; } tray_is[4];
 static Drives controller_is[2], machine_is[2], disk_is[2];
-static struct { bool is, knows; size_t length; uint8_t first; } shelf_is[2]; /* a file "note", which no run changes, if it is known */
+static struct { bool is, knows; size_t length; uint8_t first; } shelf_is[2]; /* the content of a file "note", which no run changes, if it is known */
 static State controller_state, machine_state, bare_state;
 
 static uint32_t missing(bool is) { return is ? TELWYDDUS_DONE : TELWYDDUS_EMPTY; }

@@ -771,7 +771,7 @@ static void made_as_written(void) {
         0, 0, 0, 0, 0, 0, 0, 0, 0,          /* the last command: code, HD, sector ID, EOT, gap, length */
         0,                                  /* no bytes of the next */
         0, 0, 0, 0, 0, 0, 0, 0, 0,          /* no results of the drives, their cylinders, INT */
-        0, 0, 0, 0, 0, 32, 0, 0,            /* SPECIFY, EOT, LOCK, PERPENDICULAR, CONFIGURE: EFIFO; PRETRK; nothing to tell again */
+        0, 0, 0, 0, 0, 32, 0, 0,            /* SPECIFY, EOT, LOCK, PERPENDICULAR, CONFIGURE: EFIFO; PRETRK; nothing to report again */
         0,                                  /* no strap for seeks */
         0, 0, 0, 0, 0,                      /* no keys, lines that DOR doesn't let out, no seek in SRT's time, no strap for it */
     };
