@@ -74,7 +74,7 @@ static void attend(void) {
     line = lines & CHIP_INT;
 }
 
-/* Makes steps, at most so many, up to one in which anything changes; returns how many it made. */
+/* Makes steps, at most `most`, up to one in which anything changes; returns how many it made. */
 static uint32_t pass(uint32_t most) {
     uint32_t made = most;
     if (hold && hold < made) made = hold;

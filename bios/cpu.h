@@ -15,8 +15,8 @@ extern uint64_t cpu_int13_of[256];      /* the number of calls of INT 13h, by AH
 /* Loads a BIOS that ends at 1 MiB, and a processor that begins there. */
 void cpu_new(const uint8_t *rom, size_t length);
 
-/* Runs until `is_over` returns true (if it is null, without that end), or until so many word times are over; returns
- * why it stopped. */
+/* Runs until `is_over` returns true (if it is null, without that end), or until `most_words` word times are over;
+ * returns why it stopped. */
 const char *cpu_run(uint64_t most_words, bool (*is_over)(void));
 
 #endif

@@ -157,7 +157,7 @@ static void tell_example(const Round *round, Kind kind) {
 
 typedef struct { Tally tally; int wanted[KINDS]; } Order;
 
-/* Runs in the snapshot: it gets the findings, and answers their kind. */
+/* Runs in the snapshot: it gets the findings, and answers with their kind. */
 static _Noreturn void serve_snapshot(int from, int to, const Round *round) {
     Order order;
     Round drawn = *round;

@@ -268,11 +268,11 @@ TELWYDDUS_CALL uint32_t telwyddus_controller_step(telwyddus_controller *controll
 TELWYDDUS_CALL uint32_t telwyddus_controller_run(telwyddus_controller *controller, uint32_t most, uint32_t *made, uint8_t *lines);
 
 /* A number of device steps that surely change neither INT nor DRQ, as long as no other call comes between. It is
- * `most` or 0. It is `most` in these cases:
+ * `most` or 0. It is `most` in these cases, in which you need no timer until your next call:
  *   - No command is executed or held, no heads move, and no INT of a seek or a reset is still to come.
  *   - The controller is held in reset.
  *   - DOR lets no line out, no command is executed or held, and no pulse of strap_steps is still to come.
- * In the first two cases no timer is needed. DONE, EMPTY. */
+ * DONE, EMPTY. */
 TELWYDDUS_CALL uint32_t telwyddus_controller_quiet(telwyddus_controller *controller, uint32_t most, uint32_t *steps);
 
 /* Gives the lines: INT, DRQ, whether bytes go to memory, and INDEX of the drive that DOR selects. INDEX is up in the

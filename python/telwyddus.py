@@ -355,7 +355,7 @@ class Controller(Planned):
     def tc(self): self._telling("tc")
 
     def dack_block_read(self, room):
-        """Takes bytes as long as the controller asks, and at most so many."""
+        """Takes bytes as long as the controller asks, and at most `room`."""
         out = ctypes.create_string_buffer(room + 1)
         moved = self._telling_more(ctypes.c_size_t, "dack_block_read", out, size(room))
         return out.raw[:moved]

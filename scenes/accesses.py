@@ -21,7 +21,7 @@ WAS_POLLED = "".join("in 3F5 C%d;in 3F5 00;" % drive for drive in range(4))
 
 
 def channel(count, address=0x10000, mode=0x46):
-    """Sets channel 2 of the DMA controller to so many bytes; mode 46 is to memory, 4A from it."""
+    """Sets channel 2 of the DMA controller to `count` bytes; mode 46 is to memory, 4A from it."""
     return ("out 00A 06;out 00C 00;" + out(0x0B, mode) + out(0x04, address & 255, address >> 8 & 255) + out(0x81, address >> 16)
             + out(0x05, count - 1 & 255, count - 1 >> 8) + "out 00A 02;")
 

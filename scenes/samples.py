@@ -20,7 +20,7 @@ UNFORMATTED = Made(Disk(2, 2, 6250, 2).file(), "head 0 2 2 2 6250", "fill 50000 
 
 
 def moved_disk(count):
-    """A's first track with its cells moved forward by so many places, and cells 0 after them."""
+    """A's first track with its cells moved forward by `count` places, and cells 0 after them."""
     disk = formatted(2)
     disk.tracks[0] = moved(disk.tracks[0], count)
     return Made(disk.file(), "disk 2 500", f"move {count}")

@@ -67,7 +67,7 @@ def by_hand(*pieces):
 
 
 def laid(keys, words, gap3=0x6C, fill=0xF6):
-    """A formatted track, cut after so many words."""
+    """A formatted track, cut after `words` words."""
     whole = layout(keys, gap3, fill, max(words, 146 + len(keys) * (574 + gap3)))
     named = " ".join(bytes(key).hex().upper() for key in keys)
     lines = [f"lay 2 {gap3} {fill} {len(whole)} {named}"]

@@ -30,7 +30,7 @@ static int is_asked(uint8_t asks) {
     return is == asks;
 }
 
-/* Lets bytes pass while they are asked for, and at most so many. */
+/* Lets bytes pass while they are asked for, and at most `count`. */
 static void pass_portion(uint8_t asks, uint8_t *place, size_t count, int tells) {
     size_t before = passed;
     for (; passed < count && is_asked(asks); passed++) {
@@ -61,7 +61,7 @@ static void pass(const char *sent, uint8_t asks, uint8_t *place, size_t count, i
     is_as_wanted = is_as_wanted && !is_int();
 }
 
-/* The bytes of each of so many fields passed in portions of these sizes: `first` the first, `more` the later ones,
+/* The bytes of each of `fields` fields passed in portions of these sizes: `first` the first, `more` the later ones,
  * and the last has what is left. */
 static int are_portions(size_t field, int fields, int first, int more) {
     int at = 0;

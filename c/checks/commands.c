@@ -52,7 +52,7 @@ static void wake(int by_dsr) {
     for (int i = 0; i < 4; i++) sense_interrupt(&guest);
 }
 
-/* Does a data command with a channel of so many bytes, of which so many have to pass. */
+/* Does a data command with a channel of `count` bytes, of which `passed` have to pass. */
 static void does(const char *sent, size_t count, size_t passed, const char *wanted, const char *what) {
     int is_so = execute(sent, buffer, count);
     if (guest.passed != passed) printf("  %lu bytes passed, %lu wanted\n", (unsigned long)guest.passed, (unsigned long)passed);

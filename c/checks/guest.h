@@ -56,7 +56,7 @@ static inline void channel(Guest *guest, uint8_t *place, size_t count) {
     guest->passed = 0;
 }
 
-/* Makes up to so many steps; returns whether INT is up. */
+/* Makes up to `most` steps; returns whether INT is up. */
 static inline int run(Guest *guest, uint32_t most) {
     uint8_t lines = serve(guest);
     while (!(lines & TELWYDDUS_INT) && most > 0) {
@@ -115,7 +115,7 @@ static inline void command(Guest *guest, const uint8_t *bytes, int count) {
     finish(guest);
 }
 
-/* Sends a command of nine bytes, with a channel of so many bytes. */
+/* Sends a command of nine bytes, with a channel of `count` bytes. */
 static inline void transfer(Guest *guest, const uint8_t *bytes, uint8_t *place, size_t count) {
     channel(guest, place, count);
     command(guest, bytes, 9);

@@ -160,7 +160,7 @@ static inline int is_at_last(const uint8_t *at) { return at[RECORD] == at[EOT] &
 
 static inline size_t least(size_t one, size_t other) { return one < other ? one : other; }
 
-/* Passes the bytes of a sector, up to so many in all. Bytes that aren't given are 00. */
+/* Passes the bytes of a sector, up to `count` in all. Bytes that aren't given are 00. */
 static inline void pass_sector(Sector *sector, const uint8_t *sent, size_t count, const uint8_t *given, Outcome *out) {
     size_t moved = least(512, count - out->passed);
     if (is_writing(sent)) {
@@ -223,7 +223,7 @@ static inline int reckon_sector(Model *model, Course *course, size_t count, cons
     return 0;
 }
 
-/* READ DATA, READ DELETED DATA, WRITE DATA, WRITE DELETED DATA, with the terminal count after so many bytes; and
+/* READ DATA, READ DELETED DATA, WRITE DATA, WRITE DELETED DATA, with the terminal count after `count` bytes; and
  * VERIFY. */
 static inline void reckon_sectors(Model *model, const uint8_t *sent, size_t count, const uint8_t *given, Outcome *out) {
     Course course;
@@ -236,7 +236,8 @@ static inline void reckon_sectors(Model *model, const uint8_t *sent, size_t coun
     while (!reckon_sector(model, &course, count, given, out)) {}
 }
 
-/* READ TRACK of a formatted track whose sector IDs are intact: so many sectors from the index on, over and over. */
+/* READ TRACK of a formatted track whose sector IDs are intact: as many sectors as EOT says, from the index on, over
+ * and over. */
 static inline void reckon_track(Model *model, const uint8_t *sent, size_t count, Outcome *out) {
     int most = sent[EOT] == 0 ? 256 : sent[EOT], is_met = 0, st1 = 0, st2 = 0, is_counted = 0;
     begin_sectors(model, sent);

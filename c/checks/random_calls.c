@@ -1,5 +1,5 @@
-/* random_calls CALLS SEED - makes so many random calls, of all calls in the library, on a few slots of each kind.
- *
+/* random_calls CALLS SEED - makes CALLS random calls, of all calls in the library, on a few slots of each kind.
+ * 
  * Each call answers a code that is right for what the slots hold, or one of those that the header has for it. What a
  * call hands out stays as it was if the header says so. The lines that a call gives are those that there are. Quiet
  * device steps change no line. At the end no memory block is in use. Now and then a heap that replaces c/heap.c
@@ -123,7 +123,7 @@ static void kept(size_t room, size_t from) {
     for (size_t i = room > 64 && room - 64 > from ? room - 64 : room; i < room; i++) so(pool[i] == 0xA5, "the rest of the buffer is left");
 }
 
-/* A random length of a buffer for so many bytes: 0, one too short, exact, or longer. */
+/* A random length of a buffer for `size` bytes: 0, one too short, exact, or longer. */
 static size_t draw_room(size_t size) {
     switch (below(4)) {
     case 0: return 0;

@@ -316,7 +316,7 @@ static void dump(void) {
     ask(sent, 1);
 }
 
-/* Passes its bytes at the data port, with the terminal count after so many. Returns how many passed. */
+/* Passes the command's bytes at the data port, with the terminal count after `most`. Returns how many passed. */
 static size_t pass_by_port(uint8_t *place, size_t most) {
     size_t passed = 0;
     uint32_t made;

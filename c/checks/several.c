@@ -325,7 +325,7 @@ static void early_count(void) {
     check(guest.results == 7 && memcmp(guest.result, none, 7) == 0 && guest.passed == 0, "the terminal count within an implied seek: no byte passes, one sector is searched");
 }
 
-/* Sends a command of four sectors, of which so many bytes pass. */
+/* Sends a command of four sectors, of which `bytes_passed` bytes pass. */
 static void begin_four(size_t bytes_passed) {
     const uint8_t bytes[] = {READ | MT, 0, 60, 0, 1, 2, 18, GAP};
     channel(&guest, buffer, 4 * 512);
@@ -333,7 +333,7 @@ static void begin_four(size_t bytes_passed) {
     while (guest.passed < bytes_passed) need(!run(&guest, 1), "it goes on");
 }
 
-/* Takes the medium out so many steps after that. */
+/* Takes the medium out `steps` steps after that. */
 static void take_medium(size_t bytes_passed, uint32_t steps, size_t passed, const uint8_t *wanted, const char *what) {
     telwyddus_tray tray = {0};
     begin_four(bytes_passed);
@@ -383,7 +383,7 @@ static void breaks(void) {
 
 /* ---- what a flat sector file can't have */
 
-/* Formats a track with so many sectors of 512 bytes. */
+/* Formats a track with `count` sectors of 512 bytes. */
 static void format(uint8_t c, uint8_t h, uint8_t count, uint8_t gap) {
     const uint8_t bytes[] = {FORMAT, (uint8_t)(h << 2), 2, count, gap, 0xF6};
     for (uint8_t r = 1; r <= count; r++) {

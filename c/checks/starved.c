@@ -251,7 +251,8 @@ static void flat(void) {
     MUST(telwyddus_disk_free(&disk));
 }
 
-/* Refuses requests, one in each round, until a round has no more requests: each of them, or only each of so many. */
+/* Refuses requests, one in each round, until a round has no more requests. If `each` is above 1, it refuses only one
+ * in `each` requests. */
 static void rounds(void (*part)(void), const char *name, long each) {
     long refused = 0;
     for (long served = 0;; served += each, refused++) {

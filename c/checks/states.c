@@ -28,7 +28,7 @@ typedef struct {
     uint32_t (*insert)(int at, uint32_t bay, telwyddus_tray *tray);
     uint32_t (*eject)(int at, uint32_t bay, telwyddus_tray *tray);
     uint32_t (*end)(int at);
-    int (*await)(unsigned long most);   /* makes up to so many steps; returns whether the interrupt came */
+    int (*await)(unsigned long most);   /* makes up to `most` steps; returns whether the interrupt came */
 } Kind;
 
 static uint8_t told[3];         /* the lines of each controller, as its last call gave them */
@@ -152,7 +152,7 @@ static void turn(void) {
     else until--;
 }
 
-/* Makes so many of the steps before the state is taken. */
+/* How many of the `most` steps are made before the state is taken. */
 static uint32_t steps_before(unsigned long most) {
     if (counts_down() && until == 0) take_state();
     return (uint32_t)(counts_down() && most > until ? until : most);
@@ -281,7 +281,7 @@ static int await_machine(unsigned long most) {
     return 0;
 }
 
-/* Passes so many bytes between the controller and memory at 20000. */
+/* Sets the channel to pass `count` bytes. On a machine they pass between the controller and memory at 20000. */
 static void set_channel(int to_memory, size_t count) {
     if (kind == &controller_kind) {
         place = 0;
@@ -324,7 +324,7 @@ static void put(const uint8_t *bytes, int count) {
     phase = IN_EXECUTION;
 }
 
-/* Without DMA: lets bytes pass at the data port while MSR asks for them, at most so many; now and then a guest is
+/* Without DMA: lets bytes pass at the data port while MSR asks for them, at most `most`; now and then a guest is
  * late. */
 static void pass_by_port(size_t most, int may_be_late) {
     for (long i = 0; i < 100000 && place < most; i++) {
@@ -621,7 +621,7 @@ static void make_steps(int count) {
     for (int i = 0; i < count; i++) make_step();
 }
 
-/* Runs up to so many bytes of the channel. */
+/* Runs until `count` bytes of the channel have passed. */
 static void pass_some(size_t count) {
     for (long i = 0; i < 100000 && place < count; i++) {
         if (lines() & TELWYDDUS_DRQ) pass_byte(1);

@@ -86,7 +86,7 @@ static inline void moves(const char *sent, const char *wanted, const char *what)
     expect_result(was_down && comes && !is_int(), wanted, what);
 }
 
-/* Does a data command with a channel of so many bytes. Returns whether INT was down up to its results, up with them,
+/* Does a data command with a channel of `count` bytes. Returns whether INT was down up to its results, up with them,
  * and fell at the first. */
 static inline int execute(const char *sent, uint8_t *place, size_t count) {
     channel(&guest, place, count);

@@ -29,7 +29,7 @@ static inline uint8_t *bus_channel(Bus *bus, size_t *left) {
     return bus->memory + bus->place;
 }
 
-/* Says that so many bytes have passed. The answer is true with the last byte: that is the terminal count. */
+/* Says that `count` bytes have passed. The answer is true with the last byte: that is the terminal count. */
 static inline int bus_passed(Bus *bus, size_t count) {
     bus->place += count;
     bus->left -= count;

@@ -239,7 +239,7 @@ static uint8_t sense(Device *it) {
     return results(it, 2);
 }
 
-/* Sets channel 2 to so many bytes, and moves the sectors from this one on. */
+/* Sets channel 2 to `count` bytes, and begins a command of sectors from this one on. */
 static void begin(Device *it, uint8_t code, uint8_t head, uint8_t record, size_t count) {
     const uint8_t bytes[] = {code, (uint8_t)(head << 2), 5, head, record, 2, 18, 0x1B, 0xFF};
     it->bus->place = 0;
