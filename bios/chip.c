@@ -13,7 +13,7 @@ static bool second_byte, is_masked = true, latch, line;
 
 typedef struct { uint32_t steps[64], left[64], count, at; } Delays;
 static Delays gaps, holds, strays;
-static uint32_t ahead, hold, until_stray;       /* steps that a gap made already; steps that a request still waits; steps to the next spurious interrupt */
+static uint32_t ahead, hold, until_stray;       /* steps that a gap has made already; steps that a request still has to wait; steps until the next spurious interrupt */
 static bool is_asked;                           /* a request is up, and its latency was taken from the plan */
 
 static uint32_t next_of(Delays *delays) {
