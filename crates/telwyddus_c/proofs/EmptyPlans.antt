@@ -2,9 +2,14 @@
 use Rattle.std.proofs.Common.{◌≡◌, List, [], Some, ap}
 use Rattle.c_bay_drive.specs.Bays.{new_in_bay}
 use Rattle.drive_model.specs.Fault.{total_left}
+use Rattle.drive_model.specs.Mechanics.{at_rest}
 use Rattle.drive_model.specs.ScriptDrive.{told}
 use Rattle.drive_model.specs.declared.fault.Fault.{Fault}
 
 -- such a drive has no faults
 pub none_planned : (faults : List Fault) → faults ≡ [] → new_in_bay (told 0 (total_left faults)) ≡ new_in_bay (Some 0)
 none_planned faults none = ap (λ (it : List Fault). new_in_bay (told 0 (total_left it))) none
+
+-- the same without the bay around it
+pub none_at_rest : (faults : List Fault) → faults ≡ [] → at_rest (told 0 (total_left faults)) ≡ at_rest (Some 0)
+none_at_rest faults none = ap (λ (it : List Fault). at_rest (told 0 (total_left it))) none

@@ -1,12 +1,12 @@
 use Rattle.std.proofs.Common.{sym, ◌∙◌}
-use Rattle.telwyddus_c.proofs.EmptyPlans.{none_planned}
+use Rattle.telwyddus_c.proofs.EmptyPlans.{none_at_rest}
 use Rattle.telwyddus_c.proofs.Options.{none_in}
 use Rattle.telwyddus_c.proofs.machine.making.telwyddus_machine_new.Goals as goal
 
 pub returns : goal.returns
 returns c =
-    let first = c.new-first.ensures.state ∙ none_planned _ c.new-4.ensures.items in
-    let second = c.new-second.ensures.state ∙ none_planned _ c.new-5.ensures.items in (
+    let first = c.new-first.ensures.state ∙ none_at_rest _ c.new-4.ensures.items in
+    let second = c.new-second.ensures.state ∙ none_at_rest _ c.new-5.ensures.items in (
       none_in c.args.slot.now.held.machine (sym c.is_full.ensures ∙ c.if-is_full.false),
       (
         _,
