@@ -150,7 +150,7 @@ static void tell_example(const Round *round, Kind kind) {
     }
     other = smaller(other, kind);
     round_plan(&other, text, sizeof text);
-    printf("example %s of round %llu, %s\n", names[kind], (unsigned long long)round->number, other.resets ? "with resets behind errors" : "without resets");
+    printf("example %s of round %llu, %s\n", names[kind], (unsigned long long)round->number, other.resets ? "with resets after errors" : "without resets");
     for (char *line = strtok(text, "\n"); line; line = strtok(NULL, "\n")) printf("    plan: %s\n", line);
     try_round(&other, true);
 }
