@@ -6,6 +6,7 @@ mod Calls
 mod Completed
 mod Copies
 mod Courses
+mod FormTimes
 mod Endings
 mod Fits
 mod FlatFiles

@@ -4,14 +4,12 @@ use Rattle.flop_base.specs.declared.answers.Status.{Status}
 use Rattle.floppy_jobs.specs.declared.request.Request.{Request}
 use Rattle.flop_base.specs.Counters.{Counters, DriveCounts}
 use Rattle.pc_bus.specs.Boards.{Board}
-use Rattle.laws_machine.specs.OnSteps.Lasts.{clock_of}
 use Rattle.sector_model.specs.Ties.{TiesCounts, IsJob, accesses_of_job}
-use Rattle.sector_model.specs.Times.{course_time}
 use Rattle.archive_commands.specs.Files.{Outside}
 use Rattle.floppy_words.specs.declared.form.Form.{Form}
 use Rattle.floppy_words.specs.declared.form.Form.TheVariants as form
 use Rattle.text_commands.specs.JobRounds.{world}
-use Rattle.floppy_tools.proofs.Tied.{does_ties, job_accesses, job_lasts}
+use Rattle.floppy_tools.proofs.Tied.{does_ties, job_accesses}
 use Rattle.floppy_tools.specs.Machines.{RunsOver}
 
 pub over_ties : (asked : Option Form) (spares : List DriveCounts) (old new : Board) (before after : Outside) (ended : Status)
@@ -28,12 +26,3 @@ machine_accesses job spares old new before after ended requests over spells =
     let shown = ap (λ (c : Counters). c.direct) over.shows.counters in
     let within = job_accesses job (world over.start before.files before.report) over.runs.course (world over.last after.files after.report) ended requests over.runs.does spells in
     omega (arith, began, shown, within)
-
-pub machine_lasts : (job : List ℕ) (spares : List DriveCounts) (old new : Board) (before after : Outside) (ended : Status)
-    → (over : RunsOver (Some (form.Play job)) old spares before new after ended)
-    → clock_of new ≤ clock_of old + (2 + course_time over.start.station over.runs.course)
-machine_lasts job spares old new before after ended over =
-    let began = over.set_up.starts.lasts in
-    let shown = ap (λ (c : Counters). c.clock) over.shows.counters in
-    let ran = job_lasts job (world over.start before.files before.report) over.runs.course (world over.last after.files after.report) ended over.runs.does in
-    omega (arith, began, shown, ran)

@@ -30,10 +30,11 @@ pub fn job_accesses(_job: &str)
         → new.bus.direct ≤ old.bus.direct + accesses_of_job requests }
 {}
 
-/// A law: `play JOB` over a machine lasts no more device steps than its set-up, two of them, and the sum of what its requests last, each by
-/// the medium that it finds, beside those of the gaps behind port accesses, which are used up; also where the run stopped before its end.
-pub fn job_lasts(_job: &str)
-    ensures { (spares : List DriveCounts) (old new : Board) (before after : Outside) (ended : Status)
-        (over : RunsOver (Some (form.Play _job.now)) old spares before new after ended)
+/// A law: whatever the words ask for, a run over a machine lasts no more device steps than its set-up, two of them, and the sum of what
+/// its requests last, each by the medium that it finds. The steps of gaps after port accesses come on top, and each gap is used up once.
+/// So it is where the run stopped before its end, too.
+pub fn each_form_lasts()
+    ensures { (asked : Option Form) (spares : List DriveCounts) (old new : Board) (before after : Outside) (ended : Status)
+        (over : RunsOver asked old spares before new after ended)
         → clock_of new ≤ clock_of old + (2 + course_time over.start.station over.runs.course) }
 {}
