@@ -187,3 +187,8 @@ pub record Sends (most : ℕ) (old new : Counters) : Type 0 where
 -- a step sent no more than its request may, whether it was done or refused
 abbrev pub SendsFew : State → Taken → Type 0
 SendsFew old taken = Sends (most_commands old.station taken.asked) old.station.counters taken.after.station.counters
+
+-- the most data commands of a course
+abbrev pub course_commands : StationState → List Taken → ℕ
+course_commands station [] = 0
+course_commands station (taken ∷ later) = most_commands station taken.asked + course_commands taken.after.station later

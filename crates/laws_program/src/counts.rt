@@ -11,6 +11,7 @@ ghost use Rattle.archive_commands.specs.Files.{Outside};
 ghost use Rattle.floppy_words.specs.declared.form.Form.{Form};
 ghost use Rattle.floppy_words.specs.declared.form.Form.TheVariants as form;
 ghost use Rattle.floppy_tools.specs.Machines.{RunsOver};
+ghost use Rattle.laws_program.specs.Steps.{course_commands};
 
 /// A law: the counts of a run over a machine are tied to its course, whatever the words ask for: at least one interrupt for each data
 /// command, stalls and faults within what was left of them, the faults since each exchange, and the accesses past the driver within
@@ -37,4 +38,14 @@ pub fn each_form_lasts()
     ensures { (asked : Option Form) (spares : List DriveCounts) (old new : Board) (before after : Outside) (ended : Status)
         (over : RunsOver asked old spares before new after ended)
         → clock_of new ≤ clock_of old + (2 + course_time over.start.station over.runs.course) }
+{}
+
+/// A law: whatever the words ask for, a run over a machine sends no more data commands than its requests may, each by the attempts that
+/// are set and the rate of its bay: a read one for each attempt, a write two, a format one and one for each sector, an acknowledgement
+/// six. The counts are those of the machine at the begin and at the end, as `RunsOver` says.
+pub fn each_form_sends_few()
+    ensures { (asked : Option Form) (spares : List DriveCounts) (old new : Board) (before after : Outside) (ended : Status)
+        (over : RunsOver asked old spares before new after ended)
+        → over.last.station.counters.data_commands
+        ≤ over.start.station.counters.data_commands + course_commands over.start.station over.runs.course }
 {}
