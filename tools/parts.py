@@ -108,5 +108,6 @@ def newest():
 
 
 def moment():
-    """This version's day, at noon, in seconds. Files get this time, so that the same source makes the same packages."""
-    return int(datetime.datetime.combine(newest()[1], datetime.time(12), datetime.timezone.utc).timestamp())
+    """The beginning of this version's day in UTC, in seconds. Files get this time, so that the same source makes the same
+    packages. A later time of the day may still be to come, and make warns of files from the future."""
+    return int(datetime.datetime.combine(newest()[1], datetime.time(0), datetime.timezone.utc).timestamp())
