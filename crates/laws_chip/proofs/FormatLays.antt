@@ -189,7 +189,7 @@ record IsFormattingAt (outset : Outset) (bay unit : ℕ) (numbers : Numbers) (gi
   selects : selected_at front.adapter ≡ bay
   rate : front.adapter.controller.rate ≡ outset.rate
 
--- behind a device step, and over or not
+-- after a device step, and over or not
 record Stepped (outset : Outset) (unit : ℕ) (numbers : Numbers) (given : List ℕ) (new : Fdc) (drive : DriveState) : Type 0 where
   past : Past
   known : MayFormat past unit numbers new
@@ -283,7 +283,7 @@ stepped_lays outset unit numbers given new drive is = record {
   tells = format_tells is.past unit numbers new is.known;
 }
 
--- where the chip is busy behind the step too, it goes on
+-- where the chip is busy after the step too, it goes on
 still_executes : (old new : ChipState) (step : StepsChip old new) → IsSound old → old.stage ≡ Busy Sent → new.stage ≡ Busy Sent → ExecutesBehind old.front → ExecutesBehind step.between
 still_executes old new step sound at stays was =
     let (goes, base) = executes_step old.front step.between step.steps sound.whole was in

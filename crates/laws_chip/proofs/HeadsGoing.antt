@@ -128,7 +128,7 @@ rests_by_line old new steps =
 abbrev pub none_pending : List (Option ℕ)
 none_pending = None ∷ None ∷ None ∷ None ∷ []
 
--- the seek has ended behind, and its result is there
+-- the seek has ended in the inner controller, and its result is there
 pub record HasEnded (drive status target : ℕ) (cylinders : List ℕ) (front : Front) : Type 0 where
   pub through : front.stage ≡ Through
   pub takes : front.adapter.controller.phase ≡ Taking

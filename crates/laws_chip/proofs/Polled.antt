@@ -232,7 +232,7 @@ pub and_true : (b : Bool) → (b && true) ≡ b
 and_true true = refl
 and_true false = refl
 
--- where nothing is under way it is that of results, or of what stands behind
+-- where nothing is under way it is that of results, or of the inner controller
 pub ready_interrupts : (chip : ChipState) → chip.stage ≡ Ready → interrupts_chip chip ≡ (chip.gated && (chip.interrupts.line || interrupts_outside chip.front))
 ready_interrupts chip at =
     ap (λ b. chip.gated && (if b then asks_outside chip.front else (chip.interrupts.line || shows_behind chip.stage chip.front))) (and_right (is_by_port chip.settings) (passes chip) (no_passes chip at))

@@ -228,7 +228,7 @@ goal_moves (Transfer mfm) goal set new is obeys = absurd (cc)
 goal_moves (Verify mfm) goal set new is obeys = absurd (cc)
 goal_moves (ReadTrack mfm) goal set new is obeys = absurd (cc)
 
--- ---- what is then under way behind
+-- ---- what is then under way in the inner controller
 
 motion_within : (motion : Motion) → IsMotion motion → steps_left motion ≤ 256
 motion_within (Outward pulses) few = omega arith

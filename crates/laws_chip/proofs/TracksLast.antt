@@ -123,7 +123,7 @@ same_record r = omega arith
 one_sector : (unit : ℕ) (key : Chrn) (gap length : ℕ) → most_steps (transfer_sent read_one (one_order unit key gap length)) ≡ 65792
 one_sector unit key gap length = ap (λ (n : ℕ). 256 + 65536 * ((n % 256 + 1) + 0)) (same_record key.r)
 
--- and no sector comes behind it
+-- and no sector comes after it
 same_number : (n : ℕ) → (n == n) ≡ true
 same_number n = either_way (n == n) (λ same. same) (λ other. absurd (eqb-false n n other refl))
 

@@ -26,7 +26,7 @@ use Rattle.laws_chip.specs.Lasting.{AreAt}
 abbrev pub numbers_of : Order → Numbers
 numbers_of order = record { n = order.key.c; sectors = order.key.h; gap3 = order.key.r; fill = order.key.n }
 
--- that of a head and drive is executed behind, where it was free
+-- the inner controller, which was free, executes that of a head and drive
 pub record IsFormatBegun (unit : ℕ) (numbers : Numbers) (new : ChipState) : Type 0 where
   pub sized : is_size numbers.n ≡ true
   pub set : ChipState
@@ -79,8 +79,8 @@ pub record TurnsAtSpeed (outset : Outset) (bay unit : ℕ) (chip : ChipState) : 
   pub faults : (drive_at chip.front.adapter bay).faults ≡ outset.faults
   pub inside : outset.from + 1 ≤ outset.disk.words_per_track
 
--- the words that were written are the first of the layout of keys whose bytes begin with those that were given; they stand on the track under
--- the head, and nothing else of the medium changed; and what the results of an ending behind say of them: of IC 00, that all words of the layout were
+-- the words that were written are the first of the layout of keys whose bytes begin with those that were given. They stand on the track
+-- under the head, and nothing else of the medium changed. Results with IC 00 say that all words of the layout were written
 pub record LaysKeys (outset : Outset) (unit : ℕ) (numbers : Numbers) (given : List ℕ) (fdc : Fdc) (drive : DriveState) : Type 0 where
   pub past : Past
   pub taken : past.taken ≡ given

@@ -17,7 +17,7 @@ use Rattle.laws_chip.specs.Lasting.{AreAt}
 abbrev pub is_read_id : Order → Bool
 is_read_id order = bit_and order.code 0x1F == 0x0A
 
--- that of a head and drive is executed behind, where it was free
+-- the inner controller, which was free, executes that of a head and drive
 pub record IsIdBegun (unit : ℕ) (new : ChipState) : Type 0 where
   pub order : is_read_id new.order ≡ true
   pub set : ChipState
@@ -29,7 +29,7 @@ abbrev pub TurnsOnBy : Call → DriveState → DriveState → Type 0
 TurnsOnBy call.Changes old new = TurnsOn old new
 TurnsOnBy _ old new = Unit {0}
 
--- a medium stays in before and behind each of these calls
+-- a medium is in before and after each of these calls
 abbrev pub StaysUnder : Place → (stage : Stage) (calls : List Call) (old new : ChipState) → AreAt stage calls old new → Type 0
 StaysUnder place stage [] old new same = IsAt place old.front
 StaysUnder place stage (made ∷ calls) old new at =

@@ -16,7 +16,7 @@ abbrev pub PromptAt : Call → ChipState → Type 0
 PromptAt call.Steps old = IsPrompt old
 PromptAt _ old = Unit {0}
 
--- these calls, behind each of which the command is under way, each device step so
+-- these calls: after each of them the command is under way, and each device step is such a one
 abbrev pub AreInTime : List Call → ChipState → ChipState → Type 0
 AreInTime [] old new = new ≡ old
 AreInTime (made ∷ calls) old new =

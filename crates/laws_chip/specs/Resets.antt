@@ -13,7 +13,7 @@ use Rattle.fdc_chip.specs.declared.stage.Stage.TheVariants.{Ready, Telling}
 use Rattle.laws_chip.specs.Calls as call
 use Rattle.laws_chip.specs.Calls.{Call}
 
--- nothing is done behind, each drive counts as at cylinder 0 and has no result, and the poll of a reset is to come, or not
+-- the inner controller does nothing, each drive counts as at cylinder 0 and has no result, and the poll of a reset is to come, or not
 pub record IsFreshBehind (due : Bool) (front : Front) : Type 0 where
   pub through : front.stage ≡ Through
   pub takes : front.adapter.controller.phase ≡ Taking

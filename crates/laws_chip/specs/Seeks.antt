@@ -62,7 +62,7 @@ waits_for_heads Ready = true
 waits_for_heads Held = true
 waits_for_heads _ = false
 
--- nothing but a seek of this drive is under way behind, of so many device steps more at most; no result is pending there, and no poll is
+-- nothing but a seek of this drive is under way in the inner controller, of so many device steps more at most; no result is pending there, and no poll is
 -- to come
 pub record SeeksBehind (left drive : ℕ) (goal : Option ℕ) (front : Front) : Type 0 where
   pub through : front.stage ≡ Through
@@ -86,7 +86,7 @@ pub record HeadsGo (left drive : ℕ) (goal : Option ℕ) (stage : Stage) (chip 
 
 -- ---- they stand
 
--- nothing is under way behind, and heads stand
+-- nothing is under way in the inner controller, and heads stand
 pub record HeadsStand (front : Front) : Type 0 where
   pub through : front.stage ≡ Through
   pub takes : front.adapter.controller.phase ≡ Taking

@@ -87,7 +87,7 @@ pub record IsSound (chip : ChipState) : Type 0 where
   pub whole : chip.front.adapter.controller.command ≡ []
   -- held in reset nothing is under way, and no byte of a command came
   pub held : is_held chip.front.adapter.controller ≡ true → (chip.stage ≡ Ready) × (chip.count ≡ 0)
-  -- where DOR doesn't, INT and DRQ are let out behind
+  -- where DOR doesn't, the inner controller lets INT and DRQ out
   pub lets_out : is_held chip.front.adapter.controller ≡ false → is_gated chip.front.adapter.controller ≡ true
   -- bytes of a command come while nothing is under way
   pub comes : (chip.count == 0) ≡ false → chip.stage ≡ Ready

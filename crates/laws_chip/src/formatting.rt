@@ -15,8 +15,9 @@ ghost use Rattle.laws_chip.specs.FormatTracks.{GiveAll, IsFormatBegun, LaysKeys,
 ghost use Rattle.laws_chip.specs.Lasting.{AreAt};
 ghost use Rattle.laws_chip.specs.Sound.{IsSound};
 
-/// A FORMAT TRACK that this medium can have begins where what stands behind is free. While it is executed over a medium at speed that nobody touches, and in the device step that ends it, what was written are the first
-/// words of the layout of the keys that the channel or the data port gave; they stand on the track under its head, and nothing else changes.
+/// A FORMAT TRACK that this medium can have begins where the inner controller is free. Take one over a medium at speed that nobody
+/// touches. At each time while it is executed, and after the device step that ends it, the words written are the first of a layout: of
+/// the keys that the channel or the data port gave. They stand on the track under its head, and nothing else of the medium changes.
 pub fn a_format_lays_the_keys_given()
     ensures begins { (old new : ChipState) → is_size old.order.key.c ≡ true → IsFreeBehind old.front → Obeys (FormatTrack true) old new
         → IsFormatBegun old.order.unit (numbers_of old.order) new }

@@ -18,7 +18,7 @@ ghost use Rattle.laws_chip.specs.Lasting.{AreAt};
 ghost use Rattle.laws_chip.specs.Sound.{IsSound};
 ghost use Rattle.laws_chip.specs.Told.{Tells};
 
-/// A READ ID begins where what stands behind is free. Where it tells results in which nothing is wrong, and a medium stayed in from its
+/// A READ ID begins where the inner controller is free. Where it tells results in which nothing is wrong, and a medium stayed in from its
 /// last byte on, the key that they tell stands in an address field of the track under its head.
 pub fn a_read_id_tells_a_key_of_the_track()
     ensures begins { (old new : ChipState) → IsSound new → code_of old.order.code ≡ Some (ReadId true) → IsFreeBehind old.front → Obeys (ReadId true) old new

@@ -13,7 +13,7 @@ pub fn pulses_leave_the_poll()
     ensures taken { (pace : Pace) (old new : ChipState) → Paces (Some pace) old new → new.interrupts ≡ (drained old).interrupts }
 {}
 
-/// A RECALIBRATE has 79 pulses, and each that comes in time leaves one fewer for what is given behind at its end.
+/// A RECALIBRATE has 79 pulses, and each that comes in time leaves one fewer for the RECALIBRATE that the inner controller is given at its end.
 pub fn a_recalibrate_counts_its_pulses()
     ensures all { (unit cylinder : ℕ) → (pace_begun unit cylinder None).left ≡ 79 }
     ensures fewer { (words : ℕ) (pace : Pace) → pace.goal ≡ None → is_over pace ≡ false → (stepped words pace).left + 1 ≡ pace.left }

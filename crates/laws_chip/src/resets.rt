@@ -1,4 +1,4 @@
-// A reset, and what the host is told behind it. The bodies are empty: the contracts say what follows from what each call does.
+// A reset, and what the host reads after it. The bodies are empty: the contracts say what follows from what each call does.
 ghost use Rattle.std.specs.Prelude.{◌≡◌, ◌⊎◌, ◌+◌, ◌<◌, ℕ, true, false};
 ghost use Rattle.fdc_core.specs.Ports.{resets};
 ghost use Rattle.fdc_core.specs.State.{is_held};

@@ -34,8 +34,8 @@ pub fn a_seek_ends_by_int()
     ensures interrupt { (drive : ℕ) (goal : Option ℕ) (old new : ChipState) → old.stage ≡ Ready → EndsBySignal drive goal old new → interrupts_chip new ≡ new.gated }
 {}
 
-/// A command that needs what stands behind is held where heads go, through as many device steps as these take at most; in that in which they stand
-/// it is done, by a chip behind which it is free.
+/// A command that needs the inner controller is held where heads go, through as many device steps as these take at most; in that in which they stand
+/// it is done, by a chip whose inner controller is free.
 pub fn a_held_command_starts()
     ensures comes { (left drive : ℕ) (goal : Option ℕ) (code : Code) (byte : ℕ) (old new : ChipState) → IsSound old → byte < 256 → needs_heads code ≡ true
         → Completes code byte old → HeadsGo left drive goal Ready old → WritesChip 0x3F5 byte old new

@@ -22,7 +22,7 @@ pub append_stored : (told : Option Files) (one two : List Store) → all_stored 
 append_stored told [] two = refl
 append_stored told (store ∷ one) two = append_stored (stored told store.name store.bytes) one two
 
--- files behind stores, and the stores that they list
+-- files after stores, and the stores that they list
 record IsListed (files : Files) (made : List Store) : Type 0 where
   after : Files
   files_are : all_stored (Some files) made ≡ Some after
@@ -45,7 +45,7 @@ listed files (store ∷ later) = let rest = listed (after_store files store.name
   stores = rest.stores ∙ later_too files.stores store later;
 }
 
--- a shelf that tells its stores lists those that were made, behind those before
+-- a shelf that tells its stores lists those that were made, after those that it listed before
 pub stores_listed : (files after : Files) (made : List Store) → Some after ≡ all_stored (Some files) made
     → after.stores ≡ option_map (λ before. before ++ made) files.stores
 stores_listed files after made is =

@@ -20,7 +20,7 @@ use Rattle.rescue.specs.declared.line.LogLine.{LogLine}
 abbrev pub store_of : List ℕ → List ℕ → Store
 store_of name bytes = record { name = name; bytes = bytes }
 
--- the told files behind these stores, one after the other
+-- the files that are told after these stores, one after the other
 abbrev pub all_stored : Option Files → List Store → Option Files
 all_stored told [] = told
 all_stored told (store ∷ later) = all_stored (stored told store.name store.bytes) later
@@ -58,7 +58,7 @@ stores_of state (taken ∷ later) = stores_by taken.asked taken.answer state ++ 
 abbrev pub end_stores : State → List Store
 end_stores state = bay_store state 0 ++ bay_store state 1
 
--- the state behind a course
+-- the state after a course
 abbrev pub state_after : State → List Taken → State
 state_after state [] = state
 state_after state (taken ∷ later) = state_after taken.after later

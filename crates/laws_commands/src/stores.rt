@@ -17,7 +17,7 @@ ghost use Rattle.laws_commands.specs.Stores.{all_stored, stores_of, end_stores, 
 
 use flop_base::Rate;
 
-/// A law: a shelf that tells which stores were made lists, behind those before, the ones that a law says.
+/// A law: a shelf that tells which stores were made lists the ones that a law says, after those that it listed before.
 #[tactic(auto, using(crate::proofs::Storing::stores_listed))]
 pub fn stores_are_listed()
     ensures { (files after : Files) (made : List Store) → Some after ≡ all_stored (Some files) made

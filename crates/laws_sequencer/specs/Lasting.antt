@@ -23,7 +23,7 @@ goes_to_other at = at.opcode.multitrack && not (is_second_head at.head_drive)
 abbrev pub sectors_from : Transfer → ℕ
 sectors_from at = records_from at.last_sector at.key.r + (if goes_to_other at then records_from at.last_sector 1 else 0)
 
--- the numbers of its record and of the last one are bytes, where another sector comes behind its own
+-- the numbers of its record and of the last one are bytes, where another sector comes after its own
 abbrev pub HasRecords : Transfer → Type 0
 HasRecords at = is_last at ≡ false → HasByteRecords at
 

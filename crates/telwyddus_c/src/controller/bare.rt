@@ -50,7 +50,7 @@ fn save_bare(
 }
 
 /// Makes the controller that a slot holds the one whose state the bytes are, but for its media, which stay in its bays with what it tells of
-/// writes to them; and tells the lines behind that.
+/// writes to them. Afterwards `lines` has the lines of the controller.
 #[unsafe(no_mangle)]
 pub extern "C" fn telwyddus_controller_restore_bare(
     alloc: Global,

@@ -25,7 +25,7 @@ const GATE: u8 = 4;
 /// A medium is in.
 const MEDIUM: u8 = 8;
 
-/// Puts the medium of a tray into a bay, and tells the lines behind that. Where one is in already, it stays in the tray.
+/// Puts the medium of a tray into a bay. Where one is in already, it stays in the tray. Afterwards `lines` has the controller's lines.
 #[unsafe(no_mangle)]
 pub extern "C" fn telwyddus_controller_insert(
     alloc: Global,
@@ -137,7 +137,7 @@ fn insert(controller: &mut WholeController, bay: u8, tray: &mut MediumTray) -> u
     }
 }
 
-/// Takes the medium out of a bay, into a new tray, and tells the lines behind that.
+/// Takes the medium out of a bay, into a new tray. Afterwards `lines` has the controller's lines.
 #[unsafe(no_mangle)]
 pub extern "C" fn telwyddus_controller_eject(
     alloc: Global,

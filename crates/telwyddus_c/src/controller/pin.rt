@@ -10,7 +10,7 @@ use c_slots::{ControllerSlot, WholeController};
 use std::alloc::Global;
 
 /// The reset pin: the controller is as at power-up, held in reset, but for what SPECIFY set. Media, heads, straps, cables and plans
-/// stay. The lines behind that are told.
+/// stay. Afterwards `lines` has the controller's lines.
 #[unsafe(no_mangle)]
 pub extern "C" fn telwyddus_controller_reset(
     alloc: Global,
