@@ -1,6 +1,7 @@
 -- The drive of a bay: one with planned faults, which tells the tracks that were written, and whose cable can be pulled.
 use Rattle.std.specs.Prelude.{◌≡◌, ℕ, Bool, true, false, not, List, Option, Some, None, is_some}
 use Rattle.std.specs.Bool.{OnTrue, OnFalse}
+use Rattle.flop_base.specs.Counts.{RoseOnce}
 use Rattle.drive_model.specs.Drive.{DriveState, Becomes, cut_off, moved, passed, word_under, written}
 use Rattle.drive_model.specs.Fault.{total_left}
 use Rattle.drive_model.specs.Mechanics.{at_rest}
@@ -113,8 +114,19 @@ pub record IsPulsedWithin (lost : Bool) (inward : Bool) (old new : BayDrive) : T
   pub stays : OnTrue lost (Becomes (drive_within old) (drive_within old) (drive_within new))
   pub accounts : Accounts lost (pulse_of (drive_within old) inward) old.inside new.inside
 
--- a word that was heard, or that dropped out
-pub record IsHeardWithin (drops : Bool) (head word : ℕ) (old new : BayDrive) : Type 0 where
+-- a pulse by a pulled cable: it doesn't reach the drive, and one more is counted as lost
+pub record LosesPulse (old new : BayDrive) : Type 0 where
+  pub within : BecomesWithin (drive_within old) old new
+  pub lost : RoseOnce (bay_state old).faults (bay_state new).faults
+
+-- a word time by a pulled cable: the drive becomes this, and no pulse is lost
+pub record PassesPulled (target : DriveState) (old new : BayDrive) : Type 0 where
+  pub within : BecomesWithin target old new
+  pub lost : (bay_state new).faults ≡ (bay_state old).faults
+
+-- a word that was heard, or that dropped out; the drive becomes the target
+pub record IsHeardWithin (drops : Bool) (head word : ℕ) (target : DriveState) (old new : BayDrive) : Type 0 where
+  pub becomes : Becomes target (drive_within old) (drive_within new)
   pub dropped : OnTrue drops (word ≡ 0)
   pub read : OnFalse drops (word ≡ word_under (drive_within old) head)
   pub accounts : Accounts drops (read_of (drive_within old) head) old.inside new.inside
@@ -128,14 +140,15 @@ pub record IsWrittenWithin (cut : Bool) (head word : ℕ) (old new : BayDrive) :
 -- a pulse is lost where the plan says so. By a pulled cable none reaches the drive
 abbrev pub PulsesWithin : Bool → BayDrive → BayDrive → Type 0
 PulsesWithin inward old new =
-    ByCable old.pulled (IsPulsedWithin (loses old.inside inward) inward old new) (BecomesWithin (drive_within old) old new)
+    ByCable old.pulled (IsPulsedWithin (loses old.inside inward) inward old new) (LosesPulse old new)
 
 -- a word drops out where the plan says so. By a pulled cable none is heard, and the drive lets a word time pass
 abbrev pub HearsWithin : (head word : ℕ) → (target : DriveState) → BayDrive → BayDrive → Type 0
 HearsWithin head word target old new =
-    ByCable old.pulled (IsHeardWithin (drops old.inside head) head word old new) (BecomesWithin target old new)
+    ByCable old.pulled (IsHeardWithin (drops old.inside head) head word target old new) (PassesPulled target old new)
 
 -- the gate is cut where the plan says so. By a pulled cable nothing is written, and the drive lets a word time pass
 abbrev pub WritesWithin : (head word : ℕ) → BayDrive → BayDrive → Type 0
 WritesWithin head word old new =
-    ByCable old.pulled (IsWrittenWithin (cuts old.inside head) head word old new) (BecomesWithin (passed (drive_within old)) old new)
+    ByCable old.pulled (IsWrittenWithin (cuts old.inside head) head word old new)
+    (PassesPulled (passed (drive_within old)) old new)

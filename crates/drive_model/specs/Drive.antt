@@ -135,10 +135,6 @@ written head word s = record (passed s) {
 abbrev pub forgotten : DriveState → DriveState
 forgotten s = record s { replaced = false }
 
--- it is forgotten which tracks were written
-abbrev pub unmarked : DriveState → DriveState
-unmarked s = record s { marks = emptied s.marks }
-
 -- the medium with its tab moved, so that it is write-protected, or not; with no medium none
 abbrev pub with_tab : Bool → Option Disk → Option Disk
 with_tab on None = None

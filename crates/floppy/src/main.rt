@@ -4,13 +4,16 @@
 use flop_base::Status;
 use flop_outside::{FileShelf, StreamSink};
 use floppy_tools::{PLAN_VARIABLE, run_program};
-use std::env;
+use std::env::{self, VarError};
 use std::io::ErrorKind;
 use std::process::ExitCode;
 use std::rt::Env;
 
+/// If this variable is set, to any value, no file is replaced that this run didn't load.
+const KEEP_VARIABLE: &str = "FLOPPY_KEEP";
+
 fn main(rt: HostRuntime) -> ExitCode {
-    let mut shelf = FileShelf::new(&rt);
+    let mut shelf = FileShelf::new(&rt, rt.alloc()).keeping(is_set(&rt, KEEP_VARIABLE));
     let mut out = StreamSink::new(&rt);
     let status = match words(&rt) {
         Ok(words) => {
@@ -33,4 +36,9 @@ fn words<R: Env + AllocGlobal>(rt: &R) -> Result<Vec<String>, Status> {
         Err(error) if error.kind() == ErrorKind::OutOfMemory => Err(Status::NoMemory),
         Err(_) => Ok(Vec::new(alloc)),
     }
+}
+
+/// Whether a variable is set. One whose value can't be read counts as set.
+fn is_set<R: Env + AllocGlobal>(rt: &R, name: &str) -> bool {
+    !matches!(env::var(rt, name), Err(VarError::NotPresent))
 }

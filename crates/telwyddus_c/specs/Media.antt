@@ -8,8 +8,8 @@ use Rattle.telwyddus_c.specs.Slots.{FullOr}
 -- the medium of a tray goes into a drive: 0. The drive has one in, 6, or the tray has none, 7: it stays in the tray, and the drive as it was
 abbrev pub PutsIn : ℕ → TrayValue → TrayValue → DriveState → DriveState → Type 0
 PutsIn code tray left before after =
-    MatchBool (code == 0) ((disk : Disk) × (tray.medium ≡ Some disk) × (left.medium ≡ None) × (after ≡ loaded disk before))
-    (MatchBool (code == 6) (IsSome before.medium × (left ≡ tray) × (after ≡ before))
+    MatchBool (code == 0) ((disk : Disk) × (tray.medium ≡ Some disk) × (before.medium ≡ None) × (left.medium ≡ None) × (after ≡ loaded disk before))
+    (MatchBool (code == 6) (IsSome tray.medium × IsSome before.medium × (left ≡ tray) × (after ≡ before))
     (MatchBool (code == 7) ((tray.medium ≡ None) × (left ≡ tray) × (after ≡ before)) ⊥))
 
 -- the same from the slot of a tray; it holds none: 7

@@ -106,7 +106,7 @@ pub(crate) fn remove(rt: &(impl Abort + Files), name: &str) {
 #[test]
 fn files_of_the_folder_are_stored_and_loaded(rt: HostRuntime) {
     let (alloc, name) = (rt.alloc(), "floppy-test-file");
-    let mut shelf = FileShelf::new(&rt);
+    let mut shelf = FileShelf::new(&rt, rt.alloc());
     takes(&rt, &mut shelf, name, b"old");
     takes(&rt, &mut shelf, name, b"bytes");
     gives(&rt, alloc, &mut shelf, name, b"bytes");
@@ -119,7 +119,7 @@ fn files_of_the_folder_are_stored_and_loaded(rt: HostRuntime) {
 #[test]
 fn a_folder_in_a_files_place_is_a_fault(rt: HostRuntime) {
     let name = "floppy-test-folder";
-    let mut shelf = FileShelf::new(&rt);
+    let mut shelf = FileShelf::new(&rt, rt.alloc());
     assert!(rt; fs::create_dir(&rt, name).is_ok());
     gives_none(&rt, rt.alloc(), &mut shelf, name, 5, LoadError::Failed);
     takes_none(&rt, &mut shelf, name, b"bytes");
@@ -138,7 +138,7 @@ fn may_write(rt: &(impl Abort + Files), name: &str) -> bool {
 #[test]
 fn a_file_that_may_not_be_written_is_not_replaced(rt: HostRuntime) {
     let name = "floppy-test-kept";
-    let mut shelf = FileShelf::new(&rt);
+    let mut shelf = FileShelf::new(&rt, rt.alloc());
     takes(&rt, &mut shelf, name, b"old");
     let may = may_write(&rt, name);
     takes(&rt, &mut shelf, name, b"old");

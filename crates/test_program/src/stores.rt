@@ -206,7 +206,7 @@ fn reads(rt: &impl Abort, alloc: Global, file: &mut impl Read, wanted: &[u8]) {
 #[test]
 fn a_store_writes_into_no_file_that_is_there(rt: HostRuntime) -> Result<(), Fail> {
     let alloc = rt.alloc();
-    let mut shelf = FileShelf::new(&rt);
+    let mut shelf = FileShelf::new(&rt, rt.alloc());
     takes(&rt, &mut shelf, "floppy-test-held", b"old");
     takes(&rt, &mut shelf, "floppy-test-beside", b"other");
     let mut held = fs::open(&rt, "floppy-test-held")?;
@@ -225,7 +225,7 @@ fn a_store_that_is_done_outlasts_a_power_cut(rt: HostRuntime) {
         inside: &rt,
         watch: &watch,
     };
-    let mut shelf = FileShelf::new(&files);
+    let mut shelf = FileShelf::new(&files, rt.alloc());
     assert!(rt; shelf.store("floppy-test-synced", b"old").is_ok());
     assert!(rt; watch.is_at(Progress::Lasting));
     assert!(rt; shelf.store("floppy-test-synced", b"new").is_ok());
@@ -235,14 +235,14 @@ fn a_store_that_is_done_outlasts_a_power_cut(rt: HostRuntime) {
 
 #[test]
 fn a_store_whose_sync_fails_leaves_the_old_file(rt: HostRuntime) {
-    let mut plain = FileShelf::new(&rt);
+    let mut plain = FileShelf::new(&rt, rt.alloc());
     takes(&rt, &mut plain, "floppy-test-unsynced", b"old");
     let watch = Watch::new(true);
     let files = WatchedFiles {
         inside: &rt,
         watch: &watch,
     };
-    let mut shelf = FileShelf::new(&files);
+    let mut shelf = FileShelf::new(&files, rt.alloc());
     let refused = shelf.store("floppy-test-unsynced", b"new").err();
     assert!(rt; refused == Some(StoreError::Failed));
     assert!(rt; shelf.faults() == 1);
