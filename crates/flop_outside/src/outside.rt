@@ -1,4 +1,4 @@
-// The trusted edge: files of the current folder, and standard output. Neither tells what it holds.
+// The trusted edge: files of the current folder, and standard output. Neither of them tells the proofs what it holds.
 ghost use Rattle.std.specs.Prelude.{◌≡◌, None};
 
 use flop_base::{LoadError, PutError, Shelf, Sink, StoreError};
@@ -9,17 +9,17 @@ use std::os::unix::fs::{OpenOptionsExt, PermissionsExt};
 use std::rt::Files;
 use std::{fs, io, str};
 
-// How many names are tried for a new file. As many leftovers of programs that were killed fill them.
+// How many names are tried for a new file. That many leftovers of killed programs use up all the names.
 const PARTS: u16 = 1000;
 
-// Who may read and write a file where none was before, less what the user's mask takes.
+// The mode of a file whose name no file had before. The user's umask takes bits away from it.
 const NEW_MODE: u32 = 0o666;
 
 // How many bytes of a file are compared at once.
 const PIECE: usize = 4096;
 
-/// The name that a new file has while it is written: `.floppy-part-000` to `.floppy-part-999`.
-/// No job or word of the program says it, since names don't begin with a dot.
+/// The name that a new file has while it is written: `.floppy-part-000` to `.floppy-part-999`. No job and no argument
+/// of the program can say this name, since their names don't begin with a dot.
 #[derive(Drop)]
 struct PartName {
     bytes: [u8; 16],
@@ -43,7 +43,8 @@ fn last_digit(number: u16) -> u8 {
     b'0' + (number % 10) as u8
 }
 
-// Who may read, write and run the file under a name, where one is there. A link gives what it leads to.
+// Who may read, write and run the file under a name, if there is one. For a link, this is the mode of the file that the
+// link leads to.
 fn mode_of(rt: &impl Files, name: &str) -> io::Result<Option<u32>> {
     match fs::metadata(rt, name) {
         Ok(old) => Ok(Some(old.permissions().mode() & 0o777)),
@@ -52,8 +53,9 @@ fn mode_of(rt: &impl Files, name: &str) -> io::Result<Option<u32>> {
     }
 }
 
-// Opens what has a name for writing, and leaves it as it is: an error where this user may not write it. Where none has
-// the name, the folder decides. What is no file isn't opened, since a pipe waits for its other end.
+// Opens the file under a name for writing, and doesn't change it. If this user may not write the file, that is an
+// error. If no file has the name, the folder's permissions decide later. What isn't a file isn't opened, since opening
+// a pipe waits for its other end.
 fn ask_leave(rt: &impl Files, name: &str) -> io::Result<()> {
     if let Ok(old) = fs::metadata(rt, name) {
         if old.is_file() {
@@ -81,8 +83,8 @@ fn has_bytes(rt: &impl Files, name: &str, bytes: &[u8]) -> io::Result<bool> {
     Ok(false)
 }
 
-// Opens a file that wasn't there, so it is this call's own: what has the name, another program's new file
-// or the leftover of one that was killed, is passed over.
+// Creates a file under a name that no file had, so the file belongs to this call alone. A name that is taken is passed
+// over: its file is another program's new file, or the leftover of a program that was killed.
 fn create_part<R: Files>(rt: &R, mode: u32) -> io::Result<(R::File, PartName)> {
     for number in 0..PARTS {
         let part = PartName::new(number);
@@ -100,14 +102,15 @@ fn create_part<R: Files>(rt: &R, mode: u32) -> io::Result<(R::File, PartName)> {
     Err(ErrorKind::AlreadyExists.into())
 }
 
-// Writes the file whole and closes it. A write that fails late, as at the close, whose answer is lost, is
-// found by the sync, which comes first; and the bytes are on the disk before the file has its name.
+// Writes the whole file and closes it. A write can fail as late as at the close, whose result is lost. The sync comes
+// before the close and finds such a failure. Because of the sync, the bytes are also on the disk before the file gets
+// its name.
 fn fill_part(
     mut file: impl OpenFile + Write + Drop,
     mode: Option<u32>,
     bytes: &[u8],
 ) -> io::Result<()> {
-    // The user's mask counts for a file that is new, and not for one in an old one's place.
+    // The user's umask applies to a new file. It doesn't apply to a file that replaces an old one.
     if let Some(mode) = mode {
         file.set_permissions(Permissions::from_mode(mode))?;
     }
@@ -115,14 +118,15 @@ fn fill_part(
     file.sync_all()
 }
 
-// Has the folder's names on the disk.
+// Syncs the folder, so that its names are on the disk.
 fn sync_folder(rt: &impl Files) -> io::Result<()> {
     fs::open(rt, ".")?.sync_all()
 }
 
-// Writes a file beside the old one, which it replaces when it is whole. A failure leaves the old one as it was, and
-// takes away the new one, which no other program has. An old one that may not be written stays: the folder alone would
-// let it go. That is a failure, but where it has these bytes already.
+// Writes a new file beside the old one, and replaces the old file once the new one is whole. A failure leaves the old
+// file as it was, and removes the new one, which no other program has. An old file that this user may not write stays,
+// although the folder's permissions alone would let it be replaced. That is a failure, unless the old file already has
+// these bytes.
 fn replace_file(rt: &impl Files, name: &str, bytes: &[u8]) -> io::Result<()> {
     if let Err(refused) = ask_leave(rt, name) {
         return match has_bytes(rt, name, bytes) {
@@ -137,7 +141,7 @@ fn replace_file(rt: &impl Files, name: &str, bytes: &[u8]) -> io::Result<()> {
         Ok(()) => fs::rename(rt, part, name),
         Err(error) => Err(error),
     };
-    // Once it has its name the new file stands, so a folder that can't be synced is no error of the store.
+    // Once the new file has its name, it stays. A folder that can't be synced is therefore no error of the store.
     let _ = match replaced {
         Ok(()) => sync_folder(rt),
         Err(_) => fs::remove_file(rt, part),
@@ -145,8 +149,8 @@ fn replace_file(rt: &impl Files, name: &str, bytes: &[u8]) -> io::Result<()> {
     replaced
 }
 
-/// The files of the current folder. A store writes a new file whole and then renames it, so that a failed one leaves
-/// the old file as it was. It fails where the old file may not be written and has other bytes.
+/// The files of the current folder. A store writes a new file whole and then renames it, so that a failed store leaves
+/// the old file as it was. A store fails if the old file may not be written and has other bytes.
 #[derive(Drop)]
 pub struct FileShelf<'a, R: Files> {
     rt: &'a R,
@@ -154,7 +158,7 @@ pub struct FileShelf<'a, R: Files> {
 }
 
 impl<'a, R: Files> FileShelf<'a, R> {
-    /// The files of the folder that the program runs in. None is opened yet.
+    /// The files of the folder that the program runs in. No file is opened yet.
     pub fn new(rt: &'a R) -> FileShelf<'a, R> {
         FileShelf { rt, faults: 0 }
     }
@@ -175,7 +179,7 @@ impl<R: Files> Shelf for FileShelf<'_, R> {
             }
         };
         let mut bytes = Vec::new(alloc);
-        // One byte more than may be there shows a file that is too long.
+        // One byte more than may be there shows that a file is too long.
         match file
             .take((most as u64).saturating_add(1))
             .read_to_end(&mut bytes)
