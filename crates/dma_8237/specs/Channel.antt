@@ -99,7 +99,7 @@ value_read port c =
     if port == 0x81 then c.page else
     0xFF)))
 
--- what a read of a port leaves: address and count toggle the flip-flop, and status forgets its bit
+-- what a read of a port leaves: address and count toggle the flip-flop, and a read of the status clears its bit
 unfoldable pub after_read : ℕ → Channel → Channel
 after_read port c =
     if port == 0x04 || port == 0x05 then record c { high_byte_next = not c.high_byte_next } else (
@@ -127,8 +127,8 @@ reads_memory c = bit_and c.mode 0x0C == 0x08
 abbrev pub place_of : Channel → ℕ
 place_of c = c.page % 16 * 65536 + c.address
 
--- the address goes up by one inside its page, and the count down by one; a count of 0 runs out (TC):
--- the status tells it, and the mask is set
+-- the address goes up by one inside its page, and the count down by one; a count of 0 runs out (TC): then the bit of
+-- the status is set, and the mask too
 abbrev pub after_transfer : Channel → Channel
 after_transfer c = record c {
   address = (c.address + 1) % 65536;
@@ -148,7 +148,7 @@ after_transfers (suc k) c = after_transfer (after_transfers k c)
 abbrev pub moved_by : ℕ → Channel → Channel
 moved_by k c = record c { address = (c.address + k) % 65536; count = c.count - k }
 
--- the channel whose count has run out: told, and masked
+-- the channel once its count has run out: the terminal count is in the status, and the channel is masked
 abbrev pub ran_out : Channel → Channel
 ran_out c = record c {
   address = (c.address + c.count + 1) % 65536;

@@ -2,7 +2,8 @@
 use Rattle.std.specs.Prelude.{◌≡◌, ℕ, ◌/◌, ◌%◌, true, false}
 use Rattle.dma_8237.specs.Channel.{Channel, after_write, grants, has_bit, place_of}
 
--- its writes (PC/AT): the mask is set and the flip-flop cleared, then mode, address, page and count, and the mask is cleared
+-- a driver's writes (PC/AT): it sets the mask and clears the flip-flop, writes mode, address, page and count, and then
+-- clears the mask
 abbrev pub set_up : ℕ → ℕ → ℕ → Channel → Channel
 set_up mode address left c =
     after_write 0x0A 0x02
@@ -15,7 +16,8 @@ set_up mode address left c =
     (after_write 0x0C 0
     (after_write 0x0A 0x06 c))))))))
 
--- the channel grants, in this mode, from this place of memory on, and so many bytes behind the next one
+-- the channel grants requests in this mode; the next transfer is at this place of memory, and so many bytes follow its
+-- byte
 pub record IsSetUp (mode address left : ℕ) (c : Channel) : Type 0 where
   pub granting : grants c ≡ true
   pub mode_is : c.mode ≡ mode

@@ -172,8 +172,8 @@ impl Dma {
             && self.mode & TYPE != FORBIDDEN
     }
 
-    /// Moves one byte from the device to memory, and tells whether it is the last one (TC).
-    /// A channel that isn't set to write memory counts and stores nothing.
+    /// Moves one byte from the device to memory, and tells whether it is the last one (TC). A channel that isn't set to
+    /// write memory counts the transfer and stores nothing.
     pub fn move_in(&mut self, ram: &mut [u8], byte: u8) -> bool
         requires granted { IsTrue (grants self.old) }
         requires whole_memory { length ram.old ≡ MEMORY_SIZE }
@@ -190,8 +190,8 @@ impl Dma {
         self.advance()
     }
 
-    /// Moves one byte from memory to the device, and tells whether it is the last one (TC).
-    /// A channel that isn't set to read memory counts and delivers FF.
+    /// Moves one byte from memory to the device, and tells whether it is the last one (TC). A channel that isn't set to
+    /// read memory counts the transfer and delivers FF.
     pub fn move_out(&mut self, ram: &[u8]) -> (u8, bool)
         requires granted { IsTrue (grants self.old) }
         requires whole_memory { length ram.now ≡ MEMORY_SIZE }

@@ -11,7 +11,7 @@ pub fn count_is_transfers_less_one()
         → after_transfers (c.count + 1) c ≡ ran_out c }
 {}
 
-/// A driver's nine writes set a channel that isn't disabled up, for bytes to memory (mode 46) or from memory (mode 4A).
+/// A driver's nine writes set up a channel that isn't disabled, for bytes to memory (mode 46) or from memory (mode 4A).
 pub fn channel_is_set()
     ensures { (mode address left : ℕ) (c : Channel) → (mode ≡ 0x46) ⊎ (mode ≡ 0x4A) → has_bit c.command 2 ≡ false → address < 2 ^ 20 → left < 2 ^ 16
         → IsSetUp mode address left (set_up mode address left c) }

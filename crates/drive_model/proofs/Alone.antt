@@ -8,7 +8,7 @@ use Rattle.drive_model.specs.Drive.{DriveState, track_words, turns, at_speed, pa
 
 -- ---- one word time
 
--- a word time, and then the others
+-- one word time, and then the others
 one_more : (count : ℕ) (s between new : DriveState) → passed (with_gate false s) ≡ between → LetsPass count between new → LetsPass (suc count) s new
 unfolding LetsPass
 one_more count s between new step rest =
@@ -72,7 +72,7 @@ speeds_step s on fast = rw (on, le-leb _ _ fast, le-ltb _ _ fast) refl
 next_within : (place words : ℕ) → place < words → next_place place words < words
 next_within place words within = grind arith
 
--- the index is where the places begin anew
+-- places count on modulo the words of a track: they begin anew at the index
 next_mod : (place words count : ℕ) → place < words → (next_place place words + count) % words ≡ (place + suc count) % words
 next_mod place words count within =
     cond_both (place + 1 == words) 0 (place + 1) (λ p. (p + count) % words ≡ (place + suc count) % words)
@@ -103,7 +103,7 @@ pub lets_pass_still : (count : ℕ) (s : DriveState) → 0 < count → turns s �
 lets_pass_still zero s some off = absurd (omega (arith, some))
 lets_pass_still (suc count) s some off = shut_first count s (with_gate false s) (still (suc count) s off)
 
--- it spins up for as many of them as it wants and there are, and turns on by the others
+-- the medium spins up for as many of the word times as it still needs and there are, and turns on in the others
 pub lets_pass_turning : (count spinning words spin place : ℕ) (s : DriveState) → 0 < count → turns s ≡ true
     → words ≡ track_words s.medium → s.place < words → s.spin ≤ 6250 → spinning ≡ min count (6250 - s.spin)
     → spin ≡ s.spin + spinning → place ≡ (s.place + (count - spinning)) % words
@@ -121,7 +121,7 @@ lets_pass_turning (suc count) spinning words spin place s some on same within lo
 
 -- ---- words ahead
 
--- with no words there is nothing to say
+-- no words are ahead of any drive
 none_ahead : (head : ℕ) (s : DriveState) → AreAhead head [] s
 unfolding AreAhead
 none_ahead head s = tt
@@ -138,7 +138,7 @@ one_ahead head rest s on fast within ahead = (
   subst (AreAhead head rest) (sym (fast_step s on fast within)) ahead,
 )
 
--- of the track of a medium at speed, what comes before its last word
+-- the words of the track of a medium at speed that come before its last word are ahead
 pub track_ahead : (count head : ℕ) (track : List ℕ) (s : DriveState) → turns s ≡ true → 6250 ≤ s.spin → track ≡ words_on s.medium s.cylinder head
     → length track ≡ track_words s.medium → s.place + count < track_words s.medium → AreAhead head (take count (drop s.place track)) s
 track_ahead zero head track s on fast same long within = none_ahead head s

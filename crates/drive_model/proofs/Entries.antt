@@ -28,7 +28,7 @@ lowered-count (Cut c h word count) some = omega arith
 lowered-count (Lose c count) some = omega arith
 lowered-count (Stick c count) some = omega arith
 
--- and so can the list
+-- and the list, with one entry lowered, can come one time less
 pub total-lowered : (event : Event) (fs : List Fault) (i : ℕ) (d : Fault) → i < length fs → meets event (get_or fs i d) ≡ true → total_left (set fs i (lowered (get_or fs i d))) + 1 ≡ total_left fs
 total-lowered event fs i d short here =
     let f : Fault = get_or fs i d in
@@ -36,6 +36,6 @@ total-lowered event fs i d short here =
     let one : count_left (lowered f) + 1 ≡ count_left f = lowered-count f (met-some event f here) in
     omega arith
 
--- where none of the first entries meets an event, and the next doesn't, none of one more does
+-- if none of the first entries meets an event, and the next doesn't either, none of all these does
 pub none-more : (event : Event) (fs : List Fault) (k : ℕ) (d : Fault) → k < length fs → comes (take k fs) event ≡ false → meets event (get_or fs k d) ≡ false → comes (take (k + 1) fs) event ≡ false
 none-more event fs k d short before here = grind (arith, common_steps)

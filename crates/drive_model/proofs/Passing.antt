@@ -20,7 +20,7 @@ pub spends_nothing : (count : ℕ) (left : Option ℕ) → Spends count left cou
 spends_nothing count None = refl
 spends_nothing count (Some most) = (most, refl, omega arith)
 
--- a drive that is just this, with the count of faults and what is left of it as before, is this but for these
+-- a drive that equals the target, with its count of faults and what is left of them as before, has become the target
 pub becomes_at : (target old new : DriveState) → new ≡ target → target.faults ≡ old.faults → target.left ≡ old.left → Becomes target old new
 becomes_at target old new is same_faults same_left = record {
   becomes = is ∙ ap (λ s. record target { faults = s.faults; left = s.left }) (sym is);
@@ -45,7 +45,7 @@ lets_pass_more count old between new passes step = rw add-one (lets_pass_suc cou
 
 -- ---- words ahead
 
--- the first of them are ahead too
+-- the first of the words that are ahead are ahead too
 pub ahead_first : (count head : ℕ) (words : List ℕ) (s : DriveState) → AreAhead head words s → AreAhead head (take count words) s
 unfolding AreAhead
 ahead_first zero head words s ahead = tt
@@ -53,7 +53,7 @@ ahead_first (suc count) head [] s ahead = tt
 ahead_first (suc count) head (word ∷ rest) s (same, before, ahead) =
     (same, before, ahead_first count head rest (passed s) ahead)
 
--- the gate, the cut and the count of faults play no part
+-- whether words are ahead depends neither on the gate, nor on a cut, nor on the faults counted or left
 pub ahead_same : (head : ℕ) (words : List ℕ) (s : DriveState) (gate cut : Bool) (faults : ℕ) (left : Option ℕ)
     → AreAhead head words s → AreAhead head words (record s { gate = gate; cut = cut; faults = faults; left = left })
 unfolding AreAhead

@@ -1,4 +1,4 @@
--- What was saved of a drive is what is read.
+-- What is read is what was saved of a drive.
 use Rattle.std.proofs.Common.{◌≡◌, ℕ, ◌≤◌, ◌-◌, Bool, false, List, [], ◌∷◌, Option, Some, None, Result, Ok, Err, refl, subst, arith}
 use Rattle.std.specs.Prelude.{⊤, IfOk}
 use Rattle.std.specs.Coded.{le_prop}
@@ -21,7 +21,7 @@ use Rattle.drive_model.specs.declared.script.ScriptDrive.{ScriptDrive}
 abbrev pub Next : List ℕ → ℕ → List ℕ → Type 0
 Next here byte after = (b : ℕ) (r : List ℕ) → here ≡ b ∷ r → (byte ≡ b) × (after ≡ r)
 
--- behind a 1 there is an image file
+-- an image file follows a byte 1
 medium_read : (medium value : Option Disk) (old behind new rest bytes : List ℕ) (byte : ℕ)
     → Next old byte behind → byte ≡ 1 → Gives (λ _. ⊤) spelled_bytes behind bytes new
     → ((disk : Disk) → IsDisk disk → bytes ≡ file_of disk → medium ≡ Some disk)
@@ -39,14 +39,14 @@ gives_medium (Ok medium) old behind new bytes byte next is gives only =
     λ value rest fits left. medium_read medium value old behind new rest bytes byte next is gives only fits left
 gives_medium (Err e) old behind new bytes byte next is gives only = tt
 
--- it doesn't matter how a disk was seen
+-- two proofs that a disk is one are the same
 pub IsDisk-prop : (disk : Disk) → IsProp (IsDisk disk)
 IsDisk-prop disk = hlevel props
 
 pub disk_prop : (medium : Option Disk) → IsProp (ForSome medium IsDisk)
 disk_prop medium = hlevel (props, IsDisk-prop)
 
--- nor how a drive was seen at rest
+-- two proofs that a drive with its motor off hasn't spun up are the same
 rests_prop : (motor : Bool) (spin : ℕ) → IsProp (motor ≡ false → spin ≡ 0)
 rests_prop motor spin = hlevel props
 
@@ -98,7 +98,7 @@ parts_of m = record {
   replaced = m.replaced;
 }
 
--- it doesn't matter how its limits were seen
+-- two mechanisms with the same parts are the same, whatever the proofs of their limits
 same_limits : (one : Mechanics) (reached : one.cylinder ≤ 82) (on_track : one.place ≤ track_words one.medium - 1)
     (spun : one.spin ≤ 6250) (rests : one.motor ≡ false → one.spin ≡ 0) (disk : ForSome one.medium IsDisk)
     → mechanics_of (parts_of one) reached on_track spun rests disk ≡ one

@@ -2,7 +2,7 @@
 use Rattle.std.specs.Prelude.{◌≡◌, ℕ, zero, suc, false, List, [], ◌∷◌}
 use Rattle.drive_model.specs.Drive.{DriveState, at_index, passed, with_gate, word_under}
 
--- so many word times pass, with the gate closed. No fault comes
+-- so many word times pass with the gate closed, and no fault comes
 unfoldable pub LetsPass : ℕ → DriveState → DriveState → Type 0
 LetsPass zero old new = new ≡ old
 LetsPass (suc count) old new = LetsPass count (passed (with_gate false old)) new

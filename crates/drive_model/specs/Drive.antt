@@ -6,10 +6,15 @@ use Rattle.flop_base.specs.Counts.{last_count, Rose, CanTell, Spends}
 use Rattle.raw_image.specs.Disk.{Disk, IsDisk, tabbed, track_of, with_word}
 use Rattle.drive_model.specs.Maps.{emptied, marked_where}
 
--- a drive: the medium in it or none, the cylinder under its heads, the place that passes them next, its motor, for how many
--- word times the medium has spun up, its change line, its write gate, whether the gate was cut, whether a word of the medium was
--- replaced since it was put in or since that was last forgotten, the map of the tracks that were written, where the drive keeps one,
--- whether its cable is in, its count of faults, and the most by which that count can still rise, where the drive tells it
+-- a drive:
+-- - the medium in it, or none
+-- - the cylinder under its heads, and the place on the track that passes them next
+-- - whether its motor is on, and for how many word times the medium has spun up
+-- - its change line, its write gate, and whether the gate was cut
+-- - whether a word of the medium was replaced since it was put in, or since that was last forgotten
+-- - the map of the tracks that were written, where the drive keeps one
+-- - whether its cable is in
+-- - its count of faults, and the most by which that count can still rise, where the drive tells it
 pub record DriveState : Type 0 where
   pub medium : Option Disk
   pub cylinder : ℕ
@@ -91,7 +96,8 @@ word_under s head = if at_speed s then slice_index (words_on s.medium s.cylinder
 abbrev pub loaded : Disk → DriveState → DriveState
 loaded d s = record s { medium = Some d; spin = 0; place = 0; change = true; replaced = false; marks = emptied s.marks }
 
--- with the medium taken out; with none in, as before. It is still told whether a word of it was replaced, and of which tracks
+-- with the medium taken out; with none in, as before. Whether a word of it was replaced stays, and the map of its
+-- tracks
 abbrev pub unloaded : DriveState → DriveState
 unloaded s = record s {
   medium = None;
@@ -108,7 +114,7 @@ with_motor on s = record s { motor = on; spin = if on then s.spin else 0 }
 abbrev pub with_gate : Bool → DriveState → DriveState
 with_gate on s = record s { gate = on; cut = if on then false else s.cut }
 
--- a cylinder further in or out, within 0 to 82, and the change line cleared by a medium
+-- the heads a cylinder further in or out, within 0 to 82, and the change line cleared if a medium is in
 abbrev pub moved : Bool → DriveState → DriveState
 moved inward s = record s {
   cylinder = if inward then min (s.cylinder + 1) 82 else s.cylinder - 1;
@@ -123,7 +129,7 @@ can_write s = at_speed s && (s.gate && not s.cut)
 abbrev pub replaces : DriveState → ℕ → Bool
 replaces s head = can_write s && can_replace s.medium s.cylinder head
 
--- one word time later, with the word under a head replaced where it can be, and its track marked then
+-- one word time later, with the word under a head replaced where it can be; its track is then marked
 abbrev pub written : ℕ → ℕ → DriveState → DriveState
 written head word s = record (passed s) {
   medium = if can_write s then rewritten s.medium s.cylinder head s.place word else s.medium;
@@ -131,7 +137,7 @@ written head word s = record (passed s) {
   marks = marked_where (replaces s head) s.cylinder head s.marks;
 }
 
--- it is forgotten that a word of the medium was replaced
+-- the drive without the sign that a word of the medium was replaced
 abbrev pub forgotten : DriveState → DriveState
 forgotten s = record s { replaced = false }
 
@@ -140,7 +146,7 @@ abbrev pub with_tab : Bool → Option Disk → Option Disk
 with_tab on None = None
 with_tab on (Some d) = Some (tabbed on d)
 
--- with the medium that is in write-protected, or not
+-- the drive with its medium write-protected, or not
 abbrev pub with_protection : Bool → DriveState → DriveState
 with_protection on s = record s { medium = with_tab on s.medium }
 
@@ -149,7 +155,7 @@ abbrev pub same_length : Disk → Option Disk → Bool
 same_length d None = false
 same_length d (Some before) = before.words_per_track == d.words_per_track
 
--- with this medium in place of the one that is in: it turns on at the same place
+-- with this medium in place of the one that is in; the new one turns on from the same place
 abbrev pub exchanged : Disk → DriveState → DriveState
 exchanged d s = record s { medium = Some d }
 
@@ -157,27 +163,28 @@ exchanged d s = record s { medium = Some d }
 abbrev pub cut_off : DriveState → DriveState
 cut_off s = record (passed s) { cut = true }
 
--- the drive is then as this, but for its count of faults, which doesn't fall and rises by no more than what was left of it
+-- the drive is then the target, but for its count of faults and what is left of them. The count doesn't fall, and it
+-- rises by no more than what was left
 pub record Becomes (target old new : DriveState) : Type 0 where
   pub becomes : new ≡ record target { faults = new.faults; left = new.left }
   pub never_falls : old.faults ≤ new.faults
   pub spends : Spends old.faults old.left new.faults new.left
 
--- a pulse moves the heads, or is lost and counted
+-- a pulse moves the heads, or it is lost and the count of faults rises
 abbrev pub Pulses : Bool → DriveState → DriveState → Type 0
 Pulses inward old new = Becomes (moved inward old) old new ⊎ (Becomes old old new × Rose old.faults new.faults)
 
--- the word that passed is read, or 0000 in its place, and that is counted
+-- the word that passed is read, or 0000 is read in its place and the count of faults rises
 abbrev pub Reads : ℕ → DriveState → ℕ → DriveState → Type 0
 Reads head old word new = (word ≡ word_under old head) ⊎ ((word ≡ 0) × Rose old.faults new.faults)
 
--- the word is written where it can be, or its open gate is cut and counted
+-- the word is written where it can be, or the open gate is cut and the count of faults rises
 abbrev pub Writes : ℕ → ℕ → DriveState → DriveState → Type 0
 Writes head word old new =
     Becomes (written head word old) old new
     ⊎ (IsTrue (can_write old) × Becomes (cut_off old) old new × Rose old.faults new.faults)
 
--- the ranges of a drive; it tells what is left of its faults only where their count can't reach its last value by it
+-- the ranges of a drive. It tells what is left of its faults only where these can't bring its count to the last value
 pub record InRange (s : DriveState) : Type 0 where
   pub cylinder : s.cylinder ≤ 82
   pub place : s.place ≤ track_words s.medium - 1

@@ -3,7 +3,7 @@ use Rattle.std.specs.Prelude.{ℕ, true, false, Option, Some, None}
 use Rattle.drive_model.specs.Drive.{DriveState}
 use Rattle.drive_model.specs.declared.mechanics.Mechanics.{Mechanics}
 
--- a drive with this mechanism, this count of faults, and so many left. It keeps no map, and its cable is in
+-- a drive with this mechanism, this count of faults, and so many faults left. It keeps no map, and its cable is in
 abbrev pub state_of : Mechanics → ℕ → Option ℕ → DriveState
 state_of m faults left = record {
   medium = m.medium;
@@ -25,7 +25,7 @@ state_of m faults left = record {
 abbrev pub faultless : Mechanics → DriveState
 faultless m = state_of m 0 (Some 0)
 
--- a drive as it comes: without a medium, at cylinder 0, the motor off, the change line set, no fault counted, and no map kept
+-- a new drive: without a medium, at cylinder 0, the motor off, the change line set, no fault counted, and no map kept
 abbrev pub at_rest : Option ℕ → DriveState
 at_rest left = record {
   medium = None;

@@ -9,12 +9,12 @@ use Rattle.drive_model.specs.declared.mechanics.Mechanics.{Mechanics}
 use Rattle.drive_model.specs.declared.plain.PlainDrive.{PlainDrive}
 use Rattle.drive_model.specs.declared.script.ScriptDrive.{ScriptDrive}
 
--- a medium: its image file, and 1 before it; 0 where there is none
+-- a medium: a byte 1 and then its image file; a byte 0 where there is none
 abbrev pub spelled_medium : Option Disk → List ℕ → List ℕ
 spelled_medium None rest = 0 ∷ rest
 spelled_medium (Some disk) rest = 1 ∷ spelled_bytes (file_of disk) rest
 
--- a planned fault: its number, and what it keeps
+-- a planned fault: the number of its kind, and then its fields
 abbrev pub spelled_fault : Fault → List ℕ → List ℕ
 spelled_fault (Dropout c h word count) rest =
     0 ∷ spelled_byte c (spelled_byte h (spelled_word word (spelled_double count rest)))

@@ -1,4 +1,4 @@
--- What a drive with planned faults shows, and when they come.
+-- What a drive with planned faults shows, and when the faults come.
 use Rattle.std.specs.Prelude.{◌≡◌, ℕ, ◌+◌, ◌<◌, Bool, false, ◌&&◌, nat_lt, min, if◌then◌else◌, List, Option, Some, None}
 use Rattle.flop_base.specs.Counts.{last_count}
 use Rattle.drive_model.specs.Drive.{DriveState, at_speed, can_write}
@@ -13,11 +13,11 @@ use Rattle.drive_model.specs.declared.script.ScriptDrive.{ScriptDrive}
 abbrev pub script_of : ScriptDrive → List Fault
 script_of drive = drive.plan
 
--- so many faults can still come; told where they can all be counted
+-- the faults that can still come, told only where the count can take them all
 abbrev pub told : ℕ → ℕ → Option ℕ
 told counted left = if nat_lt (counted + left) last_count then Some left else None
 
--- its state
+-- the state of a drive with planned faults
 abbrev pub script_state : ScriptDrive → DriveState
 script_state drive = state_of drive.mechanics drive.faults (told drive.faults (total_left drive.plan))
 
@@ -50,7 +50,7 @@ cuts drive head = can_write (script_state drive) && comes (script_of drive) (wri
 abbrev pub loses : ScriptDrive → Bool → Bool
 loses drive inward = comes (script_of drive) (pulse_of (script_state drive) inward)
 
--- where a fault came at the event, it is taken off the list and counted; else both are as before
+-- where a fault came at the event, it is taken off the list and counted; else the list and the count are as before
 pub record Accounts (came : Bool) (event : Event) (old new : ScriptDrive) : Type 0 where
   pub script : script_of new ≡ (if came then spent (script_of old) event else script_of old)
   pub count : (script_state new).faults ≡ (if came then min ((script_state old).faults + 1) last_count else (script_state old).faults)

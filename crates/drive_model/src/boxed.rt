@@ -1,4 +1,4 @@
-// A drive behind a box, whatever drive it is.
+// A drive in a box, whatever drive it is.
 use crate::{Drive, Heard, Turn};
 use flop_base::Rate;
 use raw_image::Medium;

@@ -17,7 +17,7 @@ pub struct Turn {
     pub index: bool,
 }
 
-/// What a controller that listens gets of a drive in one word time.
+/// What a controller that listens gets from a drive in one word time.
 #[derive(Clone, Copy, Debug, PartialEq, Eq)]
 pub struct Heard {
     pub turn: Turn,
@@ -27,11 +27,11 @@ pub struct Heard {
 
 /// A diskette drive with one medium at most.
 ///
-/// A drive may have faults: a pulse is lost, a word reads as 0000, a write gate is cut. So a fault comes in a pulse, a read or a write
-/// alone, and is counted there. In every other call the count of faults stays, and so does what is left of them. The index and the
-/// change line have none.
+/// A drive may have faults: a pulse is lost, a word reads as 0000, a write gate is cut. A fault comes only in a pulse,
+/// a read or a write, and it is counted there. In every other call the count of faults stays, and so does the number of
+/// faults left. The index and the change line have no faults.
 pub trait Drive: Drop {
-    /// All that the rules of the calls speak of.
+    /// The state that the contracts of the calls are about.
     ghost state: { Self → DriveState };
 
     /// Puts a medium in. Where one is in already, the new one is given back.
@@ -50,7 +50,7 @@ pub trait Drive: Drop {
     fn motor(&mut self, on: bool)
         ensures becomes { state self.new ≡ with_motor on (state self.old) };
 
-    /// A step pulse, to a higher cylinder where `inward`. The heads stay within cylinders 0 to 82.
+    /// A step pulse, to a higher cylinder if `inward` is true. The heads stay within cylinders 0 to 82.
     fn pulse(&mut self, inward: bool)
         ensures moves { Pulses inward (state self.old) (state self.new) };
 
@@ -82,8 +82,8 @@ pub trait Drive: Drop {
         ensures range_before { InRange (state self.old) }
         ensures range { InRange (state self.new) };
 
-    /// Lets one word time pass, and reads the word under a head, 0 or 1. Without a medium at speed, or without such a
-    /// track, it is 0000.
+    /// Lets one word time pass, and reads the word under a head, 0 or 1. The word is 0000 without a medium at speed, or
+    /// where the medium has no such track.
     fn read_word(&mut self, head: u8) -> Turn
         ensures becomes { Becomes (passed (state self.old)) (state self.old) (state self.new) }
         ensures word { Reads head (state self.old) result.word (state self.new) }
@@ -91,8 +91,8 @@ pub trait Drive: Drop {
         ensures range_before { InRange (state self.old) }
         ensures range { InRange (state self.new) };
 
-    /// Closes the gate and reads a word as `read_word` does. It tells the rate of the medium too, so that a drive behind a box is
-    /// called but once in a word time.
+    /// Closes the gate, reads a word as `read_word` does, and tells the rate of the medium. So a boxed drive is called
+    /// only once in a word time.
     fn listen(&mut self, head: u8) -> Heard
         ensures becomes { Becomes (passed (with_gate false (state self.old))) (state self.old) (state self.new) }
         ensures word { Reads head (state self.old) result.turn.word (state self.new) }
@@ -113,8 +113,8 @@ pub trait Drive: Drop {
         ensures range_before { InRange (state self.old) }
         ensures range { InRange (state self.new) };
 
-    /// Words that are certain to pass next under a head, as `read_word` would give them, the first of them first. Behind none
-    /// of them the index comes. There may be none, and a drive that has planned a dropout tells only those before it.
+    /// Words that are certain to pass next under a head, in their order, as `read_word` would give them. The index
+    /// comes after none of them. There may be none, and a drive with a planned dropout gives only the words before it.
     #[tactic(auto, unfolding(crate::specs::Ahead::AreAhead))]
     fn ahead(&self, _head: u8) -> &[u16]
         ensures { AreAhead _head result.now (state self.now) }
@@ -130,7 +130,7 @@ pub trait Drive: Drop {
         self.pass();
     }
 
-    /// Closes the gate and lets so many word times pass. Where there are none the gate stays as it is.
+    /// Closes the gate and lets so many word times pass. Where the number is 0 the gate stays as it is.
     fn let_pass(&mut self, count: u32)
         ensures passes { LetsPass count (state self.old) (state self.new) }
     {

@@ -4,8 +4,8 @@ ghost use Rattle.std.specs.Bool.{OnTrue, OnFalse};
 ghost use Rattle.drive_model.specs.declared.fault.Event.TheVariants.{Read};
 ghost use Rattle.drive_model.specs.Fault.{is_for, meets, lowered, count_left, comes, spent, total_left};
 
-/// A fault that comes up to `count` times. `c` is the cylinder under the heads, 0 to 82, `h` the head and `word` the
-/// place on the track, counted from the index on, from 0.
+/// A fault that comes up to `count` times. `c` is the cylinder under the heads, 0 to 82, `h` the head, and `word` the
+/// place on the track, counted from the index, from 0.
 #[derive(Clone, Copy, Debug, PartialEq, Eq)]
 pub enum Fault {
     /// A read of this word gives 0000.
@@ -27,7 +27,7 @@ pub(crate) enum Event {
 }
 
 impl Fault {
-    /// How often it can still come.
+    /// How often the fault can still come.
     fn count(self) -> u32
         ensures { result ≡ count_left self }
     {

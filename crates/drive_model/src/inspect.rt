@@ -17,7 +17,7 @@ pub trait Inspect: Drive {
     fn cylinder(&self) -> u8
         ensures { result ≡ (Self.state self.now).cylinder };
 
-    /// The place in the track that passes next, in words behind the index; none where no word passes.
+    /// The place on the track that passes next, in words from the index; none where no word passes.
     fn place(&self) -> Option<u16>
         ensures { result ≡ place_under (Self.state self.now) };
 
@@ -25,8 +25,8 @@ pub trait Inspect: Drive {
     fn is_gate_open(&self) -> bool
         ensures { result ≡ (Self.state self.now).gate };
 
-    /// A word of the medium was replaced since it was put in, or since that was last forgotten. A medium that was taken out is
-    /// still told of.
+    /// Whether a word of the medium was replaced since it was put in, or since that was last forgotten. The sign stays
+    /// when the medium is taken out.
     fn is_written(&self) -> bool
         ensures { result ≡ (Self.state self.now).replaced };
 
@@ -34,13 +34,14 @@ pub trait Inspect: Drive {
     fn forget_written(&mut self)
         ensures { Self.state self.new ≡ forgotten (Self.state self.old) };
 
-    /// Moves the tab of the medium that is in, so that it is write-protected, or not. Nothing else changes: an open write gate stays
-    /// open, and a protected medium stays as it is.
+    /// Moves the tab of the medium that is in, so that it is write-protected, or not. Nothing else changes. An open
+    /// write gate stays open, but no write changes a medium that is protected.
     fn set_protected(&mut self, on: bool)
         ensures { Self.state self.new ≡ with_protection on (Self.state self.old) };
 
-    /// Puts a medium in place of the one that is in, which is given back: as if it had always been the one that turns there.
-    /// Where none is in, or the tracks of the two differ in length, the new one is given back.
+    /// Puts a medium in place of the one that is in, which is given back. The new one turns on from the same place, as
+    /// if it had been in all the time. Where none is in, or the tracks of the two differ in length, the new one is
+    /// given back.
     fn exchange(&mut self, medium: Medium) -> Result<Medium, Medium>
         ensures refused { IsErr result ↔ (same_length medium (Self.state self.old).medium ≡ false) }
         ensures ok { OnOk result (Self.state self.new ≡ exchanged medium (Self.state self.old)) }

@@ -1,5 +1,5 @@
-//! Diskette drives: what every drive does, word time by word time, what can be looked at in one, and two drives, one without
-//! faults and one whose faults follow a list.
+//! Diskette drives: what every drive does, word time by word time, and what can be looked at in one. There are two
+//! drives here, one without faults and one whose faults follow a list.
 //!
 //! A word time is the time in which sixteen cells pass under the heads. There is no other clock.
 #![tactic(auto)]

@@ -1,10 +1,10 @@
-// Numbers of a drive in their ranges, whatever was read.
+// Numbers of a drive, brought into their ranges, whatever was read.
 ghost use Rattle.std.specs.Prelude.{◌≡◌, ◌≤◌, ◌-◌};
 ghost use Rattle.drive_model.specs.Drive.{track_words};
 
 use raw_image::Medium;
 
-/// A cylinder that the heads reach; 0 for any other.
+/// The cylinder, if the heads reach it; else 0.
 pub fn limited_cylinder(cylinder: u8) -> u8
     ensures reached { result ≤ 82 }
     ensures same { cylinder ≤ 82 → result ≡ cylinder }
@@ -12,7 +12,7 @@ pub fn limited_cylinder(cylinder: u8) -> u8
     if cylinder <= 82 { cylinder } else { 0 }
 }
 
-/// A place on the track of a medium; 0 for any other.
+/// The place, if it is on the track of the medium; else 0.
 pub fn limited_place(place: u16, medium: &Option<Medium>) -> u16
     ensures on_the_track { result ≤ track_words medium.now - 1 }
     ensures same { place ≤ track_words medium.now - 1 → result ≡ place }
@@ -24,7 +24,7 @@ pub fn limited_place(place: u16, medium: &Option<Medium>) -> u16
     if place < words { place } else { 0 }
 }
 
-/// A time of spinning up; 0 for any other.
+/// The time of spinning up in word times, if it is at most 6,250; else 0.
 pub fn limited_spin(spin: u16) -> u16
     ensures spun_up { result ≤ 6250 }
     ensures same { spin ≤ 6250 → result ≡ spin }

@@ -64,7 +64,7 @@ impl Mechanics {
     ghost use Rattle.drive_model.specs.Mechanics.{state_of, faultless, at_rest};
     ghost use Rattle.drive_model.specs.Ahead.{LetsPass, AreAhead};
 
-    /// Without a medium, at cylinder 0, with the change line set.
+    /// A mechanism without a medium, at cylinder 0, with the change line set.
     pub(crate) fn new() -> Mechanics
         ensures { faultless result ≡ at_rest (Some 0) }
     {
@@ -81,7 +81,7 @@ impl Mechanics {
         }
     }
 
-    /// Puts a medium in where none is.
+    /// Puts a medium in if none is in.
     pub(crate) fn insert(&mut self, medium: Medium) -> Result<(), Medium>
         ensures refused { IsErr result ↔ IsSome self.old.medium }
         ensures ok { OnOk result
@@ -92,7 +92,7 @@ impl Mechanics {
         if self.medium.is_some() {
             return Err(medium);
         }
-        // Reading its number of words also tells that a medium has its shape.
+        // Reading its number of words also shows the prover that the medium has its shape.
         let _words = medium.words();
         self.medium = Some(medium);
         self.spin = 0;
@@ -227,7 +227,7 @@ impl Mechanics {
         let Some(medium) = &self.medium else {
             return None;
         };
-        // Where the motor is off, it hasn't spun up.
+        // With the motor off, the medium hasn't spun up.
         if self.spin < SPIN_UP {
             if self.motor {
                 self.spin += 1;
@@ -287,7 +287,7 @@ impl Mechanics {
         }
     }
 
-    /// The words of the track under a head that pass next, but for its last, where the medium is spun up.
+    /// The words of the track under a head that pass next, without its last; none if the medium isn't at speed.
     #[tactic(auto, unfolding(crate::specs::Ahead::AreAhead))]
     pub(crate) fn ahead(&self, head: u8) -> &[u16]
         ensures { AreAhead head result.now (faultless self.now) }

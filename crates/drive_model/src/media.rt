@@ -21,7 +21,7 @@ fn save_image(alloc: Global, medium: &Medium, to: &mut Sink)
     }
 }
 
-/// Writes the medium of a drive. What its image file takes is allocated here.
+/// Writes the medium of a drive. Memory for its image file is allocated here.
 pub fn save_medium(alloc: Global, medium: &Option<Medium>, to: &mut Sink)
     ensures { Adds (spelled_medium medium.now) to.old to.new }
 {
@@ -34,7 +34,7 @@ pub fn save_medium(alloc: Global, medium: &Option<Medium>, to: &mut Sink)
     }
 }
 
-/// No medium, unless it was memory that couldn't be had.
+/// No medium, unless the error is that memory ran out.
 fn no_image(error: ImageError) -> Result<Option<Medium>, NoMemory>
     ensures none { IfOk result (λ medium. medium ≡ None) }
     ensures only { IfOk result (λ _. (disk : Disk) → Reads (Ok disk) (Err error) → ⊥) }
@@ -45,7 +45,7 @@ fn no_image(error: ImageError) -> Result<Option<Medium>, NoMemory>
     }
 }
 
-/// The medium whose image file this is; none where it is no image file.
+/// The medium whose image file this is; none where the bytes aren't an image file.
 fn load_image(alloc: Global, bytes: &[u8]) -> Result<Option<Medium>, NoMemory>
     ensures valid { IfOk result (λ medium. ForSome medium IsDisk) }
     ensures only { IfOk result (λ medium. (disk : Disk) → IsDisk disk → bytes.now ≡ file_of disk
@@ -57,7 +57,7 @@ fn load_image(alloc: Global, bytes: &[u8]) -> Result<Option<Medium>, NoMemory>
     }
 }
 
-/// Reads the medium of a drive. Bytes that no medium has give any.
+/// Reads the medium of a drive. From bytes that no medium is saved as, it may read any medium or none.
 pub fn load_medium(alloc: Global, from: &mut Source<'_>) -> Result<Option<Medium>, NoMemory>
     ensures valid { IfOk result (λ medium. ForSome medium IsDisk) }
     ensures gives { IfOk result (λ medium.

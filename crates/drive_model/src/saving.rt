@@ -121,7 +121,7 @@ impl SavedWhole for Mechanics {
     }
 }
 
-/// A time of spinning up; 0 for any other, and where the motor is off.
+/// The time of spinning up in word times, if it is at most 6,250 and the motor is on; else 0.
 fn spin_of(motor: bool, spin: u16) -> u16
     ensures spun_up { result ≤ 6250 }
     ensures rests { motor ≡ false → result ≡ 0 }

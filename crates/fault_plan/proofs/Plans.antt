@@ -6,13 +6,13 @@ use Rattle.std.proofs.lemmas.List.Elements.{filter_map-append}
 use Rattle.fault_plan.specs.Plan.{Plan, plan_for, joined}
 use Rattle.fault_plan.specs.declared.line.PlanLine.{PlanLine}
 
--- what the first lines say, and then what the others say
+-- the plan of all lines: what the first lines say, and then what the others say
 pub plan_for_append : (first others : List PlanLine)
     → plan_for (first ++ others) ≡ joined (plan_for first) (plan_for others)
 unfolding plan_for
 plan_for_append first others = simp (filter_map-append, flat_map-append)
 
--- a plan of the lines before line i, and line i after them
+-- the plan of the lines up to line i: what the lines before it say, and then what line i says
 pub plan_for_more : (lines : List PlanLine) (i : ℕ) (d : PlanLine) (kept more : Plan) → i < length lines
     → kept ≡ plan_for (take i lines) → more ≡ joined kept (plan_for (get_or lines i d ∷ []))
     → more ≡ plan_for (take (i + 1) lines)

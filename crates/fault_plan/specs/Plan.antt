@@ -1,4 +1,4 @@
--- A plan: what its lines say for each drive and for the machine's pace.
+-- A plan: what its lines say for each drive and for the machine's timing (pace).
 use Rattle.std.specs.Prelude.{◌≡◌, ℕ, List, [], ◌++◌, Option, Some, None, Result, Ok, Err, replicate}
 use Rattle.std.specs.List.{filter_map, flat_map}
 use Rattle.drive_model.specs.declared.fault.Fault.{Fault}
@@ -36,17 +36,17 @@ abbrev pub gaps_of : PlanLine → List ℕ
 gaps_of (line.Gap steps count) = replicate count steps
 gaps_of _ = []
 
--- the holds that a line adds
+-- the DMA latencies (holds) that a line adds
 abbrev pub holds_of : PlanLine → List ℕ
 holds_of (line.Hold steps count) = replicate count steps
 holds_of _ = []
 
--- the strays that a line adds
+-- the spurious interrupts (strays) that a line adds
 abbrev pub strays_of : PlanLine → List ℕ
 strays_of (line.Stray steps count) = replicate count steps
 strays_of _ = []
 
--- faults for each drive; gaps, holds and strays for the machine
+-- the faults of each drive; the gaps, DMA latencies and spurious interrupts of the machine
 pub record Plan : Type 0 where
   pub bay0 : List Fault
   pub bay1 : List Fault
@@ -85,7 +85,8 @@ abbrev pub planned : Result (List PlanLine) ℕ → Result Plan ℕ
 planned (Ok lines) = Ok (plan_for lines)
 planned (Err bad) = Err bad
 
--- what a plan's text says: at most 1,000 lines; else its first bad line, 0 where it is too long
+-- what a plan's text of at most 1,000 lines says; else its first line that isn't understood, 0 where the text is too
+-- long
 unfoldable pub plan_spelled : List ℕ → Result Plan ℕ
 plan_spelled text = planned (text_of plan_line_of 1000 text)
 

@@ -13,7 +13,7 @@ pub enum PlanError {
     /// The first line that isn't understood, counted from 1; 0 where the text is too long.
     #[error("plan line {line} not understood")]
     BadLine { line: usize },
-    /// Memory couldn't be had. This says nothing of the text.
+    /// Memory ran out. This says nothing about the text.
     #[error("out of memory")]
     NoMemory,
 }

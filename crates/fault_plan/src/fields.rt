@@ -50,7 +50,7 @@ pub fn count(word: &[u8]) -> Option<u16>
     Some(number(word, 10, 1, 5, 1, 10_000)? as u16)
 }
 
-/// The device steps to a stray: one to five digits, 1 to 65,535.
+/// The device steps to a spurious interrupt: one to five digits, 1 to 65,535.
 #[tactic(auto, unfolding(crate::specs::Fields::span_of))]
 pub fn span(word: &[u8]) -> Option<u16>
     ensures { result ≡ span_of word.now }

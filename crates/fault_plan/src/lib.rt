@@ -1,4 +1,4 @@
-//! The plan text: the faults of each drive and the pace of the machine, one line each.
+//! The plan text: the faults of each drive and the timing (pace) of the machine, one line each.
 #![tactic(auto)]
 
 mod error;

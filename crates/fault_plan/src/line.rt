@@ -29,9 +29,9 @@ pub enum PlanLine {
     Fault { drive: PlannedDrive, fault: Fault },
     /// So many gaps of so many device steps.
     Gap { steps: u8, count: u16 },
-    /// So many holds of so many device steps.
+    /// So many DMA latencies (holds) of so many device steps.
     Hold { steps: u8, count: u16 },
-    /// So many strays, so many device steps apart.
+    /// So many spurious interrupts (strays), so many device steps apart.
     Stray { steps: u16, count: u16 },
 }
 

@@ -13,7 +13,7 @@ use std::alloc::Global;
 /// The most lines of a plan.
 const MOST_LINES: usize = 1_000;
 
-/// The faults of each drive, in the order in which they are used up, and the pace of the machine.
+/// The faults of each drive, in the order in which they are used up, and the timing of the machine.
 #[derive(Drop)]
 pub struct FaultPlan {
     pub bay0: Vec<Fault>,

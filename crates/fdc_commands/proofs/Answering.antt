@@ -1,4 +1,4 @@
--- What the beginning of the array comes to is what its code's row makes of the array.
+-- What the first bytes of the array come to is what the row of their code makes of the whole array.
 use Rattle.std.proofs.Common.{◌≡◌, ◌∙◌, sym, ap, refl, ℕ, ◌+◌, ◌<◌, ◌≤◌, Bool, true, false, List, [], ◌∷◌, ◌++◌, Option, Some, None, length, take, slice_index, slice_set, arith, if◌then◌else◌, nat_le, ◌==◌, option_map, inl, inr}
 use Rattle.std.proofs.Math.ListN.{length-set}
 use Rattle.std.specs.List.{find}
@@ -12,11 +12,11 @@ use Rattle.fdc_commands.specs.declared.command.Command.{Command}
 use Rattle.fdc_commands.specs.declared.command.Command.TheVariants.{Specify, SenseDrive, Recalibrate, Seek, Configure, ReadId, ReadData, WriteData, WriteDeleted, FormatTrack}
 use Rattle.fdc_commands.specs.Table.{Row, row, nth, key_of, table, row_of, whole, answer_by, answer}
 
--- a row reads no byte past those that follow its code
+-- a row reads no byte of the array after those that follow its code
 abbrev pub ReadsItsBytes : Row → Type 0
 ReadsItsBytes r = (n : ℕ) (bytes : List ℕ) → r.count < n → r.spells (take n bytes) ≡ r.spells bytes
 
--- each of a list
+-- each element of a list has the property
 abbrev Each : {A : Type 0} → (A → Type 0) → List A → Type 0
 Each P [] = Unit {0}
 Each P (x ∷ xs) = P x × Each P xs
@@ -90,15 +90,15 @@ rows_read = (
 row_reads : (code : ℕ) → IfSome (row_of code) ReadsItsBytes
 row_reads code = found_of_each (λ r. r.code == code) ReadsItsBytes table rows_read
 
--- what n bytes of an array come to, by the row of their code
+-- what the first n bytes of an array come to, by the row of their code
 abbrev pub verdict : Option Row → ℕ → List ℕ → Accepted
 verdict o n bytes = option_map_or (λ r. if nat_le n r.count then More else whole (r.spells bytes)) o Invalid
 
--- with at most the row's bytes more are wanted
+-- if there are no more bytes than the row counts, more bytes are wanted
 few : {A : Type 0} (n count : ℕ) (x y : A) → n ≤ count → (if nat_le n count then x else y) ≡ x
 few n count x y h = rw (le-leb n count h) refl
 
--- with one more the command is whole
+-- with one byte more than the row counts, the command is whole
 enough : {A : Type 0} (n count : ℕ) (x y : A) → count < n → (if nat_le n count then x else y) ≡ y
 enough n count x y h = rw (lt-leb n count h) refl
 
@@ -126,7 +126,7 @@ answer-take n bytes some within =
     ap (λ code. option_map_or (λ r. answer_by r (take n bytes)) (row_of code) Invalid) (byte-take n 0 bytes some)
     ∙ by_option (row_of (slice_index bytes 0)) n bytes (row_reads (slice_index bytes 0)) within
 
--- what an array with a byte put behind those kept comes to
+-- what an array comes to once a byte is put behind the bytes that are kept
 pub answer_with_byte : (bytes old : List ℕ) (count byte : ℕ) → take count bytes ≡ old → count < length bytes
     → verdict (row_of (slice_index (slice_set bytes count byte) 0)) (count + 1) (slice_set bytes count byte)
     ≡ answer (old ++ byte ∷ [])

@@ -6,12 +6,12 @@ use Rattle.fdc_commands.specs.declared.motion.Motion.TheVariants.{Outward, Towar
 use Rattle.fdc_commands.specs.Seeking.{Seeking, with_motion, ended, sought, recalibrated, pulse_due, stepped}
 use Rattle.fdc_commands.specs.Runs.{after_steps, pulses_of, distance, EndsIn, StepsOnly, SeekLaw, RecalibrateLaw}
 
--- a device step gives a pulse, and nothing else changes but the motion
+-- a device step gives a pulse, and changes nothing but the motion
 record Gives (seeks : Seeking) (track0 inward : Bool) (next : Seeking) : Type 0 where
   pulse : pulse_due seeks track0 ≡ Some inward
   state : stepped seeks track0 ≡ next
 
--- the steps have brought the seeks to this state
+-- these device steps have brought the seeks to this state
 record Comes (begun : Seeking) (lines : List Bool) (inward : Bool) (to : Seeking) : Type 0 where
   steps : StepsOnly begun lines inward
   state : after_steps begun lines ≡ to
@@ -22,7 +22,7 @@ comes_at_once begun inward = record {
   state = refl;
 }
 
--- one more step before the others
+-- one device step more, before the others
 comes_later : (begun next to : Seeking) (track0 inward : Bool) (lines : List Bool)
     → begun.cylinders ≡ next.cylinders → begun.pending ≡ next.pending
     → Gives begun track0 inward next → Comes next lines inward to → Comes begun (track0 ∷ lines) inward to
@@ -81,7 +81,7 @@ ends_on_target old drive target track0 =
     let there : (target == target) ≡ true = grind (arith, nat_tests) in
     record { pulse = rw there refl; state = rw there refl }
 
--- the law for a seek that has come to a cylinder
+-- the law of a SEEK, from the cylinder to which its device steps have brought it
 seek_comes : (old : Seeking) (drive target from to : ℕ) (lines : List Bool) (inward : Bool)
     → nat_lt from target ≡ inward → (length lines ≡ distance from target → to ≡ target)
     → Comes (with_motion old drive (Toward from target)) lines inward (with_motion old drive (Toward to target))

@@ -18,7 +18,7 @@ pub record SpellsRead (head_drive : ℕ) (key : Chrn) (last_sector gap length_co
   pub whole : answer (0x46 ∷ head_drive ∷ key.c ∷ key.h ∷ key.r ∷ key.n ∷ last_sector ∷ gap ∷ length_code ∷ [])
       ≡ Ready (ReadData head_drive key last_sector gap length_code)
 
--- the same of READ ID's two bytes
+-- after READ ID's first byte the controller wants one more; the second makes the command whole
 pub record SpellsReadId (head_drive : ℕ) : Type 0 where
   pub code : answer (0x4A ∷ []) ≡ More
   pub whole : answer (0x4A ∷ head_drive ∷ []) ≡ Ready (ReadId head_drive)

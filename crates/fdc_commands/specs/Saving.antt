@@ -1,4 +1,4 @@
--- The bytes of what is saved of commands.
+-- The bytes in which parts of commands, results and seeks are saved.
 use Rattle.std.specs.Prelude.{ℕ, List, length, ◌≤◌, ◌∷◌}
 use Rattle.saved_state.specs.Saved.{spelled_byte, spelled_key, spelled_option, spelled_each}
 use Rattle.fdc_commands.specs.declared.results.Results.{Results}
@@ -7,7 +7,7 @@ use Rattle.fdc_commands.specs.declared.motion.Motion.TheVariants.{Outward, Towar
 use Rattle.fdc_commands.specs.declared.motion.Seek.{Seek}
 use Rattle.fdc_commands.specs.Seeking.{Seeking}
 
--- so many bytes of a command come at most before its last
+-- at most 8 bytes of a command come before its last one
 abbrev pub IsPart : List ℕ → Type 0
 IsPart bytes = length bytes ≤ 8
 
@@ -16,7 +16,7 @@ unfoldable pub spelled_results : Results → List ℕ → List ℕ
 spelled_results results rest =
     spelled_byte results.st0.0 (spelled_byte results.st1.0 (spelled_byte results.st2.0 (spelled_key results.key rest)))
 
--- what a seek still does
+-- what a seek still has to do
 unfoldable pub spelled_motion : Motion → List ℕ → List ℕ
 spelled_motion (Outward pulses) rest = 0 ∷ spelled_byte pulses rest
 spelled_motion (Toward cylinder target) rest = 1 ∷ spelled_byte cylinder (spelled_byte target rest)

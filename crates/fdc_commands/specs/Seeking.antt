@@ -11,12 +11,12 @@ use Rattle.fdc_commands.specs.declared.motion.Motion.TheVariants.{Outward, Towar
 pub record Seeking : Type 0 where
   -- the present cylinder number of each drive
   pub cylinders : List ℕ
-  -- the seek whose bit is set: at most one drive has its bit set
+  -- the seek whose bit is set in the main status register: at most one drive has its bit set
   pub seek : Option Seek
   -- ST0 of each drive's pending result
   pub pending : List (Option ℕ)
 
--- a seek's numbers are bytes, and a RECALIBRATE gives no more than 79 pulses
+-- the numbers of a seek are bytes, and a RECALIBRATE gives at most 79 pulses
 abbrev pub IsMotion : Motion → Type 0
 IsMotion (Outward pulses) = pulses ≤ 79
 IsMotion (Toward cylinder target) = (cylinder < 256) × (target < 256)
@@ -29,7 +29,7 @@ pub record InRange (seeking : Seeking) : Type 0 where
   pub drive : ForSome seeking.seek (λ seek. seek.drive < 4)
   pub motion : ForSome seeking.seek (λ seek. IsMotion seek.motion)
 
--- no seek, no result, and each drive at cylinder 0
+-- no seek, no pending result, and the present cylinder number of each drive is 0
 abbrev pub at_rest : Seeking
 at_rest = record {
   cylinders = 0 ∷ 0 ∷ 0 ∷ 0 ∷ [];
@@ -50,21 +50,21 @@ abbrev pub recalibrated : ℕ → Bool → ℕ
 recalibrated drive track0 =
     if track0 then sought drive else bit_or (bit_or (sought drive) abnormal) equipment_check
 
--- each drive's poll is pending, in place of an older result
+-- each drive's result of the poll is pending, in place of an older result
 abbrev pub with_polls : Seeking → Seeking
 with_polls old = record old {
   pending = Some (polled 0) ∷ Some (polled 1) ∷ Some (polled 2) ∷ Some (polled 3) ∷ [];
 }
 
--- the drive's bit is set, and its seek does this
+-- the drive's seek bit is set, and its seek does this
 abbrev pub with_motion : Seeking → ℕ → Motion → Seeking
 with_motion old drive motion = record old { seek = Some (record { drive = drive; motion = motion }) }
 
--- the pulses of a RECALIBRATE that is to give so many at most: no more than 79
+-- how many pulses a RECALIBRATE gives at most, if it is asked for this many: never more than 79
 abbrev pub pulses_within : ℕ → ℕ
 pulses_within pulses = if nat_lt pulses 79 then pulses else 79
 
--- the drive's seek has ended at a cylinder, and its result is pending, in place of an older one
+-- the drive's seek has ended at a cylinder, and its result is pending in place of an older one
 abbrev pub ended : Seeking → ℕ → ℕ → ℕ → Seeking
 ended old drive cylinder status = record {
   cylinders = slice_set old.cylinders drive cylinder;
@@ -81,7 +81,7 @@ has_ended _ = false
 abbrev pub is_seeking : Seeking → Bool
 is_seeking seeking = option_map_or (λ seek. not (has_ended seek.motion)) seeking.seek false
 
--- the seek that ran has ended: its drive's bit is still set, and a result of that drive is pending
+-- the seek that ran has ended. The bit of its drive is still set, and a result of that drive is pending
 pub record EndsSeek (old new : Seeking) : Type 0 where
   pub ran : IsTrue (is_seeking old)
   pub over : IsFalse (is_seeking new)
@@ -92,7 +92,8 @@ pub record EndsSeek (old new : Seeking) : Type 0 where
 abbrev pub neighbour : ℕ → ℕ → ℕ
 neighbour cylinder target = if nat_lt cylinder target then cylinder + 1 else cylinder - 1
 
--- the pulse of a device step by the track 0 line, true inward; none where the seek ends or ended
+-- the pulse of a device step, by the track 0 line: true is inward. There is none in the step that ends the seek, and
+-- none after it
 abbrev pub pulse_of : Motion → Bool → Option Bool
 pulse_of (Outward pulses) track0 = if track0 || (pulses == 0) then None else Some false
 pulse_of (Toward cylinder target) track0 = if cylinder == target then None else Some (nat_lt cylinder target)
@@ -108,7 +109,7 @@ stepped_seek old drive (Toward cylinder target) track0 =
     else with_motion old drive (Toward (neighbour cylinder target) target)
 stepped_seek old drive Ended track0 = old
 
--- the pulse due in a device step; none where no seek runs
+-- the pulse that is due in a device step, or none if no seek runs
 abbrev pub pulse_due : Seeking → Bool → Option Bool
 pulse_due old track0 = option_map_or (λ seek. pulse_of seek.motion track0) old.seek None
 
@@ -116,7 +117,7 @@ pulse_due old track0 = option_map_or (λ seek. pulse_of seek.motion track0) old.
 abbrev pub stepped : Seeking → Bool → Seeking
 stepped old track0 = option_map_or (λ seek. stepped_seek old seek.drive seek.motion track0) old.seek old
 
--- the seek bits, bit 0 for drive 0
+-- the seek bits of the main status register, where bit 0 is drive 0's
 abbrev pub seek_bits : Seeking → ℕ
 seek_bits seeking = option_map_or (λ seek. 2 ^ seek.drive) seeking.seek 0
 
@@ -133,12 +134,12 @@ status_of seeking drive = unwrap_or (slice_index_or seeking.pending drive None) 
 abbrev pub sensed : Seeking → Option (ℕ × ℕ)
 sensed old = option_map (λ drive. (status_of old drive, slice_index old.cylinders drive)) (first_pending old)
 
--- the seek bit after a drive's result was taken: that drive's is cleared, unless a seek of it runs
+-- the seek after a result of the drive was taken: if it is a seek of that drive and has ended, its bit is cleared
 abbrev pub released : ℕ → Option Seek → Option Seek
 released drive None = None
 released drive (Some seek) = if (seek.drive == drive) && has_ended seek.motion then None else Some seek
 
--- without the pending result of a drive
+-- the pending result of the drive is taken; if its seek has ended, the seek bit is cleared too
 abbrev pub without_result : Seeking → ℕ → Seeking
 without_result old drive = record {
   cylinders = old.cylinders;
@@ -154,7 +155,7 @@ after_sense old = option_map_or (without_result old) (first_pending old) old
 abbrev pub has_ended_seek : Seeking → Bool
 has_ended_seek seeks = option_map_or (λ seek. has_ended seek.motion) seeks.seek false
 
--- without a seek that has ended, and without its result
+-- a seek that has ended is dropped, together with its result
 abbrev pub without_ended : Seeking → Seeking
 without_ended old =
     option_map_or (λ seek. if has_ended seek.motion then record old {

@@ -4,12 +4,12 @@ use Rattle.flop_base.specs.declared.key.Chrn.{Chrn}
 use Rattle.fdc_commands.specs.declared.command.Command.{Command}
 use Rattle.fdc_commands.specs.declared.command.Command.TheVariants.{Specify, SenseDrive, Recalibrate, SenseInterrupt, Seek, Version, Configure, ReadId, ReadData, WriteData, WriteDeleted, FormatTrack}
 
--- the nine of a command of one sector
+-- the nine bytes of a command of one sector
 abbrev pub spelled_sector : ℕ → ℕ → Chrn → ℕ → ℕ → ℕ → List ℕ
 spelled_sector code head_drive key eot gpl dtl =
     code ∷ head_drive ∷ key.c ∷ key.h ∷ key.r ∷ key.n ∷ eot ∷ gpl ∷ dtl ∷ []
 
--- those of a command
+-- the bytes of a command
 abbrev pub spelled : Command → List ℕ
 spelled (Specify srt_hut hlt_nd) = 0x03 ∷ srt_hut ∷ hlt_nd ∷ []
 spelled (SenseDrive head_drive) = 0x04 ∷ head_drive ∷ []

@@ -7,7 +7,7 @@ use Rattle.fdc_commands.specs.declared.command.Command.TheVariants.{Specify, Sen
 use Rattle.fdc_commands.specs.declared.bytes.Accepted.{Accepted}
 use Rattle.fdc_commands.specs.declared.bytes.Accepted.TheVariants.{More, Ready, Invalid}
 
--- a command of the table: its code, how many bytes follow it, and what they spell
+-- a row of the table: the code of a command, how many bytes follow the code, and which command they spell
 pub record Row : Type 0 where
   pub code : ℕ
   pub count : ℕ
@@ -17,7 +17,7 @@ pub record Row : Type 0 where
 abbrev pub row : ℕ → ℕ → (List ℕ → Command) → Row
 row code count spells = record { code = code; count = count; spells = spells }
 
--- a byte of a command: the code is byte 0, those after it are counted from 1
+-- byte i of a command; its code is byte 0
 abbrev pub nth : List ℕ → ℕ → ℕ
 nth bytes i = slice_index bytes i
 
@@ -42,7 +42,7 @@ table =
     ∷ row 0x4D 5 (λ b. FormatTrack (nth b 1) (nth b 2) (nth b 3) (nth b 4) (nth b 5))
     ∷ []
 
--- the command with a code
+-- the row with this code, if the table has one
 abbrev pub row_of : ℕ → Option Row
 row_of code = find (λ r. r.code == code) table
 
@@ -71,20 +71,21 @@ is_begun (_ ∷ _) = true
 abbrev pub answer_by : Row → List ℕ → Accepted
 answer_by r bytes = if nat_le (length bytes) r.count then More else whole (r.spells bytes)
 
--- what the bytes so far come to: more bytes, a command, or invalid where the code or size code is
+-- what the bytes so far come to: more bytes are wanted, or a whole command is ready, or the code or the size code is
+-- invalid
 unfoldable pub answer : List ℕ → Accepted
 answer bytes = option_map_or (λ r. answer_by r bytes) (row_of (slice_index bytes 0)) Invalid
 
--- the bytes that are kept: after more, all of them; after a command and invalid, none
+-- the bytes that are kept: all of them if more are wanted, and none after a command or an invalid one
 abbrev pub kept : Accepted → List ℕ → List ℕ
 kept More bytes = bytes
 kept _ bytes = []
 
--- the command's size code is from 1 to 6, where it has one
+-- the command's size code is from 1 to 6, if it has one
 abbrev pub SizeInRange : Command → Type 0
 SizeInRange command = IfSome (size_code command) (λ n. (1 ≤ n) × (n ≤ 6))
 
--- a fact of the command, where it is ready
+-- what holds of the command, if it is ready
 abbrev pub IfReady : Accepted → (Command → Type 0) → Type 0
 IfReady (Ready command) P = P command
 IfReady _ P = Unit {0}

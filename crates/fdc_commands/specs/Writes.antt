@@ -6,11 +6,11 @@ use Rattle.fdc_commands.specs.declared.bytes.Accepted.TheVariants.{More, Ready}
 use Rattle.fdc_commands.specs.declared.command.Command.{Command}
 use Rattle.fdc_commands.specs.declared.command.Command.TheVariants.{WriteData, WriteDeleted, FormatTrack}
 
--- the code of a write, with the mark of deleted data or without
+-- the code of a write, with a deleted data mark or with a normal one
 abbrev pub write_code : Bool → ℕ
 write_code deleted = if deleted then 0x49 else 0x45
 
--- and the command
+-- the command of a write
 abbrev pub write_command : Bool → ℕ → Chrn → ℕ → ℕ → ℕ → Command
 write_command deleted head_drive key last_sector gap length_code =
     if deleted then WriteDeleted head_drive key last_sector gap length_code else WriteData head_drive key last_sector gap length_code
@@ -28,7 +28,7 @@ pub record SpellsWrite (deleted : Bool) (head_drive : ℕ) (key : Chrn) (last_se
   pub whole : answer (write_code deleted ∷ head_drive ∷ key.c ∷ key.h ∷ key.r ∷ key.n ∷ last_sector ∷ gap ∷ length_code ∷ [])
       ≡ Ready (write_command deleted head_drive key last_sector gap length_code)
 
--- the same of FORMAT TRACK's six bytes
+-- after each byte of a FORMAT TRACK but the sixth the controller wants more; the sixth makes the command whole
 pub record SpellsFormat (head_drive n sectors gap3 fill : ℕ) : Type 0 where
   pub code : answer (0x4D ∷ []) ≡ More
   pub head : answer (0x4D ∷ head_drive ∷ []) ≡ More

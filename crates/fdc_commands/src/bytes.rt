@@ -21,7 +21,7 @@ pub enum Accepted {
     Invalid,
 }
 
-/// The bytes so far of a command that has begun, or none.
+/// The bytes so far of a command that has begun. There are none if no command has begun.
 #[derive(Drop)]
 pub struct CommandBytes {
     bytes: [u8; LONGEST],
@@ -56,7 +56,7 @@ impl CommandBytes {
         self.count > 0
     }
 
-    /// Takes the next byte of a command. After `Ready` and `Invalid` it stands as new.
+    /// Takes the next byte of a command. After `Ready` and after `Invalid` no command has begun.
     pub fn accept(&mut self, byte: u8) -> Accepted
         ensures accepted { result ≡ answer (self.old ++ byte ∷ []) }
         ensures kept { self.new ≡ kept result (self.old ++ byte ∷ []) }
@@ -77,7 +77,7 @@ impl CommandBytes {
         }
     }
 
-    /// What this byte would come to, which isn't taken.
+    /// What this byte would come to. The byte isn't taken.
     pub fn foresee(&self, byte: u8) -> Accepted
         ensures { result ≡ answer (self.now ++ byte ∷ []) }
     {

@@ -1,4 +1,4 @@
-//! The codes of the commands in the table, with the bit of MFM where a command has it.
+//! The codes of the commands in the table. A command that has the MFM bit has it set in its code.
 
 pub const SPECIFY: u8 = 0x03;
 

@@ -8,42 +8,42 @@ use crate::codes::{
 };
 use flop_base::Chrn;
 
-/// A command, each field as it was sent. `head_drive` has the head in bit 2, the drive in bits 1 and 0.
+/// A command, with each field as it was sent. `head_drive` has the head in bit 2 and the drive in bits 1 and 0.
 #[derive(Clone, Copy, PartialEq, Eq, Debug)]
 pub enum Command {
-    /// 03: step rate and head times, and in bit 0 of `hlt_nd` the non-DMA mode.
+    /// 03: sets step rate and head times, and in bit 0 of `hlt_nd` the non-DMA mode.
     Specify {
         srt_hut: u8,
         hlt_nd: u8,
     },
-    /// 04: the drive's lines.
+    /// 04: gives the drive's lines.
     SenseDrive {
         head_drive: u8,
     },
-    /// 07: to track 0.
+    /// 07: moves the heads to track 0.
     Recalibrate {
         drive: u8,
     },
-    /// 08: a result of a seek or of polling.
+    /// 08: takes a result of a seek or of polling.
     SenseInterrupt,
-    /// 0F: to cylinder `ncn`.
+    /// 0F: moves the heads to cylinder `ncn`.
     Seek {
         head_drive: u8,
         ncn: u8,
     },
-    /// 10: which controller it is.
+    /// 10: says which controller it is.
     Version,
-    /// 13: in `options` implied seek, FIFO off, polling off and the threshold less one.
+    /// 13: sets in `options` implied seek, FIFO off, polling off and the threshold less one.
     Configure {
         zero: u8,
         options: u8,
         pretrk: u8,
     },
-    /// 4A: the key of some sector.
+    /// 4A: gives the sector ID of some sector.
     ReadId {
         head_drive: u8,
     },
-    /// 46: one sector to memory.
+    /// 46: transfers one sector to memory.
     ReadData {
         head_drive: u8,
         key: Chrn,
@@ -51,7 +51,7 @@ pub enum Command {
         gpl: u8,
         dtl: u8,
     },
-    /// 45: one sector from memory.
+    /// 45: transfers one sector from memory.
     WriteData {
         head_drive: u8,
         key: Chrn,
@@ -59,7 +59,7 @@ pub enum Command {
         gpl: u8,
         dtl: u8,
     },
-    /// 49: one sector from memory, marked deleted.
+    /// 49: transfers one sector from memory, and marks it deleted.
     WriteDeleted {
         head_drive: u8,
         key: Chrn,
@@ -67,7 +67,7 @@ pub enum Command {
         gpl: u8,
         dtl: u8,
     },
-    /// 4D: a track of `sc` sectors, whose keys come from memory.
+    /// 4D: formats a track of `sc` sectors, whose sector IDs come from memory.
     FormatTrack {
         head_drive: u8,
         n: u8,
@@ -77,10 +77,10 @@ pub enum Command {
     },
 }
 
-/// The bytes of the longest command, its code among them.
+/// How many bytes the longest command has, with its code.
 pub(crate) const LONGEST: usize = 9;
 
-/// How many bytes follow a code, or none where the table lacks it.
+/// How many bytes follow a code, or none if the table doesn't have the code.
 pub(crate) fn parameter_count(code: u8) -> Option<usize>
     ensures count { result ≡ option_map (λ r. r.count) (row_of code) }
     ensures longest { IfSome result (λ count. count ≤ 8) }
@@ -96,7 +96,7 @@ pub(crate) fn parameter_count(code: u8) -> Option<usize>
     }
 }
 
-/// What the bytes of a whole command spell, code first.
+/// The command that the bytes of a whole command spell, with the code first.
 pub(crate) fn spell(bytes: &[u8; LONGEST]) -> Option<Command>
     ensures { result ≡ option_map (λ r. r.spells bytes.now) (row_of (slice_index bytes.now 0)) }
 {
@@ -170,7 +170,7 @@ pub(crate) fn spell(bytes: &[u8; LONGEST]) -> Option<Command>
 }
 
 impl Command {
-    /// Its size code, where it has one.
+    /// The command's size code, if it has one.
     pub(crate) fn size_code(self) -> Option<u8>
         ensures { result ≡ size_code self }
     {
@@ -183,7 +183,7 @@ impl Command {
         }
     }
 
-    /// Whether its size code is 1 to 6, or it has none.
+    /// Whether the command's size code is from 1 to 6, or it has none.
     pub fn is_sized(self) -> bool
         ensures is { result ≡ is_sized_command self }
         ensures sized { IsTrue result → SizeInRange self }

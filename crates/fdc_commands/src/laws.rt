@@ -9,38 +9,37 @@ ghost use Rattle.fdc_commands.specs.declared.command.Command.{Command};
 ghost use Rattle.flop_base.specs.declared.key.Chrn.{Chrn};
 ghost use Rattle.std.specs.Prelude.{◌≡◌, ◌≤◌, ℕ, Bool};
 
-/// The nine bytes of a READ DATA of a size code from 1 to 6, and the two of a READ ID.
+/// The nine bytes of a READ DATA with a size code from 1 to 6, and the two of a READ ID.
 pub fn reads_are_spelled()
     ensures data { (head_drive : ℕ) (key : Chrn) (last_sector gap length_code : ℕ) → 1 ≤ key.n → key.n ≤ 6 → SpellsRead head_drive key last_sector gap length_code }
     ensures id { (head_drive : ℕ) → SpellsReadId head_drive }
 {}
 
-/// The nine bytes of a WRITE DATA or WRITE DELETED DATA, and the six of a FORMAT TRACK, of a size code from 1 to 6.
+/// The nine bytes of a WRITE DATA or WRITE DELETED DATA, and the six of a FORMAT TRACK, with a size code from 1 to 6.
 pub fn writes_are_spelled()
     ensures data { (deleted : Bool) (head_drive : ℕ) (key : Chrn) (last_sector gap length_code : ℕ) → 1 ≤ key.n → key.n ≤ 6
         → SpellsWrite deleted head_drive key last_sector gap length_code }
     ensures format { (head_drive n sectors gap3 fill : ℕ) → 1 ≤ n → n ≤ 6 → SpellsFormat head_drive n sectors gap3 fill }
 {}
 
-/// The bytes of a command are read as that command, where its size code is from 1 to 6 or it has none.
+/// The bytes of a command are read as that command, if its size code is from 1 to 6 or it has none.
 pub fn commands_are_read_back()
     ensures { (command : Command) → SizeInRange command → answer (spelled command) ≡ Ready command }
 {}
 
-/// A SEEK gives one pulse per device step, as many as its cylinders are apart, all toward the target.
-/// Then it ends on the target. Until then no present cylinder number and no result changes.
+/// A SEEK gives one pulse per device step, all toward the target, as many as its cylinders are apart. Then it ends on
+/// the target. Until then no present cylinder number and no result changes.
 pub fn seek_gives_its_pulses()
     ensures { SeekLaw }
 {}
 
-/// A RECALIBRATE gives one outward pulse per device step until track 0, at most 79. Then it ends on
+/// A RECALIBRATE gives one outward pulse per device step until track 0 is reached, at most 79 pulses. Then it ends on
 /// cylinder 0.
 pub fn recalibrate_gives_its_pulses()
     ensures { RecalibrateLaw }
 {}
 
-/// After the poll that follows a reset, four SENSE INTERRUPTs give the drives' results in order, and a
-/// fifth none.
+/// After the poll that follows a reset, four SENSE INTERRUPTs give the drives' results in order. A fifth gives none.
 pub fn poll_gives_four_results()
     ensures { PollLaw }
 {}

@@ -1,5 +1,6 @@
-//! The bytes of the controller's commands and of their results (Intel 82077AA data sheet), read and written; and its seeks: the
-//! present cylinder number of each drive, step pulses, seek bits and the results that SENSE INTERRUPT takes.
+//! The bytes of the controller's commands and of their results (Intel 82077AA data sheet), read and written. The crate
+//! also has the controller's seeks: the present cylinder number of each drive, step pulses, seek bits and the results
+//! that SENSE INTERRUPT takes.
 #![tactic(auto)]
 
 mod bytes;

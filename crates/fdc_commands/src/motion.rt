@@ -4,7 +4,7 @@ ghost use Rattle.fdc_commands.specs.Seeking.{IsMotion, has_ended};
 
 mod saving;
 
-/// The most pulses of a RECALIBRATE.
+/// The most pulses that a RECALIBRATE gives.
 pub(crate) const RECALIBRATE_PULSES: u8 = 79;
 
 /// A drive's seek, whose bit is set in the main status register.
@@ -15,14 +15,14 @@ pub struct Seek {
     pub motion: Motion,
 }
 
-/// What a seek still does.
+/// What a seek still has to do.
 #[derive(Clone, Copy, PartialEq, Eq, Debug)]
 pub enum Motion {
-    /// It steps outward until track 0, with at most so many pulses.
+    /// The seek steps outward until track 0 is reached, with at most this many pulses.
     Outward { pulses: u8 },
-    /// It has counted to the cylinder and steps to the target.
+    /// The seek has counted to `cylinder`, and steps toward `target`.
     Toward { cylinder: u8, target: u8 },
-    /// It has ended, and its bit is still set.
+    /// The seek has ended, and its bit is still set.
     Ended,
 }
 
@@ -34,7 +34,7 @@ impl Motion {
         matches!(self, Motion::Ended)
     }
 
-    /// Whether a seek gives so many pulses.
+    /// Whether the number of pulses is one that a seek may give.
     pub(crate) fn is_limited(self) -> bool
         ensures { IsTrue result ↔ IsMotion self }
     {

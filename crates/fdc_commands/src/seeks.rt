@@ -50,7 +50,7 @@ impl Seeks {
         }
     }
 
-    /// Makes it as new.
+    /// Puts the seeks into the state of new ones.
     pub fn reset(&mut self)
         ensures state { self.new ≡ at_rest }
         ensures none_runs { IsFalse (is_seeking self.new) }
@@ -86,7 +86,7 @@ impl Seeks {
         );
     }
 
-    /// Begins a RECALIBRATE of the drive that gives so many pulses at most, and never more than any.
+    /// Begins a RECALIBRATE of the drive that gives at most this many pulses, and never more than 79.
     pub fn recalibrate_within(&mut self, drive: u8, pulses: u8)
         requires drive { drive < 4 }
         requires no_seek { seek_bits self.old ≡ 0 }
@@ -101,7 +101,7 @@ impl Seeks {
         self.go_on(drive, Motion::Outward { pulses });
     }
 
-    /// Begins a SEEK of the drive to a cylinder, which is any byte, from 0.
+    /// Begins a SEEK of the drive to a cylinder, which may be any byte.
     pub fn seek(&mut self, drive: u8, target: u8)
         requires drive { drive < 4 }
         requires no_seek { seek_bits self.old ≡ 0 }
@@ -114,8 +114,8 @@ impl Seeks {
         self.go_on(drive, Motion::Toward { cylinder, target });
     }
 
-    /// One device step, with the track 0 line as it is before the step: the pulse due, true inward. A seek that runs
-    /// and gives no pulse has ended in this step.
+    /// Does one device step, and gives the pulse that is due: true is inward. `track0` is the track 0 line before the
+    /// step. A seek that runs and gives no pulse has ended in this step.
     pub fn pulse(&mut self, track0: bool) -> Option<bool>
         ensures pulse { result ≡ pulse_due self.old track0 }
         ensures state { self.new ≡ stepped self.old track0 }
@@ -194,7 +194,7 @@ impl Seeks {
         }
     }
 
-    /// Forgets a seek that has ended, with its result, and tells whether there was one.
+    /// Drops a seek that has ended, together with its result, and says whether there was one.
     pub fn forget_ended(&mut self) -> bool
         ensures told { result ≡ has_ended_seek self.old }
         ensures state { self.new ≡ without_ended self.old }
@@ -221,8 +221,8 @@ impl Seeks {
         self.pending.iter().position(|status| status.is_some())
     }
 
-    /// Takes the pending result of the lowest drive: its ST0 and the drive's present cylinder
-    /// number. Clears the drive's seek bit, unless a seek of it runs.
+    /// Takes the pending result of the lowest drive that has one. This is its ST0 and the drive's present cylinder
+    /// number. The drive's seek bit is cleared, unless a seek of the drive still runs.
     pub fn sense(&mut self) -> Option<(u8, u8)>
         ensures sensed { result ≡ sensed self.old }
         ensures state { self.new ≡ after_sense self.old }
@@ -236,7 +236,7 @@ impl Seeks {
     }
 }
 
-// The seek whose bit stays set after a drive's result was taken: not that drive's, if it has ended.
+// The seek whose bit stays set after a drive's result was taken. A seek of that drive doesn't stay, if it has ended.
 fn without_ended(seek: Option<Seek>, drive: usize) -> Option<Seek>
     ensures { result ≡ released drive seek }
 {

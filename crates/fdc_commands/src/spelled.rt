@@ -29,7 +29,7 @@ impl Model for SpelledCommand {
 }
 
 impl SpelledCommand {
-    /// These bytes.
+    /// A command with these bytes.
     fn of(given: &[u8]) -> SpelledCommand
         requires { length given.now ≤ 9 }
         ensures { result ≡ given.now }
@@ -40,7 +40,7 @@ impl SpelledCommand {
         SpelledCommand { bytes, count }
     }
 
-    /// Those of a command of one sector.
+    /// The bytes of a command of one sector.
     fn of_sector(code: u8, head_drive: u8, key: Chrn, eot: u8, gpl: u8, dtl: u8) -> SpelledCommand
         ensures { result ≡ spelled_sector code head_drive key eot gpl dtl }
     {
@@ -56,7 +56,7 @@ impl SpelledCommand {
 }
 
 impl Command {
-    /// Its bytes as they are sent: its code, and then each field as it is.
+    /// The command's bytes as they are sent: its code, and then each field as it is.
     pub fn bytes(self) -> SpelledCommand
         ensures bytes { result ≡ spelled self }
     {

@@ -162,7 +162,7 @@ ahead_first head zero words s ahead = tt
 ahead_first head (suc count) [] s ahead = tt
 ahead_first head (suc count) (word ∷ rest) s (same, before, ahead) = (same, before, ahead_first head count rest (passed s) ahead)
 
--- behind a word time with the gate closed
+-- after a word time with the gate closed
 pub ahead_behind : (head : ℕ) (rest : List ℕ) (before : DriveState) → AreAhead head rest (passed before) → AreAhead head rest (let_pass before)
 ahead_behind head rest before ahead = ahead_same head rest (passed before) false before.cut before.faults before.left ahead
 
@@ -170,7 +170,7 @@ ahead_behind head rest before ahead = ahead_same head rest (passed before) false
 pub passes_calmly : (before after : DriveState) → after ≡ let_pass before → Becomes (let_pass before) before after
 passes_calmly before after is = becomes_at (let_pass before) before after is refl refl
 
--- a word that passes by a search in one device step, behind so many others and at least some
+-- a word that passes by a search in one device step, after `steps` other device steps and at least `least`
 pub record PassesWord (least head : ℕ) (rate : DataRate) (steps word : ℕ) (search next : Search) (before after : DriveState) : Type 0 where
   pub some : least ≤ steps
   pub few : steps < 65535
@@ -208,7 +208,7 @@ courses least head rate at each (word ∷ rest) steps last search final before a
       courses least head rate at each rest (steps + 1) last next final mid after (omega (arith, some)) (omega (arith, sum)) few fits (ahead_behind head rest before ahead) more others,
     )
 
--- and so many
+-- the same for a given count of words
 pub courses_over : (least head : ℕ) (rate : DataRate) (at : ℕ → Search → Fdc) → HearsEach least head rate at → (count steps last : ℕ) (search final : Search) (before after : DriveState) → least ≤ steps → rate_fits rate (rate_of before.medium) ≡ true
     → PassesMany head steps last count search final before after → Courses count (at steps search) before (at last final) after
 courses_over least head rate at each count steps last search final before after some fits is =
@@ -230,7 +230,7 @@ passes_first head steps last count some ahead search final before after sum few 
 
 -- ---- READ ID
 
--- behind so many steps
+-- READ ID after `steps` device steps
 abbrev pub id_at : ℕ → Fdc → ℕ → Search → Fdc
 id_at head_drive old steps search = record old { phase = Execute (record { head_drive = head_drive; steps = steps; task = ReadId search }) }
 
@@ -258,7 +258,7 @@ id_courses old execution search final count last before after quiet fits at is p
 
 -- ---- READ DATA
 
--- in its search, behind so many steps
+-- READ DATA in its search, after `steps` device steps
 abbrev pub reads_at : ℕ → Reading → Fdc → ℕ → Search → Fdc
 reads_at head_drive reading old steps search = at_reading head_drive steps (at_stage reading (stages.Search search)) old
 
@@ -288,7 +288,7 @@ reading_courses old execution reading search final count last before after quiet
 
 -- ---- a write
 
--- in its search, behind so many steps
+-- a write in its search, after `steps` device steps
 abbrev pub writes_at : ℕ → Writing → Fdc → ℕ → Search → Fdc
 writes_at head_drive writing old steps search = record old { phase = Execute (record { head_drive = head_drive; steps = steps; task = Write (write_at writing (write_stages.Search search)) }) }
 

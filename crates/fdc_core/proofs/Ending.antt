@@ -33,7 +33,7 @@ use Rattle.fdc_phases.specs.declared.transfers.Reading.{Reading}
 use Rattle.fdc_phases.specs.declared.phases.Task.{Task}
 use Rattle.fdc_phases.specs.declared.phases.Task.TheVariants.{ReadId, Read, Write, Format}
 
--- so many steps at most are left, and they are counted
+-- at most so many steps are left, and they are counted
 abbrev Leaves : ℕ → Phase → Type 0
 Leaves steps phase = (steps_left phase ≤ 65536 - steps) × IsCounted phase
 

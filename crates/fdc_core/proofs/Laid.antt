@@ -35,33 +35,33 @@ laying_opened Due is = absurd (false≢true is)
 laying_opened Lay is = refl
 laying_opened Barred is = refl
 
--- the stage gave this word, and is another behind it
+-- the stage gave this word, and is another one after it
 pub record LaysOne (old : FormatStage) (byte word : ℕ) (new : FormatStage) : Type 0 where
   pub writes : (past : Past) (numbers : Numbers) (handed : List ℕ) (takes : Bool) → is_due old ≡ true → IsFormatting past numbers handed old → Takes old takes → IsNextLaid past numbers (handed_with takes byte handed) word new.stream new.key
   pub lead : (lead : ℕ) → HasLead old lead → HasLead new (lead - 1)
   pub part : new.part ≡ old.part
 
--- and is over, or isn't
+-- the command is over after this word, or it isn't
 pub record EndsOne (now : FormatStage) (index : Bool) (over : Option FormatEnd) : Type 0 where
   pub goes_on : (past : Past) (numbers : Numbers) (handed : List ℕ) (word : ℕ) → is_open now ≡ true → IsNextLaid past numbers handed word now.stream now.key → HasNext (wrote index word past) numbers handed (format_next now over)
   pub well : EndsWell (format_next now over)
   pub lead : (lead : ℕ) → HasLead now lead → LeadsOn lead (format_next now over)
 
--- the byte that it needs is taken
+-- the byte that the word needs is taken
 pub record TakesOne (now : FormatStage) (needs counted : Bool) (old new : Fifo) (byte : ℕ) : Type 0 where
   pub takes : is_due now ≡ true → Takes now needs
   pub lead : (lead : ℕ) → HasLead now lead → needs ≡ true → lead ≡ 0
   pub byte_is : byte_taken needs counted old ≡ Some byte
   pub after : new ≡ fifo_without needs old
 
--- the drive writes it
+-- the drive writes the word
 pub record WritesOne (head word : ℕ) (index : Bool) (before mid : DriveState) : Type 0 where
   pub writes : Writes head word before mid
   pub index_is : index ≡ at_index before
   pub range_before : InRange before
   pub range : InRange mid
 
--- the controller behind it
+-- the controller after the word
 abbrev pub at_format : ℕ → ℕ → Formatting → Fifo → Fdc → Fdc
 at_format head_drive steps formatting fifo old =
     record old { phase = Execute (record { head_drive = head_drive; steps = steps; task = Format formatting }); fifo = fifo }

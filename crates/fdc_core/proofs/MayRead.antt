@@ -50,7 +50,7 @@ same_stage bytes steps counted past key told (Content separator deleted) (p, q, 
     (p, q, taken, record { address = at.address; reads = at.reads; bytes = at.bytes; few = at.few })
 same_stage bytes steps counted past key told (Over deleted good) was = was
 
--- what a stage told is of a field of the key
+-- what a stage gave is of a field of the key
 pub told_of : (past : Past) (key : Chrn) (told : List ℕ) (stage : ReadStage) → IsReading past key told stage → IsToldOf past key told
 told_of past key told (Search searching) was = inl was.1
 told_of past key told (Wait separator) was = inl was.1
@@ -77,16 +77,16 @@ told_of past key told (Over deleted good) was = over_told past key told deleted 
 
 -- ---- the bytes
 
--- the bytes that were told begin with these
+-- the bytes that the stage gave begin with these
 pub starts : (counted : Bool) (bytes told : List ℕ) → IsStart counted bytes told → (rest : List ℕ) × (told ≡ bytes ++ rest)
 starts false bytes told is = ([], search (rules, sym is))
 starts true bytes told was = was
 
--- so they begin with what was given, whatever was in the FIFO
+-- the bytes that the stage gave begin with those that were given to memory, whatever was in the FIFO
 pub starts_given : (given fifo told : List ℕ) → ((rest : List ℕ) × (told ≡ (given ++ fifo) ++ rest)) → (rest : List ℕ) × (told ≡ given ++ rest)
 starts_given given fifo told (rest, is) = (fifo ++ rest, is ∙ append_assoc given fifo rest)
 
--- one byte more was told
+-- the stage gave one byte more
 pub told_more : (bytes told : List ℕ) (value : ℕ) → IsStart true bytes told → IsStart true bytes (told ++ value ∷ [])
 told_more bytes told value (rest, is) = (rest ++ value ∷ [], ap (λ all. all ++ value ∷ []) is ∙ append_assoc bytes rest (value ∷ []))
 
@@ -108,7 +108,7 @@ nothing_of : (bytes : List ℕ) → (length bytes == 0) ≡ true → bytes ≡ [
 nothing_of [] none = refl
 nothing_of (byte ∷ bytes) none = absurd (grind (arith, nat_tests))
 
--- what was told, once the FIFO is empty
+-- what the stage gave, once the FIFO is empty
 pub record IsGiven (ending : Ending) (given told : List ℕ) : Type 0 where
   pub rest : List ℕ
   pub bytes_are : told ≡ given ++ rest

@@ -27,7 +27,7 @@ use Rattle.fdc_core.proofs.MayRead.{starts}
 
 -- ---- READ DATA
 
--- the bytes given are the first of those told
+-- the bytes given to memory are the first of those that the stage gave
 given_start : (counted : Bool) (given told rest : List ℕ) → told ≡ given ++ rest → counted ≡ true → IsStart counted given told
 given_start true given told rest all is = (rest, all)
 given_start false given told rest all is = absurd (false≢true is)

@@ -15,13 +15,13 @@ use Rattle.fdc_core.specs.Tasks.{ExecutionSteps}
 use Rattle.fdc_core.specs.declared.controller.Fdc.{Fdc}
 use Rattle.fdc_core.proofs.Following.{at_reading}
 
--- it passed by
+-- the word passed by
 pub passed_by : (head_drive steps word : ℕ) (index : Bool) (reading : Reading) (next : ReadStage) (old new : Fdc) → steps < 65535 → index ≡ false
     → PassesBy word reading.stage next → new ≡ gone_on_reading head_drive (steps + 1) (at_stage reading next) old → StepsOn head_drive steps (Read reading) index word old new
 passed_by head_drive steps word index reading next old new few is passes after =
     inr (few, (given.On next, ((λ past told reads. subst (λ i. IsReading (heard i word past) reading.wanted.key told next) (sym is) (passes.0 past reading.wanted.key told reads)), tt, passes.1), after))
 
--- it didn't, and is heard
+-- the word didn't pass by, and is heard
 pub heard_after : (head_drive steps word : ℕ) (index : Bool) (reading : Reading) (after : ReadStage) (old new : Fdc) → steps < 65535 → after ≡ reading.stage
     → old.phase ≡ Execute (record { head_drive = head_drive; steps = steps; task = Read reading })
     → HearsIn (at_reading head_drive steps (at_stage reading after) old).phase index word (at_reading head_drive steps (at_stage reading after) old) new → StepsOn head_drive steps (Read reading) index word old new

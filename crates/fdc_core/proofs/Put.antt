@@ -34,25 +34,25 @@ open_opened (stages.Gap zero) is = absurd (false≢true is)
 open_opened (stages.Gap (suc left)) is = refl
 open_opened (stages.Window now) is = refl
 
--- the stage gave this word, and is another behind it
+-- the stage gave this word, and is another one after it
 pub record PutsOne (old : WriteStage) (byte word : ℕ) (last : Bool) (new : WriteStage) : Type 0 where
   pub last_is : last ≡ is_last old
   pub writes : (past : Past) (key : Chrn) (deleted : Bool) (handed : List ℕ) → is_open old ≡ true → IsWriting past key deleted handed old → IsNextWord past key deleted (handed_with (needs_byte old) byte handed) word (rest_behind (is_last old) new)
   pub lead : is_open old ≡ true → lead_of old ≤ lead_behind (rest_behind (is_last old) new) + 1
   pub opened : is_open new ≡ is_open old
 
--- and is over, or isn't
+-- the command is over after this word, or it isn't
 pub record EndsPut (head_drive : ℕ) (writing : Writing) (last index : Bool) (over : Option End) : Type 0 where
   pub ends : EndsWord writing.stage last index writing.counted (write_over writing.stage over)
   pub over_is : IfSome over (λ over. over ≡ write_end over.ending head_drive writing)
 
--- the byte that it needs is taken
+-- the byte that the word needs is taken
 pub record TakesFor (now : WriteStage) (needs counted : Bool) (old new : Fifo) (byte : ℕ) : Type 0 where
   pub needs_is : needs ≡ needs_byte now
   pub byte_is : byte_taken needs counted old ≡ Some byte
   pub after : new ≡ fifo_without needs old
 
--- the controller behind it
+-- the controller after the word
 abbrev pub at_write : ℕ → ℕ → Writing → Fifo → Fdc → Fdc
 at_write head_drive steps writing fifo old =
     record old { phase = Execute (record { head_drive = head_drive; steps = steps; task = Write writing }); fifo = fifo }

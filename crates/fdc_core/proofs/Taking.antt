@@ -29,7 +29,7 @@ use Rattle.fdc_core.proofs.Coursing.{works_on, ahead_first, ahead_behind, passes
 
 -- ---- bytes to the FIFO
 
--- one behind the other
+-- first these bytes, and then more
 with_more : (counted : Bool) (bytes more : List ℕ) (fifo : Fifo) → with_bytes counted more (with_bytes counted bytes fifo) ≡ with_bytes counted (bytes ++ more) fifo
 with_more true bytes more fifo = refl
 with_more false bytes more fifo = ap (λ b. record fifo { bytes = b }) (append_assoc fifo.bytes bytes more)
@@ -44,7 +44,7 @@ unfolding HearsBytes
 bytes_many [] bytes stage final is = ap length is.0
 bytes_many (word ∷ words) bytes stage final (value, more, mid, is, hears, rest) = ap length is ∙ ap suc (bytes_many words more mid final rest)
 
--- the room that is left behind some
+-- the room that is left after some bytes
 space_behind : (counted : Bool) (all count : ℕ) (bytes : List ℕ) (before after : Fifo) → after ≡ with_bytes counted bytes before → length bytes + count ≤ all → HasSpace all counted before → HasSpace count counted after
 space_behind true all count bytes before after is few space uncounted = absurd (false≢true (sym uncounted))
 space_behind false all count bytes before after is few space uncounted =
@@ -75,7 +75,7 @@ room_down count fewer counted fifo few room = record {
   space = λ uncounted. let all = room.space uncounted in omega arith;
 }
 
--- behind one of them
+-- the room after one of the bytes
 room_behind : (count value : ℕ) (counted : Bool) (fifo : Fifo) → HasRoom (suc count) counted fifo → HasRoom count counted (with_bytes counted (value ∷ []) fifo)
 room_behind count value counted fifo room = record {
   quiet = λ bytes short. ap (wants true false false) (with_more counted (value ∷ []) bytes fifo) ∙ room.quiet (value ∷ bytes) (omega arith);
@@ -84,11 +84,11 @@ room_behind count value counted fifo room = record {
 
 -- ---- a device step
 
--- in its content, behind so many steps
+-- READ DATA in its content, after `steps` device steps
 abbrev pub content_at : ℕ → Reading → Fdc → ℕ → ReadStage → Fifo → Fdc
 content_at head_drive reading old steps stage fifo = at_reading head_drive steps (at_stage reading stage) (record old { fifo = fifo })
 
--- without a byte for the FIFO
+-- a step that gives no byte to the FIFO
 content_goes_on : (head_drive steps : ℕ) (reading : Reading) (next : ReadStage) (old : Fdc) → IsContent next → old.asking ≡ false → wants true false false old.fifo ≡ false → at_reading head_drive steps (at_stage reading next) old ≡ gone_on_reading head_drive steps (at_stage reading next) old
 content_goes_on head_drive steps reading (stages.Search search) old is down low = absurd is
 content_goes_on head_drive steps reading (stages.Wait separator) old is down low = absurd is
@@ -109,7 +109,7 @@ by_space false false head_drive steps value reading next old space is down low =
 not_full : (fifo : Fifo) → length fifo.bytes + 1 ≤ room_of fifo.on → (length fifo.bytes == room_of fifo.on) ≡ false
 not_full fifo space = ne_eqb (length fifo.bytes) (room_of fifo.on) (λ is. omega arith)
 
--- a word of the content, behind so many steps
+-- a word of the content, after `steps` device steps
 pub record GivesByte (head : ℕ) (rate : DataRate) (steps word value : ℕ) (stage next : ReadStage) (before after : DriveState) : Type 0 where
   pub few : steps < 65535
   pub under : word_under before head ≡ word

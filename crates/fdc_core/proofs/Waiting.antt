@@ -48,7 +48,7 @@ use Rattle.fdc_phases.specs.declared.transfers.Formatting.{Formatting}
 use Rattle.fdc_phases.specs.declared.transfers.Writing.{Writing}
 use Rattle.fdc_core.proofs.Hearing.{hears_overruns}
 
--- what a step leaves: it can wait, and the terminal count came where it had come
+-- what a step leaves: a controller that can wait, and to which the terminal count has come if it had come before
 record Leaves (slack : ℕ) (counted : Bool) (new : Fdc) : Type 0 where
   waits : CanWait slack new
   uncounted : phase_counted new.phase ≡ false → counted ≡ false
@@ -116,7 +116,7 @@ needs_now (stages.Search search) is = absurd (false≢true is)
 needs_now (stages.Gap left) is = absurd (false≢true is)
 needs_now (stages.Window now) is = needed_now now.part is
 
--- the bytes in the FIFO behind a word, and the words before a byte is needed
+-- the bytes in the FIFO after a word, and the words before a byte is needed
 without_few : (needs counted : Bool) (bytes : List ℕ) (byte : ℕ) → counted ≡ false → (if needs then oldest_of counted bytes else Some 0) ≡ Some byte → needs ≡ true → 1 ≤ length bytes
 without_few true true bytes byte none is needed = absurd (false≢true (sym none))
 without_few true false [] byte none is needed = absurd (cc is)

@@ -160,7 +160,7 @@ laid_time head_drive steps byte needs formatting old mid_fdc before after new fe
   };
 }
 
--- where it stops, the byte that was to be taken is of no account
+-- where the command stops, the byte that was to be taken is of no account
 stopped_without : (needs : Bool) (ending : Ending) (head_drive : ℕ) (key : Chrn) (old : Fdc) → finished ending head_drive key (without_byte needs old) ≡ finished ending head_drive key old
 stopped_without true ending head_drive key old = refl
 stopped_without false ending head_drive key old = refl

@@ -23,7 +23,7 @@ use Rattle.fdc_phases.specs.Commands.{IsReadingId, IsReadingData, WaitsAtFirst, 
 abbrev pub answered : ℕ → Option ℕ → Fdc → Fdc
 answered next last old = record old { phase = Result (Short next last) }
 
--- the bits that are told of a line
+-- the bits that report a line
 abbrev pub bits_if : Bool → ℕ → ℕ → ℕ
 bits_if told bits byte = if told then bit_or byte bits else byte
 
@@ -32,7 +32,7 @@ abbrev pub status_of_lines : Lines → ℕ → ℕ
 status_of_lines lines head_drive =
     bits_if lines.protected protected (bits_if lines.track0 track_0 (bit_or (bit_and head_drive 7) always_one))
 
--- SENSE INTERRUPT gives the pending result of the lowest drive, and INT falls; 80 where none is pending
+-- SENSE INTERRUPT gives the pending result of the lowest drive, and INT falls. It gives 80 where none is pending
 abbrev pub sensing_by : Option (ℕ × ℕ) → Fdc → Fdc
 sensing_by None old = answered 0x80 None old
 sensing_by (Some (status, cylinder)) old =
@@ -41,7 +41,7 @@ sensing_by (Some (status, cylinder)) old =
 abbrev pub sensing : Fdc → Fdc
 sensing old = sensing_by (sensed old.seeks) old
 
--- CONFIGURE empties the FIFO, sets it on or off and its threshold, and turns polling on or off; a poll that is still to
+-- CONFIGURE empties the FIFO, sets it on or off and its threshold, and turns polling on or off. A poll that is still to
 -- come is lost where polling is turned off
 abbrev pub configured : ℕ → Fdc → Fdc
 configured options old = record old {
@@ -119,13 +119,13 @@ Obeys command lines old new =
     (seek_bits old.seeks ≡ 0 → ObeysAtRest command lines old new)
     × ((seek_bits old.seeks == 0) ≡ false → new ≡ answered 0x80 None old)
 
--- what the bytes of a command came to is done
+-- the controller does what the bytes of a command came to
 abbrev pub TakesAs : Accepted → Lines → Fdc → Fdc → Type 0
 TakesAs More lines old new = new ≡ old
 TakesAs (Ready command) lines old new = Obeys command lines old new
 TakesAs Invalid lines old new = new ≡ answered 0x80 None old
 
--- a byte of a command comes: it is kept until the command is whole or invalid, which is then answered
+-- a byte of a command comes. It is kept until the command is whole or invalid, and the command is then answered
 abbrev pub Takes : ℕ → Lines → Fdc → Fdc → Type 0
 Takes byte lines old new =
     let bytes = old.command ++ byte ∷ [] in

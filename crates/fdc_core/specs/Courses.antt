@@ -1,4 +1,4 @@
--- Device steps whole, and so many of them in a row.
+-- Device steps as a whole, and many of them in a row.
 use Rattle.std.specs.Prelude.{◌≡◌, ◌==◌, ◌&&◌, ℕ, zero, suc, ◌+◌, ◌≤◌, Bool, true, false, not, List, length, if◌then◌else◌}
 use Rattle.drive_model.specs.Drive.{DriveState, at_index}
 use Rattle.drive_model.specs.Ahead.{LetsPass, AreAhead}
@@ -36,8 +36,8 @@ pub record WorksAlone (old new : Fdc) : Type 0 where
   pub stays : Stays old new
   pub flows : Flows old new
 
--- the DMA request line and the interrupt line are as before, and so is how a data command ended, if it did, and which mark its field has, if
--- one was met
+-- the DMA request line and the interrupt line are as before. How a data command ended, if it did, is as before too, and
+-- so is the mark of its field, if one was met
 pub record HoldsLines (old new : Fdc) : Type 0 where
   pub request : asks new ≡ asks old
   pub interrupt : interrupts new ≡ interrupts old
@@ -64,7 +64,8 @@ comes_poll fdc = fdc.poll_due && not (is_held fdc)
 abbrev pub is_at_rest : Fdc → Bool
 is_at_rest fdc = if comes_poll fdc then false else if is_seeking fdc.seeks then false else not (executes fdc.phase)
 
--- a device step changes nothing of the controller, with whatever drive and with none, and lets a word time pass in which no fault comes
+-- a device step changes nothing of the controller, with any drive and with none, and lets a word time pass in which no
+-- fault comes
 pub record IsStill (fdc : Fdc) : Type 0 where
   pub works : (before : DriveState) → Works fdc before fdc (let_pass before)
   pub alone : WorksAlone fdc fdc
@@ -74,7 +75,7 @@ pub record IsQuiet (fdc : Fdc) : Type 0 where
   pub due : fdc.poll_due ≡ false
   pub down : fdc.asking ≡ false
 
--- so many words in a row pass by a search, in as many device steps of a data command, none of them its last
+-- so many words in a row pass by a search, in as many device steps of a data command, none of which is its last
 pub record PassesMany (head steps last count : ℕ) (search final : Search) (before after : DriveState) : Type 0 where
   pub last_is : last ≡ steps + count
   pub few : last ≤ 65535

@@ -25,7 +25,8 @@ abbrev pub after_laid : ℕ → ℕ → Formatting → FormatNext → Fdc → Fd
 after_laid head_drive steps formatting (On stage) old = gone_on head_drive steps (Format (format_at formatting stage)) old
 after_laid head_drive steps formatting (Ended ending key) old = finished ending head_drive key old
 
--- the same in place, once the stage is the one behind the word: it goes on, and DRQ by the FIFO's rule, or it is over
+-- the same in place, once the stage is the one after the word. The FORMAT goes on, with DRQ by the FIFO's rule, or is
+-- over
 abbrev pub format_followed : ℕ → Bool → Option FormatEnd → Fdc → Fdc
 format_followed head_drive counted None old = record old { asking = wants false old.asking counted old.fifo }
 format_followed head_drive counted (Some over) old = finished over.ending head_drive over.key old
@@ -34,7 +35,7 @@ abbrev pub is_over : Option FormatEnd → Bool
 is_over None = false
 is_over (Some _) = true
 
--- ---- a device step, behind so many others, by what its word time is
+-- ---- ---- a device step after `steps` others, by what its word time is
 
 -- a word is heard
 pub record HearsFormat (head_drive steps : ℕ) (formatting : Formatting) (index : Bool) (old new : Fdc) : Type 0 where
@@ -43,7 +44,7 @@ pub record HearsFormat (head_drive steps : ℕ) (formatting : Formatting) (index
   pub hears : StageHearsIndex formatting index next
   pub after_is : new ≡ after_laid head_drive (steps + 1) formatting next old
 
--- a word is written; where it is a byte of a key, that byte is taken
+-- a word is written. Where it is a byte of a key, that byte is taken
 pub record LaysWord (head_drive steps : ℕ) (formatting : Formatting) (opened closed index : Bool) (word : ℕ) (old new : Fdc) : Type 0 where
   pub few : steps < 65535
   pub due : is_due formatting.stage ≡ true
@@ -60,7 +61,7 @@ pub record LaysWord (head_drive steps : ℕ) (formatting : Formatting) (opened c
   pub closed_is : closed ≡ is_ended next
   pub after_is : new ≡ after_laid head_drive (steps + 1) formatting next (without_byte needs old)
 
--- the command ends; a byte can be missing only where the next word is a byte of a key
+-- the command ends. A byte can be missing only where the next word is a byte of a key
 pub record StopsFormat (head_drive steps : ℕ) (formatting : Formatting) (old : Fdc) (before : DriveState) (new : Fdc) : Type 0 where
   pub ending : Ending
   pub needs : Bool
@@ -98,7 +99,7 @@ pub record AwaitsIndex (head_drive steps : ℕ) (formatting : Formatting) (old :
   pub is : IsHeardTime index word old.rate (head_of head_drive) before after
   pub does : HearsFormat head_drive steps formatting index old new
 
--- a word that records this byte is written; the gate opens before the first, and closes behind the last
+-- a word that records this byte is written. The gate opens before the first word, and closes after the last
 pub record LaysByte (head_drive steps : ℕ) (formatting : Formatting) (takes : Bool) (byte : ℕ) (old : Fdc) (before after : DriveState) (new : Fdc) : Type 0 where
   pub from : DriveState
   pub mid : DriveState

@@ -27,7 +27,7 @@ use Rattle.fdc_phases.specs.declared.rates.DataRate.{DataRate}
 
 -- ---- the word
 
--- the word is what the controller sees of the drive's under this head, as its rate is
+-- the word is what the controller, at its rate, sees of the drive's word under this head
 abbrev pub SeesUnder : DataRate → ℕ → DriveState → ℕ → DriveState → Type 0
 SeesUnder rate head drive word after =
     (raw : ℕ) × Reads head drive raw after × (word ≡ seen_of (rate_fits rate (rate_of drive.medium)) raw)
@@ -41,7 +41,7 @@ SeesWord (Execute execution) rate drive word after =
     SeesTask (is_listening execution.task) (head_of execution.head_drive) rate drive word after
 SeesWord _ rate drive word after = Unit {0}
 
--- a device step in which the controller executed a command, or did not: only then a word counts
+-- the history after a device step. A word counts only where the controller was executing a command
 abbrev pub after_step : Bool → Bool → ℕ → Past → Past
 after_step true index word past = heard index word (stepped past)
 after_step false index word past = past
@@ -51,7 +51,7 @@ abbrev pub is_executing : Phase → Bool
 is_executing (Execute _) = true
 is_executing _ = false
 
--- ---- what a stage makes of it, whatever was heard before
+-- ---- ---- what a stage makes of the word, whatever was heard before
 
 abbrev pub SearchHears : Bool → ℕ → Search → SearchOutcome → Type 0
 SearchHears index word search searched =
@@ -81,7 +81,7 @@ abbrev pub HearsIn : Phase → Bool → ℕ → Fdc → Fdc → Type 0
 HearsIn (Execute execution) index word old new = Hears execution.head_drive (execution.steps + 1) execution.task index word old new
 HearsIn _ index word old new = Unit {0}
 
--- the last step ends a command, whatever it does; each other step counts
+-- the last step ends a command, whatever the word is. Each other step counts
 abbrev pub StepsOn : ℕ → ℕ → Task → Bool → ℕ → Fdc → Fdc → Type 0
 StepsOn head_drive steps task index word old new =
     ((steps ≡ 65535) × (new ≡ finished Late head_drive (key_as_sent task) old))
@@ -104,7 +104,7 @@ pub record FindsFull (reading : Reading) (index : Bool) (word : ℕ) (old : Fdc)
   pub uncounted : reading.counted ≡ false
   pub full : is_full old ≡ true
 
--- OR comes only so
+-- OR comes only where a byte found the FIFO full before the terminal count
 abbrev pub OverrunsTask : Task → Bool → ℕ → Fdc → Fdc → Type 0
 OverrunsTask (Read reading) index word old new = is_overrun new.phase ≡ true → FindsFull reading index word old
 OverrunsTask (ReadId _) index word old new = is_overrun new.phase ≡ false
@@ -116,15 +116,15 @@ OverrunsIn _ index word old new = Unit {0}
 
 -- ---- device steps
 
--- a word time in this phase, once the poll is done: what the controller does, and what is then known of a READ DATA and of a
--- READ ID
+-- a word time in this phase, once the poll is done: what the controller does, and what is then known of a READ DATA and
+-- of a READ ID
 pub record Follows (phase : Phase) (polls : Fdc) (index : Bool) (word : ℕ) (old new : Fdc) : Type 0 where
   pub executes : ExecutesIn phase index word polls new
   pub overruns : OverrunsIn phase index word polls new
   pub reads : (past : Past) (sent : Sent) → MayReadIn past sent phase old.asking old.fifo.bytes → MayRead (after_step (is_executing phase) index word past) sent new
   pub identifies : (past : Past) (sent : ℕ) → MayReadIdIn past sent phase → MayReadId (after_step (is_executing phase) index word past) sent new
 
--- a device step: one word is seen of the drive and followed
+-- a device step: one word of the drive is seen and followed
 pub record StepHears (phase : Phase) (polls : Fdc) (index : Bool) (old : Fdc) (before after : DriveState) (new : Fdc) : Type 0 where
   pub word : ℕ
   pub sees : SeesWord phase old.rate before word after

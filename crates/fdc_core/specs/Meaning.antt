@@ -25,8 +25,8 @@ FindsUncounted past key given =
     (past.counted ≡ false) × (length given ≡ content_size key.n)
     × ((deleted : Bool) × (turn : List ℕ) × (p : ℕ) × (q : ℕ) × IsFoundAt past key given deleted turn p q)
 
--- what an ending says: IC 00, the sector with this mark, and its content where as many bytes as the size were given; MA
--- without MD, ND, MA with MD, DE, OR, EN
+-- what each ending says. IC 00: the sector was found with this mark and its content was given, where as many bytes as
+-- the size were given. The other endings are MA without MD, ND, MA with MD, DE, OR and EN
 abbrev pub ReadMeans : Past → Sent → Ending → Type 0
 ReadMeans past sent (Done deleted) = FindsSector past sent.key past.given deleted
 ReadMeans past sent NoMark = FindsNoMark past
@@ -42,15 +42,16 @@ abbrev pub ReadMeansIn : Past → Sent → Phase → Type 0
 ReadMeansIn past sent (Result (Long ending results _)) = (results ≡ results_sent ending sent) × ReadMeans past sent ending
 ReadMeansIn past sent _ = Unit {0}
 
--- the results of a READ DATA are those of an ending, and that is what it says
+-- the results of a READ DATA are those of an ending, and what this ending says holds
 abbrev pub ReadTells : Past → Sent → Fdc → Type 0
 ReadTells past sent fdc = ReadMeansIn past sent fdc.phase
 
--- the bytes are the first of those behind a data mark of an address field of the key, in the words of one turn
+-- the bytes are the first of those that follow a data mark of an address field of the key, in the words of one
+-- revolution
 abbrev pub AreOfField : Past → Chrn → List ℕ → Type 0
 AreOfField past key bytes = (told : List ℕ) × IsToldOf past key told × ((rest : List ℕ) × (told ≡ bytes ++ rest))
 
--- the bytes that were given, and in execution those in the FIFO behind them
+-- the bytes that were given, and in execution after them the bytes in the FIFO
 abbrev pub bytes_held : Phase → Past → List ℕ → List ℕ
 bytes_held (Execute _) past fifo = past.given ++ fifo
 bytes_held _ past fifo = past.given
@@ -60,7 +61,7 @@ ReadGives past sent fdc = AreOfField past sent.key (bytes_held fdc.phase past fd
 
 -- ---- READ ID
 
--- what an ending says: IC 00, that the key is that of an address field; MA, ND
+-- what each ending says. IC 00: the key is that of an address field. The other endings are MA and ND
 abbrev pub IdMeans : Past → Chrn → Ending → Type 0
 IdMeans past key (Done deleted) = HasAddress past key
 IdMeans past key NoMark = FindsNoMark past

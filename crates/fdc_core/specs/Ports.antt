@@ -25,7 +25,7 @@ phase_bits begun Command = if begun then bit_or rqm busy else rqm
 phase_bits begun (Execute _) = busy
 phase_bits begun (Result _) = bit_or (bit_or rqm dio) busy
 
--- MSR: 00 in reset, else the bits of the phase with the seek bits
+-- MSR: 00 in reset, otherwise the bits of the phase with the seek bits
 abbrev pub main_status : Fdc → ℕ
 main_status fdc =
     if is_held fdc then 0 else bit_or (phase_bits (is_begun fdc.command) fdc.phase) (seek_bits fdc.seeks)
@@ -39,12 +39,12 @@ abbrev pub result_byte : Phase → ℕ
 result_byte (Result answer) = next_byte answer
 result_byte _ = 0xFF
 
--- INT once the data port was read: it falls with the first result byte of a data command
+-- INT after a read of the data port: it falls with the first result byte of a data command
 abbrev pub interrupt_after : Phase → Bool → Bool
 interrupt_after (Result answer) interrupt = if is_fresh answer then false else interrupt
 interrupt_after _ interrupt = interrupt
 
--- the phase once the data port was read
+-- the phase after a read of the data port
 abbrev pub phase_after : Phase → Phase
 phase_after (Result answer) = after_byte answer
 phase_after phase = phase
@@ -94,16 +94,16 @@ abbrev pub dor_written : ℕ → Fdc → Fdc
 dor_written value old =
     let set : Fdc = record old { dor = record { 0 = value } } in if dor_resets value then reset set else set
 
--- DSR is written: the rate in bits 1 and 0, and it may reset the controller
+-- DSR is written: bits 1 and 0 set the rate, and the byte may reset the controller
 abbrev pub dsr_written : ℕ → Fdc → Fdc
 dsr_written value old =
     let set : Fdc = record old { rate = rate_chosen value } in if dsr_resets value then reset set else set
 
--- CCR is written: the rate in bits 1 and 0
+-- CCR is written: bits 1 and 0 set the rate
 abbrev pub ccr_written : ℕ → Fdc → Fdc
 ccr_written value old = record old { rate = rate_chosen value }
 
--- a byte is written to the data port: it is ignored where the port takes none
+-- a byte is written to the data port. It is ignored where the port takes none
 abbrev pub WritesData : ℕ → Lines → Fdc → Fdc → Type 0
 WritesData value lines old new =
     (is_taking old ≡ true → Takes value lines old new) × (is_taking old ≡ false → new ≡ old)
@@ -120,7 +120,7 @@ pub record Writes (port value : ℕ) (lines : Lines) (old new : Fdc) : Type 0 wh
 abbrev pub IsGiving : Ending → Results → ℕ → Fdc → Type 0
 IsGiving ending results read fdc = fdc.phase ≡ Result (Long ending results read)
 
--- a read of the data port then gives the next byte; behind the seventh the controller takes commands
+-- a read of the data port then gives the next byte. After the seventh byte the controller takes commands
 pub record GivesNext (ending : Ending) (results : Results) (read byte : ℕ) (new : Fdc) : Type 0 where
   pub byte_is : byte ≡ get_or (result_bytes results) read 0xFF
   pub goes_on : read < 6 → IsGiving ending results (read + 1) new

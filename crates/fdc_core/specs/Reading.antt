@@ -35,7 +35,7 @@ after_searched head_drive steps (searched.On search) old = gone_on head_drive st
 after_searched head_drive steps (searched.Met key _) old = finished (Done false) head_drive key old
 after_searched head_drive steps (searched.Missed ending) old = finished ending head_drive no_key old
 
--- READ DATA ends where the field is over and the FIFO is empty
+-- READ DATA ends where the field is over and the FIFO is empty, otherwise it goes on
 abbrev pub over_or_on : Option Ending → Bool → ℕ → ℕ → Reading → Fdc → Fdc
 over_or_on None empty head_drive steps reading old = gone_on head_drive steps (Read reading) old
 over_or_on (Some ending) empty head_drive steps reading old =
@@ -46,7 +46,7 @@ abbrev pub gone_on_reading : ℕ → ℕ → Reading → Fdc → Fdc
 gone_on_reading head_drive steps reading old =
     over_or_on (ending_of reading) (length old.fifo.bytes == 0) head_drive steps reading old
 
--- with one more byte in the FIFO
+-- the controller with one more byte in the FIFO
 abbrev pub pushed : ℕ → Fdc → Fdc
 pushed value old = record old { fifo = record old.fifo { bytes = old.fifo.bytes ++ value ∷ [] } }
 
@@ -54,7 +54,7 @@ pushed value old = record old { fifo = record old.fifo { bytes = old.fifo.bytes 
 abbrev pub is_full : Fdc → Bool
 is_full fdc = length fdc.fifo.bytes == room_of fdc.fifo.on
 
--- a byte of the field: after the terminal count it is dropped, and it may find the FIFO full
+-- a byte of the field comes. After the terminal count it is dropped, and otherwise it may find the FIFO full
 abbrev pub byte_taken : ℕ → ℕ → Reading → ℕ → Fdc → Fdc
 byte_taken head_drive steps reading value old =
     if reading.counted then gone_on_reading head_drive steps reading old
@@ -70,9 +70,9 @@ after_heard head_drive steps reading (heard.Byte stage value) old =
 after_heard head_drive steps reading (heard.Ended ending) old =
     finished ending head_drive reading.wanted.key old
 
--- ---- the same in place, once the stage is the one behind the word
+-- ---- ---- the same in place, once the stage is the one after the word
 
--- READ DATA ends where the field is over and the FIFO is empty, else DRQ goes by the FIFO's rule
+-- READ DATA ends where the field is over and the FIFO is empty, otherwise DRQ goes by the FIFO's rule
 abbrev pub settled_by : Option End → Bool → Fdc → Fdc
 settled_by None empty old = asked old
 settled_by (Some over) empty old = if empty then finished over.ending over.head_drive over.key old else asked old
@@ -81,7 +81,7 @@ abbrev pub IsTaskTo : Bool → Task → Type 0
 IsTaskTo over (Read reading) = over ≡ is_over reading.stage
 IsTaskTo over _ = ⊥
 
--- a READ DATA is in execution, whose field is over or isn't
+-- a READ DATA is in execution, and its field is over or isn't
 abbrev pub IsReadingTo : Bool → Phase → Type 0
 IsReadingTo over (Execute execution) = IsTaskTo over execution.task
 IsReadingTo over _ = ⊥
@@ -89,7 +89,7 @@ IsReadingTo over _ = ⊥
 abbrev pub settled : Fdc → Fdc
 settled old = settled_by (over_of old.phase) (length old.fifo.bytes == 0) old
 
--- how it ends, where the word failed it, or its byte found the FIFO full before the terminal count
+-- how the command ends if the word makes it fail, or if its byte finds the FIFO full before the terminal count
 abbrev pub failure_of : Bool → ReadHeard → Fdc → Option Ending
 failure_of counted answer.On old = None
 failure_of counted (answer.Byte value) old = if counted then None else (if is_full old then Some Overrun else None)

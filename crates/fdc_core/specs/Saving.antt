@@ -8,7 +8,7 @@ use Rattle.fdc_commands.specs.Seeking.{InRange}
 use Rattle.fdc_core.specs.declared.controller.Fdc.{Fdc}
 use Rattle.fdc_phases.specs.Saving.{spelled_rate, spelled_phase}
 
--- what is so of the parts of each controller
+-- what holds of the parts of each controller
 pub record FdcFits (fdc : Fdc) : Type 0 where
   pub seeks : InRange fdc.seeks
   pub command : IsPart fdc.command

@@ -29,7 +29,7 @@ at_power_up = record {
   data_commands = 0;
 }
 
--- a reset ends the command, empties the FIFO and turns it off, turns polling on and forgets all seeks; DOR, the rate,
+-- a reset ends the command, empties the FIFO and turns it off, turns polling on and forgets all seeks. DOR, the rate,
 -- what SPECIFY set and the count of data commands stay
 abbrev pub reset : Fdc → Fdc
 reset old = record old {

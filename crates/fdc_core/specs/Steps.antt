@@ -9,13 +9,14 @@ use Rattle.fdc_core.specs.declared.controller.Fdc.{Fdc}
 use Rattle.fdc_phases.specs.declared.phases.Phase.{Phase}
 use Rattle.fdc_phases.specs.declared.phases.Phase.TheVariants.{Execute}
 
--- the poll after a reset: INT rises, and each drive has a result; it waits while DOR holds the controller in reset
+-- the poll after a reset: INT rises, and each drive has a result. The poll waits while DOR holds the controller in
+-- reset
 abbrev pub polled : Fdc → Fdc
 polled old =
     if old.poll_due && not (is_held old) then record old { poll_due = false; interrupt = true; seeks = with_polls old.seeks }
     else old
 
--- a seek goes on by a device step, and INT rises where it ends
+-- a seek goes on by a device step, and INT rises where the seek ends
 abbrev pub seek_stepped : Bool → Fdc → Fdc
 seek_stepped track0 old = record old {
   seeks = stepped old.seeks track0;
@@ -26,7 +27,7 @@ abbrev pub RestsIn : Phase → Bool → Fdc → Fdc → Type 0
 RestsIn (Execute _) track0 old new = Unit {0}
 RestsIn _ track0 old new = new ≡ seek_stepped track0 old
 
--- outside execution a device step moves a seek alone
+-- outside execution a device step moves only a seek
 abbrev pub Rests : Bool → Fdc → Fdc → Type 0
 Rests track0 old new = RestsIn old.phase track0 old new
 
@@ -34,13 +35,13 @@ Rests track0 old new = RestsIn old.phase track0 old new
 abbrev pub let_pass : DriveState → DriveState
 let_pass drive = passed (with_gate false drive)
 
--- one word time passes at the drive, after the pulse of a seek. A fault may come in the pulse alone
+-- one word time passes at the drive, after the pulse of a seek. Only the pulse may bring a fault
 abbrev pub Moves : Option Bool → DriveState → DriveState → Type 0
 Moves None before after = after ≡ let_pass before
 Moves (Some inward) before after =
     (between : DriveState) × Pulses inward before between × (after ≡ let_pass between)
 
--- READ ID and READ DATA let it pass and hear a word, in which a fault may come
+-- READ ID and READ DATA let a word time pass and hear a word, in which a fault may come
 abbrev pub MovesTask : Bool → DriveState → DriveState → Type 0
 MovesTask true before after = Becomes (let_pass before) before after
 MovesTask false before after = Unit {0}
@@ -53,7 +54,7 @@ MovesIn _ fdc before after = Moves (pulse_due fdc.seeks (before.cylinder == 0)) 
 abbrev pub MovesDrive : Fdc → DriveState → DriveState → Type 0
 MovesDrive fdc before after = MovesIn fdc.phase fdc before after
 
--- so many device steps at most are left of a data command in execution: 65,536 when it begins
+-- how many device steps at most are left of a data command in execution: 65,536 when it begins
 abbrev pub steps_left : Phase → ℕ
 steps_left (Execute execution) = 65536 - execution.steps
 steps_left _ = 0
@@ -63,13 +64,13 @@ abbrev pub IsCounted : Phase → Type 0
 IsCounted (Execute execution) = execution.steps < 65536
 IsCounted _ = Unit {0}
 
--- a device step of a data command leaves fewer
+-- a device step of a data command leaves fewer device steps
 abbrev pub EndsIn : Phase → Phase → Type 0
 EndsIn (Execute execution) new = (steps_left new < steps_left (Execute execution)) × IsCounted new
 EndsIn _ new = Unit {0}
 
--- what no device step changes: DOR, the rate, what SPECIFY and CONFIGURE set, the bytes of a command that has begun and the
--- count of data commands; the FIFO gets one byte at most
+-- what no device step changes: DOR, the rate, what SPECIFY and CONFIGURE set, the bytes of a command that has begun and
+-- the count of data commands. The FIFO gets at most one byte
 pub record Stays (old new : Fdc) : Type 0 where
   pub dor : new.dor ≡ old.dor
   pub rate : new.rate ≡ old.rate

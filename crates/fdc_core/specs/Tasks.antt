@@ -28,7 +28,7 @@ pub record IsListenStep (head_drive steps : ℕ) (task : Task) (old : Fdc) (befo
   pub passes : Becomes (let_pass before) before after
   pub does : StepsOn head_drive steps task (at_index before) word old new
 
--- a device step, behind so many others
+-- a device step of a task, after `steps` others
 abbrev pub TaskSteps : Task → ℕ → ℕ → Fdc → DriveState → DriveState → Fdc → Type 0
 TaskSteps (ReadId search) head_drive steps old before after new =
     IsListenStep head_drive steps (ReadId search) old before after new
@@ -38,13 +38,13 @@ TaskSteps (Write writing) head_drive steps old before after new = IsWriteStep he
 TaskSteps (Format formatting) head_drive steps old before after new =
     IsFormatStep head_drive steps formatting old before after new
 
--- the same of what is in execution
+-- a device step of what is in execution
 abbrev pub ExecutionSteps : Phase → Fdc → DriveState → DriveState → Fdc → Type 0
 ExecutionSteps (Execute execution) old before after new =
     TaskSteps execution.task execution.head_drive execution.steps old before after new
 ExecutionSteps _ old before after new = Unit {0}
 
--- the same where no drive is selected: words 0000 are heard, and no index
+-- a device step of a write where no drive is selected: words 0000 are heard, and no index
 abbrev pub WritesNowhere : ℕ → ℕ → Writing → Fdc → Fdc → Type 0
 WritesNowhere head_drive steps writing old new =
     ((steps ≡ 65535) × (new ≡ finished Late head_drive writing.wanted.key old))
@@ -61,7 +61,7 @@ TaskStepsNowhere (Read reading) head_drive steps old new = StepsOn head_drive st
 TaskStepsNowhere (Write writing) head_drive steps old new = WritesNowhere head_drive steps writing old new
 TaskStepsNowhere (Format formatting) head_drive steps old new = FormatsNowhere head_drive steps formatting old new
 
--- the same of what is in execution
+-- a device step of what is in execution, where no drive is selected
 abbrev pub StepsNowhere : Phase → Fdc → Fdc → Type 0
 StepsNowhere (Execute execution) old new = TaskStepsNowhere execution.task execution.head_drive execution.steps old new
 StepsNowhere _ old new = Unit {0}

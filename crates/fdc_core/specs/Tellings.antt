@@ -18,13 +18,14 @@ use Rattle.fdc_phases.specs.declared.phases.Phase.TheVariants.{Result}
 
 -- ---- WRITE DATA and WRITE DELETED
 
--- the words are none, or the first of the window of an address field of the key, at its place, with this mark; its content
--- begins with the first of the bytes that were taken, and 00 behind an early terminal count, whatever is behind these
+-- either no word was written, or the words are the first of the window of an address field of the key, at its place,
+-- with this mark. Its content begins with the first of the bytes that were taken. After an early terminal count, all
+-- bytes that were taken come first, and then bytes 00. What follows these in the content may be anything
 abbrev pub WritesWindow : Past → Sent → Bool → Type 0
 WritesWindow past sent deleted =
     (handed : List ℕ) × IsContent past.counted past.taken handed × WritesFirst past sent.key deleted handed
 
--- the ending's cause; of IC 00 that the window is whole
+-- with IC 00 the window is whole. For other endings this says nothing
 abbrev pub WholeIfDone : Past → Chrn → Bool → List ℕ → Ending → Type 0
 WholeIfDone past key deleted handed (Done _) = WritesWhole past key deleted handed
 WholeIfDone past key deleted handed _ = Unit {0}
@@ -46,8 +47,9 @@ WriteTells past sent deleted fdc = WriteMeansIn past sent deleted fdc.phase
 
 -- ---- FORMAT TRACK
 
--- the words are the first of the layout of keys whose bytes begin with the first of those that were taken, and 00 behind an
--- early terminal count, whatever is behind these
+-- the words are the first of the layout of some keys. The bytes of these keys begin with the first of the bytes that
+-- were taken. After an early terminal count, all bytes that were taken come first, and then bytes 00. What follows
+-- these in the keys may be anything
 abbrev pub LaysTrack : Past → Numbers → Type 0
 LaysTrack past numbers = (handed : List ℕ) × IsContent past.counted past.taken handed × LaysFirst past numbers handed
 

@@ -12,9 +12,9 @@ use Rattle.fdc_phases.specs.declared.rates.DataRate.{DataRate}
 pub data WordTime : Type 0 where
   -- a word was heard
   Saw : (index : Bool) (word : ℕ) → WordTime
-  -- a word was heard where the first was to be written, since the rate was another
+  -- a word was heard where the first was to be written, because the medium has another rate
   KeptOut : (index : Bool) (word : ℕ) → WordTime
-  -- a word was written, the gate opened before it and closed behind it, or not
+  -- a word was written. The gate was opened before it, or not, and closed after it, or not
   Wrote : (opened closed index : Bool) (word : ℕ) → WordTime
   -- the command was over: the word passed, and the gate is closed
   Stopped : WordTime
@@ -35,7 +35,7 @@ pub record IsHeardTime (index : Bool) (word : ℕ) (rate : DataRate) (head : ℕ
   pub sees : SeesUnder rate head before word after
   pub passes : Becomes (let_pass before) before after
 
--- a word is given to the drive under this head; the gate opens at the rate of the medium alone
+-- a word is given to the drive under this head. The gate opens only at the rate of the medium
 pub record IsWroteTime (opened closed index : Bool) (word : ℕ) (rate : DataRate) (head : ℕ) (before after : DriveState) : Type 0 where
   pub from : DriveState
   pub mid : DriveState
@@ -47,7 +47,7 @@ pub record IsWroteTime (opened closed index : Bool) (word : ℕ) (rate : DataRat
   pub range_from : InRange from
   pub range_mid : InRange mid
 
--- what the drive did in it, at this rate and under this head
+-- what the drive did in this word time, at this rate and under this head
 abbrev pub IsTime : WordTime → DataRate → ℕ → DriveState → DriveState → Type 0
 IsTime (Saw index word) rate head before after = IsHeardTime index word rate head before after
 IsTime (KeptOut index word) rate head before after =
@@ -56,7 +56,7 @@ IsTime (Wrote opened closed index word) rate head before after =
     IsWroteTime opened closed index word rate head before after
 IsTime Stopped rate head before after = after ≡ let_pass before
 
--- what has passed then
+-- the history after this word time
 abbrev pub after_time : WordTime → Past → Past
 after_time (Saw index word) past = heard index word (stepped past)
 after_time (KeptOut index word) past = kept_out index word (stepped past)

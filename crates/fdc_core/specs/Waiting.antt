@@ -1,4 +1,4 @@
--- How long the controller can wait for DMA: so many device steps, no byte finds the FIFO full or is missing.
+-- How long the controller can wait for DMA: in so many device steps, no byte finds the FIFO full or is missing.
 use Rattle.std.specs.Prelude.{◌≡◌, ℕ, ◌+◌, Bool, true, false}
 use Rattle.fdc_phases.specs.Dma.{phase_asks}
 use Rattle.fdc_phases.specs.Phases.{is_overrun}
@@ -12,8 +12,8 @@ use Rattle.fdc_phases.specs.Waiting.{phase_counted, PhaseWaits}
 abbrev pub CanWait : ℕ → Fdc → Type 0
 CanWait slack fdc = PhaseWaits slack fdc.phase fdc.fifo
 
--- a device step of a controller that could wait so long and one step more: it doesn't end with OR, it can wait so long, and the
--- terminal count came where it had come
+-- a device step of a controller that could wait so long and one step more. The step doesn't end with OR, and leaves a
+-- controller that can wait so long. If the terminal count had come before the step, it has come after it too
 pub record Lasts (slack : ℕ) (old new : Fdc) : Type 0 where
   pub no_overrun : is_overrun new.phase ≡ false
   pub waits : CanWait slack new

@@ -14,7 +14,7 @@ use Rattle.fdc_core.specs.declared.controller.Lines.{Lines}
 use Rattle.fdc_phases.specs.declared.phases.Phase.TheVariants.{Command as Taking}
 use Rattle.fdc_phases.specs.Phases.{ending_of_phase, mark_of_phase}
 
--- the data port takes a byte, and none of a command has come
+-- the data port takes a byte, and no byte of a command has come
 abbrev pub is_idle : Fdc → Bool
 is_idle fdc = is_taking fdc && not (is_begun fdc.command)
 
@@ -23,17 +23,17 @@ abbrev pub options_of : Accepted → Option ℕ
 options_of (Ready (Configure _ options _)) = Some options
 options_of _ = None
 
--- those of the CONFIGURE that a byte of a command completes, where the byte is taken and no seek bit is set
+-- the options of the CONFIGURE that a byte of a command completes, where the byte is taken and no seek bit is set
 abbrev pub options_with : ℕ → Fdc → Option ℕ
 options_with byte fdc =
     if is_taking fdc && (seek_bits fdc.seeks == 0) then options_of (answer (fdc.command ++ byte ∷ [])) else None
 
--- what bytes came to, once the size code of a whole command is looked at
+-- what the bytes of a command came to, once the size code of a whole command is checked
 abbrev pub looked_at : Accepted → Accepted
 looked_at (Ready command) = whole command
 looked_at accepted = accepted
 
--- what bytes came to is done, in place of those that came to the data port
+-- the controller does what these bytes came to, in place of those that came to the data port
 abbrev pub TakesWhole : Accepted → Lines → Fdc → Fdc → Type 0
 TakesWhole accepted lines old new = TakesAs (looked_at accepted) lines (record old { command = [] }) new
 
@@ -56,7 +56,8 @@ abbrev pub without_seek : Fdc → Fdc
 without_seek old =
     if has_ended_seek old.seeks then record old { seeks = without_ended old.seeks; interrupt = false } else old
 
--- a RECALIBRATE begins that gives so many pulses at most, where the first byte of a command may come and no seek bit is set
+-- a RECALIBRATE begins that gives at most so many pulses, where the first byte of a command may come and no seek bit is
+-- set
 abbrev pub recalibrated_within : ℕ → ℕ → Fdc → Fdc
 recalibrated_within drive pulses old =
     if is_idle old && (seek_bits old.seeks == 0) then record old { seeks = with_motion old.seeks (drive % 4) (Outward (pulses_within pulses)) }

@@ -25,7 +25,7 @@ after_next head_drive steps writing (On stage) old = gone_on head_drive steps (W
 after_next head_drive steps writing (Ended ending) old =
     finished ending head_drive (key_after ending writing.wanted.key writing.last_sector) old
 
--- a command that takes bytes goes on, and DRQ by the FIFO's rule, or is over
+-- a command that takes bytes goes on, with DRQ by the FIFO's rule, or is over
 abbrev pub gone_or_over : Bool → Option End → Fdc → Fdc
 gone_or_over counted None old = record old { asking = wants false old.asking counted old.fifo }
 gone_or_over counted (Some over) old = finished over.ending over.head_drive over.key old
@@ -41,19 +41,19 @@ oldest_of counted (byte ∷ _) = Some byte
 oldest_of true [] = Some 0
 oldest_of false [] = None
 
--- the byte of the next word, where it needs one: the oldest, and 00 behind the terminal count where there is none; none where
--- it is missing
+-- the byte of the next word, where it needs one: the oldest in the FIFO, or 00 if the FIFO is empty after the terminal
+-- count. None if the byte is missing
 abbrev pub byte_taken : Bool → Bool → Fifo → Option ℕ
 byte_taken needs counted fifo = if needs then oldest_of counted fifo.bytes else Some 0
 
 abbrev pub without_byte : Bool → Fdc → Fdc
 without_byte needs old = if needs then record old { fifo = record old.fifo { bytes = drop 1 old.fifo.bytes } } else old
 
--- the FIFO without it
+-- the FIFO without that byte
 abbrev pub fifo_without : Bool → Fifo → Fifo
 fifo_without needs fifo = if needs then record fifo { bytes = drop 1 fifo.bytes } else fifo
 
--- ---- a device step, behind so many others, by what its word time is
+-- ---- ---- a device step after `steps` others, by what its word time is
 
 -- a word is heard
 pub record HearsWord (head_drive steps : ℕ) (writing : Writing) (index : Bool) (word : ℕ) (old new : Fdc) : Type 0 where
@@ -76,7 +76,8 @@ pub record PutsWord (head_drive steps : ℕ) (writing : Writing) (opened closed 
   pub closed_is : closed ≡ is_ended next
   pub after_is : new ≡ after_next head_drive (steps + 1) writing next (without_byte (needs_byte writing.stage) old)
 
--- the command ends: the last step, a protected medium in the first, or a byte that is missing
+-- the command ends, for one of three reasons: it is the last step, a protected medium is met in the first step, or a
+-- byte is missing
 abbrev pub Stops : ℕ → Bool → Option ℕ → Ending → Type 0
 Stops steps is_protected byte Late = steps ≡ 65535
 Stops steps is_protected byte Protected = (steps ≡ 0) × (is_protected ≡ true)
@@ -117,7 +118,7 @@ pub record HearsAWord (head_drive steps : ℕ) (writing : Writing) (old : Fdc) (
   pub is : IsHeardTime index word old.rate (head_of head_drive) before after
   pub does : HearsWord head_drive steps writing index word old new
 
--- a word that records this byte is written; the gate opens before the first, and closes behind the last
+-- a word that records this byte is written. The gate opens before the first word, and closes after the last
 pub record PutsByte (head_drive steps : ℕ) (writing : Writing) (byte : ℕ) (old : Fdc) (before after : DriveState) (new : Fdc) : Type 0 where
   pub from : DriveState
   pub mid : DriveState

@@ -1,5 +1,5 @@
--- WRITE DATA, WRITE DELETED and FORMAT TRACK: what is known of a controller that executes them, or gives their results; and
--- what port accesses leave of what is known of a command.
+-- WRITE DATA, WRITE DELETED and FORMAT TRACK: what is known of a controller that executes them, or gives their results;
+-- and what port accesses leave of what is known of a command.
 use Rattle.std.specs.Prelude.{◌≡◌, ◌⊎◌, ℕ, Bool}
 use Rattle.fdc_stages.specs.History.{Past}
 use Rattle.fdc_stages.specs.Formats.{Numbers}
@@ -10,19 +10,19 @@ use Rattle.fdc_phases.specs.declared.phases.Phase.TheVariants.{Command}
 use Rattle.fdc_phases.specs.Written.{MayWriteIn, MayFormatIn}
 pub use Rattle.fdc_phases.specs.Written.{took}
 
--- the controller executes a write of what was sent, with this mark, or gives its results, and this is what it heard, took and
--- wrote
+-- the controller executes a write of what was sent, with this mark, or gives its results, and this is what it heard,
+-- took and wrote
 abbrev pub MayWrite : Past → Sent → Bool → Fdc → Type 0
 MayWrite past sent deleted fdc = MayWriteIn past sent deleted fdc.phase fdc.asking fdc.fifo
 
--- the controller executes a FORMAT of these numbers on this head and drive, or gives its results, and this is what it heard,
--- took and wrote
+-- the controller executes a FORMAT of these numbers on this head and drive, or gives its results, and this is what it
+-- heard, took and wrote
 abbrev pub MayFormat : Past → ℕ → Numbers → Fdc → Type 0
 MayFormat past sent numbers fdc = MayFormatIn past sent numbers fdc.phase fdc.asking fdc.fifo
 
 -- ---- port accesses
 
--- an access to a port keeps what is known of a command, or the controller takes commands again
+-- after an access to a port, what is known of a command is still known, or the controller takes commands again
 pub record KeepsKnown (old new : Fdc) : Type 0 where
   pub reads : (past : Past) (sent : Sent) → MayRead past sent old → MayRead past sent new ⊎ (new.phase ≡ Command)
   pub identifies : (past : Past) (sent : ℕ) → MayReadId past sent old → MayReadId past sent new ⊎ (new.phase ≡ Command)

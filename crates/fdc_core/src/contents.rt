@@ -14,8 +14,8 @@ use fdc_registers::Fifo;
 use fdc_stages::ReadStage;
 
 impl Fdc {
-    /// Makes device steps at once with the selected drive, for as long as a READ DATA hears bytes of its content and DRQ stays down,
-    /// and tells how many it made, at most `most`.
+    /// Makes device steps at once with the selected drive, for as long as a READ DATA hears bytes of its content and
+    /// DRQ stays down. Returns how many it made, at most `most`.
     #[tactic(auto, unfolding(crate::specs::Courses::Courses))]
     pub(crate) fn read_content<D: Drive>(&mut self, most: u32, drive: &mut D) -> u32
         requires quiet { IsQuiet self.old }
@@ -48,8 +48,8 @@ impl Fdc {
     }
 }
 
-/// A stage hears the words ahead under a head, for as long as they give bytes of a content, DRQ stays down and the last step isn't
-/// reached. Each is a device step, with the gate closed.
+/// A stage hears the words ahead under a head, for as long as they give bytes of a content, DRQ stays down and the last
+/// step isn't reached. Each is a device step, with the gate closed.
 #[inline(always)]
 fn take_many<D: Drive>(
     stage: &mut ReadStage,
@@ -73,7 +73,7 @@ fn take_many<D: Drive>(
     taken as u32
 }
 
-/// How many bytes can come with DRQ down, at most `most`: after the terminal count they are dropped.
+/// How many bytes can come with DRQ down, at most `most`. After the terminal count they are dropped.
 fn room_for(fifo: &Fifo, counted: bool, most: u32) -> u32
     requires low { wants true false false fifo.now ≡ false }
     ensures few { result ≤ most }
@@ -85,8 +85,8 @@ fn room_for(fifo: &Fifo, counted: bool, most: u32) -> u32
     (most as usize).min(fifo.quiet_room()) as u32
 }
 
-/// A stage hears the first of these words, for as long as they give bytes of a content, and tells how many. The bytes go to the
-/// FIFO.
+/// A stage hears the first of these words, for as long as they give bytes of a content. Returns how many. The bytes go
+/// to the FIFO.
 fn take_bytes(stage: &mut ReadStage, fifo: &mut Fifo, counted: bool, words: &[u16]) -> usize
     requires space { HasSpace (length words.now) counted fifo.old }
     ensures within { result ≤ length words.now }
@@ -100,7 +100,8 @@ fn take_bytes(stage: &mut ReadStage, fifo: &mut Fifo, counted: bool, words: &[u1
     words.len()
 }
 
-/// A stage hears a word, and its byte of a content goes to the FIFO. It tells whether there was one; else nothing changes.
+/// A stage hears a word, and its byte of a content goes to the FIFO. Returns whether there was a byte. If there was
+/// none, nothing changes.
 #[inline(always)]
 fn take_byte(stage: &mut ReadStage, fifo: &mut Fifo, counted: bool, word: u16) -> bool
     requires space { HasSpace 1 counted fifo.old }
@@ -117,7 +118,7 @@ fn take_byte(stage: &mut ReadStage, fifo: &mut Fifo, counted: bool, word: u16) -
     }
 }
 
-/// A byte goes to the FIFO; after the terminal count it is dropped.
+/// A byte goes to the FIFO. After the terminal count it is dropped.
 #[inline(always)]
 fn keep_byte(fifo: &mut Fifo, counted: bool, value: u8)
     requires space { HasSpace 1 counted fifo.old }

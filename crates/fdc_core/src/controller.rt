@@ -154,7 +154,7 @@ impl Fdc {
         self.data_commands
     }
 
-    /// Its numbers are those of its registers. It does nothing.
+    /// The numbers of the controller are those that its registers hold. The function does nothing.
     pub fn ranges(&self)
         ensures { IsInRange self.now }
     {
@@ -166,7 +166,7 @@ impl Fdc {
     }
 }
 
-// A count of device steps is that of its register.
+// The count of device steps is one that its register holds. The function does nothing.
 fn keep_steps(_steps: u16)
     ensures { _steps < 65536 }
 {}

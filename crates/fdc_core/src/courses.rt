@@ -11,7 +11,7 @@ use fdc_phases::{LAST_STEP, Phase, Task, head_of};
 use fdc_stages::{ReadStage, Search, WriteStage};
 
 impl Fdc {
-    /// Whether a device step changes nothing but the places of the disks, and so each further one.
+    /// Whether a device step changes nothing but the places of the disks. Then each further step changes no more.
     #[inline(always)]
     pub fn is_still(&self) -> bool
         ensures value { result ≡ is_at_rest self.now }
@@ -29,7 +29,7 @@ impl Fdc {
         }
     }
 
-    /// Whether the poll comes in the next device step: it waits while DOR holds the controller in reset.
+    /// Whether the poll comes in the next device step. The poll waits while DOR holds the controller in reset.
     #[inline(always)]
     fn comes_poll(&self) -> bool
         ensures { result ≡ comes_poll self.now }
@@ -37,7 +37,7 @@ impl Fdc {
         self.poll_due && !self.is_held()
     }
 
-    /// Whether `is_still` or `skim` may find steps to make at once. It only chooses between two ways.
+    /// Whether `is_still` or `skim` may find steps to make at once. The answer only chooses between two ways.
     #[inline(always)]
     pub fn may_skim(&self) -> bool {
         match &self.phase {
@@ -59,9 +59,9 @@ impl Fdc {
         }
     }
 
-    /// Makes device steps at once with the selected drive, for as long as a search hears words in which nothing is seen, or a
-    /// READ DATA hears bytes of its content and DRQ stays down, and tells how many it made, at most `most`: where it is 0, the next
-    /// step is one for `step`.
+    /// Makes device steps at once with the selected drive, for as long as a search hears words in which nothing is
+    /// seen, or a READ DATA hears bytes of its content and DRQ stays down. Returns how many it made, at most `most`.
+    /// Where it returns 0, the next step is one for `step`.
     #[tactic(auto, unfolding(crate::specs::Courses::Courses))]
     pub fn skim<D: Drive>(&mut self, most: u32, drive: &mut D) -> u32
         ensures few { result ≤ most }
@@ -78,7 +78,7 @@ impl Fdc {
         }
     }
 
-    /// The same, by the task.
+    /// `skim`, by the task.
     #[tactic(auto, unfolding(crate::specs::Courses::Courses))]
     fn skim_task<D: Drive>(&mut self, most: u32, drive: &mut D) -> u32
         requires quiet { IsQuiet self.old }
@@ -101,7 +101,7 @@ impl Fdc {
         }
     }
 
-    /// The same of a READ ID.
+    /// `skim` of a READ ID.
     #[tactic(auto, unfolding(crate::specs::Courses::Courses))]
     fn skim_id<D: Drive>(&mut self, most: u32, drive: &mut D) -> u32
         requires quiet { IsQuiet self.old }
@@ -121,7 +121,7 @@ impl Fdc {
         }
     }
 
-    /// The same of a READ DATA.
+    /// `skim` of a READ DATA.
     #[tactic(auto, unfolding(crate::specs::Courses::Courses))]
     fn skim_reading<D: Drive>(&mut self, most: u32, drive: &mut D) -> u32
         requires quiet { IsQuiet self.old }
@@ -147,7 +147,7 @@ impl Fdc {
         }
     }
 
-    /// The same of a write, whose first step may meet a protected medium.
+    /// `skim` of a write, whose first step may meet a protected medium.
     #[tactic(auto, unfolding(crate::specs::Courses::Courses))]
     fn skim_writing<D: Drive>(&mut self, most: u32, drive: &mut D) -> u32
         requires quiet { IsQuiet self.old }
@@ -177,8 +177,8 @@ impl Fdc {
     }
 }
 
-/// A search hears the words ahead under a head, for as long as nothing is seen in them and the last step isn't reached. Each is a
-/// device step, with the gate closed.
+/// A search hears the words ahead under a head, for as long as nothing is seen in them and the last step isn't reached.
+/// Each is a device step, with the gate closed.
 #[inline(always)]
 fn pass_many<D: Drive>(
     search: &mut Search,
@@ -197,7 +197,8 @@ fn pass_many<D: Drive>(
     heard as u32
 }
 
-/// The first of these words, so many at most, that a data command may hear behind so many steps: its last step hears none.
+/// The first of these words that a data command may hear after `steps` device steps, at most `most`. Its last step
+/// hears none.
 pub(crate) fn first_words(words: &[u16], steps: u16, most: u32) -> &[u16]
     ensures first { result.now ≡ take (length result.now) words.now }
     ensures few { length result.now ≤ most }

@@ -82,7 +82,7 @@ impl Fdc {
         }
     }
 
-    /// The channel tells the terminal count. A READ DATA then gives no further byte, a write takes none.
+    /// The channel gives the terminal count. A READ DATA then gives no further byte, and a write takes none.
     pub fn tc(&mut self)
         ensures after { self.new ≡ told_count self.old }
         ensures reads { (past : Past) (sent : Sent) → MayRead past sent self.old → MayRead (told_in (is_executing self.old.phase) past) sent self.new }

@@ -1,5 +1,5 @@
-//! The diskette controller with the drives in its two bays: a word time of all three, word times in a row, the lines of the
-//! selected drive, and what both drives do behind a port write.
+//! The diskette controller with the drives in its two bays: a word time of all three, word times in a row, the lines of
+//! the selected drive, and what both drives do after a port write.
 
 mod following;
 mod selected;

@@ -15,7 +15,7 @@ use fdc_phases::{Formatting, LAST_STEP, NO_KEY, Task, head_of, is_format_over};
 use fdc_stages::{Ending, FormatNext};
 
 impl Fdc {
-    /// A device step of a FORMAT, behind `steps` others. A protected medium is met in the first.
+    /// A device step of a FORMAT, after `steps` others. A protected medium is met in the first.
     pub(crate) fn step_formatting<D: Drive>(
         &mut self,
         head_drive: u8,
@@ -107,7 +107,7 @@ impl Fdc {
         }
     }
 
-    /// Writes the next word. The gate opens before the first, and closes behind the last.
+    /// Writes the next word. The gate opens before the first word, and closes after the last.
     fn lay_word<D: Drive>(
         &mut self,
         head_drive: u8,

@@ -1,5 +1,5 @@
-//! The diskette controller (Intel 82077AA data sheet, in PC/AT mode, in outline): its ports, its commands, its reset and
-//! polling, and its side of the DMA channel, device step by device step.
+//! The diskette controller (Intel 82077AA data sheet, in PC/AT mode, in outline): its ports, its commands, its reset
+//! and polling, and its side of the DMA channel, device step by device step.
 #![tactic(auto)]
 
 mod commands;

@@ -50,7 +50,8 @@ impl Fdc {
         }
     }
 
-    /// Whether a byte that is written to a port resets the controller: to DOR with bit 2 zero, or to DSR with bit 7 one.
+    /// Whether a byte that is written to a port resets the controller. It does in DOR with bit 2 zero, and in DSR with
+    /// bit 7 one.
     pub fn is_reset_by(port: u16, value: u8) -> bool
         ensures { result ≡ resets port value }
     {

@@ -41,8 +41,8 @@ impl Fdc {
         }
     }
 
-    /// A byte of the field goes to the FIFO, unless the terminal count came. How the command ends, where it failed: the byte
-    /// may have found the FIFO full.
+    /// A byte of the field goes to the FIFO, unless the terminal count came. Returns how the command ended, if it
+    /// failed: the byte may have found the FIFO full.
     #[inline(always)]
     fn take(&mut self, counted: bool, heard: ReadHeard) -> Option<Ending>
         ensures phase { self.new.phase ≡ self.old.phase }
@@ -77,7 +77,7 @@ impl Fdc {
         }
     }
 
-    /// The same, whatever is in execution.
+    /// The same as `settle`, whatever is in execution.
     #[inline(never)]
     fn end_or_ask(&mut self)
         ensures { self.new ≡ settled self.old }

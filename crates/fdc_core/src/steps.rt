@@ -98,7 +98,7 @@ impl Fdc {
         }
     }
 
-    /// The same where it is to come, which it does once the reset is over.
+    /// The same where the poll is to come, which it does once the reset is over.
     #[inline(always)]
     fn poll_drives(&mut self)
         requires { self.old.poll_due ≡ true }
@@ -154,8 +154,8 @@ impl Fdc {
         pulse
     }
 
-    /// A device step of a data command. The usual one, in which a word passes by a READ DATA that searches, is made in place; each
-    /// other is a call, so that nothing is copied here.
+    /// A device step of a data command. The usual one, in which a word passes by a READ DATA that searches, is made in
+    /// place. Each other is a call, so that nothing is copied here.
     #[inline(always)]
     fn execute<D: Drive>(&mut self, drive: &mut D)
         ensures { ExecutionSteps self.old.phase self.old (D.state drive.old) (D.state drive.new) self.new }
@@ -185,7 +185,8 @@ impl Fdc {
         }
     }
 
-    /// READ DATA hears a word that didn't pass by: it is mostly a byte of its content, which has a short way here.
+    /// READ DATA hears a word that didn't pass by. Most such words are bytes of its content, which have a short way
+    /// here.
     #[inline(never)]
     fn hear_seen(&mut self, passing: Turn)
         requires { HasStepsLeft self.old.phase }
@@ -252,7 +253,7 @@ impl Fdc {
         }
     }
 
-    /// The same, whatever the step is. What is done is copied here.
+    /// A device step of a data command, whatever the step is. What is done is copied here.
     #[inline(never)]
     pub(crate) fn execute_rare<D: Drive>(&mut self, drive: &mut D)
         ensures { ExecutionSteps self.old.phase self.old (D.state drive.old) (D.state drive.new) self.new }
@@ -301,7 +302,7 @@ impl Fdc {
         }
     }
 
-    /// A device step of a READ ID or READ DATA, behind `steps` others.
+    /// A device step of a READ ID or READ DATA, after `steps` others.
     #[inline(always)]
     fn listen_on<D: Drive>(&mut self, head_drive: u8, steps: u16, task: Task, drive: &mut D)
         requires { self.old.phase ≡ Phase.Execute (record { head_drive = head_drive; steps = steps; task = task }) }
@@ -361,7 +362,8 @@ impl Fdc {
     }
 }
 
-/// The word that a controller of this rate sees in this word time: 0000 where its rate isn't the medium's. The gate is closed.
+/// The word that a controller of this rate sees in this word time. It is 0000 where the rate isn't the medium's. The
+/// gate is closed.
 #[inline(always)]
 pub(crate) fn listen<D: Drive>(rate: DataRate, head: u8, drive: &mut D) -> Turn
     ensures word { SeesUnder rate head (D.state drive.old) result.word (D.state drive.new) }
@@ -387,7 +389,8 @@ fn seen(rate: DataRate, heard: Heard) -> Turn
     }
 }
 
-/// Lets what a drive of the controller's rate gives pass by a READ DATA, and tells whether it does: else nothing changes.
+/// Lets a word of a drive of the controller's rate pass by a READ DATA. Returns whether it passed. If it didn't,
+/// nothing changes.
 #[inline(always)]
 fn pass_by(stage: &mut ReadStage, rate: DataRate, heard: Heard) -> bool
     ensures passed { result ≡ true → (rate_fits rate heard.rate ≡ true) × (heard.turn.index ≡ false)

@@ -65,8 +65,8 @@ impl Fdc {
         }
     }
 
-    /// A device step of a write. The usual one writes the next word of the window in place; each other is a call at the end, so that
-    /// nothing is copied here.
+    /// A device step of a write. The usual one writes the next word of the window in place. Each other is a call at the
+    /// end, so that nothing is copied here.
     #[inline(never)]
     pub(crate) fn put_on<D: Drive>(&mut self, drive: &mut D)
         ensures { ExecutionSteps self.old.phase self.old (D.state drive.old) (D.state drive.new) self.new }
@@ -101,7 +101,7 @@ impl Fdc {
         }
     }
 
-    /// The write goes on behind a word that it wrote, unless it is over.
+    /// The write goes on after a word that it wrote, unless it is over.
     #[inline(always)]
     fn follow_put<D: Drive>(&mut self, counted: bool, over: Option<End>, drive: &mut D)
         ensures state { self.new ≡ gone_or_over counted over self.old }
@@ -113,8 +113,8 @@ impl Fdc {
         }
     }
 
-    /// A device step of a FORMAT. The usual one writes the next word of the layout in place; each other is a call at the end, so that
-    /// nothing is copied here.
+    /// A device step of a FORMAT. The usual one writes the next word of the layout in place. Each other is a call at
+    /// the end, so that nothing is copied here.
     #[inline(never)]
     pub(crate) fn lay_on<D: Drive>(&mut self, drive: &mut D)
         ensures { ExecutionSteps self.old.phase self.old (D.state drive.old) (D.state drive.new) self.new }
@@ -152,7 +152,7 @@ impl Fdc {
         }
     }
 
-    /// The FORMAT goes on behind a word that it wrote, unless it is over.
+    /// The FORMAT goes on after a word that it wrote, unless it is over.
     #[inline(always)]
     fn follow_laid<D: Drive>(
         &mut self,
@@ -170,7 +170,7 @@ impl Fdc {
         }
     }
 
-    /// The command ends behind a word that it wrote: the gate is closed.
+    /// The command ends after a word that it wrote: the gate is closed.
     #[inline(never)]
     pub(crate) fn close<D: Drive>(
         &mut self,

@@ -11,7 +11,7 @@ use fdc_phases::Phase;
 use fdc_stages::Ending;
 
 impl Fdc {
-    /// Whether the data port takes a byte, and none of a command has come.
+    /// Whether the data port takes a byte, and no byte of a command has come.
     pub fn is_idle(&self) -> bool
         ensures { result ≡ is_idle self.now }
     {
@@ -50,8 +50,8 @@ impl Fdc {
         }
     }
 
-    /// How a data command ended, while the host reads its results: they are given up, INT falls, and the controller takes
-    /// commands.
+    /// How a data command ended, while the host reads its results. The results are given up, INT falls, and the
+    /// controller takes commands.
     pub fn take_ending(&mut self) -> Option<Ending>
         ensures ending { result ≡ ending_told self.old }
         ensures after { self.new ≡ given_up self.old }
@@ -69,7 +69,7 @@ impl Fdc {
         self.phase.mark()
     }
 
-    /// Forgets a seek that has ended, with its interrupt, and tells whether there was one.
+    /// Forgets a seek that has ended, with its interrupt. Returns whether there was one.
     pub fn forget_seek(&mut self) -> bool
         ensures told { result ≡ has_ended_seek self.old.seeks }
         ensures after { self.new ≡ without_seek self.old }
@@ -81,7 +81,8 @@ impl Fdc {
         true
     }
 
-    /// Begins a RECALIBRATE that gives so many pulses at most, where the first byte of a command may come and no seek bit is set.
+    /// Begins a RECALIBRATE that gives at most so many pulses, where the first byte of a command may come and no seek
+    /// bit is set.
     pub fn recalibrate_within(&mut self, drive: u8, pulses: u8)
         ensures { self.new ≡ recalibrated_within drive pulses self.old }
     {

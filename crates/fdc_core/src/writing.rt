@@ -19,7 +19,7 @@ use fdc_stages::{Ending, WriteNext};
 const NO_BYTE: u8 = 0x00;
 
 impl Fdc {
-    /// A device step of a write, behind `steps` others. A protected medium is met in the first.
+    /// A device step of a write, after `steps` others. A protected medium is met in the first.
     pub(crate) fn step_writing<D: Drive>(
         &mut self,
         head_drive: u8,
@@ -98,7 +98,7 @@ impl Fdc {
         }
     }
 
-    /// Writes the next word. The gate opens before the first, and closes behind the last.
+    /// Writes the next word. The gate opens before the first word, and closes after the last.
     fn put_word<D: Drive>(
         &mut self,
         head_drive: u8,
@@ -145,8 +145,8 @@ impl Fdc {
     }
 }
 
-/// The byte that the next word records, where it needs one: the oldest, and 00 behind the terminal count where there is none. None
-/// where it is missing.
+/// The byte that the next word records, where it needs one: the oldest in the FIFO, or 00 if the FIFO is empty after
+/// the terminal count. None if the byte is missing.
 #[inline(always)]
 pub(crate) fn take_byte(fifo: &mut Fifo, needs: bool, counted: bool) -> Option<u8>
     ensures byte { result ≡ byte_taken needs counted fifo.old }

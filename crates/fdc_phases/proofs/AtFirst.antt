@@ -1,10 +1,10 @@
--- What is so of the data commands as they begin.
+-- What holds of the data commands as they begin.
 use Rattle.std.proofs.Common.{◌≡◌, ◌≤◌, ℕ, ◌+◌, Bool, true, false, not, ◌&&◌, ◌||◌, ◌==◌, [], length, nat_le, refl, ap, arith}
 use Rattle.std.proofs.lemmas.Bool.{false≢true}
 use Rattle.fdc_registers.specs.Fifo.{Fifo, room_of, low_level, wants}
 use Rattle.fdc_phases.specs.Written.{AsksWithRoom}
 
--- DRQ by the FIFO's rule is up only where there is room
+-- by the FIFO's rule DRQ is up only where there is room
 asks_room : (counted full asking low : Bool) → (not (counted || full) && (asking || low)) ≡ true → (counted ≡ false) × (full ≡ false)
 asks_room true full asking low up = absurd (false≢true up)
 asks_room false true asking low up = absurd (false≢true up)

@@ -9,22 +9,22 @@ use Rattle.fdc_phases.specs.Waiting.{TaskWaits}
 use Rattle.fdc_phases.specs.Written.{MayWriteTask, MayFormatTask}
 use Rattle.fdc_stages.specs.Formats.{Numbers}
 
--- READ ID, which has heard nothing
+-- the task is a READ ID that has heard nothing
 abbrev pub IsReadingId : ℕ → Task → Type 0
 IsReadingId head_drive task = MayReadIdTask new_past head_drive head_drive 0 task
 
--- READ DATA of what was sent, which has heard and given nothing
+-- the task is a READ DATA of what was sent; it has heard and given nothing
 abbrev pub IsReadingData : Sent → Task → Type 0
 IsReadingData sent task = MayReadTask new_past sent sent.head_drive 0 task false []
 
--- it can wait nine device steps for DMA, where the FIFO is on
+-- the task can wait nine device steps for DMA, where the FIFO is on and empty
 abbrev pub WaitsAtFirst : Task → Type 0
 WaitsAtFirst task = (fifo : Fifo) → fifo.bytes ≡ [] → fifo.on ≡ true → TaskWaits 9 task fifo
 
--- WRITE DATA or WRITE DELETED of what was sent, which has heard, taken and written nothing
+-- the task is a WRITE DATA or WRITE DELETED of what was sent; it has heard, taken and written nothing
 abbrev pub IsWritingData : Sent → Bool → Task → Type 0
 IsWritingData sent deleted task = (fifo : Fifo) (asking : Bool) → fifo.bytes ≡ [] → MayWriteTask new_past sent deleted sent.head_drive 0 task (task_asks task asking fifo) fifo
 
--- FORMAT TRACK of these numbers, which has heard, taken and written nothing
+-- the task is a FORMAT TRACK with these numbers; it has heard, taken and written nothing
 abbrev pub IsFormattingTrack : ℕ → Numbers → Task → Type 0
 IsFormattingTrack head_drive numbers task = (fifo : Fifo) (asking : Bool) → fifo.bytes ≡ [] → MayFormatTask new_past head_drive numbers head_drive 0 task (task_asks task asking fifo) fifo

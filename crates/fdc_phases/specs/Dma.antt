@@ -7,7 +7,7 @@ use Rattle.fdc_phases.specs.declared.phases.Phase.TheVariants.{Execute}
 use Rattle.fdc_phases.specs.declared.phases.Task.{Task}
 use Rattle.fdc_phases.specs.declared.phases.Task.TheVariants.{ReadId, Read, Write, Format}
 
--- DRQ by the FIFO's rule, where it was `asking` before; only a command that moves bytes asks
+-- DRQ by the FIFO's rule, where `asking` is what it was before; only a command that moves bytes requests DMA
 abbrev pub task_asks : Task → Bool → Fifo → Bool
 task_asks (Read reading) asking fifo = wants true asking (is_over reading.stage) fifo
 task_asks (ReadId _) asking fifo = false
@@ -18,8 +18,8 @@ abbrev pub phase_asks : Phase → Bool → Fifo → Bool
 phase_asks (Execute execution) asking fifo = task_asks execution.task asking fifo
 phase_asks _ asking fifo = false
 
--- the terminal count comes: a READ DATA gives no further byte, and its FIFO is emptied; a write takes no further byte, and
--- those in the FIFO stay
+-- the terminal count comes: a READ DATA gives no further byte, and its FIFO is emptied. A write takes no further byte,
+-- and the bytes in its FIFO stay
 abbrev pub task_told : Task → Task
 task_told (ReadId search) = ReadId search
 task_told (Read reading) = Read (told reading)

@@ -17,14 +17,14 @@ abbrev pub is_ended : FormatNext → Bool
 is_ended (Ended _ _) = true
 is_ended (On _) = false
 
--- a FORMAT is in execution, behind so many steps
+-- a FORMAT is in execution, after so many steps
 abbrev pub IsFormattingAt : ℕ → ℕ → Formatting → Phase → Type 0
 IsFormattingAt head_drive steps formatting phase =
     phase ≡ Execute (record { head_drive = head_drive; steps = steps; task = Format formatting })
 
 -- ---- what a stage makes of a word, whatever has passed before
 
--- where it is heard; a stage whose gate is open stays as it is
+-- a stage whose gate is closed hears a word, and this is what comes of it; a stage whose gate is open stays as it is
 abbrev pub StageHearsIndex : Formatting → Bool → FormatNext → Type 0
 StageHearsIndex formatting index next =
     ((past : Past) (numbers : Numbers) (handed : List ℕ) (word : ℕ) → is_open formatting.stage ≡ false → IsFormatting past numbers handed formatting.stage

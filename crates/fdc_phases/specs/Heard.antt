@@ -35,7 +35,7 @@ stepped past = record past { steps = past.steps + 1 }
 abbrev pub gave : ℕ → Past → Past
 gave byte past = record past { given = past.given ++ byte ∷ [] }
 
--- the terminal count came, in execution or not
+-- the terminal count came, or didn't
 abbrev pub told_in : Bool → Past → Past
 told_in true past = record past { counted = true }
 told_in false past = past
@@ -47,8 +47,8 @@ abbrev pub sent_of : ℕ → Reading → Sent
 sent_of head_drive reading =
     record { head_drive = head_drive; key = reading.wanted.key; last_sector = reading.last_sector }
 
--- a reading in execution: each device step heard a word, and of the bytes that it told, these are given to memory or in the
--- FIFO
+-- a reading in execution: each device step heard a word. Of the bytes that it decoded (told), `bytes` were given to
+-- memory or are in the FIFO; these are all of them, or after the terminal count the first of them
 pub record IsUnderway (past : Past) (sent : Sent) (head_drive : ℕ) (reading : Reading) (steps : ℕ) (bytes told : List ℕ) : Type 0 where
   pub sent_is : sent_of head_drive reading ≡ sent
   pub counted_is : past.counted ≡ reading.counted
@@ -57,7 +57,7 @@ pub record IsUnderway (past : Past) (sent : Sent) (head_drive : ℕ) (reading : 
   pub reads : IsReading past reading.wanted.key told reading.stage
   pub bytes_are : IsStart reading.counted bytes told
 
--- DRQ is up only where a byte is there
+-- DRQ is up only where a byte is in the FIFO
 abbrev pub AsksRightly : Bool → List ℕ → Type 0
 AsksRightly asking bytes = asking ≡ true → (length bytes == 0) ≡ false
 
@@ -67,19 +67,19 @@ MayReadTask past sent head_drive steps (Read reading) asking fifo =
     × ((told : List ℕ) × IsUnderway past sent head_drive reading steps (past.given ++ fifo) told)
 MayReadTask past sent head_drive steps _ asking fifo = ⊥
 
--- where the field was over before the terminal count, all that it told was given
+-- where the field was over before the terminal count, no decoded byte is left that wasn't given
 abbrev pub IsSpent : Ending → List ℕ → Type 0
 IsSpent NoCount rest = rest ≡ []
 IsSpent _ rest = Unit {0}
 
--- a reading has ended so, and the bytes that were given to memory are the first of those that it told
+-- a reading has this ending, and the bytes that were given to memory are the first of those that it decoded
 pub record HasEndedAs (past : Past) (key : Chrn) (ending : Ending) (told : List ℕ) : Type 0 where
   pub read : HasRead past key told ending
   pub rest : List ℕ
   pub bytes_are : told ≡ past.given ++ rest
   pub spent : IsSpent ending rest
 
--- the results of a READ DATA that ended so
+-- the results of a READ DATA with this ending
 abbrev pub results_sent : Ending → Sent → Results
 results_sent ending sent = results_of ending sent.head_drive (key_after ending sent.key sent.last_sector)
 
@@ -107,12 +107,12 @@ abbrev pub MayReadIdTask : Past → ℕ → ℕ → ℕ → Task → Type 0
 MayReadIdTask past sent head_drive steps (ReadId search) = IsIdentifying past sent head_drive steps search
 MayReadIdTask past sent head_drive steps _ = ⊥
 
--- the key in the results: 00 00 00 00 of a failure
+-- the key in the results: the one that was met, 00 00 00 00 where the command failed
 abbrev pub key_met : Ending → Chrn → Chrn
 key_met (Done _) key = key
 key_met _ key = no_key
 
--- the results tell of this ending, and where it is IC 00 of an address field
+-- the results are those of this ending, and what passed is its cause; where IC is 00, an address field has their key
 abbrev pub IdentifiedAs : Past → ℕ → Ending → Results → Type 0
 IdentifiedAs past sent ending results =
     (results ≡ results_of ending sent (key_met ending results.key)) × HasIdentified past results.key ending

@@ -34,21 +34,21 @@ is_reading _ = false
 abbrev pub head_of : ℕ → ℕ
 head_of head_drive = head_drive / 4 % 2
 
--- the key in the results of a failure: as it was sent, 00 00 00 00 where none was
+-- the key in the results of a failure: the key as it was sent, 00 00 00 00 where none was sent
 abbrev pub key_as_sent : Task → Chrn
 key_as_sent (ReadId _) = no_key
 key_as_sent (Read reading) = reading.wanted.key
 key_as_sent (Write writing) = writing.wanted.key
 key_as_sent (Format _) = no_key
 
--- a write at a stage, and once the terminal count came
+-- a write at another stage; below, a write once the terminal count came
 abbrev pub write_at : Writing → WriteStage → Writing
 write_at writing stage = record writing { stage = stage }
 
 abbrev pub write_told : Writing → Writing
 write_told writing = record writing { counted = true }
 
--- a FORMAT at a stage, and once the terminal count came
+-- a FORMAT at another stage; below, a FORMAT once the terminal count came
 abbrev pub format_at : Formatting → FormatStage → Formatting
 format_at formatting stage = record formatting { stage = stage }
 
@@ -64,11 +64,11 @@ abbrev pub is_over : ReadStage → Bool
 is_over (Over _ _) = true
 is_over _ = false
 
--- how a field that is over ends the command: its check counts before the terminal count
+-- how a field that is over ends the command: a wrong CRC is reported whether or not the terminal count came
 abbrev pub ending_over : Bool → Bool → Bool → Ending
 ending_over good counted deleted = if good then (if counted then Done deleted else NoCount) else BadCheck
 
--- how the command ends, where the field is over
+-- how the command ends, if its field is over
 abbrev pub ending_at : ReadStage → Bool → Option Ending
 ending_at (Over deleted good) counted = Some (ending_over good counted deleted)
 ending_at _ counted = None
@@ -91,7 +91,7 @@ abbrev pub is_moving : Phase → Bool
 is_moving (Execute execution) = moves_bytes execution.task
 is_moving _ = false
 
--- the results tell OR
+-- the results have the bit OR
 abbrev pub overran : Ending → Bool
 overran Overrun = true
 overran _ = false
@@ -104,7 +104,7 @@ abbrev pub is_overrun : Phase → Bool
 is_overrun (Result answer) = answers_overrun answer
 is_overrun _ = false
 
--- how READ DATA ends where its field is over, and the key in its results
+-- how READ DATA ends if its field is over, and the key in its results
 abbrev pub over_with : Option Ending → ℕ → Reading → Option End
 over_with None head_drive reading = None
 over_with (Some ending) head_drive reading =
@@ -118,12 +118,12 @@ abbrev pub over_of : Phase → Option End
 over_of (Execute execution) = over_at execution.task execution.head_drive
 over_of _ = None
 
--- how the data command ended whose results the host reads
+-- how the data command ended, if the host reads its results
 abbrev pub ending_of_phase : Phase → Option Ending
 ending_of_phase (Result (Long ending _ _)) = Some ending
 ending_of_phase _ = None
 
--- the mark of the data field that a READ DATA reads, once it is met: F8 is true
+-- the mark of the data field that a READ DATA reads, once the mark is met; true is F8
 abbrev pub mark_in : Task → Option Bool
 mark_in (Read reading) = mark_at reading.stage
 mark_in _ = None

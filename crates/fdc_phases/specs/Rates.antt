@@ -16,6 +16,6 @@ rate_fits Kbit500 R500 = true
 rate_fits Kbit250 R250 = true
 rate_fits _ _ = false
 
--- the word that the controller sees where this one passes: 0000 at another rate
+-- the word that the controller sees where this word passes: 0000 at another rate than the medium's
 abbrev pub seen_of : Bool → ℕ → ℕ
 seen_of fits word = if fits then word else 0

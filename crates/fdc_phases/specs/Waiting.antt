@@ -1,4 +1,4 @@
--- How long a data command can wait for DMA: so many device steps, no byte finds the FIFO full or is missing.
+-- How many device steps a data command can wait for DMA, until a byte finds the FIFO full or is missing.
 use Rattle.std.specs.Prelude.{◌≡◌, ℕ, ◌+◌, ◌≤◌, Bool, true, false, length}
 use Rattle.fdc_registers.specs.Fifo.{Fifo, room_of}
 use Rattle.fdc_stages.specs.Leads.{HasLead}
@@ -19,8 +19,8 @@ abbrev pub phase_counted : Phase → Bool
 phase_counted (Execute execution) = task_counted execution.task
 phase_counted _ = true
 
--- so many device steps can pass without a transfer: a reading has room in the FIFO; of a write, bytes in the FIFO and words
--- that need none are to come first
+-- so many device steps can pass without a transfer. A READ DATA has so much room in the FIFO; for a write, so many
+-- bytes are in the FIFO, or words that need no byte come first
 abbrev pub TaskWaits : ℕ → Task → Fifo → Type 0
 TaskWaits slack (ReadId _) fifo = Unit {0}
 TaskWaits slack (Read reading) fifo = reading.counted ≡ false → slack + length fifo.bytes ≤ room_of fifo.on

@@ -21,7 +21,7 @@ abbrev pub is_ended : WriteNext → Bool
 is_ended (Ended _) = true
 is_ended (On _) = false
 
--- what a word gave, from how the command is over, where it is, and its stage as it then is
+-- what a word made of a write: how the command is over, if this is given, else the stage at which it goes on
 abbrev pub write_over : WriteStage → Option End → WriteNext
 write_over after None = On after
 write_over after (Some over) = Ended over.ending
@@ -30,13 +30,13 @@ abbrev pub write_end : Ending → ℕ → Writing → End
 write_end ending head_drive writing =
     record { ending = ending; head_drive = head_drive; key = key_after ending writing.wanted.key writing.last_sector }
 
--- a write is in execution, behind so many steps
+-- a write is in execution, after so many steps
 abbrev pub IsWritingAt : ℕ → ℕ → Writing → Phase → Type 0
 IsWritingAt head_drive steps writing phase = phase ≡ Execute (record { head_drive = head_drive; steps = steps; task = Write writing })
 
 -- ---- what a stage makes of a word, whatever has passed before
 
--- where it is heard; a stage whose gate is open stays as it is
+-- a stage whose gate is closed hears a word, and this is what comes of it; a stage whose gate is open stays as it is
 abbrev pub StageHearsWord : Writing → Bool → ℕ → WriteNext → Type 0
 StageHearsWord writing index word next =
     ((past : Past) (deleted : Bool) (handed : List ℕ) → is_open writing.stage ≡ false → IsWriting past writing.wanted.key deleted handed writing.stage
@@ -52,7 +52,7 @@ pub record StageWritesWord (writing : Writing) (byte : ℕ) (index : Bool) (give
   pub well : EndsWell next
   pub lead : is_due writing.stage ≡ true → LeadsOn (lead_of writing.stage) next
 
--- in place: a word of the window was written, which was the last or wasn't
+-- a word of the window was written at this stage, as the last one or not, and this is what comes of it
 pub record EndsWord (now : WriteStage) (last index counted : Bool) (next : WriteNext) : Type 0 where
   pub goes_on : (past : Past) (key : Chrn) (deleted : Bool) (handed : List ℕ) (word : ℕ) → is_open now ≡ true → past.counted ≡ counted
       → IsNextWord past key deleted handed word (rest_behind last now) → HasNext (wrote index word past) key deleted handed next

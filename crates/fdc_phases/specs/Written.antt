@@ -23,14 +23,14 @@ use Rattle.fdc_phases.specs.declared.transfers.Writing.{Writing}
 abbrev pub took : ℕ → Past → Past
 took byte past = record past { taken = past.taken ++ byte ∷ [] }
 
--- the bytes that were handed in, and then those in the FIFO, are those that were taken; or behind the terminal count all that
--- were taken were handed in, and then so many 00
+-- the bytes that were handed in, and then those in the FIFO, are the bytes that were taken from memory; or the terminal
+-- count came, and all bytes that were taken were handed in, and then so many bytes 00
 abbrev pub IsHanded : Bool → List ℕ → List ℕ → List ℕ → Type 0
 IsHanded counted taken handed fifo =
     (handed ++ fifo ≡ taken) ⊎ ((counted ≡ true) × (fifo ≡ []) × ((zeros : ℕ) × (handed ≡ taken ++ replicate zeros 0)))
 
--- the bytes that were handed in are the first of those that were taken; or behind the terminal count all of them, and then so
--- many 00
+-- the bytes that were handed in are the first of those that were taken from memory; or the terminal count came, and
+-- they are all of those, and then so many bytes 00
 abbrev pub IsContent : Bool → List ℕ → List ℕ → Type 0
 IsContent counted taken handed =
     ((rest : List ℕ) × (taken ≡ handed ++ rest)) ⊎ ((counted ≡ true) × ((zeros : ℕ) × (handed ≡ taken ++ replicate zeros 0)))
@@ -63,7 +63,7 @@ MayWriteTask past sent deleted head_drive steps (Write writing) asking fifo =
     × ((handed : List ℕ) × IsWritingOn past sent deleted head_drive writing steps fifo.bytes handed)
 MayWriteTask past sent deleted head_drive steps _ asking fifo = ⊥
 
--- a write has ended so, with this content handed in
+-- a write has this ending, and this content was handed in
 pub record HasWrittenAs (past : Past) (key : Chrn) (deleted : Bool) (ending : Ending) (handed : List ℕ) : Type 0 where
   pub written : HasWritten past key deleted handed ending
   pub content : IsContent past.counted past.taken handed
@@ -97,7 +97,7 @@ MayFormatTask past sent numbers head_drive steps (Format formatting) asking fifo
     × ((handed : List ℕ) × IsFormattingOn past sent numbers head_drive formatting steps fifo.bytes handed)
 MayFormatTask past sent numbers head_drive steps _ asking fifo = ⊥
 
--- a FORMAT has ended so, with these bytes of keys handed in and this key in its results
+-- a FORMAT has this ending, these bytes of keys were handed in, and this key is in its results
 pub record HasFormattedAs (past : Past) (numbers : Numbers) (ending : Ending) (key : Chrn) (handed : List ℕ) : Type 0 where
   pub formatted : HasFormatted past numbers handed ending
   pub result : IsResultKey numbers handed ending key

@@ -11,12 +11,12 @@ use flop_base::Chrn;
 /// The bytes that the host still has to read.
 #[derive(Clone, Copy)]
 pub enum Answer {
-    /// Those of a command without execution.
+    /// The result bytes of a command without an execution phase.
     Short {
         next: u8,
         last: Option<u8>,
     },
-    /// The seven of a data command that ended so; so many were read.
+    /// The seven of a data command with this ending, of which so many were read.
     Long {
         ending: Ending,
         results: Results,
@@ -65,8 +65,8 @@ fn st2(ending: Ending) -> St2
     }
 }
 
-/// The results of a data command that ended so, with this key. `head_drive` has the head in bit 2 and the drive in bits 1
-/// and 0, as the command sent them.
+/// The results of a data command with this ending and this key. `head_drive` has the head in bit 2 and the drive in
+/// bits 1 and 0, as the command sent them.
 pub fn results(ending: Ending, head_drive: u8, key: Chrn) -> Results
     ensures { result ≡ results_of ending head_drive key }
 {
@@ -79,7 +79,7 @@ pub fn results(ending: Ending, head_drive: u8, key: Chrn) -> Results
 }
 
 impl Answer {
-    /// Whether these are the results of a data command of which none was read.
+    /// Whether these are the results of a data command, and none of them was read.
     pub fn is_fresh(self) -> bool
         ensures { result ≡ is_fresh self }
     {
@@ -89,7 +89,7 @@ impl Answer {
         }
     }
 
-    /// The byte that the host reads next: FF behind the seventh of a data command.
+    /// The byte that the host reads next; after the seventh of a data command it is FF.
     pub fn next(self) -> u8
         ensures { result ≡ next_byte self }
     {
@@ -102,7 +102,7 @@ impl Answer {
         }
     }
 
-    /// The phase once the host read that byte: behind the last the controller takes commands.
+    /// The phase after the host read that byte; after the last one the controller takes commands.
     pub fn after(self) -> Phase
         ensures { result ≡ after_byte self }
     {

@@ -1,8 +1,8 @@
-//! What the diskette controller is doing (Intel 82077AA data sheet, in outline): its phases, the data commands in execution
-//! with how far each is, and the result bytes.
+//! What the diskette controller is doing (Intel 82077AA data sheet, in outline): its phases, the data commands in
+//! execution and how far each is, and the result bytes.
 //!
-//! Nothing here moves a drive, a line or a FIFO: a phase is a value, and a byte, a word or the terminal count gives the one
-//! after it.
+//! Nothing here moves a drive, a line or a FIFO. A phase is a value; a byte, a word or the terminal count gives the
+//! next phase.
 #![tactic(auto)]
 
 mod answers;

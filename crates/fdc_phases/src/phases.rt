@@ -19,7 +19,7 @@ pub const NO_KEY: Chrn = Chrn {
 /// The step that ends a data command, whatever it does.
 pub const LAST_STEP: u16 = 65535;
 
-/// Whether the step behind so many others is that one.
+/// Whether the step after so many others is the last step.
 #[inline(always)]
 pub fn is_last(steps: u16) -> bool
     ensures { result ≡ false → steps < 65535 }
@@ -30,11 +30,11 @@ pub fn is_last(steps: u16) -> bool
 /// The phase of the controller.
 #[derive(Clone, Copy)]
 pub enum Phase {
-    /// It takes command bytes.
+    /// The controller takes command bytes.
     Command,
-    /// It executes a data command, word time by word time.
+    /// The controller executes a data command, word time by word time.
     Execute { execution: Execution },
-    /// It gives result bytes.
+    /// The controller gives result bytes.
     Result { answer: Answer },
 }
 
@@ -62,7 +62,7 @@ pub enum Task {
     Format { formatting: Formatting },
 }
 
-/// How a data command ends whose field is over.
+/// How a data command ends.
 #[derive(Clone, Copy)]
 pub struct End {
     pub ending: Ending,
@@ -95,7 +95,7 @@ impl Phase {
         }
     }
 
-    /// The mark of the data field that a READ DATA reads, once it is met.
+    /// The mark of the data field that a READ DATA reads, once the mark is met.
     pub fn mark(&self) -> Option<bool>
         ensures { result ≡ mark_of_phase self.now }
     {
@@ -105,7 +105,7 @@ impl Phase {
         }
     }
 
-    /// How a READ DATA ends, where its field is over.
+    /// How a READ DATA ends, if its field is over.
     pub fn over(&self) -> Option<End>
         ensures { result ≡ over_of self.now }
     {
@@ -124,7 +124,7 @@ pub fn head_of(head_drive: u8) -> u8
 }
 
 impl Execution {
-    /// How a READ DATA ends, where its field is over.
+    /// How a READ DATA ends, if its field is over.
     fn over(&self) -> Option<End>
         ensures { result ≡ over_at self.now.task self.now.head_drive }
     {
@@ -141,7 +141,7 @@ impl Execution {
         }
     }
 
-    /// The mark of the data field that a READ DATA reads, once it is met.
+    /// The mark of the data field that a READ DATA reads, once the mark is met.
     fn mark(&self) -> Option<bool>
         ensures { result ≡ mark_in self.now.task }
     {
@@ -153,7 +153,7 @@ impl Execution {
 }
 
 impl Task {
-    /// The key in the results of a failure: as it was sent, 00 00 00 00 where none was.
+    /// The key in the results of a failure: the key as it was sent, 00 00 00 00 where none was sent.
     pub fn key_as_sent(self) -> Chrn
         ensures { result ≡ key_as_sent self }
     {

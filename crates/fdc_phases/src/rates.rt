@@ -4,7 +4,8 @@ ghost use Rattle.fdc_phases.specs.Rates.{rate_fits, rate_chosen};
 
 use flop_base::Rate;
 
-/// A data rate, as bits 1 and 0 of DSR and CCR choose it. The two that a medium has come first, in the order of `Rate`.
+/// A data rate, as bits 1 and 0 of DSR and CCR choose it. The two rates that media have come first, in the order of
+/// `Rate`.
 #[derive(Clone, Copy, PartialEq, Eq, Debug)]
 pub enum DataRate {
     /// 00: 500 kbit/s.
@@ -30,7 +31,7 @@ impl DataRate {
         }
     }
 
-    /// Whether a medium of this rate can be read and written at it.
+    /// Whether a medium of this rate can be read and written at the data rate.
     pub fn fits(self, medium: Rate) -> bool
         ensures { result ≡ rate_fits self medium }
     {

@@ -12,7 +12,7 @@ use fdc_stages::{Ending, FormatStage, ReadStage, Search, WriteStage};
 use flop_base::Chrn;
 use saved_state::{Saved, Sink, Source};
 
-/// A key with a size code of a sector; any other gets that of 256 bytes.
+/// A key as one whose size code is that of a sector; any other size code becomes that of 256 bytes.
 fn sized(key: Chrn) -> SizedKey
     ensures { IsSizeCode key.n → result.key ≡ key }
 {

@@ -23,7 +23,7 @@ pub struct Reading {
     pub last_sector: u8,
     /// The terminal count came.
     pub counted: bool,
-    /// How far it is.
+    /// How far the command is.
     pub stage: ReadStage,
 }
 
@@ -38,7 +38,7 @@ pub struct Writing {
     pub last_sector: u8,
     /// The terminal count came.
     pub counted: bool,
-    /// How far it is.
+    /// How far the command is.
     pub stage: WriteStage,
 }
 
@@ -47,7 +47,7 @@ pub struct Writing {
 pub struct Formatting {
     /// The terminal count came.
     pub counted: bool,
-    /// How far it is.
+    /// How far the command is.
     pub stage: FormatStage,
 }
 
@@ -85,7 +85,7 @@ impl Reading {
         matches!(self.stage, ReadStage::Over { .. })
     }
 
-    /// How the command ends, where the field is over and all its bytes went to memory.
+    /// How the command ends, if its field is over and all its bytes went to memory.
     pub(crate) fn ending(&self) -> Option<Ending>
         ensures { result ≡ ending_of self.now }
     {
@@ -109,7 +109,7 @@ impl Reading {
 }
 
 impl Writing {
-    /// Whether the step behind `steps` others does no more than hear a word: it isn't the first nor the last, and none is due.
+    /// Whether the step after `steps` others only hears a word: it isn't the first nor the last, and no word is due.
     #[inline(always)]
     pub fn only_hears(&self, steps: u16) -> bool
         ensures { result ≡ true → (1 ≤ steps) × (steps < 65535) × (is_due self.now.stage ≡ false) }
@@ -120,7 +120,7 @@ impl Writing {
         !self.stage.is_due()
     }
 
-    /// Hears a word, and tells how the command is over, where it is.
+    /// Hears a word, and tells how the command ends, if it ends with this word.
     #[inline(always)]
     pub fn hear(&mut self, head_drive: u8, passing: Turn) -> Option<End>
         ensures same { self.new ≡ write_at self.old self.new.stage }
@@ -140,8 +140,8 @@ impl Writing {
         }
     }
 
-    /// Whether the step behind `steps` others writes a word of the window behind others: it isn't the first nor the last, and the
-    /// gate is open.
+    /// Whether the step after `steps` others writes a word of the window that isn't its first. The step must not be the
+    /// first or the last, and the gate must be open.
     #[inline(always)]
     pub fn puts_on(&self, steps: u16) -> bool
         ensures { result ≡ true → (1 ≤ steps) × (steps < 65535) × (is_open self.now.stage ≡ true) }
@@ -152,7 +152,7 @@ impl Writing {
         self.stage.is_open()
     }
 
-    /// How the command is over once a word of the window was written, which was the last or wasn't, where it is.
+    /// How the command ends after a word of the window was written, the last one or not; none if the command goes on.
     #[inline(always)]
     pub fn end(&self, head_drive: u8, last: bool, index: bool) -> Option<End>
         ensures ends { EndsWord self.now.stage last index self.now.counted (write_over self.now.stage result) }
@@ -197,7 +197,7 @@ impl Writing {
 }
 
 impl Formatting {
-    /// Whether the step behind `steps` others does no more than hear a word: it isn't the first nor the last, and none is due.
+    /// Whether the step after `steps` others only hears a word: it isn't the first nor the last, and no word is due.
     #[inline(always)]
     pub fn only_hears(&self, steps: u16) -> bool
         ensures { result ≡ true → (1 ≤ steps) × (steps < 65535) × (is_format_due self.now.stage ≡ false) }
@@ -208,8 +208,8 @@ impl Formatting {
         !self.stage.is_due()
     }
 
-    /// Whether the step behind `steps` others writes a word of the layout behind others: it isn't the first nor the last, and the
-    /// gate is open.
+    /// Whether the step after `steps` others writes a word of the layout that isn't its first. The step must not be the
+    /// first or the last, and the gate must be open.
     #[inline(always)]
     pub fn lays_on(&self, steps: u16) -> bool
         ensures { result ≡ true → (1 ≤ steps) × (steps < 65535) × (is_format_open self.now.stage ≡ true) }
@@ -220,7 +220,7 @@ impl Formatting {
         self.stage.is_open()
     }
 
-    /// Hears a word, and tells how the command is over, where it is.
+    /// Hears a word, and tells how the command ends, if it ends with this word.
     #[inline(always)]
     pub fn hear(&mut self, index: bool) -> Option<FormatEnd>
         ensures same { self.new ≡ format_at self.old self.new.stage }
@@ -250,7 +250,7 @@ impl Formatting {
     }
 }
 
-/// The key of the next sector: the next record, or record 1 of the next cylinder behind the last.
+/// The key of the next sector: the next record, or record 1 of the next cylinder after the last record.
 fn next_key(key: Chrn, last_sector: u8) -> Chrn
     ensures { result ≡ next_key key last_sector }
 {
@@ -271,14 +271,14 @@ fn next_key(key: Chrn, last_sector: u8) -> Chrn
     }
 }
 
-/// Whether the word that gave this was the last of a write.
+/// Whether the write is over with the word that gave this.
 pub fn is_write_over(next: WriteNext) -> bool
     ensures { result ≡ is_ended next }
 {
     matches!(next, WriteNext::Ended(_))
 }
 
-/// Whether the word that gave this was the last of a FORMAT.
+/// Whether the FORMAT is over with the word that gave this.
 pub fn is_format_over(next: FormatNext) -> bool
     ensures { result ≡ is_format_ended next }
 {

@@ -1,7 +1,7 @@
 -- the bits of status register 2
 use Rattle.std.specs.Prelude.{ℕ, List, [], ◌∷◌, codes}
 
--- the data field has a deleted mark
+-- the data field has a deleted data mark
 abbrev pub control_mark : ℕ
 control_mark = 0x40
 

@@ -1,9 +1,9 @@
-// What the PC/AT sets and reads of the drives: the ports 3F2 and 3F7.
+// What the PC/AT sets and reads of the drives at the ports 3F2 and 3F7.
 ghost use Rattle.std.specs.Prelude.{◌≡◌, ◌<◌, ◌+◌, ◌%◌, ◌↔◌, IsTrue, IsBitSet};
 
 use bitflags::{Flag, Flags, bitflag_items};
 
-/// The digital output register: port 3F2, written and read back.
+/// The digital output register: port 3F2. It is written, and can be read back.
 #[derive(Clone, Copy, PartialEq, Eq, Debug)]
 pub struct Dor(pub u8);
 
@@ -70,7 +70,7 @@ impl Dor {
     }
 }
 
-/// The digital input register: port 3F7, read.
+/// The digital input register: port 3F7, when it is read.
 #[derive(Clone, Copy, PartialEq, Eq, Debug)]
 pub struct Dir(pub u8);
 

@@ -9,7 +9,7 @@ use flop_base::NoMemory;
 use std::alloc::Global;
 use std::marker::Model;
 
-/// The bytes that a FIFO holds where it is on.
+/// The number of bytes that a FIFO holds while it is on.
 pub const DEPTH: usize = 16;
 
 /// A first-in first-out list of bytes (82077AA, FIFO). While it is off it has room for one byte.
@@ -34,7 +34,7 @@ impl Model for Fifo {
 }
 
 impl Fifo {
-    /// An empty FIFO that is off, with the threshold of one byte that the controller has after a reset.
+    /// An empty FIFO that is off. Its threshold is one byte, which is what the controller has after a reset.
     pub fn new(alloc: Global) -> Result<Fifo, NoMemory>
         ensures { IfOk result (λ fifo. fifo ≡ emptied false 1) }
     {
@@ -45,7 +45,7 @@ impl Fifo {
         })
     }
 
-    /// Empties the FIFO and sets its mode. The threshold counts bytes: CONFIGURE sends it less one.
+    /// Empties the FIFO and sets its mode. The threshold is a number of bytes; CONFIGURE sends this number less one.
     pub fn set(&mut self, on: bool, threshold: u8)
         requires at_least { 1 ≤ threshold }
         requires at_most { threshold ≤ DEPTH }
@@ -63,7 +63,7 @@ impl Fifo {
         self.bytes.clear();
     }
 
-    /// Appends a byte, or hands it back where the FIFO is full.
+    /// Appends a byte, or hands it back if the FIFO is full.
     pub fn push(&mut self, byte: u8) -> Result<(), u8>
         ensures full { (result ≡ Err byte) ↔ IsFull self.old }
         ensures ok { OnOk result
@@ -86,7 +86,7 @@ impl Fifo {
         self.bytes.pop_front()
     }
 
-    /// How many bytes it holds: at most 16 while it is on, 1 while it is off.
+    /// How many bytes the FIFO holds: at most 16 while it is on, at most 1 while it is off.
     pub fn len(&self) -> usize
         ensures len { result ≡ length self.now.bytes }
         ensures within { result ≤ room_of self.now.on }
@@ -94,15 +94,15 @@ impl Fifo {
         self.bytes.len()
     }
 
-    /// Whether it holds no byte.
+    /// Whether the FIFO holds no byte.
     pub fn is_empty(&self) -> bool
         ensures { result ≡ (length self.now.bytes == 0) }
     {
         self.bytes.is_empty()
     }
 
-    /// Whether DRQ is up now, where it was `asking` before. Where bytes go to memory, `last` says that the
-    /// field has ended; where they come from memory, that TC came.
+    /// Whether DRQ is up now, if it was `asking` before. For bytes to memory, `last` says that the field has ended. For
+    /// bytes from memory, `last` says that TC came.
     pub fn wants(&self, to_memory: bool, asking: bool, last: bool) -> bool
         ensures { result ≡ wants to_memory asking last self.now }
     {
@@ -114,7 +114,7 @@ impl Fifo {
         }
     }
 
-    /// How many bytes for memory can come while DRQ is down, before the one that raises it.
+    /// How many bytes for memory can come while DRQ stays down. The byte after these raises DRQ.
     pub fn quiet_room(&self) -> usize
         ensures quiet { wants true false false self.now ≡ false → (more : List ℕ) → length more ≤ result
             → wants true false false (record self.now { bytes = self.now.bytes ++ more }) ≡ false }

@@ -1,7 +1,7 @@
-//! The registers of the diskette controller in PC/AT mode (Intel 82077AA data sheet) as sets of named
-//! bits. A set is its byte: any byte is a set, bits without a name among them. `specs/` has a word for
-//! each bit. Call `union` and the other methods of `Flags`, whose contracts are exact: the operators,
-//! as `|`, have none. Beside them the data FIFO, with the rule by which it asks for DMA.
+//! The registers of the diskette controller in PC/AT mode (Intel 82077AA data sheet), as sets of named bits. A set is
+//! its byte. Any byte is a set, also one with bits that have no name. `specs/` has a word for each bit. Call `union`
+//! and the other methods of `Flags`, whose contracts are exact. The operators, such as `|`, have no contracts. The
+//! crate also has the data FIFO, with the rule by which it asks for DMA.
 #![tactic(auto)]
 
 mod drive_lines;

@@ -1,7 +1,7 @@
 // The main status register: port 3F4.
 use bitflags::{Flag, Flags, bitflag_items};
 
-/// The main status register: port 3F4, read.
+/// The main status register: port 3F4, when it is read.
 #[derive(Clone, Copy, PartialEq, Eq, Debug)]
 pub struct Msr(pub u8);
 

@@ -1,4 +1,4 @@
-// The status registers, which a command gives among its results.
+// The status registers, which are among the results of a command.
 use bitflags::{Flag, Flags, bitflag_items};
 
 /// Status register 0: how a command ended, and on which drive and head.
@@ -97,13 +97,13 @@ impl Flags for St1 {
     }
 }
 
-/// Status register 2: what is about the data field or the cylinder.
+/// Status register 2: what concerns the data field or the cylinder.
 #[derive(Clone, Copy, PartialEq, Eq, Debug)]
 pub struct St2(pub u8);
 
 bitflag_items! {
     impl St2: u8 {
-        /// The data field has a deleted mark.
+        /// The data field has a deleted data mark.
         const CONTROL_MARK = 0x40;
         /// The data field's CRC does not match.
         const DATA_FIELD_ERROR = 0x20;

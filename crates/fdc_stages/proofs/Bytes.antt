@@ -27,7 +27,7 @@ pub hears_none : (stage : ReadStage) → HearsBytes [] [] stage stage
 unfolding HearsBytes
 hears_none stage = (refl, refl)
 
--- and one more word
+-- the bytes that words give, with one word more
 pub hears_more : (words bytes : List ℕ) (word value : ℕ) (stage mid next : ReadStage) → HearsBytes words bytes stage mid → HearsByte word value mid next → HearsBytes (words ++ word ∷ []) (bytes ++ value ∷ []) stage next
 unfolding HearsBytes
 hears_more [] bytes word value stage mid next hears byte =

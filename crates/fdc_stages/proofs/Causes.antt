@@ -13,7 +13,7 @@ use Rattle.fdc_stages.specs.Readings.{IsStart, HasNoField, IsFieldOver, HasRead}
 use Rattle.fdc_stages.specs.Findings.{FindsSector, HasAddress, HasIdentified, FindsBadCheck, FindsNoField, FindsNoMark, FindsNoSector}
 use Rattle.fdc_stages.proofs.Lawful.{start_full, over_full}
 
--- what was given are the first bytes of what was told
+-- the bytes given to memory are the first of the bytes reported
 start_rest : (counted : Bool) (given told : List ℕ) → IsStart counted given told → (rest : List ℕ) × (told ≡ given ++ rest)
 start_rest false given told is = ([], sym is ∙ sym (append-nil given))
 start_rest true given told (rest, is) = (rest, is)
@@ -41,7 +41,7 @@ found_of past key told given deleted coded read start =
       ),
     )
 
--- a wrong check
+-- the ending BadCheck: the CRC of a data field is wrong
 pub bad_check_of : (past : Past) (key : Chrn) (told : List ℕ) → IsSizeCode key.n → HasRead past key told BadCheck → FindsBadCheck past key
 bad_check_of past key told coded read =
     let deleted = read.cause.0 in
@@ -51,12 +51,12 @@ bad_check_of past key told coded read =
     let over : IsFieldOver turn key told deleted false p q = read.cause.1.2.2 in
     (turn, p, record { among = read.cause.1.1; address = over.address }, field_stays turn turn (whole_part turn) p q key.n (content_size key.n) deleted false coded refl over.ended over.tells)
 
--- no data field
+-- the ending NoField: an address field has no data field
 pub no_field_of : (past : Past) (key : Chrn) → HasNoField past key → FindsNoField past key
 no_field_of past key (inl (turn, p, cut)) = inl (turn, p, cut.over, cut.address, cut.none)
 no_field_of past key (inr (p, bare)) = inr (p, λ whole part. (address_stays past.seen whole part p key bare.address, no_data_stays past.seen whole part p key.n bare.none))
 
--- the turn between the indexes is one of those heard
+-- the revolution between the two index pulses is one of those that were heard
 between_heard : (past : Past) (between : List ℕ) → IsBetween past between → IsTurn past between
 between_heard past between is = subst (λ turns. IsTurnIn turns past.seen between) (sym is.turns) (inr (inl refl))
 
@@ -66,7 +66,7 @@ no_mark_of past wanted (missed, none) = (missed.between, missed.is, λ mark. non
 pub no_sector_of : (past : Past) (wanted : Option Chrn) → IsMissed past wanted NoSector → FindsNoSector past wanted
 no_sector_of past wanted (missed, marked) = (marked, (missed.between, missed.is, missed.none missed.between (between_heard past missed.between missed.is)))
 
--- a search for any address field that missed is how a READ ID ends
+-- if a search for any address field misses, its ending is that of the READ ID
 pub identified_of : (past : Past) (key : Chrn) (ending : Ending) → IsMissed past None ending → HasIdentified past key ending
 identified_of past key NoMark missed = missed
 identified_of past key NoSector missed = missed

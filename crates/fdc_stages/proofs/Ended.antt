@@ -96,7 +96,7 @@ whole_written past key deleted handed marked written =
       },
     )
 
--- a track of so many words
+-- if a track has as many words as are written from its word 0 on, it becomes these words
 pub track_over : (track words : List ℕ) → length track ≡ length words → with_items track 0 words ≡ words
 unfolding with_items
 track_over track words same =

@@ -15,7 +15,7 @@ use Rattle.fdc_stages.specs.declared.writing.WriteStage.TheVariants as stage
 use Rattle.fdc_stages.specs.declared.writing.WriteNext.{WriteNext}
 use Rattle.fdc_stages.specs.Writings.{opens, heard_where, IsWriting, HasWritten, HasNext}
 
--- nothing was written, so the place is that behind the words heard
+-- nothing was written, so all words that have passed since the index pulse are words heard
 heard_place : (index : Bool) (word : ℕ) (past : Past) → past.place ≡ length past.seen + length past.words → past.words ≡ [] → (heard index word past).place ≡ length (heard index word past).seen + length past.words
 heard_place true word past at none = omega (arith, ap length none)
 heard_place false word past at none = omega (arith, length-append past.seen (word ∷ []))
@@ -25,7 +25,7 @@ heard_alone index word past at none = omega (arith, heard_place index word past 
 
 -- ---- the search
 
--- nothing was handed in
+-- nothing was handed in while the address field is searched for
 pub search_none : (index : Bool) (word : ℕ) (past : Past) (key : Chrn) (deleted : Bool) (handed : List ℕ) (before : Search) (given : WriteNext) → (IsWriting past key deleted [] (stage.Search before) → HasNext (heard index word past) key deleted [] given) → IsWriting past key deleted handed (stage.Search before) → HasNext (heard index word past) key deleted handed given
 search_none index word past key deleted handed before given hears (at, (searching, (unwritten, none))) =
     subst (λ bytes. HasNext (heard index word past) key deleted bytes given) (sym none) (hears (at, (searching, (unwritten, refl))))
@@ -46,7 +46,7 @@ search_missed past key deleted Late none missed = absurd missed
 
 -- ---- the address field has passed
 
--- the window begins 22 words behind the word in which the field ended
+-- between the word in which the address field ended and the window there are 22 words
 met_place : (seen : List ℕ) (p : ℕ) → EndsInLast seen (p + 160) → length seen + 22 ≡ window_word p
 met_place seen p ends = omega arith
 
@@ -63,7 +63,7 @@ met_within true past key deleted separator is at none met = absurd (false≢true
 
 -- ---- the words before the window
 
--- the index came
+-- the index pulse came before the window
 pub gap_over : (left : ℕ) (index : Bool) (word : ℕ) (past : Past) (key : Chrn) (deleted : Bool) (handed : List ℕ) → 1 ≤ left → index ≡ true → IsWriting past key deleted handed (stage.Gap left) → HasWritten (heard_where (opens (stage.Gap left)) index word past) key deleted handed NoField
 gap_over zero index word past key deleted handed some is was = absurd (omega arith)
 gap_over (suc left) false word past key deleted handed some is was = absurd (false≢true is)

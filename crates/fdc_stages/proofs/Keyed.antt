@@ -1,4 +1,4 @@
--- Keys, and their bytes one after the other.
+-- Sector IDs (keys), and their bytes one after the other.
 use Rattle.std.proofs.Common.{◌≡◌, ℕ, zero, suc, ◌+◌, ◌*◌, ◌≤◌, Bool, true, false, List, [], ◌∷◌, ◌++◌, length, drop, slice_index, refl, sym, ap, ◌∙◌, append_assoc, arith, length-append}
 use Rattle.std.proofs.lemmas.Bool.{false≢true}
 use Rattle.std.proofs.lemmas.List.{drop-append-le, drop-drop}
@@ -8,7 +8,7 @@ use Rattle.track_format.specs.Keys.{key_bytes}
 use Rattle.fdc_stages.specs.Writings.{handed_with}
 use Rattle.fdc_stages.specs.Formats.{Numbers, no_key, last_from, last_key, keys_from, AreKeys, IsLastKey}
 
--- ---- the keys of bytes
+-- ---- the sector IDs of bytes
 
 pub length-keys_from : (count : ℕ) (bytes : List ℕ) → length (keys_from count bytes) ≡ count
 length-keys_from zero bytes = refl
@@ -33,13 +33,13 @@ keys_known (suc count) (a ∷ b ∷ c ∷ d ∷ bytes) few =
     let others = keys_known count bytes (omega arith) in
     (others.0, ap (λ xs. a ∷ b ∷ c ∷ d ∷ xs) others.1)
 
--- there are keys whose bytes begin with those that were handed in
+-- there are sector IDs whose bytes begin with those that were handed in
 pub some_keys : (numbers : Numbers) (handed : List ℕ) → length handed ≤ 4 * numbers.sectors → (zeros : List ℕ) × AreKeys numbers handed (keys_from numbers.sectors handed) zeros
 some_keys numbers handed few =
     let known = keys_known numbers.sectors handed few in
     (known.0, record { many = length-keys_from numbers.sectors handed; bytes = known.1 })
 
--- ---- the last key
+-- ---- the last sector ID
 
 pub key_shifts : (takes : Bool) (handed : List ℕ) (before after : Chrn) (byte : ℕ) → takes ≡ true → after ≡ record { c = before.h; h = before.r; r = before.n; n = byte } → IsLastKey handed before → IsLastKey (handed_with takes byte handed) after
 key_shifts false handed before after byte is shifted was = absurd (false≢true is)

@@ -1,4 +1,5 @@
--- Laws on what a data command has heard: what stood in a turn stands in it as it goes on, and what was told of it.
+-- Laws on what a data command has heard. What stood in a revolution still stands there as the revolution goes on, and
+-- so does what was reported of it.
 use Rattle.std.proofs.Common.{◌≡◌, ℕ, ◌+◌, ◌*◌, ◌≤◌, Bool, true, false, Option, List, [], ◌∷◌, ◌++◌, length, min, refl, sym, ap, subst, ◌∙◌, arith, inl, inr}
 use Rattle.std.proofs.lemmas.List.{append-nil, length-append, nil_from_length}
 use Rattle.std.proofs.lemmas.List.FromFn.{length-map-range_with_len}
@@ -15,17 +16,17 @@ use Rattle.fdc_stages.specs.History.{Past, heard, IsTurn, HasFewTurns, words_in,
 use Rattle.fdc_stages.specs.Searches.{HasTurned, IsSearching}
 use Rattle.fdc_stages.specs.Readings.{IsStart, IsReading, IsContentAt, IsFieldOver, IsOver, IsToldFrom, IsToldOf}
 
--- where all words that passed were heard, the place is their number
+-- if all words that passed were heard, the place is their number
 pub heard_place : (index : Bool) (word : ℕ) (past : Past) → past.place ≡ length past.seen → (heard index word past).place ≡ length (heard index word past).seen
 heard_place true word past at = refl
 heard_place false word past at = let size = length-with_word past.seen word in omega arith
 
--- a turn of which more was heard
+-- a revolution of which more words were heard
 pub record IsHeardOn (past : Past) (turn whole : List ℕ) : Type 0 where
   pub part : IsPart turn whole
   pub among : IsTurn past whole
 
--- each turn stays with a word more, or goes on
+-- with one word more, each revolution that was heard stays or goes on
 pub turn_heard : (index : Bool) (word : ℕ) (past : Past) (turn : List ℕ) → IsTurn past turn → (whole : List ℕ) × IsHeardOn (heard index word past) turn whole
 turn_heard false word past turn (inl e) =
     (with_word past.seen word, record { part = subst (λ words. IsPart words (with_word past.seen word)) (sym e) (part_with_word past.seen word); among = inl refl })
@@ -34,15 +35,15 @@ turn_heard true word past turn (inl e) =
     (with_word past.seen word, record { part = subst (λ words. IsPart words (with_word past.seen word)) (sym e) (part_with_word past.seen word); among = inr (inl refl) })
 turn_heard true word past turn (inr among) = (turn, record { part = whole_part turn; among = inr (inr among) })
 
--- the words heard last are words of a turn
+-- the words since the last index pulse, with the word heard now, are words of one revolution
 pub last_heard : (index : Bool) (word : ℕ) (past : Past) → IsTurn (heard index word past) (with_word past.seen word)
 last_heard true word past = inr (inl refl)
 last_heard false word past = inl refl
 
--- ---- what was told
+-- ---- what was reported
 
 module _ (turn whole : List ℕ) (part : IsPart turn whole) (key : Chrn) (told : List ℕ) where
-  -- bytes told of a turn are bytes of the whole of it
+  -- bytes reported of a part of a revolution are bytes of the whole revolution
   pub told_from_stays : (p q count : ℕ) (deleted : Bool) → IsToldFrom turn key told p q count deleted → IsToldFrom whole key told p q count deleted
   told_from_stays p q count deleted from =
       let inside = from.inside in
@@ -55,7 +56,7 @@ module _ (turn whole : List ℕ) (part : IsPart turn whole) (key : Chrn) (told :
         bytes = from.bytes ∙ bytes_stay turn whole part (q + 64) count inside;
       }
 
-  -- a field that was over in a part of a turn is over in the whole of it
+  -- a field that is over in a part of a revolution is over in the whole revolution
   pub field_over_stays : (deleted good : Bool) (p q : ℕ) → IsFieldOver turn key told deleted good p q → IsFieldOver whole key told deleted good p q
   field_over_stays deleted good p q over =
       let inside = over.ended.inside in
@@ -80,13 +81,13 @@ over_stays index word past key told deleted good (turn, among, (p, q, over)) =
     let on = turn_heard index word past turn among in
     (on.0, on.1.among, (p, q, field_over_stays turn on.0 on.1.part key told deleted good p q over))
 
--- a field that is over was told whole
+-- if a data field is over, its whole content was reported
 pub over_told : (past : Past) (key : Chrn) (told : List ℕ) (deleted good : Bool) → IsOver past key told deleted good → IsToldOf past key told
 over_told past key told deleted good (turn, among, (p, q, over)) =
     let inside = over.ended.inside in
     inr (turn, among, (p, q, content_size key.n, deleted, record { address = over.address; mark = over.ended.first; most = omega arith; inside = omega arith; bytes = over.bytes }))
 
--- the bytes told while a data field is read
+-- the bytes that are reported while a data field is read
 pub content_told : (past : Past) (key : Chrn) (told : List ℕ) (separator : Separator) (deleted : Bool) (p q taken : ℕ) → IsContentAt past key told separator deleted p q taken → IsToldOf past key told
 content_told past key told separator deleted p q taken was =
     let within = reads_within separator past.seen p q deleted (content_size key.n) taken was.reads in
@@ -108,14 +109,14 @@ content_told past key told separator deleted p q taken was =
       ),
     )
 
--- at each time the bytes told are the first of a data field of the key
+-- at each time, the bytes reported are the first of a data field of the sector ID
 pub reading_told : (past : Past) (key : Chrn) (told : List ℕ) (stage : ReadStage) → IsReading past key told stage → IsToldOf past key told
 reading_told past key told (Search searching) reads = inl reads.1
 reading_told past key told (Wait separator) reads = inl reads.1
 reading_told past key told (Content separator deleted) (p, q, taken, was) = content_told past key told separator deleted p q taken was
 reading_told past key told (Over deleted good) reads = over_told past key told deleted good reads
 
--- no more of them than the sector has
+-- no more bytes are reported than the sector has
 pub told_most : (past : Past) (key : Chrn) (told : List ℕ) → IsToldOf past key told → length told ≤ content_size key.n
 told_most past key told (inl none) = subst (λ bytes. length bytes ≤ content_size key.n) (sym none) (omega arith)
 told_most past key told (inr (turn, among, (p, q, count, deleted, from))) =
@@ -124,14 +125,14 @@ told_most past key told (inr (turn, among, (p, q, count, deleted, from))) =
     let same : length told ≡ length (bytes_at turn (q + 64) count) = ap length from.bytes in
     omega arith
 
--- and all of them where the field is over
+-- if the data field is over, as many bytes were reported as the sector has
 pub over_full : (past : Past) (key : Chrn) (told : List ℕ) (deleted good : Bool) → IsOver past key told deleted good → length told ≡ content_size key.n
 over_full past key told deleted good (turn, among, (p, q, over)) =
     ap length over.bytes ∙ length-map-range_with_len (λ i. byte_at turn (q + 64 + 16 * i)) 0 (content_size key.n)
 
 -- ---- the bytes given, or in the FIFO
 
--- as many bytes as were told are all of them
+-- if as many bytes were given as were reported, they are the same bytes
 pub start_full : (counted : Bool) (bytes told : List ℕ) → IsStart counted bytes told → length bytes ≡ length told → bytes ≡ told
 start_full false bytes told is same = is
 start_full true bytes told (rest, is) same =
@@ -145,7 +146,7 @@ words_last : (turns : List (List ℕ)) (seen : List ℕ) → words_in turns seen
 words_last [] seen = omega arith
 words_last (turn ∷ turns) seen = let rest = words_last turns seen in omega arith
 
--- each word heard counts
+-- each word heard raises the number of words heard by one
 pub heard_count : (index : Bool) (word : ℕ) (past : Past) → words_heard (heard index word past) ≡ words_heard past + 1
 heard_count true word past =
     let size = length-with_word past.seen word in
@@ -157,7 +158,7 @@ heard_count false word past =
     let after = words_last past.turns (with_word past.seen word) in
     omega arith
 
--- a search has passed one index at most
+-- at most one index pulse has passed during a search
 pub turned_few : (turned : Bool) (turns : List (List ℕ)) → HasTurned turned turns → length turns ≤ 1
 turned_few true turns (first, e) = subst (λ list. length list ≤ 1) (sym e) (omega arith)
 turned_few false turns e = subst (λ list. length list ≤ 1) (sym e) (omega arith)
@@ -165,7 +166,7 @@ turned_few false turns e = subst (λ list. length list ≤ 1) (sym e) (omega ari
 pub searching_few : (past : Past) (wanted : Option Chrn) (searching : searched.Search) → IsSearching past wanted searching → HasFewTurns past
 searching_few past wanted searching is = turned_few searching.turned past.turns is.indexes
 
--- with a word more, two have
+-- after one word more, at most two index pulses have passed
 pub heard_few : (index : Bool) (word : ℕ) (past : Past) → HasFewTurns past → length (heard index word past).turns ≤ 2
 heard_few true word past few = omega arith
 heard_few false word past few = omega arith

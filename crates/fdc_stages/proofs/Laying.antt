@@ -64,7 +64,7 @@ fresh_laid numbers stream gives = record {
       );
 }
 
--- what stands before a byte that is taken
+-- a byte that is taken is the first of the bytes that were still to come
 with_taken : (numbers : Numbers) (handed : List ℕ) (byte : ℕ) (keys : List Chrn) (rest : List ℕ) → AreKeys numbers (with_word handed byte) keys rest → AreKeys numbers handed keys (byte ∷ rest)
 with_taken numbers handed byte keys rest are = record { many = are.many; bytes = are.bytes ∙ append_assoc handed (byte ∷ []) rest }
 
@@ -93,7 +93,7 @@ taken_is left key other byte is e taken =
     let same : key ≡ other = cc in
     taken ∙ same
 
--- so many bytes are left of the keys that a byte more can be taken
+-- if the stream takes a byte, the sector IDs have at least one byte more than was handed in
 room : (words handed : List ℕ) (numbers : Numbers) (old : FormatStream) → IsLaid words numbers handed old → StreamTakes old true → length handed + 1 ≤ 4 * numbers.sectors
 room words handed numbers old was takes =
     let some = some_keys numbers handed was.few in
@@ -151,14 +151,14 @@ laid_words_are words handed numbers stream was keys rest are =
     let at = was.laid keys rest are in
     record { laid = all_laid words numbers keys rest stream at.0 at.1 at.2; first = first_laid words numbers keys rest stream at.0 at.1 at.2 }
 
--- ---- whether they are the whole of it
+-- ---- whether the words are the whole layout
 
 nothing_asked : (left : List Symbol) → left ≡ [] → asked_in left ≡ []
 unfolding asked_in
 nothing_asked [] is = refl
 nothing_asked (symbol ∷ left) is = absurd (cc is)
 
--- the stream says whether it is whole
+-- whether the stream has given the whole layout
 abbrev pub StreamIsWhole : FormatStream → Bool → Type 0
 StreamIsWhole stream whole = (last : Bool) (left : List Symbol) → Gives stream last left → IsTrue whole ↔ left ≡ []
 

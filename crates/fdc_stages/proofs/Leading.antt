@@ -1,4 +1,4 @@
--- The first byte of a key that a layout needs is that of its 163rd word.
+-- The first byte of a sector ID that a layout needs is the one of its 163rd word.
 use Rattle.std.proofs.Common.{◌≡◌, ℕ, zero, suc, ◌+◌, ◌-◌, ◌<◌, ◌≤◌, Bool, true, false, List, [], ◌∷◌, ◌++◌, length, drop, refl, sym, ap, subst, ◌∙◌, append_assoc, arith, length-append, inl, inr}
 use Rattle.std.proofs.lemmas.Bool.{cases_lt}
 use Rattle.std.proofs.lemmas.List.{drop_all}
@@ -17,7 +17,7 @@ use Rattle.fdc_stages.specs.Leads.{StreamLeads}
 use Rattle.fdc_stages.proofs.Keyed.{some_keys}
 use Rattle.fdc_stages.proofs.Laying.{Goes, fresh_laid, next_laid, length-before}
 
--- symbols that ask for no byte
+-- symbols that ask for no byte hold no byte of a sector ID
 none_asked : (front back : List Symbol) (k key : ℕ) → asked_in front ≡ [] → k < length front → next_symbol (drop k (front ++ back)) ≡ Key key → ⊥
 unfolding asked_in
 none_asked [] back k key none within is = absurd (omega arith)
@@ -27,7 +27,7 @@ none_asked (Key byte ∷ front) back k key none within is = cc none
 none_asked (Mark cells ∷ front) back zero key none within is = cc is
 none_asked (Mark cells ∷ front) back (suc k) key none within is = none_asked front back k key none (omega arith) is
 
--- what stands before the first key
+-- the symbols of a sector that stand before its sector ID
 abbrev field_start : List Symbol
 field_start = sync ++ (marks 0x4489 ++ Byte 0xFE ∷ [])
 
@@ -51,7 +51,7 @@ no_sector : (size gap3 fill : ℕ) → sectors_symbols size gap3 fill [] ≡ []
 unfolding sectors_symbols
 no_sector size gap3 fill = refl
 
--- behind the last symbol there is none
+-- after the last symbol there is none
 none_behind : (symbols : List Symbol) (k key : ℕ) → length symbols ≤ k → next_symbol (drop k symbols) ≡ Key key → ⊥
 none_behind symbols k key over is =
     let none : drop k symbols ≡ [] = drop_all k symbols over in

@@ -20,7 +20,7 @@ use Rattle.fdc_stages.specs.Searches.{IsMet, IsMetAt}
 use Rattle.fdc_stages.specs.Readings.{IsWaitingAt, IsContentAt, IsFieldOver, IsReading, HasRead}
 use Rattle.fdc_stages.proofs.Lawful.{last_heard, told_stays, content_told}
 
--- the turn that the index ends behind a word
+-- the revolution that is over if an index pulse follows the word
 ended_turn : (past : Past) (word : ℕ) → IsJustOver (heard true word past) (with_word past.seen word)
 ended_turn past word = record { earlier = past.turns; last = refl; nothing = refl }
 
@@ -32,7 +32,7 @@ same_search a b e = cc
 pub same_separator : (a b : searched.Search) → Search a ≡ Search b → a.separator ≡ b.separator
 same_separator a b e = ap (λ (s : searched.Search). s.separator) (same_search a b e)
 
--- the index followed it
+-- the index pulse followed the address field
 pub met_over : (index : Bool) (past : Past) (key : Chrn) (separator : Separator) → index ≡ true → IsMet index past key separator → HasRead past key [] NoField
 met_over true past key separator is (turn, p, met) = record {
   bytes = inl refl;
@@ -40,7 +40,7 @@ met_over true past key separator is (turn, p, met) = record {
 }
 met_over false past key separator is met = absurd (false≢true is)
 
--- its turn goes on
+-- the revolution of the address field goes on
 pub met_within : (index : Bool) (past : Past) (key : Chrn) (separator waiting : Separator) → index ≡ false → ((p : ℕ) → IsMetAt past key separator p → SWaits waiting past.seen p (content_size key.n)) → IsMet index past key separator → IsReading past key [] (Wait waiting)
 met_within false past key separator waiting is waits (p, met) = ((p, record { address = met.address; waits = waits p met; few = met.few }), refl)
 met_within true past key separator waiting is waits met = absurd (false≢true (sym is))
@@ -103,7 +103,7 @@ module _ (past : Past) (key : Chrn) (told : List ℕ) (word p q taken : ℕ) (de
   within : q + 64 + 16 * taken ≤ 16 * length past.seen
   within = reads_within before past.seen p q deleted (content_size key.n) taken was.reads
 
-  -- what was told stands in the longer turn
+  -- the bytes reported also stand in the revolution with one word more
   told_so_far : told ≡ bytes_at (with_word past.seen word) (q + 64) (min taken (content_size key.n))
   told_so_far = let reach = within in was.bytes ∙ bytes_stay past.seen (with_word past.seen word) (part_with_word past.seen word) (q + 64) (min taken (content_size key.n)) (omega arith)
 
@@ -193,7 +193,7 @@ module _ (past : Past) (key : Chrn) (told : List ℕ) (word p q taken : ℕ) (de
   pub content_goes_on : ((value : ℕ) → event ≡ Byte value → ⊥) → ((good : Bool) → event ≡ End good → ⊥) → (event ≡ NoData → ⊥) → IsReading (heard index word past) key told (Content now deleted)
   content_goes_on byte ends none = read_on past key told word p q taken deleted before now was index event byte ends none given
 
--- ---- the same of a reading at its stage
+-- ---- the laws above, for a reading at its stage
 
 module _ (index : Bool) (past : Past) (word : ℕ) (key : Chrn) (told : List ℕ) (before now : Separator) (event : Seen) where
   module _ (was : IsReading past key told (Wait before)) (fed : (p : ℕ) → SWaits before past.seen p (content_size key.n) → SWaitFed index (with_word past.seen word) p (content_size key.n) now event) where

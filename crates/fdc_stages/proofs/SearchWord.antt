@@ -16,7 +16,7 @@ use Rattle.fdc_stages.specs.History.{Past, heard}
 use Rattle.fdc_stages.proofs.Lawful.{turned_few}
 use Rattle.fdc_stages.specs.Searches.{Wants, HasNoClear, HasNoneIn, HasMarkIn, HasTurned, IsSearchingIn, IsPassed, IsMet, HasMissed, HearsNothingIn}
 
--- ---- behind a turn that is over nothing was heard
+-- ---- right after a revolution is over, nothing was heard of the next one
 
 mark_over : (turns : List (List ℕ)) (words : List ℕ) → HasMarkIn turns words → HasMarkIn (words ∷ turns) []
 mark_over turns words (turn, among, mark) = (turn, inr among, mark)
@@ -39,12 +39,12 @@ none_over : (wanted : Option Chrn) (turns : List (List ℕ)) (words : List ℕ) 
 none_over wanted turns words none turn (inl e) = subst (HasNoClear wanted) (sym e) (none_yet wanted)
 none_over wanted turns words none turn (inr among) = none turn among
 
--- the search goes on inside the turn
+-- the search goes on inside the revolution
 pub on_within : (index : Bool) (past : Past) (word : ℕ) (wanted : Option Chrn) (separator : Separator) (turned marked : Bool) → index ≡ false → IsPassed index past word wanted separator turned marked → IsSearchingIn (heard index word past).turns (heard index word past).seen wanted separator turned marked
 on_within false past word wanted separator turned marked is passed = record { follows = passed.follows; none = passed.none; marks = passed.marks; indexes = passed.indexes }
 on_within true past word wanted separator turned marked is passed = absurd (false≢true (sym is))
 
--- the first index
+-- the first index pulse came
 first_over : (past : Past) (word : ℕ) (turned : Bool) → turned ≡ false → HasTurned turned past.turns → HasTurned true (heard true word past).turns
 first_over past word false is indexes = (with_word past.seen word, ap (λ turns. with_word past.seen word ∷ turns) indexes)
 first_over past word true is indexes = absurd (false≢true (sym is))
@@ -58,7 +58,7 @@ on_over true past word wanted separator turned marked is not passed = record {
 }
 on_over false past word wanted separator turned marked is not passed = absurd (false≢true is)
 
--- the second index
+-- the second index pulse came
 second_over : (past : Past) (turned : Bool) → turned ≡ true → HasTurned turned past.turns → (first : List ℕ) × (past.turns ≡ first ∷ [])
 second_over past true is indexes = indexes
 second_over past false is indexes = absurd (false≢true is)
@@ -95,7 +95,7 @@ module _ (index : Bool) (past : Past) (word : ℕ) (wanted : Option Chrn) (old n
       let stood : HasAddressMark past.seen = subst HasAddressMark e mark in
       (with_word past.seen word, inl refl, (stood.0, mark_stays past.seen (with_word past.seen word) (part_with_word past.seen word) stood.0 stood.1))
 
-  -- an address mark of the words before, or one that ends in the last
+  -- an address mark is one of the words before, or one that ends in the last word
   mark_of : HasMarkIn past.turns (with_word past.seen word) → HasMarkIn past.turns past.seen ⊎ ((p : ℕ) × EndsInLast (with_word past.seen word) (p + 64) × IsAddressMark (with_word past.seen word) p)
   mark_of (turn, inr among, mark) = inl (turn, inr among, mark)
   mark_of (turn, inl e, mark) =
@@ -162,7 +162,7 @@ passes_by past word wanted old new turned marked hunted searching =
     on_within false past word wanted new turned marked refl
     (passed_of false past word wanted old new turned marked marked Nothing searching hunted.follows hunted.gives (λ fed hunts. tt) (λ key is wants. absurd (cc is)) (stays_marked marked))
 
--- words of a hunt that pass by
+-- in words that pass by while the separator hunts, a search hears nothing
 pub hears_past : (words : List ℕ) (turned marked : Bool) (old new : Separator) → HuntsPast words old new
     → HearsNothingIn words (record { separator = old; turned = turned; marked = marked }) (record { separator = new; turned = turned; marked = marked })
 unfolding HuntsPast HearsNothingIn

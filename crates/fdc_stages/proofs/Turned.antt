@@ -1,4 +1,4 @@
--- A word that a format hears, and the end of its turn.
+-- A word that a format hears, and the end of its revolution.
 use Rattle.std.proofs.Common.{◌≡◌, ℕ, Bool, true, false, List, [], ◌∷◌, length, refl, sym, ap, subst, ◌∙◌, arith, inl, inr, length-append}
 use Rattle.std.proofs.lemmas.Bool.{false≢true}
 use Rattle.std.proofs.lemmas.List.{append-nil}
@@ -17,7 +17,7 @@ use Rattle.fdc_stages.proofs.Keyed.{last_of}
 use Rattle.fdc_stages.proofs.Leading.{none_before}
 use Rattle.fdc_stages.proofs.Laying.{Goes, next_laid, same_takes, laid_words_are, StreamIsWhole, whole_fits, part_misfits}
 
--- ---- the index is awaited
+-- ---- the index pulse is awaited
 
 -- ---- no gate was opened
 
@@ -54,7 +54,7 @@ due_behind Barred past due was = absurd (false≢true due)
 some_lead : (lead : ℕ) → lead ≡ 162 → lead ≡ 0 → ⊥
 some_lead lead is none = omega arith
 
--- the first word takes none
+-- the first word of the layout takes no byte
 takes_agree : (part : FormatPart) (past : Past) (numbers : Numbers) (handed : List ℕ) (stream : FormatStream) (takes given : Bool) → is_next part ≡ true → IsAtPart past.turns past.seen past.place past.words past.barred part → IsLaid past.words numbers handed stream → TakesAt part stream takes → StreamTakes stream given → given ≡ takes
 takes_agree Await past numbers handed stream takes given due at laid is too = absurd (false≢true due)
 takes_agree Barred past numbers handed stream takes given due at laid is too = absurd (false≢true due)
@@ -70,7 +70,7 @@ write_laid past numbers handed now new key byte word takes given due (at, laid, 
     subst (λ t. IsNextLaid past numbers (handed_with t byte handed) word new key) (takes_agree now.part past numbers handed now.stream takes given due at laid is too)
     (due_behind now.part past due at, next, shifts last)
 
--- ---- behind a word of the layout
+-- ---- after a word of the layout
 
 pub too_short : (index : Bool) (word : ℕ) (past : Past) (numbers : Numbers) (handed : List ℕ) (stream : FormatStream) (key : Chrn) → index ≡ true → StreamIsWhole stream false → IsNextLaid past numbers handed word stream key → HasFormatted (wrote index word past) numbers handed NoField
 too_short false word past numbers handed stream key is whole was = absurd (false≢true is)

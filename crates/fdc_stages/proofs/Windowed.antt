@@ -54,7 +54,7 @@ write_word past key deleted handed at now byte word behind was (p, inside) needs
     let next = next_word past.seen past.words key deleted handed now p byte word behind inside gives in
     (was.0, (p, subst (λ b. IsInWindow past.seen (with_word past.words word) key deleted (handed_with b byte handed) behind p) needs next))
 
--- ---- behind the word
+-- ---- after the word
 
 some_from : (now : Part) (more : ℕ) → 1 ≤ count_from now more
 some_from (part.Sync left) more = omega arith
@@ -64,7 +64,7 @@ some_from (part.Content left) more = omega arith
 some_from part.High more = omega arith
 some_from part.Low more = omega arith
 
--- the words are the first of the window, whatever the rest of the content
+-- the words are the first of the window, whatever the rest of the content is
 pub begun_in : (seen words : List ℕ) (key : Chrn) (deleted : Bool) (handed : List ℕ) (behind : Option Window) (p : ℕ) → 1 ≤ length words → IsInWindow seen words key deleted handed behind p → IsBegun seen words key deleted handed p
 begun_in seen words key deleted handed behind p some was = record {
   address = was.address;
@@ -94,7 +94,7 @@ begun_next index word past key deleted handed behind (at, (p, was)) =
 pub whole_written : (past : Past) (key : Chrn) (deleted : Bool) (handed : List ℕ) → past.counted ≡ true → HasWhole past key deleted handed → HasBegun past key deleted handed → HasWritten past key deleted handed (Done false)
 whole_written past key deleted handed counted whole begun = record { begun = begun; cause = (refl, counted, whole) }
 
--- the index came and the window isn't whole
+-- the index pulse came, and the window isn't whole
 pub cut_next : (index : Bool) (word : ℕ) (past : Past) (key : Chrn) (deleted : Bool) (handed : List ℕ) (behind : Option Window) (now : Window) → index ≡ true → behind ≡ Some now → IsNextWord past key deleted handed word behind → HasWritten (wrote index word past) key deleted handed NoField
 cut_next false word past key deleted handed behind now is more was = absurd (false≢true is)
 cut_next true word past key deleted handed behind now is more was =
@@ -115,7 +115,7 @@ WritesAt past key deleted handed byte word behind at =
 pub put_in_window : (past : Past) (key : Chrn) (deleted : Bool) (handed : List ℕ) (now : Window) (byte word : ℕ) (behind : Option Window) → Gives now.part now byte word behind → WritesAt past key deleted handed byte word behind (stage.Window now)
 put_in_window past key deleted handed now byte word behind gives opened was = write_word past key deleted handed (stage.Window now) now byte word behind was was.1.0 refl gives
 
--- it goes on
+-- the writing goes on
 pub goes_next : (index last : Bool) (word : ℕ) (past : Past) (key : Chrn) (deleted : Bool) (handed : List ℕ) (at : WriteStage) → index ≡ false → last ≡ false → writing.is_open at ≡ true → IsNextWord past key deleted handed word (writing.rest_behind last at) → IsWriting (wrote index word past) key deleted handed at
 goes_next true last word past key deleted handed at on more opened was = absurd (true≢false on)
 goes_next false true word past key deleted handed at on more opened was = absurd (true≢false more)
@@ -125,14 +125,14 @@ goes_next false false word past key deleted handed (stage.Window now) on more op
     let long = length-append past.words (word ∷ []) in
     (omega (arith, place, long), (inside, omega (arith, long)))
 
--- the index cuts it
+-- the index pulse cuts the window
 pub cut_open : (index last : Bool) (word : ℕ) (past : Past) (key : Chrn) (deleted : Bool) (handed : List ℕ) (at : WriteStage) → index ≡ true → last ≡ false → writing.is_open at ≡ true → IsNextWord past key deleted handed word (writing.rest_behind last at) → HasWritten (wrote index word past) key deleted handed NoField
 cut_open index true word past key deleted handed at is more opened was = absurd (true≢false more)
 cut_open index false word past key deleted handed (stage.Search searching) is more opened was = absurd (false≢true opened)
 cut_open index false word past key deleted handed (stage.Gap left) is more opened was = absurd (false≢true opened)
 cut_open index false word past key deleted handed (stage.Window now) is more opened was = cut_next index word past key deleted handed (Some now) now is refl was
 
--- nothing is left behind the last
+-- no word is left after the last
 pub none_behind : (last : Bool) (at : WriteStage) → last ≡ true → writing.rest_behind last at ≡ None
 none_behind false at is = absurd (false≢true is)
 none_behind true (stage.Search searching) is = refl

@@ -13,14 +13,14 @@ use Rattle.fdc_stages.specs.Windows.{words_of_field}
 pub byte_first : (last : Bool) (byte cells : ℕ) (rest : List ℕ) → cells ∷ [] ≡ legal last (byte ∷ []) → legal last (byte ∷ rest) ≡ cells ∷ legal (last_bit byte) rest
 byte_first last byte cells rest is = legal-cons last byte rest ∙ ap (λ words. words ++ legal (last_bit byte) rest) (sym is)
 
--- a byte 00 of several
+-- a byte 00, with more of them after it
 pub sync_first : (more cells : ℕ) (tail : List ℕ) → 1 ≤ more → cells ∷ [] ≡ legal false (0 ∷ []) → legal false (replicate (suc more) 0) ++ tail ≡ cells ∷ (legal false (replicate (suc (more - 1)) 0) ++ tail)
 sync_first more cells tail several is =
     let same : more ≡ suc (more - 1) = omega arith in
     ap (λ words. words ++ tail) (byte_first false 0 cells (replicate more 0) is)
     ∙ ap (λ n. cells ∷ (legal false (replicate n 0) ++ tail)) same
 
--- a byte of the content, and more of them
+-- a byte of the content, with more bytes of it after this one
 pub content_first : (last : Bool) (check next byte cells : ℕ) (rest : List ℕ) → cells ∷ [] ≡ legal last (byte ∷ []) → ((bytes : List ℕ) → crc_from check (byte ∷ bytes) ≡ crc_from next bytes)
     → legal last ((byte ∷ rest) ++ check_bytes (crc_from check (byte ∷ rest))) ≡ cells ∷ legal (last_bit byte) (rest ++ check_bytes (crc_from next rest))
 content_first last check next byte cells rest is goes_on =

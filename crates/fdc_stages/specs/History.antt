@@ -3,11 +3,11 @@ use Rattle.std.specs.Prelude.{◌≡◌, ◌⊎◌, ℕ, ◌+◌, ◌≤◌, Boo
 use Rattle.track_separator.specs.Parts.{with_word, turn_after}
 
 pub record Past : Type 0 where
-  -- the turns that an index ended, the latest first
+  -- the revolutions that an index pulse ended, the latest first
   pub turns : List (List ℕ)
-  -- the words heard since the last index
+  -- the words heard since the last index pulse
   pub seen : List ℕ
-  -- how many words have passed since it, heard or not
+  -- how many words have passed since the last index pulse, heard or not
   pub place : ℕ
   -- the bytes given to memory
   pub given : List ℕ
@@ -15,28 +15,28 @@ pub record Past : Type 0 where
   pub taken : List ℕ
   -- the words written
   pub words : List ℕ
-  -- the device steps
+  -- how many device steps have passed
   pub steps : ℕ
   -- whether the terminal count came
   pub counted : Bool
-  -- whether the gate could not be opened, since the rate was another
+  -- whether the write gate could not be opened because the data rate was a different one
   pub barred : Bool
 
 -- a command that begins
 abbrev pub begun : Past
 begun = record { turns = []; seen = []; place = 0; given = []; taken = []; words = []; steps = 0; counted = false; barred = false }
 
--- the turns, where the index followed these words or did not
+-- the revolutions that are over after these words, by whether the index pulse followed the words
 abbrev pub turns_after : Bool → List (List ℕ) → List ℕ → List (List ℕ)
 turns_after true turns words = words ∷ turns
 turns_after false turns words = turns
 
--- the words that have passed, where the index followed one or did not
+-- how many words have passed since the index pulse, by whether it followed the last word
 abbrev pub place_after : Bool → ℕ → ℕ
 place_after true place = 0
 place_after false place = place + 1
 
--- a word was heard, and the index followed it or did not
+-- a word was heard. The Bool says whether the index pulse followed it
 abbrev pub heard : Bool → ℕ → Past → Past
 heard index word past = record past {
   turns = turns_after index past.turns (with_word past.seen word);
@@ -44,30 +44,30 @@ heard index word past = record past {
   place = place_after index past.place;
 }
 
--- a word was heard where one was to be written, since the gate could not be opened
+-- a word was heard in place of one that was to be written, because the write gate could not be opened
 abbrev pub kept_out : Bool → ℕ → Past → Past
 kept_out index word past = record (heard index word past) { barred = true }
 
--- a word was written, and the index followed it or did not; what was heard in this turn stays
+-- a word was written. The Bool says whether the index pulse followed it. What was heard in this revolution stays
 abbrev pub wrote : Bool → ℕ → Past → Past
 wrote index word past = record past {
   place = place_after index past.place;
   words = with_word past.words word;
 }
 
--- the words are one of these turns
+-- the words are one of these revolutions
 abbrev pub IsAmong : List (List ℕ) → List ℕ → Type 0
 IsAmong [] words = ⊥
 IsAmong (turn ∷ turns) words = (words ≡ turn) ⊎ IsAmong turns words
 
--- the words are those of one turn: since the last index, or of a turn that is over
+-- the words are those of one revolution: either those since the last index pulse, or those of a revolution that is over
 abbrev pub IsTurnIn : List (List ℕ) → List ℕ → List ℕ → Type 0
 IsTurnIn turns seen words = (words ≡ seen) ⊎ IsAmong turns words
 
 abbrev pub IsTurn : Past → List ℕ → Type 0
 IsTurn past words = IsTurnIn past.turns past.seen words
 
--- the turn is the one that the last word ended
+-- the revolution is the one that the last word ended
 pub record IsJustOver (past : Past) (turn : List ℕ) : Type 0 where
   pub earlier : List (List ℕ)
   pub last : past.turns ≡ turn ∷ earlier
@@ -81,6 +81,6 @@ words_in (turn ∷ turns) seen = length turn + words_in turns seen
 abbrev pub words_heard : Past → ℕ
 words_heard past = words_in past.turns past.seen
 
--- one index has passed at most
+-- at most one index pulse has passed
 abbrev pub HasFewTurns : Past → Type 0
 HasFewTurns past = length past.turns ≤ 1

@@ -1,4 +1,4 @@
--- How many words of a format pass before a byte of a key is needed.
+-- How many words of a format pass before a byte of a sector ID is needed.
 use Rattle.std.specs.Prelude.{ℕ, ◌-◌, ◌≤◌, List, length}
 use Rattle.track_format.specs.declared.stream.FormatStream.{FormatStream}
 use Rattle.fdc_stages.specs.declared.formatting.FormatStage.{FormatStage}
@@ -6,8 +6,8 @@ use Rattle.fdc_stages.specs.declared.formatting.FormatNext.{FormatNext}
 use Rattle.fdc_stages.specs.declared.formatting.FormatNext.TheVariants.{On, Ended}
 use Rattle.fdc_stages.specs.Formats.{Numbers, IsLaid}
 
--- so many words, at the least, come from the stream before it needs a byte: the first that it needs is the 163rd of a layout,
--- and of later ones nothing is said
+-- at least this many words come from the stream before it needs a byte. The first byte that it needs is that of the
+-- 163rd word of a layout. Of later bytes nothing is said
 pub record StreamLeads (stream : FormatStream) (lead : ℕ) : Type 0 where
   pub numbers : Numbers
   pub words : List ℕ
@@ -15,7 +15,7 @@ pub record StreamLeads (stream : FormatStream) (lead : ℕ) : Type 0 where
   pub laid : IsLaid words numbers handed stream
   pub most : lead ≤ 162 - length words
 
--- so many words, at the least, are written before a byte is needed
+-- at least this many words are written before a byte is needed
 abbrev pub HasLead : FormatStage → ℕ → Type 0
 HasLead now lead = StreamLeads now.stream lead
 

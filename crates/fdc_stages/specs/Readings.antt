@@ -1,4 +1,4 @@
--- What a reading has heard and told.
+-- What a reading has heard and reported.
 use Rattle.std.specs.Prelude.{◌≡◌, ◌⊎◌, ℕ, ◌+◌, ◌*◌, ◌≤◌, Bool, true, false, Option, None, Some, List, [], ◌∷◌, ◌++◌, min, length}
 use Rattle.flop_base.specs.declared.key.Chrn.{Chrn}
 use Rattle.track_model.specs.declared.Look.TheVariants as look
@@ -16,7 +16,7 @@ use Rattle.fdc_stages.specs.declared.reading.ReadHeard.TheVariants as given
 use Rattle.fdc_stages.specs.History.{Past, heard, IsTurn, IsJustOver, HasFewTurns}
 use Rattle.fdc_stages.specs.Searches.{IsSearching, IsMissed}
 
--- the bytes are all of these, or after the terminal count the first of them
+-- the bytes are all of those reported. After the terminal count, they are the first of those reported
 abbrev pub IsStart : Bool → List ℕ → List ℕ → Type 0
 IsStart false bytes told = bytes ≡ told
 IsStart true bytes told = (rest : List ℕ) × (told ≡ bytes ++ rest)
@@ -27,14 +27,15 @@ pub record IsWaitingAt (past : Past) (key : Chrn) (separator : Separator) (p : �
   pub waits : SWaits separator past.seen p (content_size key.n)
   pub few : HasFewTurns past
 
--- its data field at q is read, and these bytes of the content were told
+-- the data field at q of the address field at p is read, and these bytes of its content were reported
 pub record IsContentAt (past : Past) (key : Chrn) (told : List ℕ) (separator : Separator) (deleted : Bool) (p q taken : ℕ) : Type 0 where
   pub address : IsAddressAt past.seen p key
   pub reads : SReads separator past.seen p q deleted (content_size key.n) taken
   pub bytes : told ≡ bytes_at past.seen (q + 64) (min taken (content_size key.n))
   pub few : HasFewTurns past
 
--- a turn has an address field of the key at p, and its data field at q, which is over; its content was told
+-- a revolution has an address field of this sector ID at p and its data field at q. The data field is over, and its
+-- content was reported
 pub record IsFieldOver (turn : List ℕ) (key : Chrn) (told : List ℕ) (deleted good : Bool) (p q : ℕ) : Type 0 where
   pub address : IsAddressAt turn p key
   pub ended : HasEnded turn p q deleted (content_size key.n)
@@ -45,7 +46,7 @@ abbrev pub IsOver : Past → Chrn → List ℕ → Bool → Bool → Type 0
 IsOver past key told deleted good =
     (turn : List ℕ) × IsTurn past turn × ((p : ℕ) × (q : ℕ) × IsFieldOver turn key told deleted good p q)
 
--- a reading, what was heard since it began, and the bytes that it told
+-- a reading at its stage, with what was heard since it began, and the bytes that it reported
 abbrev pub IsReading : Past → Chrn → List ℕ → ReadStage → Type 0
 IsReading past key told (Search searching) = IsSearching past (Some key) searching × (told ≡ [])
 IsReading past key told (Wait separator) = ((p : ℕ) × IsWaitingAt past key separator p) × (told ≡ [])
@@ -53,7 +54,7 @@ IsReading past key told (Content separator deleted) =
     (p : ℕ) × (q : ℕ) × (taken : ℕ) × IsContentAt past key told separator deleted p q taken
 IsReading past key told (Over deleted good) = IsOver past key told deleted good
 
--- the bytes are the first behind the first data mark of an address field of the key
+-- the bytes are the first after the first data mark of an address field of this sector ID
 pub record IsToldFrom (turn : List ℕ) (key : Chrn) (told : List ℕ) (p q count : ℕ) (deleted : Bool) : Type 0 where
   pub address : IsAddressAt turn p key
   pub mark : IsFirstDataMark turn p q deleted
@@ -61,20 +62,20 @@ pub record IsToldFrom (turn : List ℕ) (key : Chrn) (told : List ℕ) (p q coun
   pub inside : q + 64 + 16 * count ≤ 16 * length turn
   pub bytes : told ≡ bytes_at turn (q + 64) count
 
--- nothing was told, or such bytes of one turn were
+-- nothing was reported, or the bytes reported are such bytes of one revolution
 abbrev pub IsToldOf : Past → Chrn → List ℕ → Type 0
 IsToldOf past key told =
     (told ≡ [])
     ⊎ ((turn : List ℕ) × IsTurn past turn
     × ((p : ℕ) × (q : ℕ) × (count : ℕ) × (deleted : Bool) × IsToldFrom turn key told p q count deleted))
 
--- an address field of the key in the turn that is over has no data field in it
+-- an address field of this sector ID, in the revolution that is over, has no data field in that revolution
 pub record IsCutField (past : Past) (key : Chrn) (turn : List ℕ) (p : ℕ) : Type 0 where
   pub over : IsJustOver past turn
   pub address : IsAddressAt turn p key
   pub none : LookAt turn p key.n look.NoData
 
--- an address field of the key has no data mark, however its turn goes on
+-- an address field of this sector ID has no data mark, however its revolution goes on
 pub record IsBareField (past : Past) (key : Chrn) (p : ℕ) : Type 0 where
   pub address : IsAddressAt past.seen p key
   pub none : HasNoDataMark past.seen p
@@ -95,7 +96,7 @@ HasCause past key told Overrun = past.counted ≡ false
 HasCause past key told Late = past.steps ≡ 65536
 HasCause past key told Protected = ⊥
 
--- a reading that ended, and the bytes that it told
+-- a reading that ended, with the bytes that it reported
 pub record HasRead (past : Past) (key : Chrn) (told : List ℕ) (ending : Ending) : Type 0 where
   pub bytes : IsToldOf past key told
   pub cause : HasCause past key told ending
@@ -106,19 +107,19 @@ pub data ReadOutcome : Type 0 where
   Byte : ReadStage → ℕ → ReadOutcome
   Ended : Ending → ReadOutcome
 
--- the same from the answer, and the stage that it is then at
+-- the outcome, from the answer and the stage after it
 abbrev pub read_outcome : ReadStage → ReadHeard → ReadOutcome
 read_outcome after given.On = On after
 read_outcome after (given.Byte value) = Byte after value
 read_outcome after (given.Ended ending) = Ended ending
 
--- what that says
+-- what holds after a word, by its outcome
 abbrev pub HasHeard : Past → Chrn → List ℕ → ReadOutcome → Type 0
 HasHeard past key told (On stage) = IsReading past key told stage
 HasHeard past key told (Byte stage value) = IsReading past key (told ++ value ∷ []) stage
 HasHeard past key told (Ended ending) = HasRead past key told ending
 
--- a word ends a reading where a search misses or where there is no field, and in no other way
+-- a word ends a reading only in these ways: a search misses, or there is no data field
 abbrev pub IsFailure : Ending → Type 0
 IsFailure NoMark = Unit {0}
 IsFailure NoSector = Unit {0}
@@ -129,36 +130,36 @@ abbrev pub FailsWell : ReadOutcome → Type 0
 FailsWell (Ended ending) = IsFailure ending
 FailsWell _ = Unit {0}
 
--- the mark of the data field, once it is met: F8 is true
+-- the data mark, once it is met: true for F8
 abbrev pub mark_at : ReadStage → Option Bool
 mark_at (Content separator deleted) = Some deleted
 mark_at (Over deleted good) = Some deleted
 mark_at _ = None
 
--- a reading that goes on has met this mark
+-- a reading that goes on has met this data mark
 abbrev pub HasMark : Bool → ReadOutcome → Type 0
 HasMark deleted (On stage) = mark_at stage ≡ Some deleted
 HasMark deleted (Byte stage value) = mark_at stage ≡ Some deleted
 HasMark deleted (Ended ending) = Unit {0}
 
--- the mark that was met stays
+-- the data mark that was met stays the same
 abbrev pub KeepsMark : ReadStage → ReadOutcome → Type 0
 KeepsMark (Content separator deleted) after = HasMark deleted after
 KeepsMark (Over deleted good) after = HasMark deleted after
 KeepsMark _ after = Unit {0}
 
--- a word of a search in which nothing is seen, and behind which no index passes, whatever was heard before
+-- a word of a search in which nothing is seen, and after which no index pulse comes, whatever was heard before
 abbrev pub PassesBy : ℕ → ReadStage → ReadStage → Type 0
 PassesBy word stage next =
     ((past : Past) (key : Chrn) (told : List ℕ) → IsReading past key told stage → IsReading (heard false word past) key told next)
     × KeepsMark stage (On next)
 
--- a content is read
+-- the content of a data field is read
 abbrev pub IsContent : ReadStage → Type 0
 IsContent (Content separator deleted) = Unit {0}
 IsContent _ = ⊥
 
--- a word of a content, which gives this byte, and behind which no index passes, whatever was heard before
+-- a word of a content, which gives this byte, and after which no index pulse comes, whatever was heard before
 pub record HearsByte (word value : ℕ) (stage next : ReadStage) : Type 0 where
   pub gives : (past : Past) (key : Chrn) (told : List ℕ) → IsReading past key told stage → IsReading (heard false word past) key (told ++ value ∷ []) next
   pub mark : KeepsMark stage (Byte next value)

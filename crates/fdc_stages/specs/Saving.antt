@@ -1,4 +1,4 @@
--- The bytes of stages that are saved: a byte for the kind of each, and what it keeps.
+-- The bytes in which stages are saved: one for the kind of the stage, and then what the stage keeps.
 use Rattle.std.specs.Prelude.{ℕ, List, ◌∷◌}
 use Rattle.saved_state.specs.Saved.{spelled_flag}
 use Rattle.track_separator.specs.Saving.{spelled_separator}

@@ -15,7 +15,7 @@ use Rattle.fdc_stages.specs.declared.searching.Searched.{Searched}
 use Rattle.fdc_stages.specs.declared.searching.Searched.TheVariants as searched
 use Rattle.fdc_stages.specs.History.{Past, heard, IsTurnIn, IsJustOver, HasFewTurns}
 
--- an address field of this key is searched for; without a wanted key each one is
+-- the search wants an address field of this sector ID. Without a wanted sector ID it wants each one
 abbrev pub Wants : Option Chrn → Chrn → Type 0
 Wants None key = Unit {0}
 Wants (Some only) key = key ≡ only
@@ -24,7 +24,7 @@ Wants (Some only) key = key ≡ only
 abbrev pub HasNoClear : Option Chrn → List ℕ → Type 0
 HasNoClear wanted words = (p : ℕ) (key : Chrn) → Wants wanted key → IsAddressAt words p key → HasNoRunWithin words p → ⊥
 
--- no turn that was heard has one
+-- no revolution that was heard has such an address field
 abbrev pub HasNoneIn : Option Chrn → List (List ℕ) → List ℕ → Type 0
 HasNoneIn wanted turns seen = (words : List ℕ) → IsTurnIn turns seen words → HasNoClear wanted words
 
@@ -32,12 +32,12 @@ HasNoneIn wanted turns seen = (words : List ℕ) → IsTurnIn turns seen words �
 abbrev pub HasMarkIn : List (List ℕ) → List ℕ → Type 0
 HasMarkIn turns seen = (words : List ℕ) × IsTurnIn turns seen words × HasAddressMark words
 
--- no index has passed, or one
+-- whether an index pulse has passed: none for false, one for true
 abbrev pub HasTurned : Bool → List (List ℕ) → Type 0
 HasTurned false turns = turns ≡ []
 HasTurned true turns = (first : List ℕ) × (turns ≡ first ∷ [])
 
--- a search, and what was heard since it began
+-- a search, with what was heard since it began
 pub record IsSearchingIn (turns : List (List ℕ)) (seen : List ℕ) (wanted : Option Chrn) (separator : Separator) (turned marked : Bool) : Type 0 where
   pub follows : SFollows separator seen
   pub none : HasNoneIn wanted turns seen
@@ -48,7 +48,7 @@ abbrev pub IsSearching : Past → Option Chrn → Search → Type 0
 IsSearching past wanted searching =
     IsSearchingIn past.turns past.seen wanted searching.separator searching.turned searching.marked
 
--- a search behind a word in which nothing was met, before an index that follows the word is counted
+-- a search after a word in which nothing was met, before an index pulse that follows the word is counted
 pub record IsPassed (index : Bool) (past : Past) (word : ℕ) (wanted : Option Chrn) (separator : Separator) (turned marked : Bool) : Type 0 where
   pub follows : SFollows separator (turn_after index past.seen word)
   pub none : HasNoneIn wanted past.turns (with_word past.seen word)
@@ -62,55 +62,55 @@ pub record IsMetAt (past : Past) (key : Chrn) (separator : Separator) (p : ℕ) 
   pub asks : SAddressed separator past.seen p
   pub few : HasFewTurns past
 
--- the address field at p ended in the last word of a turn
+-- the address field at p ended in the last word of a revolution
 pub record IsMetLast (past : Past) (key : Chrn) (separator : Separator) (turn : List ℕ) (p : ℕ) : Type 0 where
   pub over : IsJustOver past turn
   pub address : IsAddressAt turn p key
   pub ends : EndsInLast turn (p + 160)
   pub begins : SBegins separator
 
--- an address field of this key ended in the last word, where the index followed it or did not
+-- an address field of this sector ID ended in the last word. The Bool says whether the index pulse followed the word
 abbrev pub IsMet : Bool → Past → Chrn → Separator → Type 0
 IsMet false past key separator = (p : ℕ) × IsMetAt past key separator p
 IsMet true past key separator = (turn : List ℕ) × (p : ℕ) × IsMetLast past key separator turn p
 
--- the words are those between the two indexes that ended a search
+-- the words are those between the two index pulses that ended a search
 pub record IsBetween (past : Past) (words : List ℕ) : Type 0 where
   pub first : List ℕ
   pub turns : past.turns ≡ words ∷ first ∷ []
   pub nothing : past.seen ≡ []
 
--- the second index has passed, and no turn has a clear address field that is wanted
+-- the second index pulse has passed, and no revolution has a clear address field that is wanted
 pub record HasMissed (past : Past) (wanted : Option Chrn) : Type 0 where
   pub between : List ℕ
   pub is : IsBetween past between
   pub none : HasNoneIn wanted past.turns past.seen
 
--- how a search ended: without any address mark, or with some
+-- how a search ended: without any address mark, or with some but without a wanted address field
 abbrev pub IsMissed : Past → Option Chrn → Ending → Type 0
 IsMissed past wanted NoMark = HasMissed past wanted × (HasMarkIn past.turns past.seen → ⊥)
 IsMissed past wanted NoSector = HasMissed past wanted × HasMarkIn past.turns past.seen
 IsMissed past wanted _ = ⊥
 
--- what a word made of a search: it goes on so, met the address field of a key, or missed
+-- what a word made of a search: the search goes on, it met the address field of a sector ID, or it missed
 pub data SearchOutcome : Type 0 where
   On : Search → SearchOutcome
   Met : Chrn → Separator → SearchOutcome
   Missed : Ending → SearchOutcome
 
--- the same from the answer, and the search as it then is
+-- the outcome, from the answer and the search after it
 abbrev pub search_outcome : Search → Searched → SearchOutcome
 search_outcome after searched.On = On after
 search_outcome after (searched.Met key) = Met key after.separator
 search_outcome after (searched.Missed ending) = Missed ending
 
--- what that says, where the index followed the word or did not
+-- what holds after a word, by its outcome and by whether the index pulse followed the word
 abbrev pub HasSearched : Bool → Past → Option Chrn → SearchOutcome → Type 0
 HasSearched index past wanted (On searching) = IsSearching past wanted searching
 HasSearched index past wanted (Met key separator) = Wants wanted key × IsMet index past key separator
 HasSearched index past wanted (Missed ending) = IsMissed past wanted ending
 
--- a search misses without an address mark, or with some, and in no other way
+-- a search misses only in these ways: without an address mark, or with some
 abbrev pub IsMiss : Ending → Type 0
 IsMiss NoMark = Unit {0}
 IsMiss NoSector = Unit {0}
@@ -120,12 +120,12 @@ abbrev pub MissesWell : SearchOutcome → Type 0
 MissesWell (Missed ending) = IsMiss ending
 MissesWell _ = Unit {0}
 
--- nothing is seen in a word, and no index follows it, whatever is wanted and was heard before
+-- nothing is seen in the word, and no index pulse follows it, whatever is wanted and was heard before
 abbrev pub HearsNothing : ℕ → Search → Search → Type 0
 HearsNothing word search next =
     (past : Past) (wanted : Option Chrn) → IsSearching past wanted search → IsSearching (heard false word past) wanted next
 
--- nor in any of these words
+-- nothing is seen in any of these words, and no index pulse follows one of them
 unfoldable pub HearsNothingIn : List ℕ → Search → Search → Type 0
 HearsNothingIn [] search next = next ≡ search
 HearsNothingIn (word ∷ rest) search next =

@@ -9,12 +9,12 @@ use Rattle.fdc_stages.specs.declared.window.Part.{Part}
 use Rattle.fdc_stages.specs.declared.window.Part.TheVariants.{Sync, Marks, Mark, Content, High, Low}
 use Rattle.fdc_stages.specs.declared.window.Window.{Window}
 
--- the words behind the marks: the mark byte, the content and the check
+-- the words after the marks: the mark byte, the content and the CRC
 abbrev pub words_of_field : Bool → List ℕ → List ℕ
 words_of_field deleted content =
     legal true ((data_byte deleted ∷ content) ++ check_bytes (crc (after_marks (data_byte deleted ∷ content))))
 
--- the words from a part on, where this content is still to come
+-- the words from a part on, if this content is still to come
 abbrev pub words_from : Part → Bool → ℕ → Bool → List ℕ → List ℕ
 words_from (Sync more) deleted check last content =
     legal false (replicate (suc more) 0) ++ ((0x4489 ∷ 0x4489 ∷ 0x4489 ∷ []) ++ words_of_field deleted content)
@@ -38,7 +38,7 @@ bytes_from _ more = 0
 abbrev pub bytes_left : Window → ℕ
 bytes_left now = bytes_from now.part now.more
 
--- how many words are still to come, from a part of a window on whose content has one byte more than `more`
+-- how many words are still to come, from this part of a window on. The content has one byte more than `more`
 abbrev pub count_from : Part → ℕ → ℕ
 count_from (Sync left) more = left + more + 8
 count_from (Marks left) more = left + more + 5
@@ -50,7 +50,7 @@ count_from Low more = 1
 abbrev pub count_left : Window → ℕ
 count_left now = count_from now.part now.more
 
--- how many words come before a byte of the content is needed; 16 where none is needed any more
+-- how many words come before a byte of the content is needed. If no more bytes are needed, the number is 16
 abbrev pub lead_from : Part → ℕ
 lead_from (Sync left) = left + 5
 lead_from (Marks left) = left + 2
@@ -69,12 +69,12 @@ is_content _ = false
 abbrev pub needs_byte : Window → Bool
 needs_byte now = is_content now.part
 
--- the content that is still to come, with the byte that a part takes
+-- the content that is still to come, with the byte that a part takes in front of it
 abbrev pub with_byte : Part → ℕ → List ℕ → List ℕ
 with_byte (Content _) byte rest = byte ∷ rest
 with_byte _ byte rest = rest
 
--- the same behind a word: nothing where it was the last
+-- the words that are left after a word: none if it was the last
 abbrev pub words_behind : Option Window → List ℕ → List ℕ
 words_behind (Some now) content = words_left now content
 words_behind None content = []
@@ -99,12 +99,12 @@ is_low _ = false
 abbrev pub is_last : Window → Bool
 is_last now = is_low now.part
 
--- the words behind one, which was the last or wasn't
+-- what is left of a window after a word: nothing if that word was the last
 abbrev pub window_behind : Bool → Window → Option Window
 window_behind true after = None
 window_behind false after = Some after
 
--- a part gives the first of the words that are still to come, and takes a byte of the content where it needs one
+-- a part gives the first of the words that are still to come, and takes a byte of the content if it needs one
 pub record Gives (part : Part) (old : Window) (byte word : ℕ) (behind : Option Window) : Type 0 where
   pub words : (rest : List ℕ) → length rest ≡ bytes_behind behind → words_from part old.deleted old.check old.last (with_byte part byte rest) ≡ word ∷ words_behind behind rest
   pub bytes : (rest : List ℕ) → length rest ≡ bytes_behind behind → length (with_byte part byte rest) ≡ bytes_from part old.more

@@ -1,4 +1,4 @@
--- The bytes of stages that write, as they are saved: a byte for the kind of each, and what it keeps.
+-- The bytes in which stages that write are saved: one for the kind of the stage, and then what the stage keeps.
 use Rattle.std.specs.Prelude.{ℕ, List, ◌∷◌}
 use Rattle.saved_state.specs.Saved.{spelled_byte, spelled_flag, spelled_key, spelled_word}
 use Rattle.fdc_stages.specs.Saving.{spelled_search}

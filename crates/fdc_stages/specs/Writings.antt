@@ -21,12 +21,12 @@ use Rattle.fdc_stages.specs.declared.writing.WriteNext.TheVariants as next
 
 -- ---- the stages
 
--- the gate is open
+-- the write gate is open
 abbrev pub is_open : WriteStage → Bool
 is_open (stage.Window _) = true
 is_open _ = false
 
--- the gate is to be opened before the next word
+-- the write gate is to be opened before the next word
 abbrev pub opens : WriteStage → Bool
 opens (stage.Gap zero) = true
 opens _ = false
@@ -38,12 +38,12 @@ is_due (stage.Gap zero) = true
 is_due (stage.Gap (suc _)) = false
 is_due (stage.Window _) = true
 
--- it is a byte of the content
+-- the next word is a byte of the content
 abbrev pub needs_byte : WriteStage → Bool
 needs_byte (stage.Window now) = windowed.needs_byte now
 needs_byte _ = false
 
--- how many words pass before a byte of the content is needed, at the least; 16 where none is needed any more
+-- at least how many words pass before a byte of the content is needed. If no more bytes are needed, the number is 16
 abbrev pub lead_of : WriteStage → ℕ
 lead_of (stage.Search _) = 39
 lead_of (stage.Gap left) = left + 16
@@ -54,30 +54,30 @@ abbrev pub is_last : WriteStage → Bool
 is_last (stage.Window now) = windowed.is_last now
 is_last _ = false
 
--- the words behind one, which was the last or wasn't
+-- what is left of the window after a word: nothing if that word was the last
 abbrev pub rest_behind : Bool → WriteStage → Option Window
 rest_behind last (stage.Window after) = window_behind last after
 rest_behind last _ = None
 
 -- ---- what has passed
 
--- the content that was handed in, with a byte where one was needed
+-- the content that was handed in, with the byte if one was needed
 abbrev pub handed_with : Bool → ℕ → List ℕ → List ℕ
 handed_with true byte handed = with_word handed byte
 handed_with false byte handed = handed
 
--- a word was heard, where the window's first was to be written or before
+-- a word was heard. The first Bool says whether it came in place of the first word of the window, or before that
 abbrev pub heard_where : Bool → Bool → ℕ → Past → Past
 heard_where true index word past = kept_out index word past
 heard_where false index word past = heard index word past
 
--- the window of the address field of the key at p begins behind so many words more
+-- the window of the address field of this sector ID at p begins after this many words more
 pub record IsBefore (seen : List ℕ) (key : Chrn) (left p : ℕ) : Type 0 where
   pub address : IsAddressAt seen p key
   pub place : length seen + left ≡ window_word p
 
--- the words are the first of the window of the address field of the key at p, at its place, and `behind` gives the others:
--- for each end of the content that begins with what was handed in
+-- the words are the first of the window of the address field of this sector ID at p, and stand at its place. `behind`
+-- gives the other words, for each rest of the content after what was handed in
 pub record IsInWindow (seen words : List ℕ) (key : Chrn) (deleted : Bool) (handed : List ℕ) (behind : Option Window) (p : ℕ) : Type 0 where
   pub address : IsAddressAt seen p key
   pub place : length seen ≡ window_word p
@@ -97,12 +97,12 @@ IsAtStage turns seen words key deleted handed (stage.Gap left) = ((p : ℕ) × I
 IsAtStage turns seen words key deleted handed (stage.Window now) =
     ((p : ℕ) × IsInWindow seen words key deleted handed (Some now) p) × (1 ≤ length words)
 
--- a writing, what was heard and written since it began, and the content that was handed in
+-- a writing at its stage, with what was heard and written since it began, and the content that was handed in
 abbrev pub IsWriting : Past → Chrn → Bool → List ℕ → WriteStage → Type 0
 IsWriting past key deleted handed now =
     (past.place ≡ length past.seen + length past.words) × IsAtStage past.turns past.seen past.words key deleted handed now
 
--- the word is the next of the window, and `behind` gives the others
+-- the word is the next of the window, and `behind` gives the other words
 abbrev pub IsNextWord : Past → Chrn → Bool → List ℕ → ℕ → Option Window → Type 0
 IsNextWord past key deleted handed word behind =
     (past.place ≡ length past.seen + length past.words)
@@ -114,8 +114,8 @@ IsNextWord past key deleted handed word behind =
 abbrev pub IsFirstOf : List ℕ → List ℕ → Type 0
 IsFirstOf words whole = (others : List ℕ) × (whole ≡ words ++ others)
 
--- the words are the first of the window of the address field of the key at p, at its place, whatever the content that begins
--- with what was handed in
+-- the words are the first of the window of the address field of this sector ID at p, and stand at its place. This holds
+-- for each content that begins with what was handed in
 pub record IsBegun (seen words : List ℕ) (key : Chrn) (deleted : Bool) (handed : List ℕ) (p : ℕ) : Type 0 where
   pub address : IsAddressAt seen p key
   pub place : length seen ≡ window_word p
@@ -123,12 +123,13 @@ pub record IsBegun (seen words : List ℕ) (key : Chrn) (deleted : Bool) (handed
   pub few : length handed ≤ content_size key.n
   pub first : (rest : List ℕ) → length handed + length rest ≡ content_size key.n → IsFirstOf words (window deleted (handed ++ rest))
 
--- nothing was written, or such words
+-- nothing was written, or the words written are such words
 abbrev pub HasBegun : Past → Chrn → Bool → List ℕ → Type 0
 HasBegun past key deleted handed =
     IsUnwritten past.words handed ⊎ ((p : ℕ) × IsBegun past.seen past.words key deleted handed p)
 
--- the words are the whole window of the address field of the key at p, at its place, with what was handed in as the content
+-- the words are the whole window of the address field of this sector ID at p, and stand at its place. The content is
+-- what was handed in
 pub record IsWhole (seen words : List ℕ) (key : Chrn) (deleted : Bool) (handed : List ℕ) (p : ℕ) : Type 0 where
   pub address : IsAddressAt seen p key
   pub place : length seen ≡ window_word p
@@ -138,20 +139,23 @@ pub record IsWhole (seen words : List ℕ) (key : Chrn) (deleted : Bool) (handed
 abbrev pub HasWhole : Past → Chrn → Bool → List ℕ → Type 0
 HasWhole past key deleted handed = (p : ℕ) × IsWhole past.seen past.words key deleted handed p
 
--- the turn that is over has an address field of the key at p, whose window begins at the index or behind it
+-- the revolution that is over has an address field of this sector ID at p, whose window begins at the index pulse or
+-- after it
 pub record IsBehindIndex (past : Past) (key : Chrn) (turn : List ℕ) (p : ℕ) : Type 0 where
   pub over : IsJustOver past turn
   pub address : IsAddressAt turn p key
   pub behind : length turn ≤ window_word p
 
--- the index came behind the words written, which aren't the whole window of the address field of the key at p
+-- the index pulse came after the words written, which aren't the whole window of the address field of this sector ID at
+-- p
 pub record IsCutShort (past : Past) (key : Chrn) (p : ℕ) : Type 0 where
   pub index : past.place ≡ 0
   pub some : 1 ≤ length past.words
   pub address : IsAddressAt past.seen p key
   pub few : length past.words < window_words key.n
 
--- no window was written, or not the whole: the index came before it or in it, or the gate could not be opened
+-- no window was written, or not the whole one. The index pulse came before the window or in it, or the write gate could
+-- not be opened
 abbrev pub HasNoWindow : Past → Chrn → Type 0
 HasNoWindow past key =
     ((past.words ≡ []) × ((turn : List ℕ) × (p : ℕ) × IsBehindIndex past key turn p))
@@ -170,22 +174,22 @@ HasCause past key deleted handed Late = past.steps ≡ 65536
 HasCause past key deleted handed Protected = past.words ≡ []
 HasCause past key deleted handed BadCheck = ⊥
 
--- a writing that ended, and the content that was handed in
+-- a writing that ended, with the content that was handed in
 pub record HasWritten (past : Past) (key : Chrn) (deleted : Bool) (handed : List ℕ) (ending : Ending) : Type 0 where
   pub begun : HasBegun past key deleted handed
   pub cause : HasCause past key deleted handed ending
 
--- what a word that was heard gave a writing, from its stage as it then is, and how it ended
+-- what a word that was heard gave a writing: its stage after the word, or how the writing ended
 abbrev pub write_heard : WriteStage → Option Ending → WriteNext
 write_heard after None = next.On after
 write_heard after (Some ending) = next.Ended ending
 
--- what a word gave a writing
+-- what holds after a word, by what the word gave the writing
 abbrev pub HasNext : Past → Chrn → Bool → List ℕ → WriteNext → Type 0
 HasNext past key deleted handed (next.On now) = IsWriting past key deleted handed now
 HasNext past key deleted handed (next.Ended ending) = HasWritten past key deleted handed ending
 
--- a word that is heard ends a writing in these ways
+-- if a word that is heard ends a writing, it ends in one of these ways
 abbrev pub IsFailure : Ending → Type 0
 IsFailure NoMark = Unit {0}
 IsFailure NoSector = Unit {0}
@@ -196,7 +200,7 @@ abbrev pub FailsWell : WriteNext → Type 0
 FailsWell (next.Ended ending) = IsFailure ending
 FailsWell _ = Unit {0}
 
--- a word that was written ends it in these
+-- if a word that was written ends a writing, it ends in one of these ways
 abbrev pub IsEnd : Ending → Type 0
 IsEnd (Done marked) = marked ≡ false
 IsEnd NoCount = Unit {0}
@@ -207,36 +211,38 @@ abbrev pub EndsWell : WriteNext → Type 0
 EndsWell (next.Ended ending) = IsEnd ending
 EndsWell _ = Unit {0}
 
--- the words that pass before a byte is needed are one fewer at most
+-- with one word, the number of words that pass before a byte is needed falls by at most one
 abbrev pub LeadsOn : ℕ → WriteNext → Type 0
 LeadsOn before (next.On now) = before ≤ lead_of now + 1
 LeadsOn before (next.Ended _) = Unit {0}
 
--- what stops a command from outside: a byte that is missing without the terminal count, the number of steps, or a medium that
--- is protected before anything is written
+-- what stops a command from outside: a byte is missing and the terminal count hasn't come, the number of steps is
+-- reached, or the medium is protected and nothing was written
 abbrev pub IsStopped : Past → Ending → Type 0
 IsStopped past Overrun = past.counted ≡ false
 IsStopped past Late = past.steps ≡ 65536
 IsStopped past Protected = past.words ≡ []
 IsStopped past _ = ⊥
 
--- each track that begins with the words heard has the address field of the key at p, and the words written behind them are
--- a cut of its window with this content
+-- each track that begins with the words heard has the address field of this sector ID at p. The words written after
+-- these are a cut of the field's window with this content
 pub record WritesCut (past : Past) (key : Chrn) (deleted : Bool) (content : List ℕ) (p : ℕ) : Type 0 where
   pub field : (track : List ℕ) → IsPart past.seen track → IsFieldFor track p key content
   pub cut : (track : List ℕ) → length past.seen + length past.words ≤ length track
       → IsCut track (with_items track (length past.seen) past.words) p (length past.words) (window deleted content)
 
--- they are so with each content of the sector's size that begins with what was handed in: no byte that wasn't stands in them
+-- the words written are such a cut for each content of the sector's size that begins with what was handed in. So they
+-- hold no byte of the content that wasn't handed in
 pub record WritesCuts (past : Past) (key : Chrn) (deleted : Bool) (handed : List ℕ) (p : ℕ) : Type 0 where
   pub few : length handed ≤ content_size key.n
   pub cuts : (rest : List ℕ) → length handed + length rest ≡ content_size key.n → WritesCut past key deleted (handed ++ rest) p
 
--- nothing was written, or such words
+-- nothing was written, or the words written are such cuts
 abbrev pub WritesFirst : Past → Chrn → Bool → List ℕ → Type 0
 WritesFirst past key deleted handed = (past.words ≡ []) ⊎ ((p : ℕ) × WritesCuts past key deleted handed p)
 
--- the terminal count came, and the words are the whole window with what was handed in, at the place of the address field at p
+-- the terminal count came, and the words are the whole window of the address field at p, at its place. The content is
+-- what was handed in
 pub record WritesWindow (past : Past) (key : Chrn) (deleted : Bool) (handed : List ℕ) (p : ℕ) : Type 0 where
   pub counted : past.counted ≡ true
   pub words : past.words ≡ window deleted handed

@@ -10,7 +10,7 @@ use crate::Ending;
 use flop_base::Chrn;
 use track_format::FormatStream;
 
-/// No key: in the result of a format that failed, or of one without sectors.
+/// No sector ID. This is in the result of a format that failed, or of one without sectors.
 const NO_KEY: Chrn = Chrn {
     c: 0,
     h: 0,
@@ -21,13 +21,13 @@ const NO_KEY: Chrn = Chrn {
 /// What a format does with the next word.
 #[derive(Clone, Copy)]
 pub enum FormatPart {
-    /// It is heard, and the index is awaited.
+    /// The word is heard, and the index pulse is awaited.
     Await,
-    /// The index has passed, and the word is the first of the layout.
+    /// The index pulse has passed, and the word is the first of the layout.
     Due,
-    /// The gate is open, and the word is one of the layout.
+    /// The write gate is open, and the word is one of the layout.
     Lay,
-    /// The gate could not be opened. It is heard, and the second index is awaited.
+    /// The write gate could not be opened. The word is heard, and the second index pulse is awaited.
     Barred,
 }
 
@@ -37,7 +37,7 @@ pub struct FormatStage {
     pub(crate) part: FormatPart,
     /// The words of the layout that are still to come.
     pub(crate) stream: FormatStream,
-    /// The last four bytes of keys that were handed in.
+    /// The last four bytes of sector IDs that were handed in.
     pub(crate) key: Chrn,
 }
 
@@ -46,7 +46,8 @@ pub struct FormatStage {
 pub enum FormatNext {
     /// The format goes on.
     On(FormatStage),
-    /// It is over, and an open gate closes: NoMark, NoField or Done. `key` is the key of the result.
+    /// The format is over, and an open write gate closes. The ending is NoMark, NoField or Done. `key` is the sector ID
+    /// of the result.
     Ended { ending: Ending, key: Chrn },
 }
 
@@ -54,23 +55,23 @@ pub enum FormatNext {
 #[derive(Clone, Copy)]
 pub struct FormatEnd {
     pub ending: Ending,
-    /// The key of the result.
+    /// The sector ID of the result.
     pub key: Chrn,
 }
 
 /// A word to be written.
 #[derive(Clone, Copy)]
 pub struct FormatWord {
-    /// Its sixteen cells, the first in bit 15.
+    /// The word's sixteen cells, the first in bit 15.
     pub word: u16,
-    /// The words behind it.
+    /// The words of the layout after this one.
     pub stream: FormatStream,
-    /// The last four bytes of keys that were handed in.
+    /// The last four bytes of sector IDs that were handed in.
     pub key: Chrn,
 }
 
 impl FormatStage {
-    /// The first stage, for so many sectors of size code `n` with `gap3` bytes behind each.
+    /// The first stage, for this many sectors of size code `n`, each followed by `gap3` bytes.
     pub fn new(n: u8, sectors: u8, gap3: u8, fill: u8) -> FormatStage
         requires at_least { 1 ≤ n }
         requires at_most { n ≤ 6 }
@@ -91,21 +92,21 @@ impl FormatStage {
         matches!(self.part, FormatPart::Due | FormatPart::Lay)
     }
 
-    /// Whether the gate is to be opened before the next word: it is the first of the layout.
+    /// Whether the write gate is to be opened before the next word, which is then the first of the layout.
     pub fn opens(&self) -> bool
         ensures { result ≡ opens self.now }
     {
         matches!(self.part, FormatPart::Due)
     }
 
-    /// Whether the gate is open.
+    /// Whether the write gate is open.
     pub fn is_open(&self) -> bool
         ensures { result ≡ is_open self.now }
     {
         matches!(self.part, FormatPart::Lay)
     }
 
-    /// Whether the next word is a byte of a key, which `write` is to be handed.
+    /// Whether the next word is a byte of a sector ID. If it is, the caller hands the byte to `write`.
     pub fn needs_byte(&self) -> bool
         ensures takes { is_due self.now ≡ true → Takes self.now result }
         ensures open { is_open self.now ≡ false → result ≡ false }
@@ -117,9 +118,9 @@ impl FormatStage {
         }
     }
 
-    /// Hears a word of the track, and tells how the format is over, where it is. `index` says that the index follows it. A word
-    /// that is heard where the first of the layout is due says that the gate could not be opened. While the gate is open no word
-    /// is heard.
+    /// Hears a word of the track, and gives how the format is over, if it is. `index` says that the index pulse follows
+    /// the word. If the first word of the layout is due, hearing a word means that the write gate could not be opened.
+    /// While the write gate is open, no word is heard.
     #[inline(always)]
     pub fn hear(&mut self, index: bool) -> Option<FormatEnd>
         ensures hears { (past : Past) (numbers : Numbers) (handed : List ℕ) (word : ℕ) → is_open self.old ≡ false
@@ -137,7 +138,7 @@ impl FormatStage {
         }
     }
 
-    /// The word that is written next, where one is due. Where `needs_byte` says so, `byte` is the byte that it records.
+    /// The word that is written next, if one is due. If `needs_byte` says so, `byte` is the byte that the word records.
     pub fn write(self, byte: u8) -> FormatWord
         ensures writes { (past : Past) (numbers : Numbers) (handed : List ℕ) (takes : Bool) → is_due self ≡ true
             → IsFormatting past numbers handed self → Takes self takes
@@ -153,7 +154,7 @@ impl FormatStage {
         }
     }
 
-    /// The same in place.
+    /// Gives the word that `write` gives, and moves this stage on in place.
     pub fn lay(&mut self, byte: u8) -> u16
         ensures writes { (past : Past) (numbers : Numbers) (handed : List ℕ) (takes : Bool) → is_due self.old ≡ true
             → IsFormatting past numbers handed self.old → Takes self.old takes
@@ -166,10 +167,11 @@ impl FormatStage {
         self.stream.next(byte)
     }
 
-    /// How the format is over once a word of the layout was written, where it is. `index` says that the index follows the word.
-    /// The format is over at the index: normally where the whole layout was written, whether the terminal count came or not, since
-    /// EN is of a command that names a sector and the last of its track; a layout that is longer than the turn has no data field
-    /// for each key.
+    /// How the format is over after a word of the layout was written, if it is. `index` says that the index pulse
+    /// follows the word. At the index pulse the format is over. It ends normally if the whole layout was written,
+    /// whether the terminal count came or not: EN (end of cylinder) is for commands that name a sector and the last one
+    /// of its track. A layout that is longer than the revolution has no data field for each sector ID, so the ending is
+    /// NoField.
     #[inline(always)]
     pub fn end(&self, index: bool) -> Option<FormatEnd>
         ensures goes_on { (past : Past) (numbers : Numbers) (handed : List ℕ) (word : ℕ) → is_open self.now ≡ true
@@ -184,7 +186,7 @@ impl FormatStage {
         Some(self.end_at_index())
     }
 
-    /// How the format is over at the index.
+    /// How the format is over at the index pulse.
     #[inline(never)]
     fn end_at_index(&self) -> FormatEnd
         ensures goes_on { (past : Past) (numbers : Numbers) (handed : List ℕ) (word : ℕ)
@@ -204,7 +206,7 @@ impl FormatStage {
         }
     }
 
-    /// Awaits the index at which the layout begins.
+    /// Awaits the index pulse at which the layout begins.
     #[inline(always)]
     fn wait(&mut self, index: bool) -> Option<FormatEnd>
         ensures hears { (past : Past) (numbers : Numbers) (handed : List ℕ) (word : ℕ) → self.old.part ≡ FormatPart.Await
@@ -218,7 +220,7 @@ impl FormatStage {
         None
     }
 
-    /// Awaits the second index without an open gate.
+    /// Awaits the second index pulse without an open write gate.
     #[inline(never)]
     fn listen(&mut self, index: bool) -> Option<FormatEnd>
         ensures hears { (past : Past) (numbers : Numbers) (handed : List ℕ) → IsUnopened index past
@@ -239,7 +241,7 @@ impl FormatStage {
 }
 
 impl FormatWord {
-    /// What the word gives the format once it was written. `index` says that the index follows it.
+    /// What the word gives the format after it was written. `index` says that the index pulse follows the word.
     pub fn after(self, index: bool) -> FormatNext
         ensures goes_on { (past : Past) (numbers : Numbers) (handed : List ℕ)
             → IsNextLaid past numbers handed self.word self.stream self.key
@@ -262,7 +264,7 @@ impl FormatWord {
     }
 }
 
-/// The last four bytes of keys, behind a word that takes a byte or doesn't.
+/// The last four bytes of sector IDs after a word, which takes a byte or doesn't.
 fn key_behind(takes: bool, key: Chrn, byte: u8) -> Chrn
     ensures { (handed : List ℕ) → IsLastKey handed key → IsLastKey (handed_with takes byte handed) result }
 {

@@ -1,8 +1,10 @@
-//! The stages of the diskette controller's commands, word by word as they pass (Intel 82077AA data sheet; System 34 format).
-//! Some hear the disk: the search for an address field, and the reading of a data field behind it, for READ DATA and READ ID.
-//! Others write: the search and the window of WRITE DATA and WRITE DELETED DATA, and the layout of FORMAT TRACK.
+//! The stages of the diskette controller's commands, word by word as the words pass (Intel 82077AA data sheet; System
+//! 34 format). Some stages hear the disk, for READ DATA and READ ID: the search for an address field, and the reading
+//! of the data field after it. Others write: the search and the window of WRITE DATA and WRITE DELETED DATA, and the
+//! layout of FORMAT TRACK.
 //!
-//! Nothing here moves a drive or a FIFO: a stage is a value, and a word that was heard or written gives the stage after it.
+//! Nothing here moves a drive or a FIFO. A stage is a value, and a word that was heard or written gives the stage after
+//! it.
 #![tactic(auto)]
 
 mod ending;

@@ -31,7 +31,7 @@ pub enum ReadHeard {
     On,
     /// The next byte of the content came.
     Byte { value: u8 },
-    /// The reading failed: NoMark, NoSector, or NoField where there is no data field.
+    /// The reading failed: NoMark, NoSector, or NoField if there is no data field.
     Ended(Ending),
 }
 
@@ -43,7 +43,7 @@ impl ReadStage {
         ReadStage::Search(Search::new())
     }
 
-    /// Hears a word of the track with the sector of this key. `index` says that the index follows it.
+    /// Hears a word of the track, for the sector of this sector ID. `index` says that the index pulse follows the word.
     #[inline(always)]
     pub fn hear(&mut self, key: Chrn, word: u16, index: bool) -> ReadHeard
         requires { IsSizeCode key.n }
@@ -73,8 +73,8 @@ impl ReadStage {
         }
     }
 
-    /// Hears a word of a search in which nothing is seen and behind which no index passes, and tells whether it was one: else
-    /// nothing changes, and `hear` has to.
+    /// Hears a word of a search if nothing is seen in it and no index pulse follows it, and says whether this was so.
+    /// Otherwise nothing changes, and `hear` has to hear the word.
     #[inline(always)]
     pub fn pass_by(&mut self, word: u16, index: bool) -> bool
         ensures passed { result ≡ true → (index ≡ false) × PassesBy word self.old self.new }
@@ -86,8 +86,8 @@ impl ReadStage {
         }
     }
 
-    /// Hears a word, behind which no index passes, where bytes of a content are left, and gives its byte: else nothing changes,
-    /// and `hear` has to.
+    /// Hears a word after which no index pulse comes, if bytes of a content are left, and gives its byte. Otherwise
+    /// nothing changes, and `hear` has to hear the word.
     #[inline(always)]
     pub fn next_byte(&mut self, word: u16) -> Option<u8>
         ensures heard { IfSome result (λ value. HearsByte word value self.old self.new) }
@@ -120,7 +120,8 @@ impl ReadStage {
         }
     }
 
-    /// Begins to wait for the data field of the address field that a search met; one that ended with its turn has none.
+    /// Begins to wait for the data field of the address field that a search met. An address field that ended with its
+    /// revolution has no data field.
     #[inline(never)]
     fn meet(&mut self, key: Chrn, index: bool) -> ReadHeard
         requires { IsSizeCode key.n }

@@ -8,11 +8,12 @@ use crate::ending::Ending;
 use flop_base::Chrn;
 use track_separator::{Seen, Separator};
 
-/// A search for an address field. It begins at any place of a turn and ends at the second index (82077AA, READ DATA).
+/// A search for an address field. It begins anywhere in a revolution, and ends at the second index pulse (82077AA, READ
+/// DATA).
 #[derive(Clone, Copy)]
 pub struct Search {
     pub(crate) separator: Separator,
-    /// Whether an index has passed.
+    /// Whether an index pulse has passed.
     pub(crate) turned: bool,
     /// Whether an address mark was heard.
     pub(crate) marked: bool,
@@ -23,13 +24,13 @@ pub struct Search {
 pub enum Searched {
     /// The search goes on.
     On,
-    /// An address field that is wanted ended in this word; its data field may be asked for.
+    /// An address field that is wanted ended in this word. Its data field may be asked for.
     Met { key: Chrn },
-    /// The second index has passed: NoMark where no address mark was heard, else NoSector.
+    /// The second index pulse has passed. The ending is NoMark if no address mark was heard, and else NoSector.
     Missed(Ending),
 }
 
-/// Whether an address field of this key is searched for; without a wanted key each one is.
+/// Whether the search wants an address field of this sector ID. Without a wanted sector ID it wants each one.
 #[inline(never)]
 fn is_wanted(wanted: Option<Chrn>, key: Chrn) -> bool
     ensures { IsTrue result ↔ Wants wanted key }
@@ -40,7 +41,7 @@ fn is_wanted(wanted: Option<Chrn>, key: Chrn) -> bool
     }
 }
 
-/// The key of the address field that ended in a word, where it is wanted.
+/// The sector ID of the address field that ended in a word, if it is wanted.
 fn met_key(wanted: Option<Chrn>, seen: Seen) -> Option<Chrn>
     ensures { MatchOption result ((key : Chrn) → seen ≡ Seen.Address key → Wants wanted key → ⊥)
         (λ key. (seen ≡ Seen.Address key) × Wants wanted key) }
@@ -93,7 +94,8 @@ impl Search {
         }
     }
 
-    /// Hears a word. `index` says that the index follows it. Without a wanted key any intact address field is met.
+    /// Hears a word. `index` says that the index pulse follows the word. Without a wanted sector ID, any intact address
+    /// field is met.
     #[inline(always)]
     pub fn hear(&mut self, wanted: Option<Chrn>, word: u16, index: bool) -> Searched
         ensures hears { (past : Past) → IsSearching past wanted self.old → HasSearched index (heard index word past) wanted (search_outcome self.new result) }
@@ -109,8 +111,8 @@ impl Search {
         }
     }
 
-    /// Hears a word in which nothing is seen and behind which no index passes, and tells whether it was one: else nothing changes,
-    /// and `hear` has to.
+    /// Hears a word if nothing is seen in it and no index pulse follows it, and says whether this was so. Otherwise
+    /// nothing changes, and `hear` has to hear the word.
     #[inline(always)]
     pub fn pass_by(&mut self, word: u16, index: bool) -> bool
         ensures passed { result ≡ true → (index ≡ false)
@@ -123,8 +125,8 @@ impl Search {
         self.separator.pass_by(word)
     }
 
-    /// Hears the first of these words, none of which the index follows, for as long as nothing is seen in them, and tells how many
-    /// it heard.
+    /// Hears the first of these words, for as long as nothing is seen in them, and says how many it heard. No index
+    /// pulse follows any of the words.
     #[inline(always)]
     pub fn pass_many(&mut self, words: &[u16]) -> usize
         ensures within { result ≤ length words.now }
@@ -133,7 +135,7 @@ impl Search {
         self.separator.hunt_many(words)
     }
 
-    /// Goes on searching behind a word in which nothing was met, unless the second index followed it.
+    /// Goes on searching after a word in which nothing was met, unless the second index pulse followed the word.
     fn go_on(&mut self, index: bool) -> Searched
         ensures hears { (past : Past) (word : ℕ) (wanted : Option Chrn)
             → IsPassed index past word wanted self.old.separator self.old.turned self.old.marked

@@ -6,10 +6,10 @@ ghost use Rattle.fdc_stages.specs.Windows.{Gives, words_left, bytes_left, count_
 
 use track_model::{crc_step, encode_byte, mark_crc};
 
-/// A mark A1, with its lost clock.
+/// The cells of a mark A1, in which one clock cell is lost.
 const MARK: u16 = 0x4489;
 
-/// The bytes 00 before the marks, and the marks, less one.
+/// The number of bytes 00 before the marks less one, and the number of marks less one.
 const MORE_SYNC: u8 = 11;
 
 const MORE_MARKS: u8 = 2;
@@ -17,28 +17,29 @@ const MORE_MARKS: u8 = 2;
 /// The part of a window that its next word belongs to.
 #[derive(Clone, Copy)]
 pub enum Part {
-    /// A byte 00, and so many more.
+    /// A byte 00, with this many more after it.
     Sync { more: u8 },
-    /// A mark A1, and so many more.
+    /// A mark A1, with this many more after it.
     Marks { more: u8 },
     /// The mark byte.
     Mark,
-    /// A byte of the content, and so many more.
+    /// A byte of the content, with this many more after it.
     Content { more: u16 },
-    /// The high byte of the check.
+    /// The high byte of the CRC.
     High,
-    /// The low byte of the check.
+    /// The low byte of the CRC.
     Low,
 }
 
-/// The words that are written over a data field, with those to come. The bytes of the content are handed in one by one.
+/// The words that are written over a data field and are still to come. The bytes of the content are handed in one by
+/// one.
 #[derive(Clone, Copy)]
 pub struct Window {
     pub(crate) deleted: bool,
     /// The size of the content, less one.
     pub(crate) more: u16,
     pub(crate) part: Part,
-    /// The check of the field so far.
+    /// The CRC of the field so far.
     pub(crate) check: u16,
     /// The last bit of the word before.
     pub(crate) last: bool,
@@ -47,14 +48,14 @@ pub struct Window {
 /// A word of a window.
 #[derive(Clone, Copy)]
 pub struct Given {
-    /// Its sixteen cells, the first in bit 15.
+    /// The word's sixteen cells, the first in bit 15.
     pub word: u16,
-    /// The words behind it; none behind the last.
+    /// The words of the window after this one, or none if it is the last.
     pub rest: Option<Window>,
 }
 
 impl Window {
-    /// The window of a content of so many bytes: 18 words and one a byte (IBM System 34).
+    /// The window of a content of this many bytes. It has 18 words, and one more for each byte (IBM System 34).
     pub fn new(deleted: bool, size: u16) -> Window
         requires { 1 ≤ size }
         ensures words { (content : List ℕ) → words_left result content ≡ window deleted content }
@@ -72,7 +73,7 @@ impl Window {
         }
     }
 
-    /// Whether the next word is a byte of the content, which `next` is to be handed.
+    /// Whether the next word is a byte of the content. If it is, the caller hands the byte to `next`.
     pub fn needs_byte(&self) -> bool
         ensures { result ≡ needs_byte self.now }
     {
@@ -86,7 +87,7 @@ impl Window {
         matches!(self.part, Part::Low)
     }
 
-    /// The next word. Where `needs_byte` says so, `byte` is the byte that it records; elsewhere it isn't used.
+    /// The next word. If `needs_byte` says so, `byte` is the byte that the word records; otherwise `byte` isn't used.
     pub fn next(self, byte: u8) -> Given
         ensures { Gives self.part self byte result.word result.rest }
     {
@@ -102,7 +103,7 @@ impl Window {
         }
     }
 
-    /// The same in place.
+    /// Gives the word that `next` gives, and moves this window on in place.
     pub fn put(&mut self, byte: u8) -> u16
         ensures { Gives self.old.part self.old byte result (window_behind (is_last self.old) self.new) }
     {

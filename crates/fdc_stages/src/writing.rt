@@ -20,9 +20,9 @@ const GAP_WORDS: u8 = 22;
 pub enum WriteStage {
     /// The address field is searched for.
     Search(Search),
-    /// The address field has passed. So many words are heard before the first of the window.
+    /// The address field has passed. This many words are heard before the first word of the window.
     Gap { left: u8 },
-    /// The gate is open, and words of the window are written.
+    /// The write gate is open, and words of the window are written.
     Window(Window),
 }
 
@@ -31,16 +31,16 @@ pub enum WriteStage {
 pub enum WriteNext {
     /// The writing goes on.
     On(WriteStage),
-    /// It is over, and an open gate closes: NoMark, NoSector, NoField, Done or NoCount.
+    /// The writing is over, and an open write gate closes: NoMark, NoSector, NoField, Done or NoCount.
     Ended(Ending),
 }
 
 /// A word to be written.
 #[derive(Clone, Copy)]
 pub struct WriteWord {
-    /// Its sixteen cells, the first in bit 15.
+    /// The word's sixteen cells, the first in bit 15.
     pub word: u16,
-    /// The words of the window behind it; none behind the last.
+    /// The words of the window after this one, or none if it is the last.
     pub rest: Option<Window>,
 }
 
@@ -60,14 +60,14 @@ impl WriteStage {
         matches!(self, WriteStage::Gap { left: 0 } | WriteStage::Window(_))
     }
 
-    /// Whether the gate is to be opened before the next word: it is the first of the window.
+    /// Whether the write gate is to be opened before the next word, which is then the first of the window.
     pub fn opens(&self) -> bool
         ensures { result ≡ opens self.now }
     {
         matches!(self, WriteStage::Gap { left: 0 })
     }
 
-    /// Whether the gate is open.
+    /// Whether the write gate is open.
     pub fn is_open(&self) -> bool
         ensures { result ≡ is_open self.now }
     {
@@ -84,7 +84,7 @@ impl WriteStage {
         }
     }
 
-    /// Whether the next word is a byte of the content, which `write` is to be handed.
+    /// Whether the next word is a byte of the content. If it is, the caller hands the byte to `write`.
     pub fn needs_byte(&self) -> bool
         ensures is { result ≡ needs_byte self.now }
         ensures lead { result ≡ true → lead_of self.now ≡ 0 }
@@ -95,9 +95,9 @@ impl WriteStage {
         }
     }
 
-    /// Hears a word of the track, and tells how the writing ended, where it did. `index` says that the index follows the word.
-    /// A word that is heard where the first of the window is due says that the gate could not be opened. While the gate is
-    /// open no word is heard.
+    /// Hears a word of the track, and gives how the writing ended, if it did. `index` says that the index pulse follows
+    /// the word. If the first word of the window is due, hearing a word means that the write gate could not be opened.
+    /// While the write gate is open, no word is heard.
     #[inline(always)]
     pub fn hear(&mut self, key: Chrn, word: u16, index: bool) -> Option<Ending>
         ensures hears { (past : Past) (deleted : Bool) (handed : List ℕ) → is_open self.old ≡ false
@@ -126,7 +126,7 @@ impl WriteStage {
         }
     }
 
-    /// Begins to count the words behind the address field. Where the index follows it there is no window.
+    /// Begins to count the words after the address field. If the index pulse follows the field, there is no window.
     #[inline(never)]
     fn meet(&mut self, index: bool) -> Option<Ending>
         ensures hears { (past : Past) (key : Chrn) (deleted : Bool) (separator : Separator) → past.place ≡ length past.seen
@@ -141,8 +141,8 @@ impl WriteStage {
         None
     }
 
-    /// Hears a word behind the address field. Where the index follows it, or where it stands in place of the first of the
-    /// window, there is no window.
+    /// Hears a word after the address field. There is no window if the index pulse follows the word, or if the word
+    /// stands in place of the first word of the window.
     fn wait_on(&mut self, left: u8, index: bool) -> Option<Ending>
         ensures hears { (past : Past) (word : ℕ) (key : Chrn) (deleted : Bool) (handed : List ℕ)
             → IsWriting past key deleted handed (WriteStage.Gap left)
@@ -160,7 +160,7 @@ impl WriteStage {
         None
     }
 
-    /// The word that is written next, where one is due. Where `needs_byte` says so, `byte` is the byte that it records.
+    /// The word that is written next, if one is due. If `needs_byte` says so, `byte` is the byte that the word records.
     pub fn write(self, key: Chrn, deleted: bool, byte: u8) -> WriteWord
         requires { IsSizeCode key.n }
         ensures writes { (past : Past) (handed : List ℕ) → is_due self ≡ true → IsWriting past key deleted handed self
@@ -174,7 +174,7 @@ impl WriteStage {
         }
     }
 
-    /// The same in place, where the gate is open.
+    /// Gives the word that `write` gives, and moves this stage on in place. The write gate is open.
     #[inline(always)]
     pub fn put(&mut self, byte: u8) -> u16
         ensures writes { (past : Past) (key : Chrn) (deleted : Bool) (handed : List ℕ) → is_open self.old ≡ true
@@ -189,9 +189,10 @@ impl WriteStage {
         }
     }
 
-    /// How the writing ended once a word of the window was written, which was the last or wasn't, where it ended. `index` says that
-    /// the index follows the word, and `counted` that the terminal count came. Behind the last word the writing is over, normally
-    /// only after the terminal count; an index behind another word cuts the window.
+    /// How the writing ended after a word of the window was written, if it ended. `last` says that the word was the
+    /// last, `index` that the index pulse follows it, and `counted` that the terminal count came. After the last word
+    /// the writing is over; it ends normally only if the terminal count came. An index pulse after another word cuts
+    /// the window.
     #[inline(always)]
     pub fn end(&self, last: bool, index: bool, counted: bool) -> Option<Ending>
         ensures goes_on { (past : Past) (key : Chrn) (deleted : Bool) (handed : List ℕ) (word : ℕ) → is_open self.now ≡ true
@@ -226,8 +227,8 @@ impl WriteStage {
 }
 
 impl WriteWord {
-    /// What the word gives the writing once it was written. `index` says that the index follows it, and `counted` that the
-    /// terminal count came.
+    /// What the word gives the writing after it was written. `index` says that the index pulse follows the word, and
+    /// `counted` that the terminal count came.
     pub fn after(self, index: bool, counted: bool) -> WriteNext
         ensures goes_on { (past : Past) (key : Chrn) (deleted : Bool) (handed : List ℕ) → past.counted ≡ counted
             → IsNextWord past key deleted handed self.word self.rest
@@ -248,7 +249,7 @@ impl WriteWord {
     }
 }
 
-/// How a writing ends whose whole window was written. The result of a write never says that data were deleted.
+/// How a writing ends after its whole window was written. The result of a write never says that data were deleted.
 fn whole_ending(counted: bool) -> Ending
     ensures is { (past : Past) (key : Chrn) (deleted : Bool) (handed : List ℕ) → past.counted ≡ counted
         → HasWhole past key deleted handed → HasBegun past key deleted handed

@@ -10,8 +10,8 @@ use crate::formatting::FormatStage;
 use crate::writing::WriteStage;
 use flop_base::Chrn;
 
-/// A writing may be stopped at each stage: by a byte that is missing before the terminal count, or at the last step that it
-/// may take; and by protection, where nothing was written.
+/// A writing may be stopped at each stage: by a byte that is missing before the terminal count, or by the last step
+/// that it may take. It may also be stopped by protection, if nothing was written.
 pub fn stopped_is_written(_key: Chrn, _deleted: bool, _stage: WriteStage, _ending: Ending)
     ensures { (past : Past) (handed : List ℕ) → IsWriting past _key _deleted handed _stage → IsStopped past _ending
         → HasWritten past _key _deleted handed _ending }
@@ -23,8 +23,8 @@ pub fn stopped_is_formatted(_stage: FormatStage, _ending: Ending)
         → IsStopped past _ending → HasFormatted past numbers handed _ending }
 {}
 
-/// However a writing ends, the words are none, or a cut of the window of an address field of the key; its content begins with
-/// what was handed in, whatever is behind that.
+/// However a writing ends, the words written are none, or a cut of the window of an address field of the sector ID. The
+/// content of that window begins with what was handed in, whatever comes after that.
 pub fn written_is_first(_key: Chrn, _deleted: bool, _ending: Ending)
     ensures { (past : Past) (handed : List ℕ) → HasWritten past _key _deleted handed _ending
         → WritesFirst past _key _deleted handed }
@@ -36,13 +36,14 @@ pub fn done_is_written(_key: Chrn, _deleted: bool, _marked: bool)
         → WritesWhole past _key _deleted handed }
 {}
 
-/// However a format ends, the words are the first of the layout of the keys that were handed in, whatever those behind them are.
+/// However a format ends, the words are the first of the layout of the sector IDs that were handed in, whatever sector
+/// IDs come after these.
 pub fn formatted_is_first(_ending: Ending)
     ensures { (past : Past) (numbers : Numbers) (handed : List ℕ) → HasFormatted past numbers handed _ending
         → LaysFirst past numbers handed }
 {}
 
-/// A format that is done has written the whole layout of the keys that were handed in.
+/// A format that is done has written the whole layout of the sector IDs that were handed in.
 pub fn done_is_laid(_deleted: bool)
     ensures { (past : Past) (numbers : Numbers) (handed : List ℕ) → HasFormatted past numbers handed (Ending.Done _deleted)
         → LaysWhole past numbers handed }

@@ -1,4 +1,4 @@
--- How counters go on, call after call.
+-- How counters change from call to call.
 use Rattle.std.proofs.Common.{arith, ◌≡◌, ℕ, ◌≤◌, Bool, true, false, refl, ◌∙◌, sym, subst, Option, Some, None}
 use Rattle.std.specs.Prelude.{◌==◌, if◌then◌else◌}
 use Rattle.flop_base.specs.Counts.{Spends}
@@ -52,7 +52,7 @@ goes_on_itself a = record {
   direct = omega arith;
 }
 
--- the faults of no bay fall
+-- the count of faults falls in no bay
 pub faults_go_on : (old new : Counters) (bay : ℕ) → GoesOn old new → faults_of old bay ≤ faults_of new bay
 faults_go_on old new bay goes = by_bay (bay == 0)
   where

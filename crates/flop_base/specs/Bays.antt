@@ -6,14 +6,14 @@ pub record Two (T : Type 0) : Type 0 where
   pub first : T
   pub second : T
 
--- both alike
+-- the same value for both bays
 abbrev pub both : {T : Type 0} → T → Two T
 both value = record { first = value; second = value }
 
--- that of a bay: bay 0 is the first, and 1 the second
+-- the value of a bay: the first for bay 0, the second for bay 1
 abbrev pub in_bay : {T : Type 0} → Two T → ℕ → T
 in_bay two bay = if bay == 0 then two.first else two.second
 
--- the same with another value for a bay
+-- the same pair with another value for one bay
 abbrev pub with_bay : {T : Type 0} → Two T → ℕ → T → Two T
 with_bay two bay value = if bay == 0 then record two { first = value } else record two { second = value }

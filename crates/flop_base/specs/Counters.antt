@@ -3,11 +3,11 @@ use Rattle.std.specs.Prelude.{◌≡◌, ℕ, ◌+◌, ◌-◌, ◌<◌, ◌≤�
 use Rattle.flop_base.specs.Counts.{last_count, RoseBy, RoseLess, CanTell, Spends}
 use Rattle.flop_base.specs.Bays.{Two, in_bay}
 
--- what is counted of a drive
+-- the counts of one drive
 pub record DriveCounts : Type 0 where
   -- its faults
   pub faults : ℕ
-  -- the most by which that count can still rise, where the drive tells it
+  -- the most by which that count can still rise, if the drive reports it
   pub left : Option ℕ
 
 -- all that is counted, of drives and machine
@@ -24,9 +24,10 @@ pub record Counters : Type 0 where
   pub data_commands : ℕ
   -- the interrupts that were taken
   pub taken : ℕ
-  -- the accesses past the driver: a byte of user memory set, a medium put in or taken out, a drive exchanged
+  -- the accesses past the driver: a byte of user memory is set, a medium is put in or taken out, or a drive is
+  -- exchanged
   pub direct : ℕ
-  -- the device steps so far, and those of the gaps that are still to come behind port accesses
+  -- the device steps so far, plus those of the gaps that are still to come after port accesses
   pub clock : ℕ
 
 -- the faults of the drive in a bay
@@ -55,12 +56,13 @@ pub record DisturbedLess (n bay : ℕ) (old new : Counters) : Type 0 where
 abbrev pub IsUndisturbed : ℕ → Counters → Counters → Type 0
 IsUndisturbed bay old new = DisturbedLess 1 bay old new
 
--- how the counts of one drive go on: its faults never fall, and rise by no more than what was left of them
+-- how the counts of one drive change: its count of faults never falls, and rises by no more than what was left of it
 pub record DriveGoesOn (old new : DriveCounts) : Type 0 where
   pub never_falls : old.faults ≤ new.faults
   pub spends : Spends old.faults old.left new.faults new.left
 
--- how counts go on in a call that exchanges no drive: none falls, and faults and stalls rise by no more than what was left of them
+-- how counts change in a call that exchanges no drive. None falls. The counts of faults and stalls rise by no more than
+-- what was left of them
 pub record GoesOn (old new : Counters) : Type 0 where
   pub first : DriveGoesOn old.drives.first new.drives.first
   pub second : DriveGoesOn old.drives.second new.drives.second
@@ -71,11 +73,12 @@ pub record GoesOn (old new : Counters) : Type 0 where
   pub taken : old.taken ≤ new.taken
   pub direct : old.direct ≤ new.direct
 
--- a drive tells what is left of its faults only where their count can't reach its last value
+-- a drive reports what is left of its faults only if their count can't reach its last value by that
 abbrev pub DriveTells : DriveCounts → Type 0
 DriveTells drive = CanTell drive.faults drive.left
 
--- so it is with all drives; the count of stalls is below its last value, and what is left brings it there at most
+-- this holds of all drives. The count of stalls is below its last value, and what is left of it doesn't lead past that
+-- value
 pub record TellsLeft (counters : Counters) : Type 0 where
   pub first : DriveTells counters.drives.first
   pub second : DriveTells counters.drives.second
@@ -83,23 +86,24 @@ pub record TellsLeft (counters : Counters) : Type 0 where
   pub stalls : counters.stalls + counters.stalls_left ≤ last_count
   pub stalls_below : counters.stalls < last_count
 
--- a call of the driver: at most so many data commands, an interrupt taken for each, and nothing past the driver
+-- a call of the driver: at most `most` data commands begin, at least one interrupt is taken for each, and nothing goes
+-- past the driver
 pub record IsDriven (most : ℕ) (old new : Counters) : Type 0 where
   pub most_commands : new.data_commands ≤ old.data_commands + most
   pub interrupts : RoseBy (new.data_commands - old.data_commands) old.taken new.taken
   pub past_driver : new.direct ≡ old.direct
 
--- a call lasts so many device steps at most, beside those of the gaps that it used up
+-- a call lasts at most `most` device steps, not counting those of the gaps that it used up
 abbrev pub LastsUpTo : ℕ → Counters → Counters → Type 0
 LastsUpTo most old new = new.clock ≤ old.clock + most
 
--- a call past the driver: at most so many accesses, no data command, and no device step
+-- a call past the driver makes at most `most` accesses, begins no data command and lasts no device step
 pub record IsPastDriver (most : ℕ) (old new : Counters) : Type 0 where
   pub accesses : new.direct ≤ old.direct + most
   pub no_commands : new.data_commands ≡ old.data_commands
   pub no_steps : LastsUpTo 0 old new
 
--- how counters go on where the next spare drive takes the place of the one in a bay: it comes with its own counts
+-- how counters change when the next spare drive takes the place of the one in a bay: the spare brings its own counts
 pub record TakesSpare (bay : ℕ) (old new : Counters) : Type 0 where
   pub other : in_bay new.drives (1 - bay) ≡ in_bay old.drives (1 - bay)
   pub spare : (next : DriveCounts) × (old.spares ≡ next ∷ new.spares) × DriveGoesOn next (in_bay new.drives bay)

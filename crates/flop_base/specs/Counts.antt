@@ -1,11 +1,11 @@
--- Counts: each stays at the greatest number of 64 bits, its last value.
+-- Counts. A count that reaches its last value, the greatest number of 64 bits, stays there.
 use Rattle.std.specs.Prelude.{◌≡◌, ◌<◌, ◌≤◌, ◌+◌, ℕ, min, Option, Some, None, IfSome}
 
--- where a count stays, once it is there
+-- the last value of a count, at which it stays
 abbrev pub last_count : ℕ
 last_count = 18446744073709551615
 
--- the count rose by n or more; standing at its last value it counts as having risen by any number
+-- the count rose by n or more; a count at its last value passes as having risen by any number
 abbrev pub RoseBy : ℕ → ℕ → ℕ → Type 0
 RoseBy n before now = min (before + n) last_count ≤ now
 
@@ -21,11 +21,13 @@ Rose before now = RoseBy 1 before now
 abbrev pub RoseOnce : ℕ → ℕ → Type 0
 RoseOnce before now = now ≡ min (before + 1) last_count
 
--- `left`, the most by which a count can still rise, is told only where that doesn't bring it to its last value
+-- `left`, the most by which a count can still rise, is known only if that rise doesn't bring the count to its last
+-- value
 abbrev pub CanTell : ℕ → Option ℕ → Type 0
 CanTell count left = IfSome left (λ most. count + most < last_count)
 
--- where it is told what is left of a count, it stays told, and each rise is taken off it; where it isn't, it stays untold
+-- if it is known what is left of a count, it stays known, and each rise is subtracted from it. If it isn't known, it
+-- stays unknown
 abbrev pub Spends : ℕ → Option ℕ → ℕ → Option ℕ → Type 0
 Spends count None after left = left ≡ None
 Spends count (Some most) after left = (rest : ℕ) × (left ≡ Some rest) × (after + rest ≤ count + most)

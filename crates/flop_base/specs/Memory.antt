@@ -5,7 +5,7 @@ use Rattle.std.specs.Prelude.{◌≡◌, ℕ, ◌+◌, ◌<◌, ◌≤◌, ◌�
 abbrev pub user_bytes : ℕ
 user_bytes = 983040
 
--- so many bytes or words 0
+-- `count` bytes 00 or words 0000
 unfoldable pub zeroes : ℕ → List ℕ
 zeroes count = replicate count 0
 

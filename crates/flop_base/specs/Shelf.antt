@@ -13,12 +13,13 @@ pub record Store : Type 0 where
   pub name : List ℕ
   pub bytes : List ℕ
 
--- what a shelf tells: its files by their names and, where it tells them too, the stores that were made, one after the other
+-- what a shelf reports: its files by their names and, if it reports them too, the stores that were made, one after the
+-- other
 pub record Files : Type 0 where
   pub held : fin.FinMap (slice_cmp nat_cmp) (List ℕ)
   pub stores : Option (List Store)
 
--- no file, and nothing told of stores
+-- no file, and nothing known of stores
 abbrev pub no_files : Files
 no_files = record { held = fin.empty; stores = None }
 
@@ -26,18 +27,18 @@ no_files = record { held = fin.empty; stores = None }
 abbrev pub file_at : Files → List ℕ → Option (List ℕ)
 file_at files name = fin.get files.held name
 
--- the stores with one more behind them
+-- the stores with one more after them
 abbrev pub one_more : List Store → List ℕ → List ℕ → List Store
 one_more made name bytes = made ++ record { name = name; bytes = bytes } ∷ []
 
--- the files behind a store: these bytes are under the name, all others are as before, and one more store was made
+-- the files after a store: these bytes are under the name, all other files are as before, and one more store was made
 abbrev pub after_store : Files → List ℕ → List ℕ → Files
 after_store files name bytes = record {
   held = fin.insert files.held name bytes;
   stores = option_map (λ made. one_more made name bytes) files.stores;
 }
 
--- so it is of a shelf that tells its files
+-- the files after a store, if the shelf reports its files
 abbrev pub stored : Option Files → List ℕ → List ℕ → Option Files
 stored None name bytes = None
 stored (Some files) name bytes = Some (after_store files name bytes)

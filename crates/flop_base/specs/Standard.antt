@@ -8,7 +8,7 @@ abbrev pub sectors_at : Rate → ℕ
 sectors_at R500 = 18
 sectors_at R250 = 9
 
--- the words that pass in a turn
+-- the words that pass in one revolution
 abbrev pub words_at : Rate → ℕ
 words_at R500 = 12500
 words_at R250 = 6250
@@ -27,6 +27,6 @@ read_gap_at R250 = 0x2A
 abbrev pub standard_fill : ℕ
 standard_fill = 0xF6
 
--- the size code of its sectors, of 512 bytes
+-- the size code of sectors of 512 bytes
 abbrev pub standard_code : ℕ
 standard_code = 2

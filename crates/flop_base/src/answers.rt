@@ -16,7 +16,7 @@ pub enum Rate {
     R250,
 }
 
-/// Memory couldn't be had.
+/// Memory couldn't be allocated.
 #[derive(Clone, Copy, Debug, PartialEq, Eq, Error)]
 #[error("out of memory")]
 pub struct NoMemory;
@@ -45,7 +45,7 @@ pub enum Code {
     /// 03: a write or a format of a medium that is write-protected.
     #[error("medium is write-protected")]
     Protected,
-    /// 04: the track has address marks, and no sector of the key was found.
+    /// 04: the track has address marks, but no sector with the sector ID was found.
     #[error("sector not found")]
     NotFound,
     /// 06: the bay isn't acknowledged.
@@ -93,19 +93,19 @@ impl Code {
 pub enum Status {
     /// 0: all was run, and nothing refused.
     AllOk,
-    /// 1: some request was refused, or a track can't be had in another form.
+    /// 1: some request was refused, or a track can't be converted to another image format.
     SomeRefused,
-    /// 2: the words after the program's name are none that it knows.
+    /// 2: the program doesn't know its arguments.
     BadWords,
     /// 3: a line of a text isn't understood, or the text is too long. Nothing of that text is run.
     BadJob,
-    /// 4: a file isn't what it is loaded as, or is too long.
+    /// 4: a file doesn't have the format that it is loaded as, or it is too long.
     BadImage,
-    /// 5: a file that is loaded isn't there.
+    /// 5: a file that the program loads isn't there.
     Absent,
-    /// 6: the files of the folder failed.
+    /// 6: a file of the folder couldn't be read or written.
     FileFault,
-    /// 7: memory couldn't be had.
+    /// 7: memory couldn't be allocated.
     NoMemory,
     /// 8: standard output failed.
     SinkFault,
@@ -159,7 +159,7 @@ pub enum LoadError {
     /// The outside failed, which is counted as a fault.
     #[error("file could not be read")]
     Failed,
-    /// Memory for the bytes couldn't be had.
+    /// Memory for the bytes couldn't be allocated.
     #[error("out of memory")]
     NoMemory,
 }
@@ -178,7 +178,7 @@ pub enum StoreError {
     /// The outside failed, which is counted as a fault.
     #[error("file could not be written")]
     Failed,
-    /// Memory couldn't be had.
+    /// Memory couldn't be allocated.
     #[error("out of memory")]
     NoMemory,
 }
@@ -189,7 +189,7 @@ pub enum PutError {
     /// The outside failed, which is counted as a fault.
     #[error("output could not be written")]
     Failed,
-    /// Memory couldn't be had.
+    /// Memory couldn't be allocated.
     #[error("out of memory")]
     NoMemory,
 }

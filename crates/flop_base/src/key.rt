@@ -1,7 +1,8 @@
 // The key of a sector, as its address field has it.
 ghost use Rattle.std.specs.Prelude.{◌≡◌, ◌≤◌, ◌*◌, ◌^◌};
 
-/// The four bytes of an address field (IBM System 34): what the field says, whatever track it stands on.
+/// The sector ID, the four bytes of an address field (IBM System 34). They are what the field says, on whatever track
+/// it stands.
 #[derive(Clone, Copy, Debug, PartialEq, Eq)]
 pub struct Chrn {
     /// The cylinder, from 0.

@@ -1,8 +1,8 @@
 //! What every layer of the diskette path names: sector keys, codes, statuses, texts, and the outside world
 //! as two traits, a shelf of named files and a sink of printed lines.
 //!
-//! For machine, driver and sector model it has definitions besides: two of a kind for the two bays, what is counted of their
-//! drives and how it goes on, and user memory with its size.
+//! The crate also has definitions for machine, driver and sector model. They are pairs of values for the two bays, the
+//! counts of their drives with how they change, and user memory with its size.
 #![tactic(auto)]
 
 mod answers;
@@ -20,5 +20,5 @@ pub use sink::Sink;
 pub use text::{Bytes, Name};
 pub use two::Two;
 
-/// The bytes of user memory, from 00000 to EFFFF; the page behind it is the driver's.
+/// The size of user memory in bytes. It goes from 00000 to EFFFF; the page above it belongs to the driver.
 pub const USER_BYTES: u32 = 983_040;

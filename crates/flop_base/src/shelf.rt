@@ -8,9 +8,9 @@ use std::alloc::Global;
 
 /// A set of named files: a folder, or a list in memory.
 ///
-/// A shelf may tell its files, and then the clauses on content hold of them. Each fault of the outside is counted.
+/// A shelf may report its files, and then the clauses on content hold of them. Each fault of the outside is counted.
 pub trait Shelf {
-    /// The files, where the shelf tells them.
+    /// The files, if the shelf reports them.
     ghost told: { Self → Option Files };
 
     /// How many faults there were. It stays at its last value.

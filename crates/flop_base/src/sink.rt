@@ -7,16 +7,17 @@ use crate::PutError;
 
 /// What takes printed lines in order: standard output, or a list in memory.
 ///
-/// A sink may tell its lines, each of which is what one call of `put` printed, and then the clauses on content hold of them.
-/// Each fault of the outside is counted.
+/// A sink may report its lines, each of which is what one call of `put` printed. The clauses on content then hold of
+/// them. Each fault of the outside is counted.
 pub trait Sink {
-    /// All lines put so far, where the sink tells them: one for each call.
+    /// All lines printed so far, one for each call, if the sink reports them.
     ghost told: { Self → Option (List (List ℕ)) };
 
     /// How many faults there were. It stays at its last value.
     ghost fault_count: { Self → ℕ };
 
-    /// Prints these bytes as one line behind all earlier ones. After a refusal a first part of them may be printed.
+    /// Prints these bytes as one line after all earlier ones. After a refusal, a first part of them may have been
+    /// printed.
     fn put(&mut self, bytes: &[u8]) -> Result<(), PutError>
         ensures ok { OnOk result (told self.new ≡ grown (told self.old) (bytes.now ∷ [])) }
         ensures err { OnErr result (GrowsByPart (told self.old) (bytes.now ∷ []) (told self.new)) }

@@ -1,4 +1,5 @@
-//! The standard formats of diskettes (PC/AT): 1.44 MB at 500 kbit/s and 720 KB at 250 kbit/s, with sectors of 512 bytes.
+//! The standard formats of diskettes (PC/AT): 1.44 MB at 500 kbit/s and 720 KB at 250 kbit/s, with sectors of 512
+//! bytes.
 ghost use Rattle.std.specs.Prelude.{◌≡◌, ◌≤◌};
 ghost use Rattle.flop_base.specs.Standard.{sectors_at, words_at, gap_at, read_gap_at};
 
@@ -22,7 +23,7 @@ impl Rate {
         }
     }
 
-    /// The words of sixteen cells that pass in a turn: 12,500 at 500 kbit/s, 6,250 at 250 kbit/s.
+    /// The words of sixteen cells that pass in one revolution: 12,500 at 500 kbit/s, 6,250 at 250 kbit/s.
     pub fn words(self) -> u16
         ensures { result ≡ words_at self }
     {

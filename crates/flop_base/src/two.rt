@@ -27,14 +27,14 @@ impl<T> Two<T> {
         Two { first, second }
     }
 
-    /// That of a bay, of the second for all but 0.
+    /// The value of a bay: the first for bay 0, the second for every other number.
     pub fn get(&self, bay: u8) -> &T
         ensures { result.now ≡ in_bay self.now bay }
     {
         if bay == 0 { &self.first } else { &self.second }
     }
 
-    /// Puts another in place of that of a bay, which is given back.
+    /// Replaces the value of a bay and returns the old one.
     pub fn replace(&mut self, bay: u8, value: T) -> T
         ensures was { result ≡ in_bay self.old bay }
         ensures is { self.new ≡ with_bay self.old bay value }

@@ -1,15 +1,15 @@
--- Reading lines one by one.
+-- Lines of a text, read one by one.
 use Rattle.std.proofs.Common.{◌≡◌, ℕ, suc, ◌+◌, ◌<◌, ◌≤◌, Bool, true, false, eqb, cond, nat_lt, Some, None, List, [], ◌∷◌, ◌++◌, length, take, drop, Result, Ok, Err, refl, ap, arith}
 use Rattle.std.proofs.lemmas.Bool.Decides.{nat_tests}
 use Rattle.std.specs.List.{position_or_len, onto_first}
 use Rattle.floppy_jobs.specs.Lines.{lines_of}
 
--- items in front of what further lines say
+-- these items in front of what the further lines say
 abbrev pub in_front : {T : Type 0} → List T → Result (List T) ℕ → Result (List T) ℕ
 in_front items (Ok more) = Ok (items ++ more)
 in_front items (Err bad) = Err bad
 
--- a line feed
+-- whether a byte is a line feed
 abbrev pub feed : ℕ → Bool
 feed b = eqb b 10
 
@@ -46,7 +46,7 @@ last_step b (c ∷ cs) false e ih h =
     let ih' = ih (omega (arith, h')) (omega arith) in
     rw e (ap (onto_first b) ih')
 
--- the last line has no line feed
+-- the last line ends without a line feed
 pub lines_of-last : (text : List ℕ) → length text ≤ position_or_len feed text → 0 < length text → lines_of text ≡ text ∷ []
 lines_of-last [] h more = absurd (omega arith)
 lines_of-last (b ∷ bs) h more = last_step b bs (eqb b 10) refl (lines_of-last bs) h

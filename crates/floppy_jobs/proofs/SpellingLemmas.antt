@@ -13,13 +13,13 @@ use Rattle.floppy_jobs.specs.Texts.{job_of}
 use Rattle.floppy_jobs.specs.Valid.{IsRequest, IsSector}
 use Rattle.floppy_jobs.proofs.WordLemmas.{is_word, AreWords, byte-decimal, length-decimal, tries-decimal, decimal-word, hex_byte-hex2, address-hex5, hex2-word, hex5-word, length-byte, length-length, length-hex2, length-hex5, name-reads, name-word, name-length, words_of-join, joined, first_ink, no_shorter, line_of-words, text_of-words}
 
--- the words of a sector read back
+-- the words of a sector are read back as this sector
 sector-reads : (bay : ℕ) (key : Chrn) (address : ℕ) → IsSector bay key address → sector_of (sector_texts bay key address) ≡ Some (bay, key, address)
 unfolding sector_of
 sector-reads bay key address h =
     rw (byte-decimal bay h.0, byte-decimal key.c h.1, byte-decimal key.h h.2, byte-decimal key.r h.3, byte-decimal key.n h.4, address-hex5 address h.5) refl
 
--- the words of a request spell it
+-- the words of a request spell this request
 reads_back : (r : Request) → IsRequest r → request_of (verb_text r ∷ field_texts r) ≡ Some r
 unfolding request_of plain_of insert_of blank_of blankdd_of eject_of ack_of read_of write_of writedel_of format_of fill_of dump_of unit_of rate_word_of rate_of tries_line_of
 reads_back (Insert bay name) h = rw (byte-decimal bay h.0, name-reads name h.1) refl
@@ -45,7 +45,7 @@ sector-words : (bay : ℕ) (key : Chrn) (address : ℕ) → IsSector bay key add
 sector-words bay key address h =
     (byte-word bay h.0, (byte-word key.c h.1, (byte-word key.h h.2, (byte-word key.r h.3, (byte-word key.n h.4, (hex5-word address, tt))))))
 
--- what a request spells are words
+-- what a request spells is a list of words
 words : (r : Request) → IsRequest r → AreWords (verb_text r ∷ field_texts r)
 words (Insert bay name) h = (refl, (byte-word bay h.0, (name-word name h.1, tt)))
 words (Blank bay name cylinders) h = (refl, (byte-word bay h.0, (name-word name h.1, (byte-word cylinders h.2, tt))))
@@ -63,7 +63,7 @@ words (SetRate bay R500) h = (refl, (byte-word bay h, (refl, tt)))
 words (SetRate bay R250) h = (refl, (byte-word bay h, (refl, tt)))
 words (Tries tries) h = (refl, (decimal-word tries (omega arith), tt))
 
--- the bytes of joined words, each with a space
+-- the number of bytes of joined words, with one space for each
 abbrev total : List (List ℕ) → ℕ
 total [] = 0
 total (w ∷ ws) = length w + 1 + total ws
@@ -77,7 +77,7 @@ sector-short : (bay : ℕ) (key : Chrn) (address : ℕ) → IsSector bay key add
 sector-short bay key address h =
     omega (arith, length-byte bay h.0, length-byte key.c h.1, length-byte key.h h.2, length-byte key.r h.3, length-byte key.n h.4, length-hex5 address)
 
--- no request is long
+-- no request has more than 200 bytes
 short : (r : Request) → IsRequest r → total (verb_text r ∷ field_texts r) ≤ 200
 short (Insert bay name) h = omega (arith, length-byte bay h.0, name-length name h.1)
 short (Blank bay name cylinders) h = omega (arith, length-byte bay h.0, name-length name h.1, length-byte cylinders h.2)
@@ -95,7 +95,7 @@ short (SetRate bay R500) h = omega (arith, length-byte bay h)
 short (SetRate bay R250) h = omega (arith, length-byte bay h)
 short (Tries tries) h = omega (arith, length-length tries (omega arith))
 
--- a line of the plain spelling is that request
+-- a line with the plain spelling of a request says this request
 pub spelling-line : (r : Request) → IsRequest r → line_of request_of (spelling r) ≡ Some (Some r)
 unfolding spelling
 spelling-line r h =
@@ -104,7 +104,7 @@ spelling-line r h =
     (omega (arith, length-join (verb_text r ∷ field_texts r), short r h))
     (first_ink (verb_text r) (field_texts r) ws.0) (words_of-join (verb_text r) (field_texts r) ws) (reads_back r h)
 
--- a text of the plain spelling alone is a job of that request alone
+-- a text with the plain spelling of a request alone is a job of this request alone
 pub spelling-job : (r : Request) → IsRequest r → job_of (spelling r) ≡ Ok (r ∷ [])
 unfolding spelling job_of
 spelling-job r h =

@@ -1,4 +1,4 @@
--- What is read has its numbers in range and its names as names.
+-- A request that is read has its numbers in range, and its names are names.
 use Rattle.std.proofs.Common.{◌≡◌, ℕ, ◌+◌, ◌<◌, ◌≤◌, Bool, true, false, ◌&&◌, List, [], ◌∷◌, length, nat_le, nat_lt, cond, Option, Some, None, option_map, Result, Ok, Err, IfOk, refl, sym, subst, arith, leb-true}
 use Rattle.std.specs.Prelude.{codes, option_and_then}
 use Rattle.std.specs.List.{AllByRecursion, All}
@@ -251,7 +251,7 @@ text-valid P spelled each most text items h = fits (nat_lt 4194304 (length text)
     fits true k = cc
     fits false k = All-from_recursion P items (lines-valid P spelled each most 1 (lines_of text) items k)
 
--- what holds of each item of a text holds of what a call returned
+-- what holds of each item that a text says also holds of each item that a call returned
 pub kept-valid : {A T : Type 0} (P : T → Type 0) (items : A → List T) (r : Result A JobError) (said : Result (List T) ℕ)
     → ((xs : List T) → said ≡ Ok xs → All P xs) → ReadsText items r said → IfOk r (λ kept. All P (items kept))
 kept-valid P items (Ok kept) said f h = f (items kept) h

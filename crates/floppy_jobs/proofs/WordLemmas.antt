@@ -1,4 +1,4 @@
--- Numbers and names read back as what they spell, and joined words as those words.
+-- Numbers and names are read back as what they spell, and joined words are read back as these words.
 use Rattle.std.proofs.Common.{◌≡◌, ℕ, ◌+◌, ◌-◌, ◌*◌, ◌/◌, ◌%◌, ◌^◌, ◌<◌, ◌≤◌, Bool, true, false, ◌&&◌, not, List, [], ◌∷◌, ◌++◌, length, get_or, zero, suc, nat_le, nat_lt, eqb, filter, Option, Some, refl, ap, ◌∙◌, arith, lit<, le-leb, lt-ltb, leb-true, ltb-true, length-append, Ok}
 use Rattle.std.proofs.lemmas.Bool.{le-ltb}
 use Rattle.std.proofs.lemmas.Bool.Decides.{nat_tests}
@@ -21,11 +21,11 @@ and_from : (a b : Bool) → a ≡ true → b ≡ true → (a && b) ≡ true
 and_from true b h k = k
 and_from false b h k = h
 
--- each byte is m at least
+-- whether each byte is at least m
 abbrev pub from : ℕ → List ℕ → Bool
 from m bytes = list_all (λ b. nat_le m b) bytes
 
--- a word has bytes, none of them a space, the end of a line or '#'
+-- whether this is a word: it has bytes, each of them at least 36, so none is a space, the end of a line or '#'
 abbrev pub is_word : List ℕ → Bool
 is_word word = nat_lt 0 (length word) && from 36 word
 
@@ -211,7 +211,7 @@ joined [] h = refl
 joined (w ∷ []) h = weaker w (and_right _ _ h.0)
 joined (w ∷ v ∷ vs) h = from-append 32 w (32 ∷ join_with_byte 32 (v ∷ vs)) (weaker w (and_right _ _ h.0)) (joined (v ∷ vs) h.1)
 
--- bytes from the space on stand in one line, which keeps its end
+-- bytes that are all at least a space are one line, and no end of a line is taken off
 
 pub lines_of-one : (b : ℕ) (bs : List ℕ) → from 32 (b ∷ bs) ≡ true → lines_of (b ∷ bs) ≡ (b ∷ bs) ∷ []
 lines_of-one b [] h =
@@ -265,7 +265,7 @@ line_of-words spelled item text w ws short first words reads =
     let some : eqb (length (w ∷ ws)) 0 ≡ false = grind (arith, nat_tests) in
     rw (fits, first, words, some, reads) refl
 
--- and a text of one such line says just that
+-- a text with one such line alone says the same
 pub text_of-words : {T : Type 0} (spelled : List (List ℕ) → Option T) (item : T) (text : List ℕ)
     → 0 < length text → length text ≤ 200 → from 32 text ≡ true → line_of spelled text ≡ Some (Some item)
     → text_of spelled 100000 text ≡ Ok (item ∷ [])

@@ -17,13 +17,13 @@ call_of (a ∷ b ∷ c ∷ d ∷ e ∷ []) = do
   Some (call.Call ax bx cx dx es)
 call_of _ = None
 
--- insert, eject, fill and dump are lines of a calls text too
+-- the verbs insert, eject, fill and dump, whose lines a calls text shares with a job
 abbrev pub is_shared_verb : List ℕ → Bool
 is_shared_verb verb =
     bytes_eq verb (codes "insert") || bytes_eq verb (codes "eject")
     || bytes_eq verb (codes "fill") || bytes_eq verb (codes "dump")
 
--- all lines
+-- any line of a calls text
 unfoldable pub call_line_of : List (List ℕ) → Option CallLine
 call_line_of [] = None
 call_line_of (verb ∷ fields) =

@@ -3,11 +3,11 @@ use Rattle.std.specs.Prelude.{ℕ, ◌==◌, Bool, ◌&&◌, ◌||◌, not, List
 use Rattle.std.specs.List.{list_all}
 use Rattle.std.specs.Char.{is_ascii_alphanumeric}
 
--- a letter, a digit, '.', '_' or '-'
+-- a byte of a name: a letter, a digit, '.', '_' or '-'
 abbrev pub is_name_byte : ℕ → Bool
 is_name_byte c = is_ascii_alphanumeric c || c == 46 || c == 95 || c == 45
 
--- 1 to 64 of them, not beginning with '.' or '-'
+-- a name: 1 to 64 such bytes, of which the first isn't '.' or '-'
 unfoldable pub is_name_text : List ℕ → Bool
 is_name_text bytes = nat_le 1 (length bytes) && nat_le (length bytes) 64 && not (slice_index bytes 0 == 46)
     && not (slice_index bytes 0 == 45) && list_all is_name_byte bytes

@@ -4,11 +4,12 @@ use Rattle.std.specs.List.{list_all}
 use Rattle.std.specs.Char.{is_digit}
 use Rattle.std.specs.Str.Parse.{digits_value}
 
--- each byte is a digit of the base, of either case
+-- whether each byte is a digit of the base, of either case
 abbrev pub all_digits : ℕ → List ℕ → Bool
 all_digits base word = list_all (λ c. is_digit c base) word
 
--- the number that fewest to most digits of the base spell, where it is from least to greatest
+-- the number that a word spells, if it has `fewest` to `most` digits of the base and its value is from `least` to
+-- `greatest`
 unfoldable pub number_of : ℕ → ℕ → ℕ → ℕ → ℕ → List ℕ → Option ℕ
 number_of base fewest most least greatest word =
     if nat_le fewest (length word) && nat_le (length word) most && all_digits base word
@@ -35,7 +36,7 @@ hex_byte_of word = number_of 16 2 2 0 0xFF word
 unfoldable pub tries_of : List ℕ → Option ℕ
 tries_of word = number_of 10 1 2 1 10 word
 
--- ---- in port accesses and calls alone
+-- ---- numbers of port accesses and calls alone
 
 -- one to four hexadecimal digits
 unfoldable pub port_of : List ℕ → Option ℕ

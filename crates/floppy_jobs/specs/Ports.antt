@@ -50,7 +50,7 @@ port_eject_of (d ∷ []) = do
   Some (port.Eject bay)
 port_eject_of _ = None
 
--- all lines
+-- any line of a ports text
 unfoldable pub port_line_of : List (List ℕ) → Option PortLine
 port_line_of [] = None
 port_line_of (verb ∷ fields) =

@@ -1,4 +1,4 @@
--- What the lines of a job spell: D, C, H, R, N and CYLS are bytes in decimal, ADDR and BYTE are hexadecimal.
+-- What the lines of a job spell. D, C, H, R, N and CYLS are bytes in decimal, ADDR and BYTE are hexadecimal.
 use Rattle.std.specs.Prelude.{ℕ, List, [], ◌∷◌, Option, Some, None, option_and_then, codes, if◌then◌else◌}
 use Rattle.std.specs.Str.{bytes_eq}
 use Rattle.floppy_jobs.specs.Names.{name_of}
@@ -53,7 +53,7 @@ ack_of (d ∷ []) = do
   Some (request.Ack bay)
 ack_of _ = None
 
--- what D C H R N ADDR name: a bay, a key and an address
+-- what the words D C H R N ADDR name: a bay, a key and an address
 unfoldable pub sector_of : List (List ℕ) → Option (ℕ × Chrn × ℕ)
 sector_of (d ∷ cylinder ∷ head ∷ sector ∷ size ∷ place ∷ []) = do
   bay ← byte_of d
@@ -153,7 +153,7 @@ plain_of verb fields =
     else (if bytes_eq verb (codes "tries") then tries_line_of fields
     else None))))))))))
 
--- all requests
+-- any request of a job
 unfoldable pub request_of : List (List ℕ) → Option Request
 request_of [] = None
 request_of (verb ∷ fields) =

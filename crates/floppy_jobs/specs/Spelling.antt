@@ -1,5 +1,5 @@
--- The plain spelling of a request: one space between words, decimals without leading zeros, an address in five
--- and a byte of memory in two hexadecimal digits, upper case.
+-- The plain spelling of a request has one space between words and decimals without leading zeros. An address has five
+-- hexadecimal digits and a byte of memory has two, in upper case.
 use Rattle.std.specs.Prelude.{ℕ, ◌/◌, ◌%◌, true, List, [], ◌∷◌, ◌++◌, codes}
 use Rattle.std.specs.Fmt.{decimal, digits}
 use Rattle.std.specs.List.{join_with_byte}
@@ -9,15 +9,15 @@ use Rattle.flop_base.specs.declared.answers.Rate.TheVariants.{R500, R250}
 use Rattle.floppy_jobs.specs.declared.request.Request.{Request}
 use Rattle.floppy_jobs.specs.declared.request.Request.TheVariants.{Insert, Blank, BlankDd, Eject, Ack, Read, Write, WriteDeleted, Format, Fill, Dump, Unit, SetRate, Tries}
 
--- the last hexadecimal digit of a number, upper case
+-- the last hexadecimal digit of a number, in upper case
 abbrev pub hex_digit : ℕ → List ℕ
 hex_digit n = digits 16 true (n % 16)
 
--- two hexadecimal digits
+-- a number as two hexadecimal digits
 abbrev pub hex2 : ℕ → List ℕ
 hex2 n = hex_digit (n / 16) ++ hex_digit n
 
--- five
+-- a number as five hexadecimal digits
 abbrev pub hex5 : ℕ → List ℕ
 hex5 n = hex_digit (n / 65536) ++ (hex_digit (n / 4096) ++ (hex_digit (n / 256) ++ (hex_digit (n / 16) ++ hex_digit n)))
 
@@ -43,12 +43,12 @@ verb_text (Unit bay) = codes "unit"
 verb_text (SetRate bay rate) = codes "rate"
 verb_text (Tries tries) = codes "tries"
 
--- a bay, a key and an address
+-- the words for a bay, a key and an address
 abbrev pub sector_texts : ℕ → Chrn → ℕ → List (List ℕ)
 sector_texts bay key address =
     decimal bay ∷ decimal key.c ∷ decimal key.h ∷ decimal key.r ∷ decimal key.n ∷ hex5 address ∷ []
 
--- the words after the first
+-- the words of a request after the first
 abbrev pub field_texts : Request → List (List ℕ)
 field_texts (Insert bay name) = decimal bay ∷ name ∷ []
 field_texts (Blank bay name cylinders) = decimal bay ∷ name ∷ decimal cylinders ∷ []
@@ -65,6 +65,6 @@ field_texts (Unit bay) = decimal bay ∷ []
 field_texts (SetRate bay rate) = decimal bay ∷ rate_text rate ∷ []
 field_texts (Tries tries) = decimal tries ∷ []
 
--- the plain spelling, without a line feed
+-- the plain spelling of a request, without a line feed
 unfoldable pub spelling : Request → List ℕ
 spelling request = join_with_byte 32 (verb_text request ∷ field_texts request)

@@ -1,4 +1,4 @@
--- What a parser can give: each number in its field's range, each name a name.
+-- What a parser can give: each number is in the range of its field, and each name is a name.
 use Rattle.std.specs.Prelude.{ℕ, ◌<◌, ◌≤◌}
 use Rattle.floppy_jobs.specs.Names.{IsName}
 use Rattle.flop_base.specs.declared.key.Chrn.{Chrn}

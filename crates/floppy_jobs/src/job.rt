@@ -13,8 +13,7 @@ use crate::verb::is_verb;
 use flop_base::{Chrn, Rate};
 use std::alloc::Global;
 
-/// Reads a job. A text with a bad line is refused as a whole. Whether a bay or a place exists is no question of the
-/// text.
+/// Reads a job. A text with a bad line is refused as a whole. The text doesn't decide whether a bay or a place exists.
 #[tactic(auto, unfolding(crate::specs::Texts::job_of))]
 pub fn parse_job(alloc: Global, bytes: &[u8]) -> Result<Vec<Request>, JobError>
     ensures read { ReadsText (λ requests. requests.items) result (job_of bytes.now) }
@@ -48,7 +47,7 @@ pub fn request(alloc: Global, words: &[&[u8]]) -> Result<Request, LineError>
     }
 }
 
-/// The requests without a name.
+/// The requests whose lines have no name.
 #[tactic(auto, unfolding(crate::specs::Requests::plain_of))]
 fn plain(verb: &[u8], fields: &[&[u8]]) -> Option<Request>
     ensures { result ≡ plain_of verb.now (map (λ word. word.now) fields.now) }

@@ -1,5 +1,5 @@
-//! The texts that the program reads (jobs, port accesses, calls of INT 13h), over one reader of lines,
-//! words and numbers; and what a job may ask, with the plain spelling of a request.
+//! The texts that the program reads (jobs, port accesses, calls of INT 13h), on top of one reader of lines, words and
+//! numbers. Also here: the requests that a job may have, and the plain spelling of a request.
 #![tactic(auto)]
 
 mod calls;

@@ -21,10 +21,10 @@ pub const MOST_LINES: usize = 100_000;
 /// Why a text wasn't read.
 #[derive(Clone, Copy, Debug, PartialEq, Eq, Error)]
 pub enum JobError {
-    /// The first line that isn't understood, counted from 1; 0 where the text is too long.
+    /// The first line that isn't understood, counted from 1. It is 0 if the text is too long.
     #[error("line {line} not understood")]
     BadLine { line: usize },
-    /// Memory couldn't be had. This says nothing of the text.
+    /// Memory ran out. This says nothing of the text.
     #[error("out of memory")]
     NoMemory,
 }
@@ -38,10 +38,10 @@ impl From<NoMemory> for JobError {
 /// Why a line wasn't read.
 #[derive(Clone, Copy, Debug, PartialEq, Eq, Error)]
 pub enum LineError {
-    /// The words spell nothing that the text may have.
+    /// The words of the line spell nothing that the text may have.
     #[error("line not understood")]
     NotUnderstood,
-    /// Memory couldn't be had. This says nothing of the text.
+    /// Memory ran out. This says nothing of the text.
     #[error("out of memory")]
     NoMemory,
 }
@@ -59,7 +59,7 @@ pub trait Line: Sized + Drop {
     /// What a line's words spell, if anything.
     ghost spelled: { List (List ℕ) → Option Self };
 
-    /// Reads a line that has words. `words` has at least one, and none is empty.
+    /// Reads a line that has words. `words` has at least one word, and none of them is empty.
     fn read(alloc: Global, words: &[&[u8]]) -> Result<Self, LineError>
         ensures { Reads result (spelled (map (λ word. word.now) words.now)) };
 }
@@ -70,7 +70,8 @@ fn line_end(text: &[u8]) -> Option<usize>
     text.iter().position(|byte| *byte == b'\n')
 }
 
-/// The first line of a text without its line feed, and the text after it; nothing where the text has no line.
+/// The first line of a text without its line feed, and the text after it. The answer is nothing if the text has no
+/// line.
 fn first_line(text: &[u8]) -> Option<(&[u8], &[u8])>
     ensures split { MatchOption result (text.now ≡ [])
         (λ found. lines_of text.now ≡ found.0.now ∷ lines_of found.1.now) }
@@ -90,7 +91,7 @@ fn first_line(text: &[u8]) -> Option<(&[u8], &[u8])>
     }
 }
 
-/// A line without the one carriage return at its end.
+/// A line without the one carriage return at its end, if there is one.
 fn without_return(line: &[u8]) -> &[u8]
     ensures { result.now ≡ strip_carriage_return line.now }
 {
@@ -109,7 +110,7 @@ fn words(alloc: Global, line: &[u8]) -> Result<Vec<&[u8]>, AllocError>
         .collect(alloc)
 }
 
-/// What a line says; nothing where it is blank or a comment.
+/// What a line says. It is nothing if the line is blank or a comment.
 #[tactic(auto, unfolding(crate::specs::Lines::line_of))]
 fn read_line<L: Line>(alloc: Global, line: &[u8]) -> Result<Option<L>, LineError>
     ensures { Reads result (line_of L.spelled (strip_carriage_return line.now)) }
@@ -128,8 +129,8 @@ fn read_line<L: Line>(alloc: Global, line: &[u8]) -> Result<Option<L>, LineError
     Ok(Some(L::read(alloc, words.as_slice())?))
 }
 
-/// Reads a text line by line, up to its first bad line: one that isn't understood, or the first past 200 bytes or
-/// `most_lines` lines. A text of more than `MOST_BYTES` is refused as line 0.
+/// Reads a text line by line, up to its first bad line. A line is bad if it isn't understood, has more than 200 bytes,
+/// or is past the first `most_lines` lines. A text of more than `MOST_BYTES` is refused as line 0.
 #[tactic(auto, unfolding(crate::specs::Lines::text_of))]
 pub fn read_lines<L: Line>(
     alloc: Global,

@@ -22,7 +22,7 @@ fn are_name_bytes(bytes: &[u8]) -> bool
     bytes.iter().all(|byte| is_name_byte(*byte))
 }
 
-/// Whether the bytes are a name: 1 to 64 letters, digits, `.`, `_` and `-`, not beginning with `.` or `-`.
+/// Whether the bytes are a name: 1 to 64 letters, digits, `.`, `_` and `-`, where the first isn't `.` or `-`.
 #[tactic(auto, unfolding(crate::specs::Names::is_name_text))]
 pub fn is_name(bytes: &[u8]) -> bool
     ensures { result ≡ is_name_text bytes.now }
@@ -33,7 +33,7 @@ pub fn is_name(bytes: &[u8]) -> bool
     }
 }
 
-/// A name as a text; nothing where the bytes are no name.
+/// A name as a text. The answer is nothing if the bytes are no name.
 pub fn name_text(bytes: &[u8]) -> Option<&str>
     ensures { option_copied result ≡ name_of bytes.now }
 {
@@ -44,7 +44,7 @@ pub fn name_text(bytes: &[u8]) -> Option<&str>
     }
 }
 
-/// A name to be kept.
+/// A name that is kept as a copy.
 #[tactic(auto, unfolding(crate::specs::Names::name_of))]
 pub fn named(alloc: Global, bytes: &[u8]) -> Result<Name, LineError>
     ensures { Reads result (name_of bytes.now) }

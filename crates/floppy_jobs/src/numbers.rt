@@ -1,10 +1,10 @@
-// Numbers in texts: digits without a sign.
+// Numbers in texts. They are digits without a sign.
 ghost use Rattle.std.specs.Prelude.{◌≡◌, ◌≤◌, IfSome};
 ghost use Rattle.floppy_jobs.specs.Numbers.{number_of, byte_of, address_of, length_of, hex_byte_of, tries_of};
 ghost use Rattle.floppy_jobs.specs.Numbers.{port_of, steps_of, register_of};
 
-/// The number that a word spells: `fewest` to `most` digits of the base, its value from `least` to `greatest`.
-/// Hexadecimal digits may have either case.
+/// The number that a word spells. It has `fewest` to `most` digits of the base, and its value is from `least` to
+/// `greatest`. Hexadecimal digits may have either case.
 pub fn number(
     word: &[u8],
     base: u32,

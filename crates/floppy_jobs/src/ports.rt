@@ -18,7 +18,7 @@ pub enum PortLine {
     In { port: u16 },
     /// Writes a byte to a port.
     Out { port: u16, value: u8 },
-    /// Lets so many device steps pass.
+    /// Lets this many device steps pass.
     Wait { steps: u16 },
     /// Takes the interrupt latch and prints it.
     Irq,

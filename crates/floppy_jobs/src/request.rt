@@ -3,8 +3,8 @@ ghost use Rattle.std.specs.Prelude.{◌≡◌};
 
 use flop_base::{Chrn, Name, Rate};
 
-/// One request to the session. Addresses are offsets in the machine's memory, lengths count bytes. Where no range is
-/// told, the fields may have any value, and the session refuses what can't be.
+/// One request to the session. Addresses are offsets in the machine's memory, and lengths count bytes. A field may have
+/// any value where no range is given. The session refuses a value that isn't possible.
 #[derive(Drop)]
 pub enum Request {
     /// Loads the image of this name and puts its medium in.
@@ -33,7 +33,7 @@ pub enum Request {
     Unit { bay: u8 },
     /// Sets the data rate of the bay.
     SetRate { bay: u8, rate: Rate },
-    /// Sets the number of attempts of the requests after it, 1 to 10.
+    /// Sets the number of attempts of the requests after this one, 1 to 10.
     Tries { tries: u8 },
 }
 

@@ -18,7 +18,7 @@ use Rattle.sector_model.specs.Steps.{Step, StopsAt, StopCause, StoresMedium, ref
 use Rattle.sector_model.specs.Runs.{EndsBay, DropsMedium, EndStopsAt, AtSecond, IsEndStop}
 use Rattle.flop_base.proofs.Counted.{goes_on_itself}
 
--- the step of the request that was asked
+-- the step of the request that was asked, if that request is the named one
 pub step_at : (old new : State) (told : Option Files) (asked named : Request) (answer : Reply) → asked ≡ named → Step named old told answer new told → Step asked old told answer new told
 step_at old new told asked named answer same step = subst (λ (r : Request). Step r old told answer new told) (sym same) step
 
@@ -31,7 +31,7 @@ same_still state = record {
   counts = goes_on_itself state.station.counters;
 }
 
--- a format in a bay past the second is a bad request, and the state is as it was
+-- a format in a bay past the second one is a bad request, and the state stays as it was
 pub format_refused : (state : State) (told : Option Files) (bay c h : ℕ) → 1 < bay → Step (request.Format bay c h) state told (reply.Refused (reason.Driver BadRequest)) state told
 format_refused state told bay c h past = (
   record { names = refl; files = refl; counts = goes_on_itself state.station.counters },
@@ -50,7 +50,7 @@ format_refused state told bay c h past = (
 insert_taken : (state : State) (bay : ℕ) (name : List ℕ) → bay ≤ 1 → is_loaded state bay ≡ false → refusal_of state (request.Insert bay name) ≡ None
 insert_taken state bay name low empty = grind (arith, rules)
 
--- an insert that got no image stops, and the state is as it was
+-- an insert that got no image stops the run, and the state stays as it was
 pub stops_loading : (state : State) (told told_after : Option Files) (bay : ℕ) (name : List ℕ) (ended : Stop) → bay ≤ 1 → is_loaded state bay ≡ false → ((bay : ℕ) → StopCause told (request.Insert bay name) ended) → told_after ≡ told → StopsAt (request.Insert bay name) state told ended state told_after
 stops_loading state told told_after bay name ended low empty cause files = record {
   taken = insert_taken state bay name low empty;
@@ -59,12 +59,12 @@ stops_loading state told told_after bay name ended low empty cause files = recor
   files = files;
 }
 
--- a medium that was taken out, with its name, and was stored where the store went well
+-- a medium was taken out, with its name, and it was stored if the store succeeded
 pub stores_out : (result : Result (Unit {0}) Stop) (old new : State) (told told_after : Option Files) (bay : ℕ) (disk : Disk) (name : List ℕ) → (bay_of old.station bay).medium ≡ Some disk → in_bay old.names bay ≡ Some name → ChangesMedium bay None None old new → OnOk result (told_after ≡ stored told name (file_of disk)) → OnOk result (StoresMedium bay old told new told_after)
 stores_out (Ok u) old new told told_after bay disk name medium named changes kept = (disk, name, medium, named, changes, kept)
 stores_out (Err e) old new told told_after bay disk name medium named changes kept = tt
 
--- the end of bay 1 stops the end of a run, or doesn't
+-- if the end of bay 1 fails, it stops the end of the run
 pub second_stops : (result : Result (Unit {0}) Stop) (old mid new : State) (told told_mid told_after : Option Files) → EndsBay 0 old told mid told_mid → IfErr result IsEndStop → OnErr result (DropsMedium 1 mid new) → OnErr result (told_after ≡ told_mid) → IfErr result (λ stop. IsEndStop stop × EndStopsAt old told new told_after)
 second_stops (Ok u) old mid new told told_mid told_after first cause dropped files = tt
 second_stops (Err stop) old mid new told told_mid told_after first cause dropped files =

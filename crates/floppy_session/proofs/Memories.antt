@@ -1,4 +1,4 @@
--- Memory that is filled byte by byte.
+-- Memory that is set byte by byte.
 use Rattle.std.proofs.Common.{◌≡◌, ℕ, ◌+◌, ◌-◌, ◌<◌, List, [], ◌∷◌, ◌++◌, length, take, drop, min, suc, replicate, get_or, refl, sym, ap, ◌∙◌, subst, arith, append_assoc, slice_set, length-append, length-take, length-drop}
 use Rattle.std.proofs.lemmas.List.{take-append-drop, replicate-append-replicate, length-replicate}
 use Rattle.std.proofs.Math.Seq.{drop-cons, set-append_seam}
@@ -12,7 +12,7 @@ use Rattle.sector_model.specs.Steps.{Fills}
 use Rattle.flop_base.proofs.Counted.{goes_on_after, goes_on_itself}
 
 module _ (memory : List ℕ) (address : ℕ) where
-  -- no bytes change nothing
+  -- setting no bytes changes nothing
   pub with_items-nil : with_items memory address [] ≡ memory
   unfolding with_items
   with_items-nil =
@@ -23,7 +23,7 @@ module _ (memory : List ℕ) (address : ℕ) where
   unfolding with_items
   length-with_items bytes = simp (length-append, length-take, length-drop)
 
-  -- one more byte behind those that were set
+  -- one more byte is set, right behind those that were set
   pub set-with_items : (bytes : List ℕ) (byte : ℕ) → address + length bytes < length memory → slice_set (with_items memory address bytes) (address + length bytes) byte ≡ with_items memory address (bytes ++ byte ∷ [])
   unfolding with_items
   set-with_items bytes byte inside =
@@ -52,7 +52,7 @@ module _ (memory : List ℕ) (address : ℕ) where
       ∙ set-with_items (replicate i byte) byte room
       ∙ ap (λ bytes. with_items memory address bytes) (replicate-append-replicate i 1 byte)
 
--- no byte is filled yet
+-- a fill of no bytes so far
 pub fills_none : (old : State) (address byte : ℕ) → Fills address 0 byte old old
 fills_none old address byte = record {
   names = refl;
@@ -61,7 +61,7 @@ fills_none old address byte = record {
   counts = goes_on_itself old.station.counters;
 }
 
--- a byte behind those that were filled
+-- one more byte is filled, right behind those that were filled
 pub fills_more : (old mid new : State) (address i byte : ℕ) → Fills address i byte old mid → new.names ≡ mid.names → SetsMemory (address + i) byte mid.station new.station → GoesOn mid.station.counters new.station.counters → length mid.station.memory ≡ user_bytes → address + i < 983040 → Fills address (i + 1) byte old new
 fills_more old mid new address i byte filled names sets counts size inside =
     let memory : mid.station.memory ≡ with_items old.station.memory address (replicate i byte) = ap (λ (s : StationState). s.memory) filled.becomes in

@@ -20,12 +20,12 @@ use Rattle.floppy_session.specs.Shapes.{shape_of, shape_in, AreShapes}
 use Rattle.floppy_session.specs.declared.labels.Labels.{Labels}
 use Rattle.floppy_session.specs.Session.{IsRunning, state_of}
 
--- a bay has a medium of some shape exactly where it had one
+-- each bay has a medium of the same shape as before, or none if it had none
 pub record KeepsShapes (old new : Two Bay) : Type 0 where
   pub first : shape_in new.first ≡ shape_in old.first
   pub second : shape_in new.second ≡ shape_in old.second
 
--- a bay is loaded where there is a shape
+-- a bay is loaded if, and only if, its medium has a shape
 is_some_shape : (medium : Option Disk) → is_some (option_map shape_of medium) ≡ is_some medium
 is_some_shape None = refl
 is_some_shape (Some disk) = refl
@@ -33,14 +33,14 @@ is_some_shape (Some disk) = refl
 loads_same : (new old : Option Disk) → option_map shape_of new ≡ option_map shape_of old → is_some new ≡ is_some old
 loads_same new old same = sym (is_some_shape new) ∙ ap (λ (o : Option Shape). is_some o) same ∙ is_some_shape old
 
--- where the kept shapes stay too, they are still those of the media
+-- if the bays keep their media's shapes, the shapes that the session keeps are still those of the media
 pub shaped_still : (shapes : Two (Option Shape)) (old new : Two Bay) → KeepsShapes old new → AreShapes shapes old → AreShapes shapes new
 shaped_still shapes old new keeps shaped = record {
   first = shaped.first ∙ sym keeps.first;
   second = shaped.second ∙ sym keeps.second;
 }
 
--- where names stay too, each medium still has its name
+-- if the names stay too, each medium still has its name
 pub named_still : (old new : State) → new.names ≡ old.names → KeepsShapes old.station.bays new.station.bays → IsNamed old → IsNamed new
 named_still old new names keeps named = record {
   first = ap (λ (n : Two (Option (List ℕ))). is_some n.first) names ∙ named.first ∙ sym (loads_same _ _ keeps.first);
@@ -57,7 +57,7 @@ keeps_same old new same = record {
 keeps_stays : (old new : StationState) → Stays old new → KeepsShapes old.bays new.bays
 keeps_stays old new stays = keeps_same old.bays new.bays (ap (λ (s : StationState). s.bays) stays)
 
--- a bay was set, and has a medium where it had one
+-- one bay was set, and has a medium of the same shape as before, or none if it had none
 keeps_chosen : (b : Bool) (old : Two Bay) (bay : Bay) → shape_in bay ≡ shape_in (if b then old.first else old.second) → KeepsShapes old (if b then record old { first = bay } else record old { second = bay })
 keeps_chosen true old bay same = record { first = same; second = refl }
 keeps_chosen false old bay same = record { first = refl; second = same }
@@ -70,7 +70,7 @@ keeps_set old new n bay set same =
       second = ap (λ (b : Two Bay). shape_in b.second) set ∙ chosen.second;
     }
 
--- what holds with a refusal and without one
+-- what follows both from a refusal and from the absence of one
 pub by_refusal : {A C : Type 0} (o : Option A) (P : Type 0) (Q : A → Type 0) → MatchOption o P Q → (P → C) → ((a : A) → Q a → C) → C
 by_refusal None P Q h p q = p h
 by_refusal (Some a) P Q h p q = q a h
@@ -79,14 +79,14 @@ keeps_read : (old new : StationState) (bay : ℕ) (key : Chrn) (address : ℕ) (
 keeps_read old new bay key address (Ok deleted) read = keeps_same old.bays new.bays (ap (λ (s : StationState). s.bays) read.found.becomes)
 keeps_read old new bay key address (Err code) read = keeps_same old.bays new.bays (ap (λ (s : StationState). s.bays) read.refused.becomes)
 
--- a read leaves each medium in
+-- a read leaves each medium in its bay
 pub keeps_reads : (old new : StationState) (bay : ℕ) (key : Chrn) (address : ℕ) (answer : Result Bool Code) → Reads bay key address old answer new → KeepsShapes old.bays new.bays
 keeps_reads old new bay key address answer reads =
     by_refusal (read_refusal old bay key address) _ _ reads
     (keeps_read old new bay key address answer)
     (λ code refused. keeps_stays old new refused.stays)
 
--- a disk with another track has its shape
+-- a disk with one track replaced keeps its shape
 shape_with_track : (disk : Disk) (c h : ℕ) (track : List ℕ) (after : Disk) → IsWithTrack disk c h track after → shape_of after ≡ shape_of disk
 shape_with_track disk c h track after is =
     let cylinders = is.cylinders in
@@ -104,7 +104,7 @@ keeps_reach written (Some disk) changes (Some after) reach = ap (λ (s : Shape).
 keeps_reach written (Some disk) changes None reach = absurd reach
 keeps_reach written None changes after reach = ap (λ (o : Option Disk). option_map shape_of o) reach.1
 
--- a write leaves each medium in
+-- a write leaves each medium in its bay
 pub keeps_writes : (old new : StationState) (bay : ℕ) (key : Chrn) (address : ℕ) (deleted : Bool) (answer : Result (Unit {0}) Code) → WritesTo bay key address deleted old answer new → KeepsShapes old.bays new.bays
 keeps_writes old new bay key address deleted answer writes =
     by_refusal (write_refusal old bay key address) _ _ writes
@@ -120,21 +120,21 @@ keeps_lays format (Some disk) layings (Some after) lays = ap (λ (s : Shape). So
 keeps_lays format (Some disk) layings None lays = absurd lays
 keeps_lays format None layings after lays = ap (λ (o : Option Disk). option_map shape_of o) lays.1
 
--- a format leaves each medium in
+-- a format leaves each medium in its bay
 pub keeps_formats : (old new : StationState) (bay c h gap3 fill : ℕ) (answer : Result (Unit {0}) Code) → FormatsTo bay c h gap3 fill old answer new → KeepsShapes old.bays new.bays
 keeps_formats old new bay c h gap3 fill answer formats =
     by_refusal (format_refusal old bay c h gap3) _ _ formats
     (λ formatted. keeps_set old new bay _ (ap (λ (s : StationState). s.bays) formatted.becomes) (keeps_lays _ _ _ _ formatted.lays))
     (λ code refused. keeps_stays old new refused.stays)
 
--- a change of the rate leaves each medium in
+-- a change of the rate leaves each medium in its bay
 pub keeps_rates : (old new : StationState) (bay : ℕ) (rate : Rate) (answer : Result (Unit {0}) Code) → RatesTo bay rate old answer new → KeepsShapes old.bays new.bays
 keeps_rates old new bay rate answer rates =
     by_refusal (rate_refusal old bay) _ _ rates
     (λ set. keeps_set old new bay _ (ap (λ (s : StationState). s.bays) set.becomes) refl)
     (λ code refused. keeps_stays old new refused.stays)
 
--- where each bay keeps its medium's shape, the session still runs
+-- if each bay keeps its medium's shape, the session can still run requests
 pub runs_on : {Before After : Type 0} (labels : Labels) (old new : StationState)
     → KeepsShapes old.bays new.bays → IsRunning Before old labels → After → IsRunning After new labels
 runs_on labels old new keeps running ready = record {

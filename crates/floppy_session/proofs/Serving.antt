@@ -1,4 +1,4 @@
--- What a call of INT 13h runs: records one after the other, and memory that is put back.
+-- What a call of INT 13h runs: requests for records, one after the other, and requests that put memory back.
 use Rattle.std.proofs.Common.{◌≡◌, ℕ, suc, ◌+◌, ◌-◌, ◌*◌, ◌^◌, ◌<◌, ◌≤◌, Bool, true, false, List, [], ◌∷◌, ◌++◌, length, take, drop, map, min, get_or, refl, sym, ap, ◌∙◌, subst, arith, inl, inr, Option, None, Result, Ok, Err, append_assoc, length-append, length-take, length-drop, drop-cons}
 use Rattle.std.specs.Prelude.{◌||◌, MatchBool, MatchOption, slice_index, ◌⊎◌, not, IfErr, if◌then◌else◌}
 use Rattle.std.specs.List.{range_with_len}
@@ -34,7 +34,7 @@ use Rattle.floppy_session.specs.declared.work.Work.TheVariants.{Changed, Move}
 use Rattle.floppy_session.specs.Services.{MovesRecord, MovesIn, VerifiesRecords, DoesWork, AcksAlone, Transfers, look_at, ack_code, AreDone, MovesRecords, record_request, record_behind, place_of_record, record_requests, put_requests, put_request}
 use Rattle.floppy_session.proofs.Named.{by_refusal}
 
--- ---- Requests that are done, one after the other.
+-- ---- Requests that are done one after the other.
 
 pub done_none : (old : State) (told : Option Files) → AreDone [] old told [] old
 done_none old told = record { run = (refl, refl); asked = refl; fine = refl }
@@ -69,7 +69,7 @@ module _ (kind : Kind) (bay : ℕ) (first : Chrn) (address : ℕ) where
   unfolding record_requests
   records_long count = length-map-range_with_len (λ i. record_request kind bay (record_behind first i) (place_of_record kind address i)) 0 count
 
-  -- a record, those before it and those behind it are all
+  -- the requests for all records are those before one record, the one for it, and those after it
   pub records_parted : (i count : ℕ) → i < count → record_requests kind bay first address count ≡ record_requests kind bay first address i ++ record_request kind bay (record_behind first i) (place_of_record kind address i) ∷ drop (suc i) (record_requests kind bay first address count)
   unfolding record_requests
   records_parted i count within =
@@ -80,7 +80,7 @@ module _ (kind : Kind) (bay : ℕ) (first : Chrn) (address : ℕ) where
       ∙ ap (λ (r : List Request). r ++ drop i all) (take-map-range_with_len f 0 count i (omega arith))
       ∙ ap (λ (r : List Request). map f (range_with_len 0 i) ++ r) (drop-cons all i (f i) inside ∙ ap (λ (r : Request). r ∷ drop (suc i) all) (get_or-map-range_with_len f 0 count i i (f i) within (omega arith)))
 
--- ---- Memory that a verify reads to, and puts back.
+-- ---- Memory that a verify reads to and then puts back.
 
 module _ (memory : List ℕ) (a : ℕ) (bytes : List ℕ) (fits : a + length bytes ≤ length memory) where
   front : length (take a memory) ≡ a
@@ -113,7 +113,7 @@ module _ (memory : List ℕ) (a : ℕ) (bytes : List ℕ) (fits : a + length byt
         ];
   }
 
-  -- one more byte behind those that were put
+  -- one more byte is put, right behind those that were put
   pub put_one : (byte : ℕ) → with_items (with_items memory a bytes) (a + length bytes) (byte ∷ []) ≡ with_items memory a (bytes ++ byte ∷ [])
   unfolding with_items
   put_one byte =
@@ -142,7 +142,7 @@ outside_after a b c address count one two = record {
   others = λ k is. two.others k is ∙ one.others k is;
 }
 
--- what was there is put back over whatever the range holds
+-- if the bytes that were there are put back, memory is as it was, whatever the range held in between
 pub put_back_all : (old mid : List ℕ) (address count : ℕ) → address + count ≤ length old → SameOutside address count old mid → with_items mid address (bytes_from old address count) ≡ old
 unfolding with_items
 put_back_all old mid address count room same =
@@ -167,7 +167,7 @@ put_back_all old mid address count room same =
     ∙ ap (λ row. take address old ++ row) (take-append-drop count (drop address old))
     ∙ take-append-drop address old
 
--- a read of 512 bytes changes no others
+-- a read of 512 bytes changes no other bytes
 read_outside : (old new : StationState) (bay : ℕ) (key : Chrn) (address : ℕ) (answer : Result Bool Code) → ReadsDrive bay key address old answer new → key.n ≡ 2 → address + 512 ≤ length old.memory → SameOutside address 512 old.memory new.memory
 read_outside old new bay key address (Ok deleted) reads size room =
     let read = reads.found in
@@ -188,17 +188,17 @@ reads_outside old new bay key address answer reads size room =
 
 -- ---- A record, and the records of a transfer.
 
--- a read moved a record
+-- a read that isn't refused moved a record
 pub read_done : (bay : ℕ) (key : Chrn) (address : ℕ) (old new : State) (told : Option Files) (deleted : Bool) → Step (request.Read bay key address) old told (read_reply (Ok deleted)) new told → (answer : Reply) × (is_refusal answer ≡ false) × Step (request.Read bay key address) old told answer new told
 read_done bay key address old new told true step = (reply.DoneDeleted, refl, step)
 read_done bay key address old new told false step = (reply.Done, refl, step)
 
--- a write moved a record
+-- a write moves a record, or is refused
 pub write_moves : (bay : ℕ) (key : Chrn) (address : ℕ) (old new : State) (told : Option Files) (answer : Result (Unit {0}) Code) → Step (request.Write bay key address) old told (reply_of answer) new told → MovesRecord (request.Write bay key address) old told answer new
 write_moves bay key address old new told (Ok u) step = (reply.Done, refl, step)
 write_moves bay key address old new told (Err code) step = step
 
--- the request for a record, by the kind
+-- the request for a record, by the kind of the call
 pub as_read : (kind : Kind) (bay : ℕ) (key : Chrn) (address : ℕ) (old new : State) (told : Option Files) (answer : Result (Unit {0}) Code) → ((kind ≡ Read) ⊎ (kind ≡ Verify)) → MovesRecord (request.Read bay key address) old told answer new → MovesRecord (record_request kind bay key address) old told answer new
 as_read kind bay key address old new told answer is moves =
     let same : record_request kind bay key address ≡ request.Read bay key address = elim is [
@@ -210,7 +210,7 @@ as_read kind bay key address old new told answer is moves =
 pub as_write : (kind : Kind) (bay : ℕ) (key : Chrn) (address : ℕ) (old new : State) (told : Option Files) (answer : Result (Unit {0}) Code) → kind ≡ Write → MovesRecord (request.Write bay key address) old told answer new → MovesRecord (record_request kind bay key address) old told answer new
 as_write kind bay key address old new told answer is moves = subst (λ (k : Kind). MovesRecord (record_request k bay key address) old told answer new) (sym is) moves
 
--- an acknowledgement for a call that moves nothing
+-- an acknowledgement for a call that moves no record
 pub acks_done : (bay : ℕ) (old new : State) (told : Option Files) (answer : Result (Unit {0}) Code) (code : ℕ) → Step (request.Ack bay) old told (reply_of answer) new told → IfErr answer (λ c. c ≡ NotReady) → code ≡ ack_code answer → (course : List Taken) × AcksAlone bay old told course code 0 new
 acks_done bay old new told answer code step only is = (
   record { asked = request.Ack bay; answer = reply_of answer; after = new } ∷ [],
@@ -238,7 +238,7 @@ transfers_ack kind bay first count address old looked new told code moved change
     by_test true is = absurd (true≢false is)
     by_test false is = acks.1
 
--- and in one that is
+-- a transfer in an acknowledged bay
 pub transfers_moves : (kind : Kind) (bay : ℕ) (first : Chrn) (count address : ℕ) (old looked new : State) (told : Option Files) (code moved : ℕ) → false ≡ not (is_acknowledged old.station bay) → IsSame old looked → ((course : List Taken) × MovesIn kind address (record_requests kind bay first address count) looked told course code moved new) → (course : List Taken) × Transfers kind bay first count address old told course code moved new
 transfers_moves kind bay first count address old looked new told code moved changed same moves = (
   look_at looked ∷ moves.0,
@@ -271,7 +271,7 @@ pub put_step : (old new : State) (told : Option Files) (address byte : ℕ) (ans
 put_step old new told address byte answer within step =
     subst (λ (b : Bool). MatchOption (unless_bad b None) ((answer ≡ reply.Done) × (told ≡ told) × Fills address 1 byte old new) (λ cause. IsRefused cause old told answer new told)) (le-leb (address + 1) 983040 within) step
 
--- one byte more
+-- one more byte was put
 pub puts_more : (address : ℕ) (bytes : List ℕ) (i : ℕ) (old mid new : State) (told : Option Files) (course : List Taken) (answer : Reply) → address + i + 1 ≤ 983040 → AreDone (map (put_request address bytes) (range_with_len 0 i)) old told course mid → Step (request.Fill (address + i) 1 (slice_index bytes i)) mid told answer new told → AreDone (map (put_request address bytes) (range_with_len 0 (i + 1))) old told (course ++ (record { asked = put_request address bytes i; answer = answer; after = new }) ∷ []) new
 puts_more address bytes i old mid new told course answer within done step =
     let put = put_step mid new told (address + i) (slice_index bytes i) answer within step in

@@ -24,7 +24,7 @@ ch regs = regs.cx / 256
 abbrev pub cl : Regs → ℕ
 cl regs = regs.cx % 256
 
--- CH, and bits 7 and 6 of CL above it
+-- the cylinder: CH, and above it bits 7 and 6 of CL
 abbrev pub cylinder_of : Regs → ℕ
 cylinder_of regs = ch regs + 256 * (cl regs / 64)
 
@@ -32,18 +32,18 @@ cylinder_of regs = ch regs + 256 * (cl regs / 64)
 abbrev pub record_of : Regs → ℕ
 record_of regs = cl regs % 64
 
--- where the first record lies in memory: ES:BX
+-- where the first record is in memory: ES:BX
 abbrev pub address_of : Regs → ℕ
 address_of regs = regs.es * 16 + regs.bx
 
--- drive 0 or 1
+-- DL names drive 0 or 1
 abbrev pub names_drive : Regs → Bool
 names_drive regs = nat_le (dl regs) 1
 
--- the call reads, writes or verifies records
+-- the call is one that reads, writes or verifies records
 abbrev pub is_transfer : Regs → Bool
 is_transfer regs = ah regs == 0x02 || ah regs == 0x03 || ah regs == 0x04
 
--- the call tells what a drive is like
+-- the call is one that answers the parameters of a drive
 abbrev pub gives_parameters : Regs → Bool
 gives_parameters regs = ah regs == 0x08 && names_drive regs

@@ -1,4 +1,4 @@
--- Calls of INT 13h: the requests that a call runs, one after the other, and what it answers.
+-- Calls of INT 13h: the requests that a call runs, one after the other, and its answer.
 use Rattle.std.specs.Prelude.{◌≡◌, ℕ, ◌+◌, ◌*◌, ◌==◌, ◌||◌, false, List, [], ◌∷◌, ◌++◌, length, map, slice_index, Option, Result, Ok, Err, MatchBool, ◌⊎◌, if◌then◌else◌}
 use Rattle.std.specs.List.{range_with_len}
 use Rattle.flop_base.specs.Numbers.{code_number}
@@ -24,53 +24,53 @@ use Rattle.floppy_session.specs.declared.work.Kind.TheVariants.{Write, Verify}
 use Rattle.floppy_session.specs.declared.work.Work.{Work}
 use Rattle.floppy_session.specs.declared.work.Work.TheVariants.{Answer, Changed, Move}
 
--- ---- What is asked.
+-- ---- What is requested.
 
--- a record of 512 bytes behind the first
+-- the sector ID of a record, counted from the first record
 abbrev pub record_behind : Chrn → ℕ → Chrn
 record_behind first i = record first { r = first.r + i }
 
--- where it lies in memory: the records lie one behind the other, and a verify reads each to the same place
+-- Where a record is in memory: the records follow each other there. A verify reads each record to the same place.
 abbrev pub place_of_record : Kind → ℕ → ℕ → ℕ
 place_of_record Verify address i = address
 place_of_record _ address i = address + 512 * i
 
--- what is asked for a record
+-- the request for one record
 abbrev pub record_request : Kind → ℕ → Chrn → ℕ → Request
 record_request Write bay key address = request.Write bay key address
 record_request _ bay key address = request.Read bay key address
 
--- and for so many, in order
+-- the requests for this many records, in order
 unfoldable pub record_requests : Kind → ℕ → Chrn → ℕ → ℕ → List Request
 record_requests kind bay first address count =
     map (λ i. record_request kind bay (record_behind first i) (place_of_record kind address i)) (range_with_len 0 count)
 
--- bytes are put to memory from an address on, one by one
+-- the request that puts one byte of a list to memory; the list begins at this address
 abbrev pub put_request : ℕ → List ℕ → ℕ → Request
 put_request address bytes i = request.Fill (address + i) 1 (slice_index bytes i)
 
 unfoldable pub put_requests : ℕ → List ℕ → List Request
 put_requests address bytes = map (put_request address bytes) (range_with_len 0 (length bytes))
 
--- to ask whether a bay is acknowledged changes nothing: as a step it is a dump of no bytes
+-- Asking whether a bay is acknowledged changes nothing. As a step it is a dump of no bytes.
 abbrev pub look_at : State → Taken
 look_at after = record { asked = request.Dump 0 0; answer = reply.Bytes 0 []; after = after }
 
--- ---- What comes of it.
+-- ---- The result of the requests.
 
--- these requests were run, and none was refused
+-- these requests were run, and none of them was refused
 pub record AreDone (requests : List Request) (old : State) (told : Option Files) (course : List Taken) (new : State) : Type 0 where
   pub run : Run old told course new told
   pub asked : requests_of course ≡ requests
   pub fine : has_refusal course ≡ false
 
--- the request for a record was run: it was refused with a code, or not
+-- the request for a record was run, and it was refused with this code, or wasn't refused
 abbrev pub MovesRecord : Request → State → Option Files → Result (Unit {0}) Code → State → Type 0
 MovesRecord asked old told (Ok _) new =
     (answer : Reply) × (is_refusal answer ≡ false) × Step asked old told answer new told
 MovesRecord asked old told (Err code) new = Step asked old told (reply.Refused (reason.Driver code)) new told
 
--- records were moved up to the first that was refused, whose code is the answer; none behind it was asked for
+-- Records were moved up to the first one that was refused. Its code is the answer, and no later record was requested.
 pub record StopsAtRecord (asked : List Request) (old : State) (told : Option Files) (course : List Taken) (code moved : ℕ) (new : State) : Type 0 where
   pub done : List Request
   pub next : Request
@@ -85,12 +85,12 @@ pub record StopsAtRecord (asked : List Request) (old : State) (told : Option Fil
   pub course_is : course ≡ before ++ record { asked = next; answer = reply.Refused (reason.Driver cause); after = new } ∷ []
   pub code_is : code ≡ code_number cause
 
--- records are moved one after the other: all of them, or up to the first that is refused
+-- records are moved one after the other: all of them, or those up to the first one that is refused
 pub data MovesRecords (asked : List Request) (old : State) (told : Option Files) (course : List Taken) (code moved : ℕ) (new : State) : Type 0 where
   All : AreDone asked old told course new → moved ≡ length asked → code ≡ 0 → MovesRecords asked old told course code moved new
   UpToOne : StopsAtRecord asked old told course code moved new → MovesRecords asked old told course code moved new
 
--- records are read to an address, and the 512 bytes there are put back
+-- records are read to an address, and then the 512 bytes that were there are put back
 pub record VerifiesRecords (address : ℕ) (asked : List Request) (old : State) (told : Option Files) (course : List Taken) (code moved : ℕ) (new : State) : Type 0 where
   pub reads : List Taken
   pub puts : List Taken
@@ -100,12 +100,12 @@ pub record VerifiesRecords (address : ℕ) (asked : List Request) (old : State) 
   pub puts_back : AreDone (put_requests address (bytes_from old.station.memory address 512)) mid told puts new
   pub memory : new.station.memory ≡ old.station.memory
 
--- the records of a transfer in an acknowledged bay
+-- the records of a transfer in an acknowledged bay are moved
 abbrev pub MovesIn : Kind → ℕ → List Request → State → Option Files → List Taken → ℕ → ℕ → State → Type 0
 MovesIn Verify address asked old told course code moved new = VerifiesRecords address asked old told course code moved new
 MovesIn _ address asked old told course code moved new = MovesRecords asked old told course code moved new
 
--- the answer where a bay had to be acknowledged first: 06, or the code of that acknowledgement
+-- the answer if a bay had to be acknowledged first: 06, or the code of the acknowledgement if it was refused
 abbrev pub ack_code : Result (Unit {0}) Code → ℕ
 ack_code (Ok _) = 0x06
 ack_code (Err code) = code_number code
@@ -119,7 +119,7 @@ pub record AcksAlone (bay : ℕ) (old : State) (told : Option Files) (course : L
   pub codes : (code ≡ 0x06) ⊎ (code ≡ 0x80)
   pub none : moved ≡ 0
 
--- after a look at the bay: the records, or the acknowledgement that has to come first
+-- The call looks at the bay first. Then it moves the records, or does the acknowledgement that has to come first.
 pub record Transfers (kind : Kind) (bay : ℕ) (first : Chrn) (count address : ℕ) (old : State) (told : Option Files) (course : List Taken) (code moved : ℕ) (new : State) : Type 0 where
   pub looked : State
   pub same : IsSame old looked
@@ -129,21 +129,21 @@ pub record Transfers (kind : Kind) (bay : ℕ) (first : Chrn) (count address : �
       (MovesIn kind address (record_requests kind bay first address count) looked told later code moved new)
       (AcksAlone bay looked told later code moved new)
 
--- a call that has its answer asks nothing, and changes nothing
+-- a call with a planned answer runs no request and changes nothing
 pub record IsAnswered (planned : ℕ) (old : State) (course : List Taken) (code moved : ℕ) (new : State) : Type 0 where
   pub nothing : course ≡ []
   pub same : new ≡ old
   pub code_is : code ≡ planned
   pub none : moved ≡ 0
 
--- a call tells whether a bay is acknowledged
+-- a call answers whether a bay is acknowledged
 pub record TellsChanged (bay : ℕ) (old : State) (course : List Taken) (code moved : ℕ) (new : State) : Type 0 where
   pub course_is : course ≡ look_at new ∷ []
   pub same : IsSame old new
   pub code_is : code ≡ (if is_acknowledged old.station bay then 0x00 else 0x06)
   pub none : moved ≡ 0
 
--- the work of a call was done, by a course of requests, with this code, and so many records were moved
+-- the work of a call was done by a course of requests, with this code, and this many records were moved
 abbrev pub DoesWork : Work → State → Option Files → List Taken → ℕ → ℕ → State → Type 0
 DoesWork (Answer planned) old told course code moved new = IsAnswered planned old course code moved new
 DoesWork (Changed bay) old told course code moved new = TellsChanged bay old course code moved new
@@ -152,7 +152,7 @@ DoesWork (Move kind bay c h r count address) old told course code moved new =
 
 -- ---- The whole call.
 
--- the registers after a call with this code, and the status that is kept
+-- the registers after a call with this code, and the status that is kept for the next call
 pub record HasAnswered (status : ℕ) (regs : Regs) (code moved : ℕ) (answered : Regs) (kept : ℕ) : Type 0 where
   pub in_ah : ah answered ≡ ah_after regs code
   pub in_al : al answered ≡ al_after regs moved
@@ -163,7 +163,7 @@ pub record HasAnswered (status : ℕ) (regs : Regs) (code moved : ℕ) (answered
   pub carry : answered.carry ≡ carry_after regs code
   pub kept_is : kept ≡ (if ah regs == 0x01 || ah regs == 0x15 then status else code)
 
--- a call is served: its work is done, and the registers and the status tell what came of it
+-- a call is served: its work is done, and the registers and the status say what the result was
 pub record Serves (status : ℕ) (regs : Regs) (old : State) (told : Option Files) (answered : Regs) (kept : ℕ) (course : List Taken) (new : State) : Type 0 where
   pub code : ℕ
   pub moved : ℕ

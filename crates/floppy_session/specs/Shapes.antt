@@ -6,7 +6,7 @@ use Rattle.flop_base.specs.Bays.{Two}
 use Rattle.sector_model.specs.Stations.{Bay}
 use Rattle.floppy_session.specs.declared.shape.Shape.{Shape}
 
--- the shape of a disk: all but its protection and its words
+-- the shape of a disk, which is all but its protection and its words
 abbrev pub shape_of : Disk → Shape
 shape_of disk = record { cylinders = disk.cylinders; heads = disk.heads; words = disk.words_per_track; rate = disk.rate }
 

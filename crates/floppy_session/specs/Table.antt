@@ -8,18 +8,18 @@ use Rattle.floppy_session.specs.declared.work.Kind.TheVariants.{Read, Write, Ver
 use Rattle.floppy_session.specs.declared.work.Work.{Work}
 use Rattle.floppy_session.specs.declared.work.Work.TheVariants.{Answer, Changed, Move}
 
--- a drive has these records, and a byte numbers them
+-- a drive can have these records, and their numbers fit in a byte
 abbrev pub names_records : Regs → Bool
 names_records regs =
     names_drive regs && nat_le 1 (al regs) && nat_le 1 (record_of regs) && nat_le (record_of regs + al regs - 1) 255
     && nat_le (cylinder_of regs) 79 && nat_le (dh regs) 1
 
--- the records lie in user memory; a verify has none there
+-- the bytes of the records are in user memory; a verify uses none there
 abbrev pub is_in_memory : Kind → Regs → Bool
 is_in_memory Verify regs = true
 is_in_memory _ regs = nat_le (address_of regs + 512 * al regs) user_bytes
 
--- their first and their last byte lie in different pages of 65,536 bytes
+-- the first and the last byte of the records are in different pages of 65,536 bytes
 abbrev pub crosses_page : Kind → Regs → Bool
 crosses_page Verify regs = false
 crosses_page _ regs = not (address_of regs / 65536 == (address_of regs + 512 * al regs - 1) / 65536)
@@ -29,14 +29,15 @@ abbrev pub transfer_address : Kind → Regs → ℕ
 transfer_address Verify regs = 0
 transfer_address _ regs = address_of regs
 
--- a transfer of records: 01 where it can't be asked for, 09 where the DMA channel can't reach its bytes
+-- The work for a transfer of records. It is refused with 01 if the records can't be asked for, and with 09 if they
+-- cross a page of the DMA channel.
 abbrev pub transfer_of : Kind → Regs → Work
 transfer_of kind regs =
     if not (names_records regs && is_in_memory kind regs) then Answer 0x01
     else (if crosses_page kind regs then Answer 0x09
     else Move kind (dl regs) (cylinder_of regs) (dh regs) (record_of regs) (al regs) (transfer_address kind regs))
 
--- the work of a call, by AH; `status` is the one that was kept
+-- the work of a call, by AH; `status` is the status that the service kept
 unfoldable pub work_of : ℕ → Regs → Work
 work_of status regs =
     if ah regs == 0x00 then Answer 0x00
@@ -71,12 +72,12 @@ IsDoable (Answer code) = Unit {0}
 IsDoable (Changed bay) = bay ≤ 1
 IsDoable (Move kind bay c h r count address) = IsTransfer kind bay c h r count address
 
--- a call whose answer was planned has that answer, and moved nothing
+-- a call whose answer was planned has this answer, and moved no record
 abbrev pub IsAnswerTo : Work → ℕ → ℕ → Type 0
 IsAnswerTo (Answer planned) code moved = (code ≡ planned) × (moved ≡ 0)
 IsAnswerTo _ code moved = Unit {0}
 
--- drive 0 or 1 is a drive with a change line
+-- the drive type: drives 0 and 1 have a change line, and others don't exist
 abbrev pub drive_type_of : Regs → ℕ
 drive_type_of regs = if names_drive regs then 0x02 else 0x00
 
@@ -84,10 +85,10 @@ drive_type_of regs = if names_drive regs then 0x02 else 0x00
 abbrev pub ah_after : Regs → ℕ → ℕ
 ah_after regs code = if ah regs == 0x15 then drive_type_of regs else code
 
--- AL after a call that moved so many records
+-- AL after a call that moved this many records
 abbrev pub al_after : Regs → ℕ → ℕ
 al_after regs moved = if is_transfer regs then moved else (if gives_parameters regs then 0 else al regs)
 
--- the carry after a call with this code
+-- the carry flag after a call with this code
 abbrev pub carry_after : Regs → ℕ → Bool
 carry_after regs code = not (ah regs == 0x15) && not (code == 0)

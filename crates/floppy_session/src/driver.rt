@@ -11,14 +11,14 @@ use floppy_jobs::Request;
 use sector_model::{Reason, Reply, Station};
 
 impl<D: Station> Session<D> {
-    /// Acknowledges a change of the medium.
+    /// Acknowledges an exchange of the medium.
     pub(crate) fn ack(&mut self, bay: u8) -> Reply
         ensures { (told : Option Files) → Step (Request.Ack bay) self.old told result self.new told }
     {
         reply(self.station.ack(bay))
     }
 
-    /// Acknowledges a change of the medium.
+    /// Acknowledges an exchange of the medium.
     pub(crate) fn acknowledge(&mut self, bay: u8) -> Result<(), Code>
         ensures step { (told : Option Files) → Step (Request.Ack bay) self.old told (reply_of result) self.new told }
         ensures answers { bay ≤ 1 → IfErr result (λ code. code ≡ Code.NotReady) }
@@ -82,7 +82,7 @@ impl<D: Station> Session<D> {
         reply(self.station.set_rate(bay, rate))
     }
 
-    /// Sets the number of attempts of the requests after it.
+    /// Sets the number of attempts of the requests after this one.
     pub(crate) fn set_tries(&mut self, tries: u8) -> Reply
         requires least { 1 ≤ tries }
         requires most { tries ≤ 10 }

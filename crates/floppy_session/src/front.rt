@@ -9,7 +9,7 @@ use crate::{Kind, Regs, Work};
 use flop_base::Code;
 use std::marker::Model;
 
-// The functions of the service, in AH.
+// The functions of the service, which AH names.
 const RESET: u8 = 0x00;
 
 const STATUS: u8 = 0x01;
@@ -26,7 +26,7 @@ const DRIVE_TYPE: u8 = 0x15;
 
 const CHANGED: u8 = 0x16;
 
-/// What the service keeps between calls. Contracts see it as the status, the code that function 01 gives.
+/// What the service keeps between calls. Contracts see it as the status, which is the code that function 01 answers.
 #[derive(Drop)]
 pub struct Int13 {
     status: u8,
@@ -40,7 +40,7 @@ impl Model for Int13 {
     ghost view = { λ front. front.status };
 }
 
-/// Tells in AH whether DL is a drive with a change line or none, and clears the carry.
+/// Tells in AH whether DL is a drive with a change line (02) or no drive (00), and clears the carry flag.
 fn with_drive_type(regs: Regs) -> Regs
     ensures { result ≡ record regs { ax = drive_type_of regs * 256 + al regs; carry = false } }
 {
@@ -52,8 +52,8 @@ fn with_drive_type(regs: Regs) -> Regs
     }
 }
 
-/// Tells the parameters of a 1.44 MB drive: its type in BL, the last cylinder and record in CX, the last head in DH, the
-/// number of drives in DL.
+/// Tells the parameters of a 1.44 MB drive: its type in BL, the last cylinder and record in CX, the last head in DH,
+/// and the number of drives in DL.
 fn with_parameters(regs: Regs) -> Regs
     ensures { result ≡ record regs { ax = ah regs * 256; bx = 0x0004; cx = 0x4F12; dx = 0x0102 } }
 {
@@ -74,7 +74,7 @@ impl Int13 {
         Int13 { status: 0x00 }
     }
 
-    /// What the call asks for, and its answer where nothing has to be done for it (INT 13h of the PC/AT BIOS).
+    /// What the call asks for. If nothing has to be done for the call, this is its answer (INT 13h of the PC/AT BIOS).
     #[tactic(auto, unfolding(crate::specs::Table::work_of))]
     pub fn plan(&self, regs: Regs) -> Work
         ensures work { result ≡ work_of self.now regs }
@@ -94,8 +94,8 @@ impl Int13 {
         }
     }
 
-    /// The registers after the call, whose work gave this code, and moved so many records without a refusal. The code of
-    /// planned answers is theirs.
+    /// The registers after the call. Its work gave this code and moved this many records without a refusal. If the
+    /// answer was planned, the code is the planned one.
     pub fn finish(&mut self, regs: Regs, code: u8, moved: u8) -> Regs
         requires { IsAnswerTo (work_of self.old regs) code moved }
         ensures in_ah { ah result ≡ ah_after regs code }
@@ -106,7 +106,7 @@ impl Int13 {
         ensures in_es { result.es ≡ regs.es }
         ensures carry { result.carry ≡ carry_after regs code }
 
-        // The calls that tell the status or the drive's type keep it.
+        // The calls that answer the status or the drive's type leave the status as it was.
         ensures status { self.new ≡ (if ah regs == 0x01 || ah regs == 0x15 then self.old else code) }
     {
         let function = regs.ah();

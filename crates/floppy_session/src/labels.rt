@@ -13,7 +13,7 @@ pub(crate) struct Labels {
 }
 
 impl Labels {
-    /// Those of empty bays.
+    /// The labels of empty bays.
     pub(crate) fn none() -> Labels
         ensures names { result.names ≡ both None }
         ensures shapes { result.shapes ≡ both None }
@@ -24,7 +24,7 @@ impl Labels {
         }
     }
 
-    /// The shape of the medium in a bay; nothing where none is in.
+    /// The shape of the medium in a bay, or nothing if none is in.
     pub(crate) fn shape(&self, bay: u8) -> Option<Shape>
         ensures { result ≡ in_bay self.now.shapes bay }
     {
@@ -40,7 +40,7 @@ impl Labels {
         self.shapes.replace(bay, Some(shape));
     }
 
-    /// Takes the name of a bay out, so that it has none, and drops the shape of its medium.
+    /// Takes the name of a bay out, so that the bay has none, and drops the shape of its medium.
     pub(crate) fn take(&mut self, bay: u8) -> Option<Name>
         ensures name { result ≡ in_bay self.old.names bay }
         ensures names { self.new.names ≡ with_bay self.old.names bay None }

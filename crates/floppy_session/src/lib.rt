@@ -1,7 +1,7 @@
 //! A session over a station: it runs the requests of a job, which move media between the bays and a shelf of images.
 //!
-//! The front of INT 13h (PC/AT) is part of it: what a call of the BIOS's diskette service asks for, and the registers after it. It
-//! touches no drive: a session does the work between `plan` and `finish`.
+//! The front of INT 13h (PC/AT) is part of this crate. It says what a call of the BIOS's diskette service asks for, and
+//! what the registers are after the call. It touches no drive: a session does the work between `plan` and `finish`.
 #![tactic(auto)]
 
 mod driver;

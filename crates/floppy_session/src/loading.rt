@@ -13,11 +13,11 @@ use raw_image::{ImageError, Medium, read_image, write_image};
 use sector_model::Stop;
 use std::alloc::Global;
 
-/// The longest image file, in bytes: 80 cylinders of 2 heads with 16,384 words a track.
+/// The longest image file, in bytes: 80 cylinders of 2 heads with 16,384 words per track.
 const MOST_IMAGE_BYTES: usize = 5_242_894;
 
-/// The medium of the image file of this name. A missing name, a file past the longest image and one that is no image stop
-/// the run, each with its cause.
+/// The medium of the image file of this name. A missing file, a file that is too long and a file that is no image stop
+/// the run, each with its own cause.
 pub fn load_medium<S: Shelf>(alloc: Global, shelf: &mut S, name: &Name) -> Result<Medium, Stop>
     ensures image { IfOk result (λ medium. IsImageOf (S.told shelf.old) name.now medium) }
     ensures cause { IfErr result (λ stop. (bay : ℕ) → StopCause (S.told shelf.old) (Request.Insert bay name.now) stop) }
@@ -38,7 +38,7 @@ pub fn load_medium<S: Shelf>(alloc: Global, shelf: &mut S, name: &Name) -> Resul
     }
 }
 
-/// What a refused load stops the run with.
+/// What stops the run if a load is refused.
 fn stop_at_load(alloc: Global, name: &Name, error: LoadError) -> Result<Stop, NoMemory>
     ensures stops { IfOk result (λ stop. StopsFor name.now error stop) }
     ensures fault_told { error ≡ LoadError.Failed → result ≡ Ok Stop.FileFault }
@@ -56,7 +56,7 @@ fn stop_at_load(alloc: Global, name: &Name, error: LoadError) -> Result<Stop, No
     })
 }
 
-/// Puts the image of a medium under its name. After an error the files are as they were.
+/// Stores the image of a medium under its name. After an error the files are as they were.
 pub fn store_medium<S: Shelf>(
     alloc: Global,
     shelf: &mut S,
@@ -75,7 +75,7 @@ pub fn store_medium<S: Shelf>(
     }
 }
 
-/// What a refused store stops the run with.
+/// What stops the run if a store is refused.
 fn stop_at_store(error: StoreError) -> Stop
     ensures { StopsForStore error result }
 {

@@ -43,7 +43,7 @@ impl<D: Station> Session<D> {
         Ok(Reply::Done)
     }
 
-    /// Puts in a blank medium of this rate, to be stored under this name.
+    /// Puts in a blank medium of this rate. It will be stored under this name.
     pub(crate) fn blank(
         &mut self,
         bay: u8,
@@ -69,7 +69,7 @@ impl<D: Station> Session<D> {
         Ok(Reply::Done)
     }
 
-    /// Puts a medium into an empty bay, to be stored under this name.
+    /// Puts a medium into an empty bay. It will be stored under this name.
     fn put_in(&mut self, bay: u8, name: Name, medium: Medium)
         requires bay { bay ≤ 1 }
         requires empty { is_loaded self.old bay ≡ false }
@@ -149,14 +149,14 @@ impl<D: Station> Session<D> {
     }
 }
 
-/// Whether a blank medium of so many cylinders can be asked for in this bay.
+/// Whether a blank medium with this many cylinders can be asked for in this bay.
 fn is_blank_request(bay: u8, cylinders: u8) -> bool
     ensures { result ≡ is_blank_request_of bay cylinders }
 {
     bay <= 1 && 1 <= cylinders && cylinders <= 80
 }
 
-/// A blank medium of two heads.
+/// A blank medium with two heads.
 fn blank_medium(alloc: Global, cylinders: u8, rate: Rate) -> Result<Medium, NoMemory>
     requires least { 1 ≤ cylinders }
     requires most { cylinders ≤ 80 }

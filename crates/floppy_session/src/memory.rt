@@ -59,7 +59,7 @@ impl<D: Station> Session<D> {
     }
 }
 
-/// Whether so many bytes from the address on lie in user memory.
+/// Whether this many bytes from the address on are all in user memory.
 fn is_range(address: u32, length: u32) -> bool
     ensures { result ≡ nat_le (address + length) user_bytes }
 {

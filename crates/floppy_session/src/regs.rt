@@ -1,12 +1,12 @@
 // The registers of a call.
 ghost use Rattle.std.specs.Prelude.{◌≡◌, ◌+◌, ◌*◌, ◌/◌, ◌%◌};
 
-/// The registers of a call, and the carry flag after it (INT 13h of the PC/AT BIOS).
+/// The registers of a call, and the carry flag after the call (INT 13h of the PC/AT BIOS).
 #[derive(Clone, Copy, Debug, PartialEq, Eq)]
 pub struct Regs {
-    /// AH: the function, and then its answer. AL: the number of records.
+    /// AH: the function, and after the call its answer. AL: the number of records.
     pub ax: u16,
-    /// The offset of the first record from the segment in ES.
+    /// The offset of the first record in the segment in ES.
     pub bx: u16,
     /// CH and bits 7 and 6 of CL: the cylinder, from 0. Bits 5 to 0 of CL: the first record, from 1.
     pub cx: u16,
@@ -14,7 +14,7 @@ pub struct Regs {
     pub dx: u16,
     /// The segment of the records, in units of 16 bytes.
     pub es: u16,
-    /// Whether the call was refused.
+    /// Whether the call was refused. This is the carry flag.
     pub carry: bool,
 }
 
@@ -37,7 +37,7 @@ pub(crate) fn register(high: u8, low: u8) -> u16
     u16::from(high) * 256 + u16::from(low)
 }
 
-// What the calls of the diskette service have in them.
+// The fields of the registers that calls of the diskette service use.
 impl Regs {
     ghost use Rattle.floppy_session.specs.Registers.{ah, al, dh, dl, cylinder_of, record_of, address_of, names_drive};
 
@@ -69,7 +69,7 @@ impl Regs {
         low_byte(self.dx)
     }
 
-    /// The cylinder: CH, and bits 7 and 6 of CL above it.
+    /// The cylinder: CH, and above it bits 7 and 6 of CL.
     pub(crate) fn cylinder(self) -> u16
         ensures { result ≡ cylinder_of self }
     {
@@ -84,7 +84,7 @@ impl Regs {
         low_byte(self.cx) % 64
     }
 
-    /// Where the first record lies in memory: ES:BX.
+    /// Where the first record is in memory: ES:BX.
     pub(crate) fn address(self) -> u32
         ensures { result ≡ address_of self }
     {

@@ -1,4 +1,4 @@
-// Calls of INT 13h: what each asks the station, request by request.
+// Calls of INT 13h: what each call asks the station for, request by request.
 ghost use Rattle.std.specs.Prelude.{◌≡◌, ◌+◌, ◌≤◌, not, if◌then◌else◌, List, length, Option};
 ghost use Rattle.flop_base.specs.Shelf.{Files};
 ghost use Rattle.flop_base.specs.Lists.{with_items};
@@ -19,16 +19,16 @@ use sector_model::Station;
 /// The bytes of a record.
 const RECORD_BYTES: usize = 512;
 
-/// What the work of a call came to.
+/// The result of the work of a call.
 #[derive(Clone, Copy)]
 pub(crate) struct Outcome {
-    /// The code of INT 13h, 00 where nothing was refused.
+    /// The code of INT 13h. It is 00 if nothing was refused.
     code: u8,
     /// The records that were moved without a refusal.
     moved: u8,
 }
 
-/// Where a record lies in memory: the records lie one behind the other, and a verify reads each to the same place.
+/// Where a record is in memory. The records follow each other there. A verify reads each record to the same place.
 fn place_of_record(kind: Kind, address: u32, i: u8) -> u32
     requires { address ≤ user_bytes }
     ensures { result ≡ place_of_record kind address i }
@@ -39,7 +39,7 @@ fn place_of_record(kind: Kind, address: u32, i: u8) -> u32
     }
 }
 
-/// The answer where a bay had to be acknowledged first.
+/// The answer if a bay had to be acknowledged first.
 fn ack_code(called: Result<(), Code>) -> u8
     ensures { result ≡ ack_code called }
 {
@@ -50,9 +50,9 @@ fn ack_code(called: Result<(), Code>) -> u8
 }
 
 impl<D: Station> Session<D> {
-    /// Serves a call of INT 13h (PC/AT), with the service that keeps the status. Records go one after the other by reads and
-    /// writes, up to the first that is refused. A bay that isn't acknowledged is acknowledged first, and the call then moves no
-    /// record. A verify leaves memory as it was. It takes no memory.
+    /// Serves a call of INT 13h (PC/AT). The service `front` keeps the status. Records are read or written one after
+    /// the other, up to the first one that is refused. If the bay isn't acknowledged, the call acknowledges it and
+    /// moves no record. A verify leaves memory as it was. A call allocates no memory.
     pub fn int13(&mut self, front: &mut Int13, regs: Regs) -> Regs
         ensures { (told : Option Files) → (course : List Taken) × Serves front.old regs self.old told
             result front.new course self.new }
@@ -103,7 +103,7 @@ impl<D: Station> Session<D> {
         self.station.changed(bay)
     }
 
-    /// The code that tells whether the bay isn't acknowledged.
+    /// The code that says whether the bay isn't acknowledged.
     fn change_code(&mut self, bay: u8) -> u8
         requires { bay ≤ 1 }
         ensures value { result ≡ (if is_acknowledged self.old.station bay then 0x00 else 0x06) }
@@ -116,7 +116,7 @@ impl<D: Station> Session<D> {
         }
     }
 
-    /// Moves the records of a transfer, or acknowledges the bay where that has to come first.
+    /// Moves the records of a transfer. If the bay has to be acknowledged first, does that alone.
     fn transfer(&mut self, kind: Kind, bay: u8, first: Chrn, count: u8, address: u32) -> Outcome
         requires transfer { IsTransfer kind bay first.c first.h first.r count address }
         requires size { first.n ≡ 2 }
@@ -199,7 +199,8 @@ impl<D: Station> Session<D> {
         }
     }
 
-    /// Reads records to an address one after the other, up to the first that is refused, and puts the bytes there back.
+    /// Reads records to an address one after the other, up to the first that is refused. Then puts back the bytes that
+    /// were at this address.
     fn verify_records(&mut self, bay: u8, first: Chrn, count: u8, address: u32) -> Outcome
         requires size { first.n ≡ 2 }
         requires last { first.r + count ≤ 256 }
@@ -214,7 +215,7 @@ impl<D: Station> Session<D> {
         outcome
     }
 
-    /// The bytes of memory that a record takes from an address on.
+    /// The bytes of memory, from an address on, that a record would take.
     fn bytes_at(&self, address: u32) -> [u8; RECORD_BYTES]
         requires { address + 512 ≤ user_bytes }
         ensures bytes { result ≡ bytes_from self.now.station.memory address 512 }

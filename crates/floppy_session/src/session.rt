@@ -16,7 +16,7 @@ use sector_model::{Reason, Reply, Station, Stop};
 use std::alloc::Global;
 use std::marker::Model;
 
-/// A session over a station, which runs requests one after the other. To a contract it is its state.
+/// A session over a station, which runs requests one after the other. Contracts see the session as its state.
 #[derive(Drop)]
 pub struct Session<D: Station> {
     pub(crate) alloc: Global,
@@ -37,7 +37,7 @@ impl<D: Station> Model for Session<D> {
 }
 
 impl<D: Station> Session<D> {
-    /// A session over a station that is as it comes.
+    /// A session over a fresh station.
     pub fn new(alloc: Global, station: D) -> Session<D>
         requires fresh { IsFresh (D.shown station) }
         requires ready { D.is_ready station }
@@ -50,7 +50,8 @@ impl<D: Station> Session<D> {
         }
     }
 
-    /// The station under the session: its bays, its memory and its counts. A bay has a name exactly where it has a medium.
+    /// The station under the session: its bays, its memory and its counts. A bay has a name if, and only if, it has a
+    /// medium.
     pub fn station(&self) -> &D
         ensures shown { D.shown result.now ≡ self.now.station }
         ensures named { IsNamed self.now }
@@ -58,7 +59,7 @@ impl<D: Station> Session<D> {
         &self.station
     }
 
-    /// The shape of the medium in a bay; nothing where none is in.
+    /// The shape of the medium in a bay, or nothing if none is in.
     pub fn shape(&self, bay: u8) -> Option<Shape>
         requires { bay ≤ 1 }
         ensures { result ≡ shape_in (bay_of self.now.station bay) }
@@ -66,7 +67,7 @@ impl<D: Station> Session<D> {
         self.labels.shape(bay)
     }
 
-    /// The station alone. The names are dropped.
+    /// The station alone. The names of the media are dropped.
     pub fn into_station(self) -> D
         ensures shown { D.shown result ≡ self.station }
         ensures ready { D.is_ready result }
@@ -75,7 +76,7 @@ impl<D: Station> Session<D> {
         station
     }
 
-    /// Runs one request. A refusal is a reply, and the next request may follow; an error is what stops the whole run.
+    /// Runs one request. A refusal is a reply, after which the next request may follow. An error stops the whole run.
     pub fn run<S: Shelf>(&mut self, shelf: &mut S, request: &Request) -> Result<Reply, Stop>
         requires { HasTries request.now }
         ensures step { IfOk result (λ reply. Step request.now self.old (S.told shelf.old) reply self.new (S.told shelf.new)) }
@@ -114,8 +115,8 @@ impl<D: Station> Session<D> {
         }
     }
 
-    /// Ends a run: the medium of bay 0, and then that of bay 1, is taken out and stored under its name. An error drops
-    /// the medium that wasn't stored; where it was bay 0's, bay 1 stays as it is.
+    /// Ends a run. The medium of bay 0, and then that of bay 1, is taken out and stored under its name. An error drops
+    /// the medium that wasn't stored. If that was the medium of bay 0, bay 1 stays as it is.
     pub fn end<S: Shelf>(&mut self, shelf: &mut S) -> Result<(), Stop>
         ensures ends { OnOk result (Ends self.old (S.told shelf.old) self.new (S.told shelf.new)) }
         ensures stop { IfErr result (λ stop. IsEndStop stop × EndStopsAt self.old (S.told shelf.old)
@@ -127,7 +128,7 @@ impl<D: Station> Session<D> {
     }
 }
 
-/// The refusal of a request that can't be asked for.
+/// The refusal of a request that the driver can't be asked for.
 pub(crate) fn bad_request() -> Reply
     ensures { result ≡ Reply.Refused (Reason.Driver Code.BadRequest) }
 {

@@ -12,7 +12,7 @@ pub struct Shape {
     pub cylinders: u8,
     /// 1 or 2.
     pub heads: u8,
-    /// Words of sixteen cells a track, 64 to 16,384.
+    /// Words of sixteen cells per track, 64 to 16,384.
     pub words: u16,
     pub rate: Rate,
 }

@@ -6,7 +6,7 @@ ghost use Rattle.floppy_session.specs.Table.{names_records, is_in_memory, crosse
 use crate::Regs;
 use flop_base::{Code, USER_BYTES};
 
-/// The functions that go over records.
+/// The functions that move or check records.
 #[derive(Clone, Copy, Debug, PartialEq, Eq)]
 pub enum Kind {
     /// Function 02.
@@ -20,15 +20,16 @@ pub enum Kind {
 /// What has to be done for a call. Answers and codes are those of INT 13h.
 #[derive(Clone, Copy, Debug, PartialEq, Eq)]
 pub enum Work {
-    /// Nothing: this is the answer.
+    /// There is nothing to do: this is the answer.
     Answer {
         code: u8,
     },
-    /// Find out whether the bay isn't acknowledged.
+    /// It has to be found out whether the bay isn't acknowledged.
     Changed {
         bay: u8,
     },
-    /// Move `count` records of 512 bytes, from record `r` and from the address on. A verify reads each to the address.
+    /// Move `count` records of 512 bytes, from record `r` on and from the address on. A verify reads each record to the
+    /// same address.
     Move {
         kind: Kind,
         bay: u8,
@@ -40,7 +41,7 @@ pub enum Work {
     },
 }
 
-/// Whether a drive has the records that the call names, and a byte numbers them.
+/// Whether a drive can have the records that the call names, and their numbers fit in a byte.
 fn names_records(regs: Regs) -> bool
     ensures { result ≡ names_records regs }
 {
@@ -53,7 +54,7 @@ fn names_records(regs: Regs) -> bool
         && regs.dh() <= 1
 }
 
-/// Whether the records' bytes lie in user memory. A verify has none there.
+/// Whether the bytes of the records are in user memory. A verify uses none there.
 fn is_in_memory(kind: Kind, regs: Regs) -> bool
     ensures { result ≡ is_in_memory kind regs }
 {
@@ -63,7 +64,7 @@ fn is_in_memory(kind: Kind, regs: Regs) -> bool
     }
 }
 
-/// Whether the first and the last of the records' bytes lie in different pages of the DMA channel.
+/// Whether the first and the last byte of the records are in different pages of the DMA channel.
 fn crosses_page(kind: Kind, regs: Regs) -> bool
     requires { 1 ≤ al regs }
     ensures { result ≡ crosses_page kind regs }
@@ -78,7 +79,7 @@ fn crosses_page(kind: Kind, regs: Regs) -> bool
     }
 }
 
-/// A transfer of records, or its refusal.
+/// The work for a transfer of records, or the answer that refuses it.
 pub(crate) fn transfer(kind: Kind, regs: Regs) -> Work
     ensures work { result ≡ transfer_of kind regs }
     ensures doable { IsDoable result }

@@ -1,4 +1,4 @@
--- Device steps in which no stray comes.
+-- Device steps in which no spurious interrupt comes.
 use Rattle.std.proofs.Common.{◌≡◌, ◌≤◌, ◌-◌, ℕ, zero, suc, Bool, false, List, [], ◌∷◌, refl, sym, ap, ◌∙◌, arith, nat_le, subst, Option, Some, None, if◌then◌else◌}
 use Rattle.std.proofs.lemmas.Bool.{leb-false, lt-leb}
 use Rattle.irq_events.specs.Entries.{strays_after, strays_later, AreQuiet, coming}
@@ -11,7 +11,7 @@ quiet_fewer (suc fewer) zero strays few quiet = absurd (omega (arith, few))
 quiet_fewer (suc fewer) (suc count) strays few quiet =
     (quiet.0, quiet_fewer fewer count (strays_after strays) (omega (arith, few)) quiet.1)
 
--- where none comes any more, none comes
+-- where no spurious interrupt is to come, all steps are quiet
 pub quiet_none : (count : ℕ) → AreQuiet count []
 unfolding AreQuiet
 quiet_none zero = tt
@@ -22,7 +22,7 @@ unfolding strays_later
 later_none zero = refl
 later_none (suc count) = later_none count
 
--- the steps before the one in which the next one comes are quiet
+-- the steps before that of the next spurious interrupt are quiet
 pub quiet_some : (count steps : ℕ) (rest : List ℕ) → count ≤ steps - 1 → AreQuiet count (steps ∷ rest)
 unfolding AreQuiet
 quiet_some zero steps rest few = tt
@@ -35,7 +35,7 @@ quiet_left : (count steps : ℕ) (rest : List ℕ) → nat_le steps 1 ≡ false 
 quiet_left count steps rest far quiet =
     subst (λ (b : Bool). AreQuiet count (if b then rest else (steps - 1) ∷ rest)) far quiet
 
--- and no more are
+-- no more steps than those are quiet
 pub quiet_few : (count steps : ℕ) (rest : List ℕ) → AreQuiet count (steps ∷ rest) → count ≤ steps - 1
 unfolding AreQuiet
 quiet_few zero steps rest quiet = omega arith
@@ -55,8 +55,7 @@ later_some (suc count) steps rest quiet =
     let same : (steps - 1) - count ≡ steps - suc count = omega arith in
     rw far (later_some count (steps - 1) rest left ∙ ap (λ n. n ∷ rest) same)
 
--- so many steps are taken off the next one
--- the same of the next one and those behind it
+-- the same facts, where the list is the next spurious interrupt, if one is to come, and those after it
 pub quiet_stays : (count : ℕ) (next : Option ℕ) (rest old : List ℕ) → coming next rest ≡ old → next ≡ None → AreQuiet count old
 quiet_stays count next rest old are is =
     subst (AreQuiet count) (sym (ap (λ n. coming n rest) is) ∙ are) (quiet_none count)

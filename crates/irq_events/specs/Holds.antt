@@ -1,4 +1,5 @@
--- A DMA request and how long its grant is held back.
+-- A DMA request, and its DMA latency (hold): how many device steps it waits for its grant. A late DMA (stall) is a hold
+-- above 8.
 use Rattle.std.specs.Prelude.{◌≤◌, ℕ, ◌+◌, ◌-◌, min, Bool, true, false, ◌==◌, nat_lt, if◌then◌else◌, List}
 use Rattle.std.specs.List.{All}
 use Rattle.flop_base.specs.Counts.{last_count}
@@ -6,7 +7,7 @@ use Rattle.irq_events.specs.Entries.{next_entry, rest_of}
 use Rattle.irq_events.specs.declared.holding.DmaRequest.{DmaRequest}
 use Rattle.irq_events.specs.declared.holding.DmaRequest.TheVariants.{Low, High}
 
--- the holds that are left, the request, and how many holds were above 8
+-- the holds that are left, the request, and how many holds above 8 were taken
 pub record Holds : Type 0 where
   pub entries : List ℕ
   pub request : DmaRequest
@@ -26,11 +27,11 @@ is_low (High left) = false
 abbrev pub counted : ℕ → ℕ
 counted count = min (count + 1) last_count
 
--- the stalls once a hold was taken: one above 8 counts
+-- the count of stalls once a hold was taken: a hold above 8 raises it
 abbrev pub stalls_with : ℕ → ℕ → ℕ
 stalls_with hold stalls = if nat_lt 8 hold then counted stalls else stalls
 
--- the line is high in a device step: where it rose, the next hold begins; else one step of the hold is over
+-- the line is high in a device step: if it was low before, the next hold begins; else one step of the hold is over
 abbrev pub waited : DmaRequest → Holds → Holds
 waited Low old = record old {
   entries = rest_of old.entries;
@@ -39,12 +40,12 @@ waited Low old = record old {
 }
 waited (High left) old = record old { request = High (left - 1) }
 
--- the line is seen in a device step
+-- a device step sees the line at this level
 abbrev pub looked : Bool → Holds → Holds
 looked false old = record old { request = Low }
 looked true old = waited old.request old
 
--- the line is shown between two device steps: a fall ends the request, and a rise waits for the next step
+-- the line has this level between two device steps: a low line ends the request, and a rise waits for the next step
 abbrev pub shown : Bool → Holds → Holds
 shown false old = record old { request = Low }
 shown true old = old
@@ -63,13 +64,13 @@ pub record AreShort (holds : Holds) : Type 0 where
 
 -- ---- in time
 
--- a device that can go on for so many device steps with no grant, between two of them: with its line low for nine, and with a
--- request for all that are left of its hold
+-- between two device steps: this slack, the device steps that the device can go on with no grant, is enough. With the
+-- line low it is at least nine; with a request it covers what is left of its hold, at least one step
 abbrev pub IsReady : DmaRequest → ℕ → Type 0
 IsReady Low slack = 9 ≤ slack
 IsReady (High left) slack = (1 ≤ left) × (left ≤ slack)
 
--- the same once the line was looked at: a request may be due
+-- the slack is enough once a device step saw the line: then nothing may be left of the hold, and the request is due
 abbrev pub IsInTime : DmaRequest → ℕ → Type 0
 IsInTime Low slack = 9 ≤ slack
 IsInTime (High left) slack = left ≤ slack

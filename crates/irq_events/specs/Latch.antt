@@ -6,7 +6,7 @@ pub record Latch : Type 0 where
   pub is_set : Bool
   pub level : Bool
 
--- the line is shown at a level; a stray comes; the latch is taken
+-- the line is shown at a level; a spurious interrupt (stray) comes; the latch is taken
 pub data Event : Type 0 where
   shows : Bool → Event
   strays : Event
@@ -19,7 +19,7 @@ level_after (shows level ∷ past) = level
 level_after (strays ∷ past) = level_after past
 level_after (takes ∷ past) = level_after past
 
--- since the last take the line rose or a stray came
+-- since the last take the line rose or a spurious interrupt came
 abbrev pub is_owed : List Event → Bool
 is_owed [] = false
 is_owed (takes ∷ past) = false

@@ -1,4 +1,4 @@
--- The bytes of a pace that is saved.
+-- The bytes of a timing (pace) that is saved.
 use Rattle.std.specs.Prelude.{ℕ, List, ◌∷◌}
 use Rattle.saved_state.specs.Saved.{spelled_byte, spelled_word, spelled_count, spelled_bytes, spelled_list}
 use Rattle.irq_events.specs.Holds.{Holds}
@@ -9,7 +9,7 @@ use Rattle.irq_events.specs.declared.holding.DmaRequest.TheVariants.{Low, High}
 abbrev pub spelled_gaps : List ℕ → List ℕ → List ℕ
 spelled_gaps gaps rest = spelled_bytes gaps rest
 
--- the strays that are to come
+-- the spurious interrupts that are to come
 abbrev pub spelled_strays : List ℕ → List ℕ → List ℕ
 spelled_strays strays rest = spelled_list spelled_word strays rest
 

@@ -1,4 +1,4 @@
-// The device steps behind port accesses.
+// The device steps after port accesses (gaps).
 ghost use Rattle.std.specs.Prelude.{◌≡◌};
 ghost use Rattle.irq_events.specs.Entries.{next_entry, rest_of};
 

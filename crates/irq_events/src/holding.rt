@@ -1,4 +1,4 @@
-// DMA requests, how long each is held back, and the stalls.
+// DMA requests, the DMA latency of each (hold), and the late ones (stalls).
 ghost use Rattle.std.specs.Prelude.{◌≡◌, ◌≤◌};
 ghost use Rattle.std.specs.List.{All};
 ghost use Rattle.irq_events.specs.Entries.{next_entry, rest_of};
@@ -10,7 +10,7 @@ mod saving;
 use std::collections::VecDeque;
 use std::marker::Model;
 
-/// A request that is held back longer than this is a stall.
+/// A hold above this is a stall.
 const LONGEST: u8 = 8;
 
 /// A device's request for DMA.
@@ -18,7 +18,7 @@ const LONGEST: u8 = 8;
 pub enum DmaRequest {
     /// The line is low: nothing is asked for.
     Low,
-    /// It is granted after so many device steps more.
+    /// The request is granted after so many device steps more.
     High { left: u8 },
 }
 
@@ -43,7 +43,7 @@ impl Model for Holding {
 }
 
 impl Holding {
-    /// The line is low. Each further request is held back for the next of these numbers of device steps.
+    /// The line is low. Each further request takes the next of these holds.
     pub fn new(holds: Vec<u8>) -> Holding
         ensures { result ≡ record { entries = holds.items; request = Low; stalls = 0 } }
     {
@@ -132,7 +132,7 @@ impl Holding {
         keep_request(self.request);
     }
 
-    /// How many holds above 8 were taken, which stays at its last value.
+    /// How many holds above 8 were taken. The count stays at its last value.
     pub fn stalls(&self) -> u64
         ensures { result ≡ self.now.stalls }
     {

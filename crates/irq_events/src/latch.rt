@@ -6,7 +6,7 @@ mod saving;
 
 use std::marker::Model;
 
-/// Remembers that the line has risen, or that a stray came, until it is taken.
+/// Remembers until it is taken that the line has risen, or that a spurious interrupt came.
 #[derive(Drop)]
 pub struct IrqLatch {
     set: bool,
@@ -49,7 +49,7 @@ impl IrqLatch {
         }
     }
 
-    /// The line is high: it has risen where it was low before.
+    /// The line is high: if it was low before, it has risen.
     #[inline(never)]
     fn show_high(&mut self)
         ensures { self.new ≡ record { is_set = self.old.is_set || not self.old.level; level = true } }
@@ -58,7 +58,7 @@ impl IrqLatch {
         self.level = true;
     }
 
-    /// Sets the latch with no edge of the line.
+    /// A spurious interrupt: sets the latch with no edge of the line.
     pub fn stray(&mut self)
         ensures latch { self.new ≡ record self.old { is_set = true } }
         ensures history { (past : List Event) → IsAfter past self.old
@@ -67,7 +67,7 @@ impl IrqLatch {
         self.set = true;
     }
 
-    /// Whether an edge or a stray came that wasn't taken yet.
+    /// Whether an edge or a spurious interrupt came that wasn't taken yet.
     pub fn is_set(&self) -> bool
         ensures { result ≡ self.now.is_set }
     {

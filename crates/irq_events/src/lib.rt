@@ -1,7 +1,7 @@
-//! Line 6 of a PC's interrupt controller as one latch, and the pace of a machine beside its program.
+//! Line 6 of a PC's interrupt controller as one latch, and the timing (pace) of a machine beside its program.
 //!
-//! The pace is three lists from outside (`Pace`), and each as the machine uses it up: the gaps behind port accesses, the stray
-//! interrupts, and the holds of DMA requests with the stalls.
+//! The timing is three lists from outside (`Pace`), and each of them as the machine uses it up. They are the gaps after
+//! port accesses, the spurious interrupts (strays), and the holds of DMA requests, with a count of the stalls.
 #![tactic(auto)]
 
 mod gaps;

@@ -1,4 +1,4 @@
-// Stray interrupts.
+// Spurious interrupts (strays).
 ghost use Rattle.std.specs.Prelude.{◌≡◌, ◌≤◌};
 ghost use Rattle.irq_events.specs.Entries.{is_stray_due, strays_after, AreQuiet, strays_later};
 
@@ -7,12 +7,12 @@ mod saving;
 use std::collections::VecDeque;
 use std::marker::Model;
 
-/// The stray interrupts that are to come.
+/// The spurious interrupts that are to come.
 #[derive(Drop)]
 pub struct Strays {
-    /// The device steps to the next one, that in which it comes included; 0 counts as 1. None where no more come.
+    /// The device steps to the next one, the step in which it comes included; 0 counts as 1. None where no more come.
     next: Option<u16>,
-    /// The same from each to the one behind it.
+    /// The device steps from each to the next, counted in the same way.
     entries: VecDeque<u16>,
 }
 
@@ -26,7 +26,7 @@ impl Model for Strays {
 }
 
 impl Strays {
-    /// Strays that come so many device steps after the start, or each after the one before. 0 counts as 1.
+    /// The first comes so many device steps after the start, each other so many after the one before. 0 counts as 1.
     pub fn new(strays: Vec<u16>) -> Strays
         ensures { result ≡ strays.items }
     {
@@ -35,7 +35,7 @@ impl Strays {
         Strays { next, entries }
     }
 
-    /// Lets a device step pass, and tells whether a stray comes in it.
+    /// Lets a device step pass, and tells whether a spurious interrupt comes in it.
     pub fn pass(&mut self) -> bool
         ensures due { result ≡ is_stray_due self.old }
         ensures after { self.new ≡ strays_after self.old }
@@ -53,7 +53,7 @@ impl Strays {
         }
     }
 
-    /// How many device steps can pass before a stray comes, and `most` at most.
+    /// How many device steps can pass before a spurious interrupt comes, and `most` at most.
     pub fn quiet_for(&self, most: u32) -> u32
         ensures few { result ≤ most }
         ensures quiet { AreQuiet result self.now }
@@ -64,7 +64,7 @@ impl Strays {
         }
     }
 
-    /// Lets so many device steps pass in which no stray comes.
+    /// Lets so many device steps pass in which no spurious interrupt comes.
     pub fn pass_many(&mut self, count: u32)
         requires { AreQuiet count self.old }
         ensures { self.new ≡ strays_later count self.old }

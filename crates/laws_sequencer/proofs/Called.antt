@@ -33,7 +33,7 @@ strap_serves on old new is first history serves = (
 
 -- ---- runs
 
--- a step leaves a stage in which each access is the controller's
+-- if each access is the controller's, a device step leaves that so
 through_before : (old new : Front) → StepsFront old new → old.stage ≡ Through → new.stage ≡ Through
 through_before old new step through =
     let same : new ≡ record old { adapter = step.between } = subst (λ stage. FollowsStep stage (record old { adapter = step.between }) new) through step.follows in
@@ -52,7 +52,7 @@ steps_more : (n : ℕ) → replicate n Steps ++ Steps ∷ [] ≡ replicate (suc 
 steps_more zero = refl
 steps_more (suc n) = ap (λ calls. Steps ∷ calls) (steps_more n)
 
--- a run is so many device steps, where each access isn't the controller's behind it
+-- a run is so many device steps, if after it some accesses still aren't the controller's
 pub run_steps : (int drq : Bool) (n : ℕ) (old new : Front) → RunsFrontWith int drq n old new → (new.stage ≡ Through → ⊥) → AreWithin (replicate n Steps) old new
 unfolding RunsFrontWith
 run_steps int drq zero old new same within = same
@@ -67,7 +67,7 @@ then_bytes : (operation : Operation) (start between end : History) (first second
 then_bytes operation start between end first second before behind =
     behind ∙ (ap (λ bytes. bytes ++ second) before ∙ append_assoc (all_bytes operation start) first second)
 
--- behind one
+-- what is known after one call
 pub record One (first : Transfer) (old : History) (call : Call) (start front : Front) (does : Does call start front) : Type 0 where
   pub history : History
   pub grows : Grows call start front does old history
@@ -80,7 +80,7 @@ one_of : (call : Call) (first : Transfer) (old history : History) (told : Bool) 
 one_of call first old history told start new does grows is (bytes, counts, serves) =
     record { history = history; grows = grows; serves = serves; bytes = bytes; told = counts ∙ ap (λ b. old.counted || b) is }
 
--- it goes on where it isn't left
+-- a command goes on being served, unless each access is now the controller's
 unless_left : (left : Bool) (first : Transfer) (history : History) (old new : Front) → (new.stage ≡ Through → ⊥) → Serves first history old → ServesUnless left old new → GoesOn [] false first history history new
 unless_left true first history old new within serves through = absurd (within through)
 unless_left false first history old new within serves keeps = keeps first history serves

@@ -34,7 +34,7 @@ pub sector_opcode : (n : ℕ) (first : Transfer) → (sector_after n first).opco
 sector_opcode zero first = refl
 sector_opcode (suc n) first = sector_opcode n (next_of first) ∙ next_opcode first
 
--- behind one more
+-- the sector after one sector more
 pub sector_more : (first : Transfer) (parts : List Part) (part : Part) → sector_after (length (parts ++ part ∷ [])) first ≡ next_of (sector_after (length parts) first)
 sector_more first [] part = refl
 sector_more first (other ∷ parts) part = sector_more (next_of first) parts part
@@ -49,7 +49,7 @@ moved_more operation first (other ∷ parts) part (here, was, rest) at is = (her
 pub none_more : (operation : Operation) (history : History) → all_bytes operation history ≡ all_bytes operation history ++ []
 none_more operation history = sym (append-nil (all_bytes operation history))
 
--- of the sector under way
+-- bytes of the sector under way pass
 pub bytes_more : (operation : Operation) (parts : List Part) (past now : Past) (counted told : Bool) (passed : List ℕ) → bytes_moved operation now ≡ bytes_moved operation past ++ passed
     → all_bytes operation (record { parts = parts; past = now; counted = told }) ≡ all_bytes operation (record { parts = parts; past = past; counted = counted }) ++ passed
 bytes_more operation parts past now counted told passed is =
@@ -59,7 +59,7 @@ nothing : (operation : Operation) → bytes_moved operation new_past ≡ []
 nothing (Read wanted skip) = refl
 nothing (Write deleted) = refl
 
--- where the next begins
+-- the next sector begins, and no further byte has passed
 pub bytes_next : (operation : Operation) (parts : List Part) (part : Part) (past : Past) (counted told : Bool) → bytes_moved operation part.past ≡ bytes_moved operation past
     → all_bytes operation (record { parts = parts ++ part ∷ []; past = new_past; counted = told }) ≡ all_bytes operation (record { parts = parts; past = past; counted = counted }) ++ []
 bytes_next operation parts part past counted told same =
@@ -73,7 +73,7 @@ or_none : (b : Bool) → (b || false) ≡ b
 or_none true = refl
 or_none false = refl
 
--- a field of the other mark was met: before, or it is the last
+-- a field of the other mark was met before, or the last sector has one
 pub other_more : (operation : Operation) (parts : List Part) (part : Part) → has_other operation (parts ++ part ∷ []) ≡ (has_other operation parts || is_other operation part.marked)
 other_more operation parts part =
     list_any-append (λ part. is_other operation part.marked) parts (part ∷ []) ∙ ap (λ b. has_other operation parts || b) (or_none (is_other operation part.marked))
@@ -95,13 +95,13 @@ same_accounts operation met moving past now mark bytes counted was = record {
   told = counted ∙ was.told;
 }
 
--- a mark that was met now changes nothing
+-- a mark that is met now changes nothing
 left_unmarked : (operation : Operation) (met : Bool) (moving : MovingSector) (mark then_mark : Option Bool) (bytes : List ℕ) → (IsOfOther operation mark → ⊥) → AreLeft operation met moving mark bytes
     → AreLeft operation met moving then_mark bytes
 left_unmarked operation met moving mark then_mark bytes none (inl all) = inl all
 left_unmarked operation met moving mark then_mark bytes none (inr (skipped, passed, skips, other, over, empty)) = absurd (none other)
 
--- behind a device step
+-- what is left of the sector, after a device step
 pub accounts_on : (operation : Operation) (met : Bool) (moving : MovingSector) (past now : Past) (mark then_mark : Option Bool) → MarkGoes operation (bytes_moved operation past) mark then_mark
     → bytes_moved operation now ≡ bytes_moved operation past → now.counted ≡ past.counted → Accounts operation met moving past mark → Accounts operation met moving now then_mark
 accounts_on (Read wanted skip) met moving past now mark then_mark (inl (none, empty)) bytes counted was =
@@ -135,7 +135,7 @@ one_passed operation met moving mark bytes byte some (inr (skipped, passed, skip
 pub not_over : {A : Type 0} (left : ℕ) → nat_lt 0 left ≡ true → left ≡ 0 → A
 not_over left some none = let more = some_left left some in absurd (omega arith)
 
--- the count, behind a byte
+-- the terminal count, after a byte
 pub one_told : (counted : Bool) (left : ℕ) (past now : Past) → nat_lt 0 left ≡ true → now.counted ≡ past.counted → past.counted ≡ (counted || (left == 0)) → (b : Bool) → (left - 1 == 0) ≡ b
     → (told_in b now).counted ≡ (counted || (left - 1 == 0))
 one_told true left past now some same told true is = refl
@@ -152,7 +152,7 @@ no_bytes n sized none = eqb-false (size_of n) 0 (size_some n sized) (size_is n s
 
 -- ---- a sector that is over
 
--- what was handed in, where it is so much more than was taken
+-- what was handed in, where it is so much longer than what was taken
 pub handed_is : (counted : Bool) (taken handed : List ℕ) (missing : ℕ) → IsContent counted taken handed → length taken + missing ≡ length handed → handed ≡ taken ++ replicate missing 0
 handed_is counted taken handed missing (inl (rest, is)) sizes =
     let lengths = ap length is in
@@ -167,7 +167,7 @@ handed_is counted taken handed missing (inr (over, (zeros, is))) sizes =
     let same : zeros ≡ missing = omega arith in
     is ∙ ap (λ n. taken ++ replicate n 0) same
 
--- the controller was told the count
+-- the controller was given the terminal count
 pub done_counted : (operation : Operation) (past : Past) (sent : Sent) (marked : Bool) → Means operation past sent (Done marked) → past.counted ≡ true
 done_counted (Read wanted skip) past sent marked means = means.0
 done_counted (Write deleted) past sent marked means = means.cause.1
@@ -185,7 +185,8 @@ whole_field (Read wanted skip) past sent marked means all = means
 whole_field (Write deleted) past sent marked means all =
     subst (WritesWhole past sent.key deleted) (append-nil past.taken) (done_written deleted past sent marked 0 means (let size = all in omega arith))
 
--- a command would go on where the terminal count didn't come, and behind a field of the other mark only where it passes such over
+-- a command would go on only if the terminal count didn't come, and after a field of the other mark only if it passes
+-- such fields over
 would_as : (moving : MovingSector) (marked : Bool) → would_go_on moving marked ≡ true
     → (moving.counted ≡ false) × ((not (is_other moving.transfer.opcode.operation marked) || is_skipping moving.transfer.opcode.operation) ≡ true)
 would_as moving marked would =
@@ -207,7 +208,7 @@ or_true : (c : Bool) → (c || true) ≡ true
 or_true true = refl
 or_true false = refl
 
--- where no byte is left the controller was told the count
+-- where no byte is left the controller was given the terminal count
 pub over_counted : (operation : Operation) (met : Bool) (moving : MovingSector) (past : Past) (mark : Option Bool) → Accounts operation met moving past mark → moving.left ≡ 0 → past.counted ≡ true
 over_counted operation met moving past mark accounts none =
     accounts.told ∙ (ap (λ b. moving.counted || b) (eq-eqb moving.left 0 none) ∙ or_true moving.counted)
@@ -224,7 +225,7 @@ nothing_left operation met moving past mark marked uncounted accounts done = by_
         eqb-true moving.left 0 (sym (ap (λ b. b || (moving.left == 0)) uncounted) ∙ (sym accounts.told ∙ done_counted operation past at marked means))
     by_left (inr (skipped, passed, skips, other, none, empty)) = none
 
--- all its bytes passed
+-- all bytes of the field passed
 whole_moved : (operation : Operation) (met : Bool) (moving : MovingSector) (past : Past) (mark : Option Bool) (marked : Bool) → (is_other operation marked ≡ true → is_skipping operation ≡ true)
     → moving.left ≡ 0 → mark ≡ Some marked → Accounts operation met moving past mark → length (bytes_moved operation past) + moving.left ≡ content_size moving.transfer.key.n
     → Means operation past (sent_of moving.transfer) (Done marked) → IsMovedWhole operation (record { at = moving.transfer; past = past; marked = marked })
@@ -238,7 +239,7 @@ whole_moved operation met moving past mark marked skips over is accounts sizes m
       all = size;
     }
 
--- or none
+-- no byte passed of a field that is passed over
 pub skipped_over : (operation : Operation) (met : Bool) (moving : MovingSector) (past : Past) (mark : Option Bool) (marked : Bool) → mark ≡ Some marked → Accounts operation met moving past mark
     → IsFieldDone moving.skipped operation past (sent_of moving.transfer) marked → moving.skipped ≡ true → is_skipping operation ≡ true → IsOfOther operation mark → moving.left ≡ 0
     → bytes_moved operation past ≡ [] → IsPassedOver operation past moving.transfer.key marked
@@ -252,7 +253,7 @@ skipped_over operation met moving past mark marked is accounts done skipped skip
       none = empty;
     }
 
--- where the command would go on the whole sector was moved, or passed over
+-- where the command would go on, the whole sector was moved, or it was passed over
 pub part_moved : (operation : Operation) (met : Bool) (moving : MovingSector) (past : Past) (mark : Option Bool) (marked : Bool) → moving.transfer.opcode.operation ≡ operation → would_go_on moving marked ≡ true
     → mark ≡ Some marked → Accounts operation met moving past mark → IsFieldDone moving.skipped operation past (sent_of moving.transfer) marked
     → IsMoved operation (record { at = moving.transfer; past = past; marked = marked })

@@ -1,4 +1,4 @@
--- Which command for a sector is refused: none, where the controller is free for it; and what keeps it so.
+-- Which command for a sector is refused: none, if the controller is free for it. What keeps the controller free.
 use Rattle.std.proofs.Common.{◌≡◌, inl, inr, ℕ, ◌+◌, nat_le, Bool, true, false, not, ◌&&◌, ◌==◌, if◌then◌else◌, Option, Some, None, List, length, refl, sym, ◌∙◌, ap, subst, slice_index, slice_set}
 use Rattle.std.specs.Option.{option_map_or}
 use Rattle.std.proofs.lemmas.Bool.{and_from, false≢true, le-leb}
@@ -228,13 +228,13 @@ module _ (head_drive : ℕ) (key : Chrn) (last_sector gap length_code : ℕ) (li
   executes_by (Write false) takes = write_busy (obeyed (WriteData head_drive key last_sector gap length_code) takes)
   executes_by (Write true) takes = deleted_busy (obeyed (WriteDeleted head_drive key last_sector gap length_code) takes)
 
--- the controller executes its own command for a sector where it is free for it
+-- the controller executes its own command for a sector if it is free for it
 pub free_executes : (at : Transfer) (lines : Lines) (old new : Fdc) → IsSizeCode at.key.n → IsFree old → TakesWhole (Ready (command_of at)) lines old new → is_executing new.phase ≡ true
 free_executes at lines old new sized free takes = executes_by at.head_drive at.key at.last_sector at.gap at.length lines old new sized free at.opcode.operation takes
 
 -- ---- sizes
 
--- the next sector has the same
+-- the next sector has the same size
 pub next_size : (at : Transfer) → (next_of at).key.n ≡ at.key.n
 next_size at = by_place (at.key.r == at.last_sector) at.opcode.multitrack
   where
@@ -255,7 +255,7 @@ row_sized : (command : Command) (bytes : List ℕ) (found : Option Row) → opti
 row_sized command bytes None is = absurd (cc is)
 row_sized command bytes (Some found) is = counted_sized command (found.spells bytes) (nat_le (length bytes) found.count) is
 
--- bytes come to a command only where its size code is one
+-- bytes make a command only if their size code is valid
 pub answer_sized : (bytes : List ℕ) (command : Command) → answer bytes ≡ Ready command → is_sized command ≡ true
 unfolding answer
 answer_sized bytes command is = row_sized command bytes (row_of (slice_index bytes 0)) is

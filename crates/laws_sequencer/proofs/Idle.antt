@@ -79,7 +79,7 @@ port_idle port value lines old new writes no_byte no_reset idle =
     (λ control. ap is_idle (writes.control (eqb-true port 0x3F7 control)) ∙ idle)
     (λ no_control. ap is_idle (writes.others no_output no_select no_byte no_control) ∙ idle)))
 
--- ---- what is done in front
+-- ---- ---- what the front does
 
 at_stage : (stage : Stage) (new : Front) → new.stage ≡ stage → WaitsAt stage new.adapter.controller → Waits new
 at_stage stage new is waits = subst (λ s. WaitsAt s new.adapter.controller) (sym is) waits

@@ -1,4 +1,5 @@
--- What the ending of a sector's command says, as it is judged: the check of a field that is passed over doesn't count.
+-- What the ending of a sector's command says, as the front judges it: the CRC of a field that is passed over doesn't
+-- count.
 use Rattle.std.proofs.Common.{◌≡◌, inl, inr, Bool, true, false, if◌then◌else◌, Option, Some, length, refl, sym, ◌∙◌, ap, subst, arith}
 use Rattle.std.proofs.lemmas.Bool.{false≢true}
 use Rattle.flop_base.specs.declared.key.Chrn.{Chrn}
@@ -42,7 +43,7 @@ other_is (Read false skip) true other = refl
 other_is (Read false skip) false other = absurd (false≢true other)
 other_is (Write deleted) marked other = absurd (false≢true other)
 
--- the mark of a field whose check is bad was known; a write has none
+-- the mark of a field whose CRC is wrong was known. A write never ends in this way
 bad_known : (operation : Operation) (past : Past) (sent : Sent) (was : Option Bool) (fdc : Fdc) → BadGoes operation past sent.key was fdc → IsSizeCode sent.key.n → Means operation past sent BadCheck
     → ending_told fdc ≡ Some BadCheck → (marked : Bool) × (was ≡ Some marked) × FindsBadField past sent.key marked
 bad_known (Read wanted skip) past sent was fdc bad sized means is = bad sized is
@@ -75,7 +76,7 @@ module _ (operation : Operation) (met : Bool) (moving : MovingSector) (past : Pa
       by_left (inl (own, passed, all)) = subst (λ b. IsFieldDone b operation past sent marked) (sym own) means
       by_left (inr (skipped, passed, skips, of_other, none, empty)) = subst (λ b. IsFieldDone b operation past sent marked) (sym skipped) (done_field operation past sent marked skips means)
 
-  -- of a field that is passed over, with a bad check
+  -- a field that is passed over has a wrong CRC
   bad_passed : moving.skipped ≡ true → ending_told fdc ≡ Some BadCheck → Means operation past sent BadCheck → FindsField past moving.transfer.key other × (mark_then was fdc.phase ≡ Some other)
   bad_passed skipped is means = by_left accounts.bytes
     where
@@ -88,7 +89,7 @@ module _ (operation : Operation) (met : Bool) (moving : MovingSector) (past : Pa
           let its : marked ≡ other = sym (other_is operation marked unwanted) ∙ ap other_mark (sym same) in
           ((turn, p, q, subst (λ m. HasFieldIn past moving.transfer.key m turn p q) (this ∙ its) field), here ∙ ap (λ m. Some m) its)
 
-  -- a bad check of another field: its mark is wanted, or such as haven't it aren't passed over
+  -- another field has a wrong CRC: its mark is wanted, or fields of the other mark aren't passed over
   bad_counts : moving.skipped ≡ false → ending_told fdc ≡ Some BadCheck → Means operation past sent BadCheck → HasBadField operation past moving.transfer.key
   bad_counts kept is means =
       let (marked, known_is, found) = bad_known operation past sent was fdc bad accounts.sized means is in

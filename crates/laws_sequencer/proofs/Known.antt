@@ -1,5 +1,5 @@
--- What is known of the controller's own command for a sector, through device steps, transfers, the terminal count and port
--- accesses.
+-- What is known of the controller's own command for a sector, through device steps, transfers, the terminal count and
+-- port accesses.
 use Rattle.std.proofs.Common.{◌≡◌, ◌⊎◌, inl, inr, ℕ, zero, suc, ◌+◌, ◌≤◌, Bool, true, false, not, ◌&&◌, ◌==◌, if◌then◌else◌, Option, List, [], ◌∷◌, ◌++◌, refl, sym, ◌∙◌, ap, subst, arith}
 use Rattle.std.proofs.lemmas.Bool.{false≢true, and_parts, eqb-true}
 use Rattle.drive_model.specs.Drive.{DriveState, at_index}
@@ -54,17 +54,18 @@ either_way false set clear = clear refl
 
 -- ---- a device step
 
--- the mark of a field that is read stays, and before it no byte passed
+-- the mark of a field that is read stays, and before the mark was met no byte passed
 abbrev pub MarkGoes : Operation → List ℕ → Option Bool → Option Bool → Type 0
 MarkGoes (Read _ _) bytes was now = MarkStays bytes was now
 MarkGoes (Write _) bytes was now = Unit {0}
 
--- and where it ends with a bad check, the mark of that field was known
+-- where a read ends with a wrong CRC, the mark of that field was known
 abbrev pub BadGoes : Operation → Past → Chrn → Option Bool → Fdc → Type 0
 BadGoes (Read _ _) past key was new = EndsBadly past key was new
 BadGoes (Write _) past key was new = Unit {0}
 
--- behind it the same is known, with the word that passed in it added, of which this is known, and the bytes that moved are the same
+-- after a device step the same is known, with the word that passed in the step added. `Is` holds of this word time. No
+-- byte moved
 pub record KnownOn (operation : Operation) (past : Past) (sent : Sent) (mark : Option Bool) (Is : WordTime → Type 0) (new : Fdc) : Type 0 where
   pub time : WordTime
   pub is : Is time
@@ -127,7 +128,7 @@ read_on wanted skip past sent phase polls old new index word Is is busy follows 
   bad = step_bad past sent index word polls new phase old busy follows was;
 }
 
--- a reading sees the word under its head, and lets it pass
+-- a read sees the word under its head, and lets it pass
 read_seen : (past : Past) (sent : Sent) (phase : Phase) (asking : Bool) (fifo : List ℕ) (rate : DataRate) (fdc : Fdc) (before after : DriveState) (word : ℕ) → is_executing phase ≡ true
     → MayReadIn past sent phase asking fifo → SeesWord phase rate before word after → MovesIn phase fdc before after → IsTime (Saw (at_index before) word) rate (head_of sent.head_drive) before after
 read_seen past sent Command asking fifo rate fdc before after word busy was sees moves = absurd was
@@ -237,7 +238,7 @@ module _ (deleted : Bool) (past : Past) (sent : Sent) (mark : Option Bool) where
     bad = tt;
   }
 
-  -- with its gate open a write goes on in place
+  -- while its gate is open, a write stays at its stage
   waits_open : (head_drive steps : ℕ) (writing : Writing) (old : Fdc) → MayWriteTask past sent deleted head_drive steps (WriteTask writing) old.asking old.fifo
       → MayWrite (stepped past) sent deleted (after_next head_drive (steps + 1) writing (On writing.stage) old)
   waits_open head_drive steps writing old (asks, (handed, was)) = (
@@ -321,7 +322,8 @@ writes_on_adapter deleted past sent old new steps busy was =
           (nowhere_polled deleted past sent (mark_of fdc) old.first (fdc.poll_due && not (is_held fdc)) fdc new.controller busy (steps.at_none at).0.nowhere was)
     ]
 
--- behind a device step of a data command: what passed in it under the sector's head, and with it added the same is known
+-- what is known after a device step of a data command: what passed in it under the sector's head is added to what was
+-- known
 pub steps_on : (operation : Operation) (past : Past) (sent : Sent) (old new : AdapterState) → StepsAdapter old new → is_executing old.controller.phase ≡ true
     → MayMove operation past sent old.controller
     → KnownOn operation past sent (mark_of old.controller) (λ time. IsTimeOf operation time × PassesAt (selected_at old) (head_of sent.head_drive) time old new) new.controller
@@ -352,7 +354,7 @@ told_on (Write deleted) past sent old busy was =
 
 -- ---- bytes
 
--- behind a byte the same is known, of the past with it added
+-- after a byte the same is known, with the byte added
 pub record MovedOn (operation : Operation) (past : Past) (sent : Sent) (byte : ℕ) (now : Past) (new : Fdc) : Type 0 where
   pub bytes : bytes_moved operation now ≡ bytes_moved operation past ++ byte ∷ []
   pub counted : now.counted ≡ past.counted
@@ -376,7 +378,7 @@ write_phase past sent deleted (Execute execution) asking fifo was = in_task exec
     in_task (WriteTask writing) head_drive steps was = refl
     in_task _ head_drive steps was = absurd was
 
--- the channel takes one
+-- the channel takes a byte
 pub out_on : (operation : Operation) (past : Past) (sent : Sent) (old : Fdc) → (asks old && to_memory_of old) ≡ true → MayMove operation past sent old
     → MovedOn operation past sent (byte_out old) (gave (byte_out old) past) (taken_out old)
 out_on (Read wanted skip) past sent old up was = record {
@@ -387,7 +389,7 @@ out_on (Read wanted skip) past sent old up was = record {
 out_on (Write deleted) past sent old up was =
     clash (is_reading old.phase) (write_phase past sent deleted old.phase old.asking old.fifo was) (and_parts (asks old) (to_memory_of old) up).1
 
--- the channel gives one
+-- the channel gives a byte
 pub in_on : (operation : Operation) (past : Past) (sent : Sent) (byte : ℕ) (old : Fdc) → is_executing old.phase ≡ true → (asks old && not (to_memory_of old)) ≡ true → MayMove operation past sent old
     → MovedOn operation past sent byte (took byte past) (taken_in byte old)
 in_on (Read wanted skip) past sent byte old busy up was =
@@ -401,7 +403,7 @@ in_on (Write deleted) past sent byte old busy up was = record {
 
 -- ---- port accesses
 
--- what the command is known by stays, and what the next one begins by
+-- what the knowledge of the command depends on stays, and so does what the next command needs to begin
 pub record SameCommand (old new : Fdc) : Type 0 where
   pub phase : new.phase ≡ old.phase
   pub asking : new.asking ≡ old.asking

@@ -1,4 +1,5 @@
--- A command of several sectors ends: each device step leaves one fewer, of those that an implied seek and its sectors take.
+-- A command of several sectors ends: an implied seek and its sectors take so many device steps, and each one leaves one
+-- fewer.
 use Rattle.std.proofs.Common.{◌≡◌, inl, inr, ℕ, ◌+◌, ◌-◌, ◌*◌, ◌<◌, ◌≤◌, nat_le, Bool, true, false, not, ◌||◌, ◌==◌, if◌then◌else◌, Option, Some, None, List, [], ◌∷◌, ◌++◌, refl, sym, ◌∙◌, ap, subst, arith}
 use Rattle.std.proofs.lemmas.Bool.{eqb-true, false≢true, not-true, and_parts}
 use Rattle.fdc_commands.specs.Seeking.{Seeking as Seeks, has_ended_seek, is_seeking, seek_bits}
@@ -70,7 +71,7 @@ left_some Taking busy counted = absurd (false≢true busy)
 left_some (Result answer) busy counted = absurd (false≢true busy)
 left_some (Execute execution) busy counted = omega arith
 
--- as many are left
+-- as many steps are left
 record SameSteps (old new : Phase) : Type 0 where
   left : steps_left new ≡ steps_left old
   counted : IsCounted old → IsCounted new
@@ -83,7 +84,7 @@ told_steps (Execute execution) = record { left = refl; counted = λ was. was }
 same_steps : (old new : Phase) → new ≡ old → SameSteps old new
 same_steps old new same = record { left = ap steps_left same; counted = subst IsCounted (sym same) }
 
--- none is counted as a command begins
+-- as a command begins, its count of device steps is in range
 fresh_counted : (operation : Operation) (sent : Sent) (fdc : Fdc) → MayMove operation new_past sent fdc → IsCounted fdc.phase
 fresh_counted (Read wanted skip) sent fdc was = by_phase fdc.phase was
   where
@@ -108,14 +109,14 @@ fresh_counted (Write deleted) sent fdc was = by_phase fdc.phase was
 
 -- ---- so many device steps at most are left
 
--- of the seek before, and of all sectors
+-- the steps of the implied seek, and of all sectors
 pub record SeeksWithin (n : ℕ) (at : Transfer) (fdc : Fdc) : Type 0 where
   bytes : HasRecords at
   idle : is_executing fdc.phase ≡ false
   runs : is_seeking fdc.seeks ≡ true
   within : seek_left fdc.seeks.seek + 65536 * sectors_from at ≤ n
 
--- of the sector under way, and of those behind it
+-- the steps of the sector under way, and of those that come after it
 pub record MovesWithin (n : ℕ) (at : Transfer) (fdc : Fdc) : Type 0 where
   bytes : HasRecords at
   counted : IsCounted fdc.phase
@@ -207,7 +208,7 @@ seek_lasts n at counted old between new stage_is was steps follows stays = by_en
       within = nearer_within (seek_left between.controller.seeks.seek) (seek_left old.adapter.controller.seeks.seek) (sectors_from at) n on.nearer.fewer some was.within;
     }))
 
--- behind a device step of a sector's command
+-- after a device step of a sector's command
 module _ (n : ℕ) (moving : MovingSector) (old : Fdc) (was : MovesWithin n moving.transfer old) where
   next_lasts : (marked : Bool) (phase : Phase) (front new : Front) → steps_left phase < steps_left old.phase → goes_on moving marked ≡ true → (new.stage ≡ Through → ⊥)
       → BeginsSector (next_of moving.transfer) false (has_met_other moving marked) front new → Lasts (n - 1) new
@@ -405,12 +406,12 @@ starts_last first old new bytes range stays starts = by_seek (old.strapped || ol
     by_seek true seeks = by_idle seeks (is_idle seeks.between.controller) refl seeks.begun
     by_seek false begins = begins_lasts (most_steps first) first false false old new bytes (moved_first (sectors_from first)) stays begins
 
--- where no seek is implied the controller's numbers aren't asked for
+-- where no seek is implied, the controller's numbers play no part
 pub unsought_last : (first : Transfer) (old new : Front) → HasRecords first → (old.strapped || old.configured) ≡ false → (new.stage ≡ Through → ⊥) → Starts (Some first) old new → Lasts (most_steps first) new
 unsought_last first old new bytes none stays starts =
     begins_lasts (most_steps first) first false false old new bytes (moved_first (sectors_from first)) stays (subst (λ b. StartsIf b first old new) none starts)
 
--- its last byte starts it
+-- the last byte of a command starts it
 first_starts : (byte : ℕ) (first : Transfer) (start begun : Front) → IsLastByte byte first start → WritesFront 0x3F5 byte start begun → Starts (Some first) (record start { bytes = [] }) begun
 first_starts byte first start begun last writes =
     let bytes = start.bytes ++ byte ∷ [] in
@@ -443,7 +444,7 @@ first_under : (byte : ℕ) (first : Transfer) (start begun : Front) → IsLastBy
 first_under byte first start begun last writes stays =
     starts_under first (record start { bytes = [] }) begun stays (first_starts byte first start begun last writes)
 
--- what is under way then is of the command's first sector
+-- what is then under way is of the command's first sector
 begun_records : (stage : Stage) (first : Transfer) (fdc : Fdc) → ServesAt stage first (nothing_moved false) fdc → is_under_way stage ≡ true → HasByteNumbers stage → HasByteRecords first
 begun_records Through first fdc now under bytes = absurd now
 begun_records (Collecting opcode) first fdc now under bytes = absurd now
@@ -459,7 +460,7 @@ some_left left sectors n some all = omega arith
 some_moves : (left sectors n : ℕ) → 1 ≤ left → 1 ≤ sectors → left + 65536 * sectors ≤ n + 65536 → 1 ≤ n
 some_moves left sectors n some one all = omega arith
 
--- while it is under way a device step is left
+-- while the command is under way, at least one device step is left
 pub lasts_some : (n : ℕ) (stage : Stage) (first : Transfer) (history : History) (fdc : Fdc) → ServesAt stage first history fdc → LastsAt n stage fdc → is_under_way stage ≡ true → 1 ≤ n
 lasts_some n Through first history fdc now was under = absurd was
 lasts_some n (Collecting opcode) first history fdc now was under = absurd was

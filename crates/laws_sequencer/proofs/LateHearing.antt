@@ -12,7 +12,8 @@ use Rattle.fdc_core.proofs.drives.Late.{heard_led, longer_led, passed_by, still_
 use Rattle.fdc_core.proofs.drives.Passing.{hearing_on}
 use Rattle.fdc_core.proofs.drives.Spinning.{hearing_none, hears_none, no_index, slow_or_fast, turning_on}
 
--- so many words 0000 were heard: the medium still spins up; or it is at speed, and what was heard behind them is of the track
+-- first so many words 0000 were heard. Then the medium still spins up, or it is at speed, and what was heard after
+-- those words is of the track
 pub record IsHearingLed (outset : Outset) (past : Past) (drive : DriveState) : Type 0 where
   pub lead : ℕ
   pub late : Past
@@ -51,7 +52,7 @@ hearing_led outset past drive after word valid was sees becomes = elim was.drive
   }
 ]
 
--- bytes that were moved play no part in it
+-- the bytes that were moved play no part in this
 hearing_bytes : (outset : Outset) (past : Past) (given taken : List ℕ) (counted : Bool) (drive : DriveState) → IsHearing outset past true drive
     → IsHearing outset (record past { given = given; taken = taken; counted = counted }) true drive
 hearing_bytes outset past given taken counted drive was =

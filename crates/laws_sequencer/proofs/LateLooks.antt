@@ -1,4 +1,4 @@
--- What was given, and what wasn't found, behind words 0000.
+-- What was given, and what wasn't found, after words 0000.
 use Rattle.std.proofs.Common.{◌≡◌, inl, inr, ℕ, ◌+◌, ◌-◌, ◌*◌, ◌<◌, ◌≤◌, Bool, List, [], ◌∷◌, ◌++◌, length, get_or, replicate, slice_index, refl, sym, ◌∙◌, ap, subst, arith}
 use Rattle.std.proofs.Math.ListN.{get_or-append}
 use Rattle.std.proofs.lemmas.Bool.{cases_lt}
@@ -22,7 +22,7 @@ use Rattle.fdc_core.proofs.drives.LateFields.{address_in}
 use Rattle.fdc_core.proofs.drives.Shifted.{shifted_bytes_at}
 use Rattle.laws_sequencer.specs.Serving.{FindsField}
 
--- ---- words behind words 0000
+-- ---- ---- words after words 0000
 
 in_front : (lead : ℕ) (words : List ℕ) (k : ℕ) → k < lead → slice_index (replicate lead 0 ++ words) k ≡ 0
 in_front lead words k low =
@@ -42,7 +42,7 @@ module _ (lead : ℕ) (words : List ℕ) where
   room : lead + length words ≤ length front
   room = let long = length_front lead words in omega arith
 
-  -- an address field begins behind them
+  -- an address field begins after the words 0000
   address_behind : (p : ℕ) (key : Chrn) → IsAddressAt front p key → (p ≡ p - 16 * lead + 16 * lead) × IsAddressAt words (p - 16 * lead) key
   address_behind p key address =
       let is = address_in lead [] words p key address in
@@ -63,7 +63,7 @@ module _ (lead : ℕ) (words : List ℕ) where
       shifted_bytes_at front words (b + 16 * lead) b (64 + 16 * count) (whole_back front lead words b (64 + 16 * count) whole room (omega arith)) (b + 16 * lead + 64) (b + 64) count
       (omega arith) (omega arith) (omega arith)
 
-  -- so does its data field
+  -- the data field of that address field begins after them too
   data_field_behind : (p q n : ℕ) (deleted : Bool) → p ≡ p - 16 * lead + 16 * lead → HasDataField front p n q deleted
       → (q ≡ q - 16 * lead + 16 * lead) × HasDataField words (p - 16 * lead) n (q - 16 * lead) deleted
   data_field_behind p q n deleted p_is field =
@@ -77,7 +77,7 @@ module _ (lead : ℕ) (words : List ℕ) where
       subst (λ k. HasDataField front k n (b + 16 * lead) deleted) p_is (subst (λ k. HasDataField front p n k deleted) q_is field) in
       (q_is, record { coded = field.coded; first = first_behind a b deleted (omega arith) moved.first; inside = omega arith })
 
-  -- an address field that has no data field has none without them
+  -- an address field without a data field has none either if the words 0000 are left out
   none_behind : (p : ℕ) (key : Chrn) → IsAddressAt front p key → LookAt front p key.n NoData → IsAddressAt words (p - 16 * lead) key × LookAt words (p - 16 * lead) key.n NoData
   none_behind p key address look =
       let (p_is, here) = address_behind p key address in (
@@ -138,7 +138,7 @@ between_in lead (turn ∷ before ∷ other ∷ turns) seen between first is none
     let same = few_led lead (turn ∷ before ∷ other ∷ turns) in
     absurd (omega arith)
 
--- the words between them are the same
+-- the words between the two indexes are the same without the words 0000
 pub between_late : (lead : ℕ) (late : Past) (between : List ℕ) → IsBetween (led lead late) between → IsBetween late between
 between_late lead late between is =
     let (before, turns, none) = between_in lead late.turns late.seen between is.first is.turns is.nothing in
@@ -151,7 +151,7 @@ none_front : (lead : ℕ) (earlier : List (List ℕ)) (turn : List ℕ) (p : ℕ
 none_front lead (last ∷ earlier) turn p key address look = (p, address, look)
 none_front lead [] turn p key address look = let (here, none) = none_behind lead turn p key address look in (p - 16 * lead, here, none)
 
--- a turn that an index ended, and nothing was heard since
+-- a revolution that an index ended, with nothing heard since
 record IsOverLed (lead : ℕ) (turns : List (List ℕ)) (seen words : List ℕ) : Type 0 where
   earlier : List (List ℕ)
   turn : List ℕ
@@ -164,7 +164,7 @@ over_led lead [] seen words before is none = let none_led = ap length is in absu
 over_led lead (turn ∷ earlier) seen words before is none =
     record { earlier = earlier; turn = turn; turns_are = refl; nothing = none; words_are = sym (ap (λ (turns : List (List ℕ)). get_or turns 0 []) is) }
 
--- a turn that goes on
+-- a revolution that goes on
 part_front : (lead : ℕ) (seen whole : List ℕ) → IsPart seen whole → IsPart (replicate lead 0 ++ seen) (replicate lead 0 ++ whole)
 part_front lead seen whole part =
     let short = length_front lead seen in

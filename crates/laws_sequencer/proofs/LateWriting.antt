@@ -28,8 +28,8 @@ use Rattle.fdc_core.proofs.drives.WritingWords.{heard_met}
 use Rattle.laws_sequencer.specs.Written.{KeepsSpeed, StaysPut}
 use Rattle.laws_sequencer.proofs.WriteStages.{IsDueNow, IsInExecution, due_now, due_words, ended_rests, in_execution, is_stopped, no_index, opens_due}
 
--- so many words 0000 were heard, over a medium that isn't protected where one was: it still spins up, and nothing is written; or it is
--- at speed, and all is as in a write that began behind them
+-- first so many words 0000 were heard, over a medium that isn't protected if there was such a word. Then the medium
+-- still spins up, and nothing is written. Or it is at speed, and all is as in a write that began after those words
 pub record IsWindowLed (outset : Outset) (past : Past) (executes : Bool) (drive : DriveState) : Type 0 where
   pub lead : ℕ
   pub late : Past
@@ -84,7 +84,7 @@ window_first outset lead late executes drive valid none is guarded = record {
   ];
 }
 
--- once the command is over all is known of the drive that is of one that began at speed
+-- once the command is over, the same is known of the drive as after a write that began at speed
 pub window_over : (outset : Outset) (past : Past) (drive : DriveState) → IsDisk outset.disk → (was : IsWindowLed outset past false drive) → IsAtWindow outset was.late false drive
 window_over outset past drive valid was = elim was.drive_is [
   | inl (none, spins) ↦ window_unheard outset was.late false drive valid none spins.turning (λ busy. absurd (false≢true busy))
@@ -184,7 +184,7 @@ few_heard : (lead : ℕ) (late : Past) (index : Bool) (word : ℕ) → length la
 few_heard lead late true word few is = let same = few_led lead late.turns in elim is.few [ inl still ↦ omega arith | inr some ↦ absurd (omega arith) ]
 few_heard lead late false word few is = few
 
--- a medium isn't protected where the first step didn't stop
+-- a medium isn't protected if the first step didn't stop the command
 fast_unprotected : (outset : Outset) (lead : ℕ) (late : Past) (drive : DriveState) (steps : ℕ) → (1 ≤ lead → outset.disk.protected ≡ false) → IsAtDrive outset late true drive → late.steps + lead ≡ steps
     → (steps ≡ 0 → late.words ≡ []) → (steps ≡ 0 → is_protected drive.medium ≡ true → ⊥) → outset.disk.protected ≡ false
 fast_unprotected outset (suc lead) late drive steps guarded was steps_are fresh guards = guarded (omega arith)
@@ -249,7 +249,7 @@ module _ (outset : Outset) (sent : Sent) (deleted : Bool) (lead : ℕ) (late : P
       let nothing = ap (λ (p : Past). length p.seen) none in
       omega arith
 
-  -- the step is counted that ends the command
+  -- the step that ends the command is counted
   spun_stopped : IsUnheard late → IsTurningIn outset after → IsAtWindow outset (stepped late) false after
   spun_stopped none turning =
       let rests = window_unheard outset late false after valid none turning (λ busy. absurd (false≢true busy)) in

@@ -1,4 +1,5 @@
--- The mark of a field that is read: none is known as the command begins, and once it is met it stays; before it no byte passed.
+-- The mark of a field that is read. None is known as the command begins. Once the mark is met it stays. Before that no
+-- byte passed.
 use Rattle.std.proofs.Common.{◌≡◌, ◌⊎◌, inl, inr, ℕ, ◌+◌, ◌≤◌, Bool, true, false, ◌==◌, if◌then◌else◌, Option, Some, None, List, [], ◌∷◌, ◌++◌, length, refl, sym, ◌∙◌, ap, subst, arith, length-append}
 use Rattle.std.proofs.lemmas.Bool.{false≢true}
 use Rattle.std.proofs.lemmas.List.{nil_from_length}
@@ -33,7 +34,7 @@ use Rattle.laws_sequencer.specs.Serving.{FindsBadField}
 
 -- ---- as the command goes on, and as it ends
 
--- the mark that is then known: a failure tells none
+-- the mark that is then known. A failure adds none
 abbrev pub mark_then : Option Bool → Phase → Option Bool
 mark_then was (Execute execution) = mark_in execution.task
 mark_then was (Telling (Long (Done marked) results read)) = Some marked
@@ -56,7 +57,7 @@ then_bad was (Execute execution) is = absurd (cc is)
 then_bad was (Telling (Short next last)) is = absurd (cc is)
 then_bad was (Telling (Long ending results read)) is = let same : ending ≡ BadCheck = cc is in ap (λ e. mark_then was (Telling (Long e results read))) same
 
--- ---- it stays
+-- ---- ---- the mark stays
 
 over_stays : (good counted empty marked m : Bool) (head_drive steps : ℕ) (reading : Reading) (fdc : Fdc) → mark_at reading.stage ≡ Some m → marked ≡ m
     → mark_then (Some m) (over_or_on (Some (ending_over good counted marked)) empty head_drive steps reading fdc).phase ≡ Some m
@@ -103,7 +104,7 @@ has_mark (Wait separator) m after is keeps = absurd (cc is)
 has_mark (Content separator marked) m after is keeps = let same : marked ≡ m = cc is in subst (λ b. HasMark b after) same keeps
 has_mark (Over marked good) m after is keeps = let same : marked ≡ m = cc is in subst (λ b. HasMark b after) same keeps
 
--- ---- before it no byte passed
+-- ---- ---- before the mark no byte passed
 
 none_told : (past : Past) (key : Chrn) (told : List ℕ) (stage : ReadStage) → mark_at stage ≡ None → IsReading past key told stage → told ≡ []
 none_told past key told (Search search) none was = was.1
@@ -118,7 +119,7 @@ none_given given told none (rest, is) =
     let no_more = ap length none in
     nil_from_length given (omega arith)
 
--- ---- a field whose check is bad
+-- ---- ---- a field whose CRC is wrong
 
 over_bad : (good counted empty marked : Bool) (head_drive steps : ℕ) (reading : Reading) (fdc : Fdc)
     → ending_told (over_or_on (Some (ending_over good counted marked)) empty head_drive steps reading fdc) ≡ Some BadCheck → good ≡ false
@@ -127,7 +128,7 @@ over_bad true false true marked head_drive steps reading fdc is = let uncounted 
 over_bad false counted true marked head_drive steps reading fdc is = refl
 over_bad good counted false marked head_drive steps reading fdc is = let none : None ≡ Some BadCheck = is in absurd (cc none)
 
--- the command ends so where a field is over that isn't whole
+-- the command ends with a wrong CRC only at a field that is over and isn't whole
 bad_on : (head_drive steps : ℕ) (reading : Reading) (stage : ReadStage) (fdc : Fdc) → ending_told (gone_on_reading head_drive steps (at_stage reading stage) fdc) ≡ Some BadCheck
     → (marked : Bool) × (stage ≡ Over marked false)
 bad_on head_drive steps reading (Search search) fdc is = let none : None ≡ Some BadCheck = is in absurd (cc none)
@@ -136,7 +137,7 @@ bad_on head_drive steps reading (Content separator marked) fdc is = let none : N
 bad_on head_drive steps reading (Over marked good) fdc is =
     (marked, ap (λ whole. Over marked whole) (over_bad good reading.counted (length fdc.fifo.bytes == 0) marked head_drive steps (at_stage reading (Over marked good)) fdc is))
 
--- a byte more of it was told behind the word, at most; and a mark that was met is its own
+-- the word gave at most one more byte of the field. A mark that was met is the field's own
 record IsBadOver (past : Past) (key : Chrn) (told : List ℕ) (after : ReadOutcome) : Type 0 where
   marked : Bool
   bytes : List ℕ
@@ -177,7 +178,7 @@ bad_heard head_drive steps reading past told fdc (given.Byte stage value) has we
     by_count false false is = bad_on head_drive steps reading stage (pushed value fdc) is
 bad_heard head_drive steps reading past told fdc (given.Ended ending) has well is = let same : ending ≡ BadCheck = cc is in absurd (subst IsFailure same well)
 
--- where no mark was met no byte was told, and no field is over behind the next word
+-- where no mark was met, the field gave no byte, and no field is over after the next word
 early : (past : Past) (key : Chrn) (told : List ℕ) (after : ReadOutcome) → IsSizeCode key.n → told ≡ [] → IsBadOver past key told after → ⊥
 early past key told after sized none bad =
     let all = over_full past key bad.bytes bad.marked false bad.over in
@@ -202,13 +203,13 @@ bad_field past key told marked sized (turn, among, (p, q, over)) = (
   λ intact. false≢true ((over.tells key.n refl).1 intact),
 )
 
--- where a command ends with a bad check, the mark of that field was known
+-- where a command ends with a wrong CRC, the mark of that field was known
 abbrev pub EndsBadly : Past → Chrn → Option Bool → Fdc → Type 0
 EndsBadly past key mark fdc = IsSizeCode key.n → ending_told fdc ≡ Some BadCheck → (marked : Bool) × (mark ≡ Some marked) × FindsBadField past key marked
 
 -- ---- both, in a device step
 
--- no mark was known, and no byte had passed; or the mark is as it was
+-- either no mark was known and no byte had passed, or the mark is as it was
 abbrev pub MarkStays : List ℕ → Option Bool → Option Bool → Type 0
 MarkStays bytes was now = ((was ≡ None) × (bytes ≡ [])) ⊎ (now ≡ was)
 

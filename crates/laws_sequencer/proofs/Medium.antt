@@ -75,7 +75,7 @@ found_on_track track from past key given marked heard (counted, (turn, p, q, fou
       found.content,
     )
 
--- the mark of a field is, whatever its check
+-- the mark of a field that was found is on the track, whatever the field's CRC
 mark_on_track : (track : List ℕ) (from : ℕ) (past : Past) (key : Chrn) (marked : Bool) → IsHeardFrom track from past.turns past.seen → FindsField past key marked → HasMarkOnTrack track key marked
 mark_on_track track from past key marked heard (turn, p, q, has) =
     let (start, turned, turned_whole) = turn_heard track from past.turns past.seen turn heard has.among in
@@ -136,7 +136,7 @@ abbrev pub AreHeardAt : Place → List Part → Type 0
 AreHeardAt place [] = Unit {0}
 AreHeardAt place (part ∷ parts) = IsHeardAt place part.at part.past × AreHeardAt place parts
 
--- and of the sector under way, which is where the drive is
+-- the same of the sector under way, with the drive where the words have brought it
 abbrev pub IsHearingAt : Place → Transfer → Past → DriveState → Type 0
 IsHearingAt place at past drive =
     (from : ℕ) × (since : ℕ) × IsHearingLed (outset_at place at from since) past drive × (place.clean ≡ true → since ≡ place.faults)
@@ -171,7 +171,7 @@ hearing_over place at past drive clean (from, since, was, began) = elim was.driv
   }
 ]
 
--- which stands where so many lead
+-- the sector that the command stands at after the sectors that are over
 abbrev here_of : Transfer → History → Transfer
 here_of first history = sector_after (length history.parts) first
 
@@ -246,7 +246,7 @@ kept_hearing place front at past drive is turns (from, since, was, began) =
     ] in
     (from, since, hears, began)
 
--- bytes that were moved play no part in it
+-- the bytes that were moved play no part in this
 bytes_hearing : (place : Place) (at : Transfer) (past : Past) (given taken : List ℕ) (counted : Bool) (drive : DriveState) → IsHearingAt place at past drive
     → IsHearingAt place at (record past { given = given; taken = taken; counted = counted }) drive
 bytes_hearing place at past given taken counted drive (from, since, was, began) = (from, since, hearing_led_bytes (outset_at place at from since) past given taken counted drive was, began)
@@ -314,7 +314,7 @@ module _ (place : Place) (first : Transfer) (wanted skip : Bool) (reads : first.
         (subst (λ front. IsHearingAt place (here_of first history) (told_in true now) (drive_at front.adapter place.bay)) (sym is)
         (told_hearing place (here_of first history) true now (drive_at between place.bay) hearing))
 
-    -- as the search was over
+    -- what was heard once the search is over
     heard_behind : (front : Front) → drive_at front.adapter place.bay ≡ drive_at between place.bay → IsClean place front → IsHeardAt place (here_of first history) now
     heard_behind front same clean =
         hearing_over place (here_of first history) now (drive_at between place.bay) (subst (λ drive. place.clean ≡ true → (drive.faults ≡ place.faults) × (place.faults < last_count)) same clean) hearing
@@ -475,7 +475,7 @@ module _ (place : Place) (first : Transfer) (wanted skip : Bool) (reads : first.
   ignored (Moving moving) byte history old new now takes = takes
   ignored (Telling results read) byte history old new now takes = takes
 
-  -- a motor that stays on, and the gate, let the medium turn on
+  -- a motor that stays on lets the medium turn on, and so does the gate
   turns_same : (drive : DriveState) → TurnsOn drive drive
   turns_same drive = record { place = refl; never_falls = omega arith; keeps_speed = λ fast. fast }
 
@@ -557,7 +557,7 @@ module _ (place : Place) (first : Transfer) (wanted skip : Bool) (reads : first.
   calls_hear (call ∷ calls) history grown old new (between, does, within, rest) (at, turns, stays) (mid, grows, gather) was =
       calls_hear calls mid grown between new rest stays gather (call_hears call history mid old between does within at (first_at calls between new rest stays) turns grows was)
 
-  -- ---- what that says of the medium
+  -- ---- ---- what the words heard say of the medium
 
   heard_found : (at : Transfer) (past : Past) (marked : Bool) → IsHeardAt place at past → FindsSector past at.key past.given marked
       → (content : List ℕ) × HasOnTrack (track_under place at) at.key marked content × ((rest : List ℕ) × (content ≡ past.given ++ rest))

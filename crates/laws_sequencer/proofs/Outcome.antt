@@ -26,14 +26,14 @@ use Rattle.laws_sequencer.proofs.Courses.{done_written, met_then, nothing_left, 
 use Rattle.laws_sequencer.proofs.Known.{clash}
 use Rattle.laws_sequencer.proofs.Served.{of_sector}
 
--- ---- EN comes from in front alone
+-- ---- ---- EN comes only from the front
 
 full_over : (operation : Operation) (met : Bool) (moving : MovingSector) (mark : Option Bool) (bytes : List ℕ) → content_size moving.transfer.key.n ≤ length bytes → AreLeft operation met moving mark bytes
     → moving.left ≡ 0
 full_over operation met moving mark bytes full (inl (own, passed, all)) = omega arith
 full_over operation met moving mark bytes full (inr (skipped, passed, skips, other, none, empty)) = none
 
--- a write that wasn't told the count took as many bytes as it wrote
+-- a write that wasn't given the terminal count took at least as many bytes as it wrote
 taken_full : (counted : Bool) (taken handed : List ℕ) → counted ≡ false → IsContent counted taken handed → length handed ≤ length taken
 taken_full counted taken handed uncounted (inl (rest, is)) =
     let lengths = ap length is in let joined = length-append handed rest in omega arith
@@ -68,7 +68,7 @@ moved_but operation met moving past mark marked is accounts done = by_left accou
         inl (field_with operation past at marked moving.left means all, all)
     by_left (inr (skipped, passed, skips, other, none, empty)) = inr (none, skipped_over operation met moving past mark marked is accounts done skipped skips other none empty)
 
--- CM tells of a field that was met before; or this one is passed over
+-- either CM says whether such a field was met before, or this field is passed over
 other_told : (operation : Operation) (met : Bool) (moving : MovingSector) (mark : Option Bool) (bytes : List ℕ) → AreLeft operation met moving mark bytes
     → (moving.passed_over ≡ met) ⊎ ((moving.passed_over ≡ true) × (is_skipping operation ≡ true))
 other_told operation met moving mark bytes (inl (own, passed, all)) = inl passed
@@ -172,7 +172,7 @@ passes_of first history front serves = passes_at front.stage first history front
 
 -- ---- a sector that is over
 
--- as many bytes as its size are its content
+-- if as many bytes as the size were given, they are the content
 pub has_field : (past : Past) (key : Chrn) (marked : Bool) (given : List ℕ) → FindsSector past key given marked → length given ≡ content_size key.n → HasField past key marked given
 has_field past key marked given (counted, (turn, p, q, found)) all =
     record { turn = turn; p = p; q = q; among = found.among; address = found.address; finds = found.finds; content_is = found.content all }

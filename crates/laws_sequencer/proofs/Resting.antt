@@ -19,7 +19,7 @@ polled_phase old = by_poll (old.poll_due && not (is_held old))
     by_poll true = refl
     by_poll false = refl
 
--- a word time with its pulse
+-- a word time with its pulse leaves the medium
 pub moves_same : (pulse : Option Bool) (before after : DriveState) → Moves pulse before after → after.medium ≡ before.medium
 moves_same None before after is = ap (λ s. s.medium) is
 moves_same (Some inward) before after (between, pulses, is) =
@@ -33,7 +33,7 @@ idle_moves (Execute execution) polls before after idle moves = absurd (false≢t
 pub idle_medium : (old new : Fdc) (before after : DriveState) → is_executing old.phase ≡ false → Works old before new after → after.medium ≡ before.medium
 idle_medium old new before after idle works = idle_moves old.phase (polled old) before after idle (subst (λ phase. MovesIn phase (polled old) before after) (polled_phase old) works.drive)
 
--- and it goes on executing nothing
+-- the controller goes on executing nothing
 pub idle_rests : (track0 : Bool) (old new : Fdc) → is_executing old.phase ≡ false → RestsIn (polled old).phase track0 (polled old) new → is_executing new.phase ≡ false
 idle_rests track0 old new idle rests = by_phase (polled old).phase refl rests
   where

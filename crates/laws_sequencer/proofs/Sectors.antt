@@ -1,4 +1,4 @@
--- The sectors of a command: one fewer from each next one on, and 512 at most.
+-- The sectors of a command: from each sector to the next there is one fewer, and there are at most 512.
 use Rattle.std.proofs.Common.{◌≡◌, inl, inr, ℕ, zero, suc, ◌+◌, ◌-◌, ◌%◌, ◌<◌, ◌≤◌, Bool, true, false, not, ◌&&◌, ◌||◌, ◌==◌, if◌then◌else◌, List, [], ◌∷◌, ◌++◌, replicate, refl, sym, ◌∙◌, ap, arith}
 use Rattle.std.specs.Int.Bits.{bit_xor}
 use Rattle.std.specs.Prelude.{bit_and}
@@ -23,7 +23,7 @@ records_step last r next more now next_is more_is now_is one =
 records_up : (last r : ℕ) → r < last → last < 256 → records_from last ((r + 1) % 256) + 1 ≡ records_from last r
 records_up last r below few = records_step last r (r + 1) (last - (r + 1)) (last - r) (omega arith) (omega arith) (omega arith) (omega arith)
 
--- past record FF
+-- the record after FF is 00
 records_around : (last r : ℕ) → last < r → r < 256 → records_from last ((r + 1) % 256) + 1 ≡ records_from last r
 records_around last r above few = elim (cases_lt r 255) [
   | inl more ↦ records_step last r (r + 1) (last + 256 - (r + 1)) (last + 256 - r) (omega arith) (omega arith) (omega arith) (omega arith)
@@ -37,7 +37,7 @@ records_next last r few small other = elim (cases_order r last) [
   | inr (inr above) ↦ records_around last r above small
 ]
 
--- behind head 0 comes head 1
+-- after head 0 comes head 1
 other_side : (head_drive : ℕ) → is_second_head head_drive ≡ false → is_second_head (bit_xor head_drive 4) ≡ true
 other_side head_drive first =
     let before = and_pow head_drive 2 in
@@ -74,7 +74,7 @@ same_behind before after behind one = omega arith
 head_over : (before after records here : ℕ) → after ≡ records + 0 → before ≡ here + records → here ≡ 1 → after + 1 ≡ before
 head_over before after records here after_is before_is one = omega arith
 
--- one fewer from each next sector on
+-- from the next sector on there is one sector fewer
 pub sectors_next : (at : Transfer) → HasByteRecords at → is_last at ≡ false → sectors_from (next_of at) + 1 ≡ sectors_from at
 sectors_next at (small, few) goes = by_place (at.key.r == at.last_sector) at.opcode.multitrack refl refl
   where
@@ -104,7 +104,7 @@ one_and n m = omega arith
 pub sectors_some : (at : Transfer) → 1 ≤ sectors_from at
 sectors_some at = one_and ((at.last_sector + 256 - at.key.r) % 256) (if goes_to_other at then records_from at.last_sector 1 else 0)
 
--- they stay bytes
+-- the numbers of the next sector are bytes too
 pub next_bytes : (at : Transfer) → HasByteRecords at → HasByteRecords (next_of at)
 next_bytes at (small, few) = by_place (at.key.r == at.last_sector) at.opcode.multitrack
   where

@@ -52,11 +52,11 @@ pub none_told : (counted : Bool) → counted ≡ (counted || false)
 none_told true = refl
 none_told false = refl
 
--- all of the front
+-- the whole front stays
 pub same_front : (first : Transfer) (history : History) (old new : Front) → new ≡ old → Serves first history old → GoesOn [] false first history history new
 same_front first history old new is serves = (none_more first.opcode.operation history, none_told history.counted, subst (Serves first history) (sym is) serves)
 
--- what is done in front
+-- the stage stays
 pub same_stage : (first : Transfer) (history : History) (stage : Stage) (new : Front) → new.stage ≡ stage → IsSizeCode first.key.n → AreMoved first.opcode.operation first history.parts
     → ServesAt stage first history new.adapter.controller → GoesOn [] false first history history new
 same_stage first history stage new is sized parts now =
@@ -76,7 +76,7 @@ same_sector first parts past now counted told then_counted passed moving new is 
 
 -- ---- a sector begins
 
--- the front serves it with these sectors behind it, or it is refused
+-- either the front serves this sector after the ones that are over, or the sector is refused
 pub begins_serve : (first : Transfer) (parts : List Part) (at : Transfer) (counted passed_over : Bool) (old new : Front) → IsSizeCode first.key.n → AreMoved first.opcode.operation first parts → at ≡ sector_after (length parts) first
     → passed_over ≡ has_other first.opcode.operation parts → BeginsSector at counted passed_over old new → Serves first (record { parts = parts; past = told_in counted new_past; counted = counted }) new ⊎ IsRefused new
 begins_serve first parts at counted passed_over old new sized were here met begins = by_busy (is_executing begins.between.controller.phase) refl begins.begun
@@ -97,15 +97,15 @@ begins_serve first parts at counted passed_over old new sized were here met begi
       answer_is = ap (λ front. front.adapter.controller.phase) is ∙ answered_idle at (lines_at old.adapter) old.adapter.controller begins.between.controller begins.takes.takes idle;
     })
 
--- it isn't where the controller executes its command
+-- the sector isn't refused where the controller executes its command
 not_refused : {A : Type 0} (at : Transfer) (counted passed_over : Bool) (old new : Front) (begins : BeginsSector at counted passed_over old new) → is_executing begins.between.controller.phase ≡ true → IsRefused new → A
 not_refused at counted passed_over old new begins busy refused =
     let moves : new.stage ≡ Moving (moving_of at counted passed_over) = ap (λ front. front.stage) begins.begun ∙ ap (λ b. (begun_if b at counted passed_over begins.between old).stage) busy in
     absurd (cc (moves, refused.through))
 
--- ---- a sector ends
+-- ---- ---- a sector ends
 
--- what is known of the controller as its results are told
+-- what is known of the controller as it gives its results
 read_means : (past : Past) (sent : Sent) (fdc : Fdc) (ending : Ending) → IsSizeCode sent.key.n → MayMove (Read false false) past sent fdc → ending_told fdc ≡ Some ending → Means (Read false false) past sent ending
 read_means past sent fdc ending sized was is = by_phase fdc.phase is (read_tells past sent fdc sized was)
   where
@@ -141,7 +141,7 @@ of_sector (Read wanted skip) past sent fdc was = by_phase fdc.phase (read_gives 
     by_phase (Execute execution) (told, of_field, rest) = (told, of_field, starts_given past.given fdc.fifo.bytes told rest)
 of_sector (Write deleted) past sent fdc was = writes_window past sent deleted fdc was
 
--- as none are told the command is in execution
+-- as long as there are no results, the command is in execution
 pub still_busy : (operation : Operation) (past : Past) (sent : Sent) (fdc : Fdc) → MayMove operation past sent fdc → ending_told fdc ≡ None → is_executing fdc.phase ≡ true
 still_busy (Read wanted skip) past sent fdc was none = by_phase fdc.phase was none
   where
@@ -174,7 +174,7 @@ module _ (first : Transfer) (parts : List Part) (past : Past) (counted : Bool) (
   same_operation : moving.transfer.opcode.operation ≡ operation
   same_operation = ap (λ opcode. opcode.operation) (ap (λ a. a.opcode) here ∙ sector_opcode (length parts) first)
 
-  -- the results are told
+  -- the results are given
   tells_on : (now : Past) (mark : Option Bool) (ending : Ending) (new : Front) → bytes_moved operation now ≡ bytes_moved operation past → Accounts operation met moving now mark
       → IsOfSector operation now (sent_of moving.transfer) → MeansJudged ending moving.skipped operation now (sent_of moving.transfer) → IsLastOne moving ending → IsMarkOf ending mark
       → new.stage ≡ Telling (results_ended moving ending) 0 → GoesOn [] false first so_far (record so_far { past = now }) new
@@ -259,7 +259,7 @@ module _ (first : Transfer) (parts : List Part) (past : Past) (counted : Bool) (
       (and_from (is_other moving.transfer.opcode.operation marked) (moving.left == size_of moving.transfer.key.n) (ap (λ o. is_other o marked) same_operation ∙ other)
       (eq-eqb moving.left (size_of moving.transfer.key.n) full))
 
-  -- so where none is, no byte of such a field will pass
+  -- where no field is to be passed over, no byte of a field of the other mark will pass
   wanted_passes : (now : Past) (mark : Option Bool) → is_unwanted moving mark ≡ false → Accounts operation met moving now mark → is_skipping operation ≡ true → IsOfOther operation mark → moving.left ≡ 0
   wanted_passes now mark wanted accounts skips other = by_left accounts.bytes
     where
@@ -322,7 +322,7 @@ module _ (first : Transfer) (parts : List Part) (past : Past) (counted : Bool) (
       (ends_on (judged moving ending) now (mark_then was fdc.phase) (record old { adapter = with_controller (given_up fdc) old.adapter }) new (given_free fdc free) bytes accounts
       (of_sector operation now sent fdc moves) means marked does)
 
-  -- with whatever word time this is known of the controller
+  -- whatever is known of the word time, this follows from it
   pub known_moves : (old : Front) (between : AdapterState) (new : Front) (Is : WordTime → Type 0) → old.stage ≡ Moving moving → Carries operation met moving past old.adapter.controller → StepsAdapter old.adapter between
       → (known : KnownOn operation past (sent_of moving.transfer) (mark_of old.adapter.controller) Is between.controller) → MovesOn (judged_if moving (ending_told between.controller)) moving (record old { adapter = between }) new
       → GoesOn [] false first so_far (history_moved (judged_if moving (ending_told between.controller)) moving (mark_of between.controller) (after_time known.time past) so_far) new
@@ -346,7 +346,7 @@ module _ (first : Transfer) (parts : List Part) (past : Past) (counted : Bool) (
 
   -- ---- bytes
 
-  -- one passed, and behind the last the controller is told the count
+  -- a byte passed. After the last byte of a sector the controller is given the terminal count
   passes_one : (byte : ℕ) (now : Past) (fdc : Fdc) (old new : Front) → nat_lt 0 moving.left ≡ true → MovedOn operation past (sent_of moving.transfer) byte now fdc → is_executing fdc.phase ≡ true → IsFree fdc
       → Accounts operation met moving past (mark_of fdc) → (is_skipping operation ≡ true → IsOfOther operation (mark_of fdc) → moving.left ≡ 0) → new ≡ passed_one moving fdc old
       → GoesOn (byte ∷ []) false first so_far (history_passed moving now so_far) new
@@ -493,7 +493,7 @@ give_at (Telling results read) byte was first history old new now serves (none, 
 pub gives_serve : (byte : ℕ) (old : Front) (was : Bool) (new : Front) → GivesFront byte old was new → KeepsServing (passed_in was byte) (history_given old.stage byte was) old new
 gives_serve byte old was new gives first history serves = give_at old.stage byte was first history old new serves.now serves gives
 
--- while the heads seek
+-- the terminal count comes while the heads seek
 seek_counted : (first : Transfer) (history : History) (at : Transfer) (counted : Bool) (new : Front) → IsSizeCode first.key.n → at ≡ first → history ≡ nothing_moved counted → new.stage ≡ Seeking at true → GoesOn [] true first history (record history { counted = true }) new
 seek_counted first history at counted new sized here none is = subst (λ h. GoesOn [] true first h (record h { counted = true }) new) (sym none) (
   none_more first.opcode.operation (nothing_moved counted),

@@ -1,4 +1,4 @@
--- Behind the terminal count no byte passes, and no further sector begins.
+-- After the terminal count no byte passes, and no further sector begins.
 use Rattle.std.proofs.Common.{◌≡◌, inl, inr, ℕ, ◌+◌, ◌-◌, ◌==◌, nat_le, nat_lt, Bool, true, false, not, ◌&&◌, ◌||◌, Option, Some, None, List, [], ◌∷◌, ◌++◌, length, if◌then◌else◌, refl, sym, ◌∙◌, ap, subst}
 use Rattle.std.proofs.lemmas.Bool.{and_parts, eqb-true, false≢true}
 use Rattle.drive_model.specs.Drive.{DriveState, at_index}
@@ -52,7 +52,7 @@ use Rattle.laws_sequencer.proofs.Known.{clash, port_same, which_drive}
 
 -- ---- the controller
 
--- the terminal count came to its read, and its FIFO is empty; or to its write; and no byte is asked for
+-- the terminal count came to this read or write, and no byte is asked for. The FIFO of a read is empty
 abbrev MutedTask : Task → Bool → List ℕ → Type 0
 MutedTask (ReadTask reading) asking bytes = (reading.counted ≡ true) × (asking ≡ false) × (bytes ≡ [])
 MutedTask (WriteTask writing) asking bytes = (writing.counted ≡ true) × (asking ≡ false)
@@ -101,7 +101,7 @@ kind_of (Write deleted) past sent fdc was = by_phase fdc.phase was
     by_phase (Result answer) was = tt
     by_phase (Execute execution) was = by_task execution.task execution.head_drive execution.steps was
 
--- the count mutes it
+-- the terminal count makes the task silent
 told_task : (task : Task) (asking : Bool) (fifo : Fifo) → IsKindTask (task_told task) → MutedTask (task_told task) (asking_told (moves_bytes task) asking) (fifo_told (is_read task) fifo).bytes
 told_task (ReadTask reading) asking fifo kind = (refl, refl, refl)
 told_task (WriteTask writing) asking fifo kind = (refl, refl)
@@ -138,7 +138,7 @@ kind_told Command kind = tt
 kind_told (Result answer) kind = tt
 kind_told (Execute execution) kind = kind_task execution.task kind
 
--- so it asks for none
+-- such a task asks for no byte
 asks_task : (task : Task) (asking : Bool) (bytes : List ℕ) → MutedTask task asking bytes → asking ≡ false
 asks_task (ReadTask reading) asking bytes was = was.1
 asks_task (WriteTask writing) asking bytes was = was.1
@@ -200,7 +200,7 @@ polled_fifo false old = refl
 polled_bytes : (old : Fdc) → (polled old).fifo.bytes ≡ old.fifo.bytes
 polled_bytes old = ap (λ fifo. fifo.bytes) (polled_fifo (old.poll_due && not (is_held old)) old)
 
--- by what it executes
+-- the same, by what the controller executes
 listens_task : (task : Task) (h s : ℕ) (asking : Bool) (bytes : List ℕ) (polls new : Fdc) (index : Bool) (word : ℕ) → MutedTask task asking bytes → polls.fifo.bytes ≡ bytes
     → ExecutesTask (is_listening task) h s task index word polls new → ((writing : Writing) → task ≡ WriteTask writing → writing.counted ≡ true → Muted new) → Muted new
 listens_task (ReadTask reading) h s asking bytes polls new index word was same executes writes = elim executes [
@@ -270,7 +270,7 @@ goes_counted moving marked counted = none_and _ _ (none_and (not moving.counted)
 silent_telling : (stage : Stage) (new : Front) → new.stage ≡ stage → IsSilentAt stage new.adapter.controller → IsSilent new
 silent_telling stage new is silent = subst (λ s. IsSilentAt s new.adapter.controller) (sym is) silent
 
--- a device step of a sector: none begins behind it
+-- after a device step of a sector no further sector begins
 record GoesSilent (history now : History) (new : Front) : Type 0 where
   silent : IsSilent new
   parts : now.parts ≡ history.parts
@@ -308,7 +308,7 @@ served_kind first history moving new serves is =
 
 -- ---- the calls
 
--- behind one: no byte passed in it, and no sector was over
+-- what is known after one call: no byte passed in it, and no sector was over
 record StaysSilent (call : Call) (history now : History) (new : Front) : Type 0 where
   silent : IsSilent new
   parts : now.parts ≡ history.parts
@@ -374,7 +374,7 @@ module _ (first : Transfer) (served history : History) where
       let (some, asked) = and_parts (nat_lt 0 moving.left) (asks fdc && not (to_memory_of fdc)) up in
       clash fdc.asking (muted_asks fdc.phase fdc.asking fdc.fifo.bytes carries.busy muted) (and_parts (is_gated fdc) fdc.asking (and_parts (asks fdc) (not (to_memory_of fdc)) asked).0).1
 
-  -- told again, or for the first time
+  -- the terminal count comes again, or for the first time
   silent_count : (stage : Stage) (old new : Front) → old.stage ≡ stage → ServesAt stage first served old.adapter.controller → new ≡ count_told stage old → StaysSilent Counts history (history_counted stage history) new
   silent_count Through old new here_is now is = absurd now
   silent_count (Collecting opcode) old new here_is now is = absurd now
@@ -401,7 +401,7 @@ module _ (first : Transfer) (served history : History) where
   silent_read (Moving moving) true port old new now was stays is = same_silent (Reads port) history old new refl is was
   silent_read (Telling results read) true port old new now was stays is = silent_result (nat_le 6 read) results read port old new stays is
 
-  -- the stage stays, and what the controller executes
+  -- the stage stays, and what the controller executes stays silent
   silent_kept : (stage : Stage) (call : Call) (old new : Front) → passed_by call ≡ [] → IsSilentAt stage old.adapter.controller → new.stage ≡ stage
       → (Muted old.adapter.controller → Muted new.adapter.controller) → StaysSilent call history history new
   silent_kept Through call old new none was is same = record { silent = stage_silent Through new is tt; parts = refl; none = none }
@@ -467,7 +467,7 @@ calls_silent (call ∷ calls) first served history grown old new (between, does,
     let more = calls_silent calls first one.history mid grown between new rest one.serves silent.silent gather in
     (none_more (passed_by call) (passed_in_all calls) silent.none more.0, more.1 ∙ silent.parts)
 
--- where the count is heard, the front is silent
+-- where the terminal count is heard, the front becomes silent
 pub count_silent : (first : Transfer) (served : History) (old : Front) → Serves first served old → IsSilent (told_front old)
 count_silent first served old serves = (silent_count first served served old.stage old (told_front old) refl serves.now refl).silent
 

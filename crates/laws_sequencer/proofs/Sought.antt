@@ -25,7 +25,7 @@ abbrev pub seek_left : Option Seek → ℕ
 seek_left None = 0
 seek_left (Some seek) = motion_left seek.motion
 
--- a seek with so many left is one nearer its end, and runs where that isn't reached
+-- the seek is one device step nearer to its end, and it runs as long as it hasn't ended
 pub record IsNearer (left : ℕ) (new : Seeks) : Type 0 where
   pub fewer : seek_left new.seek ≤ left - 1
   pub runs : has_ended_seek new ≡ false → is_seeking new ≡ true

@@ -68,12 +68,12 @@ IsAnswered fdc = fdc.phase ≡ Result (Short 0x80 None)
 idle_answer : (fdc : Fdc) → IsAnswered fdc → is_executing fdc.phase ≡ false
 idle_answer fdc is = ap is_executing is
 
--- nothing stands in the way of a command that is executed
+-- nothing stands in the way of the command, if the controller executes it
 module _ (P : Type 0) (seeks : ℕ) (non_dma : Bool) (old new : Fdc) where
   abbrev May : Type 0
   May = (seeks ≡ 0 → (non_dma ≡ true → new ≡ answered 0x80 None old) × (non_dma ≡ false → P)) × ((seeks == 0) ≡ false → new ≡ answered 0x80 None old)
 
-  -- it begins, or 80 is answered
+  -- the command begins, or 80 is answered
   begins_or : May → (P × (seeks ≡ 0) × (non_dma ≡ false)) ⊎ IsAnswered new
   begins_or (resting, seeking) = either_way (seeks == 0)
       (λ none. let rests = eqb-true seeks 0 none in let begins = resting rests in either_way non_dma (λ set. inr (ap (λ fdc. fdc.phase) (begins.0 set))) (λ clear. inl (begins.1 clear, rests, clear)))
@@ -175,7 +175,7 @@ begun_busy at lines old new takes busy = elim (command_taken at lines old new ta
 
 -- ---- the seek that comes before
 
--- where the controller took commands and takes none behind it, 80 is answered
+-- 80 is answered if the controller took commands before this one and takes none after it
 pub seek_answered : (head_drive cylinder : ℕ) (lines : Lines) (old new : Fdc) → TakesWhole (Ready (Seek head_drive cylinder)) lines old new → is_idle old ≡ true → is_idle new ≡ false
     → new.phase ≡ Result (Short 0x80 None)
 seek_answered head_drive cylinder lines old new takes idle busy = either_way (seek_bits old.seeks == 0)
@@ -210,7 +210,7 @@ begun_mark : (operation : Operation) (sent : Sent) (fdc : Fdc) → MayMove opera
 begun_mark (Read wanted skip) sent fdc moves skips (marked, is, other) = cc (fresh_mark sent fdc.phase fdc.asking fdc.fifo.bytes moves, is)
 begun_mark (Write deleted) sent fdc moves skips other = false≢true skips
 
--- the controller is told the count
+-- the controller is given the terminal count
 pub told_carries : (operation : Operation) (met : Bool) (moving : MovingSector) (past : Past) (fdc : Fdc) → MayMove operation past (sent_of moving.transfer) fdc → is_executing fdc.phase ≡ true → IsFree fdc
     → Accounts operation met moving (told_in true past) (mark_of fdc) → (is_skipping operation ≡ true → IsOfOther operation (mark_of fdc) → moving.left ≡ 0)
     → Carries operation met moving (told_in true past) (told_count fdc)

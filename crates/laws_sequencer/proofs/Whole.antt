@@ -16,7 +16,7 @@ no_bytes : (operation : Operation) (bytes : List ℕ) → all_bytes operation (n
 no_bytes (Read wanted skip) bytes = refl
 no_bytes (Write deleted) bytes = refl
 
--- it is served from its last byte on
+-- a command is served from its last byte on
 pub begins_served : (byte : ℕ) (first : Transfer) (start begun : Front) → IsLastByte byte first start → WritesFront 0x3F5 byte start begun → (begun.stage ≡ Through → ⊥) → Serves first (nothing_moved false) begun
 begins_served byte first start begun last writes within =
     let begins = subst (λ stage. BeginsAt stage byte start begun) last.collects (begins_at start.stage 0x3F5 byte start begun refl writes refl) in

@@ -26,7 +26,7 @@ use Rattle.fdc_core.specs.declared.controller.Fdc.{Fdc}
 
 -- ---- stages
 
--- the words are none, or the gate is open
+-- where no word is due, none was written
 pub due_words : (past : Past) (key : Chrn) (deleted : Bool) (handed : List ℕ) (now : WriteStage) → IsWriting past key deleted handed now → is_due now ≡ false → past.words ≡ []
 due_words past key deleted handed (stage.Search searching) was due = was.1.1.0
 due_words past key deleted handed (stage.Gap left) was due = was.1.1.0
@@ -53,7 +53,7 @@ opens_due (stage.Gap zero) opening = refl
 opens_due (stage.Gap (suc left)) opening = absurd (false≢true opening)
 opens_due (stage.Window window) opening = absurd (false≢true opening)
 
--- one index has passed at most, or words were heard behind the last
+-- at most one index has passed
 few_turned : (turned : Bool) (turns : List (List ℕ)) → HasTurned turned turns → length turns ≤ 1
 few_turned false turns is = let none = ap length is in omega arith
 few_turned true turns (first, is) = let one = ap length is in omega arith

@@ -1,4 +1,4 @@
--- Whatever the calls gathered, the sectors and the bytes that were taken of each are the same.
+-- Whatever history the calls gather, the sectors are the same, and so are the bytes that were taken of each.
 use Rattle.std.proofs.Common.{◌≡◌, inl, inr, ℕ, suc, ◌-◌, ◌==◌, Bool, true, false, Option, Some, None, List, [], ◌∷◌, ◌++◌, length, refl, sym, ◌∙◌, ap, subst}
 use Rattle.raw_image.specs.Disk.{Disk}
 use Rattle.fdc_commands.specs.declared.results.Results.{Results}
@@ -23,14 +23,14 @@ use Rattle.laws_sequencer.specs.Serving.{History, Part, history_counted, history
 use Rattle.laws_sequencer.specs.Written.{AreWritten, HasWindow, IsBegun, IsDone, IsWrittenTo}
 use Rattle.laws_sequencer.proofs.Known.{time_counted, time_taken}
 
--- the same sectors, of each of which the same was taken
+-- the same sectors, and the same bytes were taken of each
 abbrev pub AreAlike : List Part → List Part → Type 0
 AreAlike [] [] = Unit {0}
 AreAlike [] (part ∷ parts) = ⊥
 AreAlike (part ∷ parts) [] = ⊥
 AreAlike (part ∷ parts) (other ∷ others) = (part.at ≡ other.at) × (part.past.taken ≡ other.past.taken) × AreAlike parts others
 
--- the same was taken of a sector, and the terminal count came or didn't
+-- the same bytes were taken of a sector, and the terminal count came to both or to none
 abbrev pub IsSame : Past → Past → Type 0
 IsSame past now = (past.taken ≡ now.taken) × (past.counted ≡ now.counted)
 

@@ -46,7 +46,7 @@ use Rattle.laws_sequencer.proofs.WrittenWords.{IsAtSector, IsLike, sector_begins
 
 -- ---- port writes
 
--- the motor leaves all but itself; a reset comes to no command
+-- a port write that doesn't reset the controller changes nothing of the drive but its motor
 port_puts : (port value bay : ℕ) (controller : Fdc) (before after : DriveState) → FollowsWrite port value bay controller before after → resets port value ≡ false → StaysPut before after
 port_puts port value bay controller before after follows none = by_gate (resets port value) none follows.gate (by_motor (port == 0x3F2) follows.motor)
   where
@@ -77,7 +77,7 @@ adapter_puts port value bay old new writes none = by_bay (bay == 0)
     by_bay true = port_puts port value 0 new.controller old.first new.first writes.first none
     by_bay false = port_puts port value 1 new.controller old.second new.second writes.second none
 
--- one that stays on keeps its speed
+-- a drive whose motor stays on keeps its speed
 motor_speed : (b : Bool) (bay : ℕ) (controller : Fdc) (before after : DriveState) → FollowsDor b bay controller before after → after.motor ≡ true → KeepsSpeed before after
 motor_speed true bay controller before after (on, is, becomes) runs fast =
     let stays : on ≡ true = sym (ap (λ s. s.motor) becomes) ∙ runs in
@@ -119,7 +119,7 @@ failed_st1 Late fails told = elim told [ inl none ↦ absurd (omega arith) | inr
 
 -- ---- the medium
 
--- one of which some words were written isn't protected
+-- a medium on which some words were written isn't protected
 first_unprotected : (place : Place) (deleted : Bool) (at : Transfer) (past : Past) (disk now : Disk) → HasFirst place deleted at past disk now → disk.protected ≡ false
 first_unprotected place deleted at past disk now is =
     let more = content_size at.key.n - length is.handed in
@@ -129,7 +129,7 @@ first_unprotected place deleted at past disk now is =
 
 -- ---- all calls
 
--- behind all calls the command is served, with what they add, and this is known of the write
+-- after all calls the command is served, with what they add, and this is known of the write
 pub record AllWritten (place : Place) (deleted : Bool) (first : Transfer) (calls : List Call) (was : History) (old new : Front) (within : AreWithin calls old new) : Type 0 where
   pub history : History
   pub gather : Gather calls old new within was history
@@ -214,7 +214,7 @@ module _ (place : Place) (deleted : Bool) (first : Transfer) (writes : first.opc
       by_last true is = absurd (stays (ap (λ front. front.stage) is))
       by_last false is = subst (λ front. IsNow history front) (sym is) over
 
-  -- the stage stays, and the drive stays put, at speed where a sector is moved
+  -- the stage stays, and the drive stays where it is. It stays at speed while a sector is moved
   put_now : (stage : Stage) (history : History) (old new : Front) → NowWritten stage place deleted first history old.adapter → new.stage ≡ stage → IsOverCylinderWhile new.stage place new
       → StaysPut (drive_at old.adapter place.bay) (drive_at new.adapter place.bay)
       → ((moving : MovingSector) → stage ≡ Moving moving → (drive_at new.adapter place.bay).motor ≡ true → KeepsSpeed (drive_at old.adapter place.bay) (drive_at new.adapter place.bay))
@@ -389,7 +389,7 @@ module _ (place : Place) (deleted : Bool) (first : Transfer) (writes : first.opc
         },
       )
 
-  -- so it is with whatever was gathered
+  -- the same holds of any history that was gathered
   pub written_to : (byte : ℕ) (calls : List Call) (start begun end : Front) (within : AreWithin calls begun end) (results : Results) (read : ℕ) → IsLastByte byte first start → WritesFront 0x3F5 byte start begun
       → (begun.stage ≡ Through → ⊥) → Serves first (nothing_moved false) begun → KeepsIn place calls begun end within → (drive_at begun.adapter place.bay).medium ≡ Some place.disk → end.stage ≡ Telling results read
       → (history : History) → Gather calls begun end within (nothing_moved false) history → IsWrittenTo place deleted first history results end

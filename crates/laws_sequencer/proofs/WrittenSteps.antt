@@ -1,4 +1,5 @@
--- A write over a medium that stays in, through a device step: the sector goes on, or it is over, and the next begins or results are told.
+-- A write over a medium that stays in, through a device step: the sector goes on, or it is over. Then the next one
+-- begins, or results are given.
 use Rattle.std.proofs.Common.{◌≡◌, inl, inr, ℕ, zero, suc, ◌≤◌, ◌==◌, Bool, true, false, not, ◌&&◌, if◌then◌else◌, Option, Some, None, List, [], ◌∷◌, ◌++◌, length, refl, sym, ◌∙◌, ap, subst, arith}
 use Rattle.std.proofs.lemmas.Bool.{and_parts, false≢true}
 use Rattle.raw_image.specs.Disk.{Disk}
@@ -88,7 +89,7 @@ last_moved operation from (other ∷ parts) part (here, is, rest) = last_moved o
 
 -- ---- the drives of an adapter
 
--- the one that is selected
+-- the selected drive makes the device step
 pub bay_works : (bay : ℕ) (old new : AdapterState) → bay ≤ 1 → selected_at old ≡ bay → StepsAdapter old new → Works old.controller (drive_at old bay) new.controller (drive_at new bay)
 bay_works zero old new few at steps = (steps.at_first at).0
 bay_works (suc zero) old new few at steps = (steps.at_second at).0
@@ -158,7 +159,7 @@ never_unwanted deleted moving (Some marked) is = ap (λ o. is_skipping o && (is_
 
 -- ---- one call
 
--- behind a call the command is served, with what the call adds, and this is known of the write
+-- after a call the command is served, with what the call adds, and this is known of the write
 pub record OneWritten (place : Place) (deleted : Bool) (first : Transfer) (call : Call) (was : History) (old new : Front) (does : Does call old new) : Type 0 where
   pub history : History
   pub grows : Grows call old new does was history
@@ -187,7 +188,7 @@ module _ (place : Place) (deleted : Bool) (first : Transfer) (writes : first.opc
     abbrev fronted : Front
     fronted = record old { adapter = between }
 
-    -- it goes on
+    -- the sector goes on
     goes_now : (b : Bool) → b ≡ false → ending_told between.controller ≡ None → new ≡ passed_over_if b moving fronted → IsNow (record history { past = told_in b now }) new
     goes_now true wanted none is = absurd (false≢true (sym wanted))
     goes_now false wanted none is =
@@ -200,7 +201,7 @@ module _ (place : Place) (deleted : Bool) (first : Transfer) (writes : first.opc
           sector = subst (λ a. IsAtSector place a disk now true (drive_at between place.bay)) here (subst (λ b. IsAtSector place moving.transfer disk now b (drive_at between place.bay)) busy sector);
         }))
 
-    -- it is over
+    -- the sector is over
     module _ (told : Ending) (ended : ending_told between.controller ≡ Some told) where
       over_at : (front : Front) → drive_at front.adapter place.bay ≡ drive_at between place.bay → IsClean place front → SectorOver place deleted moving.transfer now disk (drive_at between place.bay)
       over_at front drive clean =
@@ -249,7 +250,7 @@ module _ (place : Place) (deleted : Bool) (first : Transfer) (writes : first.opc
           (same_drives place.bay between begins.between begins.takes.first begins.takes.second) begins.begun serves
       ends_if false marked serves is = tells_now (results_behind moving marked) is
 
-    -- as it is judged
+    -- the sector ends, as the front judges it
     ends_now : (ending : Ending) (mark : Option Bool) (told : Ending) → ending_told between.controller ≡ Some told → Serves first (history_moved (Some ending) moving mark now history) new
         → EndsSector moving ending (record fronted { adapter = with_controller (given_up between.controller) between }) new → IsNow (history_moved (Some ending) moving mark now history) new
     ends_now (Done marked) mark told ended serves ends = ends_if told ended (goes_on moving marked) marked serves ends
@@ -308,7 +309,7 @@ module _ (place : Place) (deleted : Bool) (first : Transfer) (writes : first.opc
         now = moves_now history moving old between new now underway.disk underway.like underway.parts here timed.may timed.sector stage_is same stays at (ending_told between.controller) refl on.2 follows;
       }
 
-  -- ---- while the heads seek, and where results are told
+  -- ---- ---- while the heads seek, and while results are given
 
   seeks_now : (b : Bool) (target : Transfer) (counted : Bool) (history : History) (old new : Front) → old.stage ≡ Seeking target counted → target ≡ first → history.parts ≡ [] → IsResting place place.disk old.adapter
       → (new.stage ≡ Through → ⊥) → IsOverCylinderWhile new.stage place new → SeeksOn b target counted old new → IsNow (history_sought b counted history) new

@@ -48,7 +48,7 @@ use Rattle.laws_sequencer.proofs.LateWriting.{IsWindowLed, window_bytes, window_
 
 -- ---- what is known of the drive
 
--- how it stood when the search for a sector began, over this disk, at this word and with so many faults
+-- how the drive stood when the search for a sector began, over this disk, at this word and with so many faults
 abbrev pub outset_on : Place → Transfer → Disk → ℕ → ℕ → Outset
 outset_on place at disk from since = record {
   head = head_of at.head_drive;
@@ -59,12 +59,12 @@ outset_on place at disk from since = record {
   faults = since;
 }
 
--- while the sector is written, or once it is over
+-- what is known of the drive while the sector is written, or once it is over
 abbrev pub IsAtSector : Place → Transfer → Disk → Past → Bool → DriveState → Type 0
 IsAtSector place at disk past executes drive =
     (from : ℕ) × (since : ℕ) × IsWindowLed (outset_on place at disk from since) past executes drive × (place.clean ≡ true → since ≡ place.faults)
 
--- the disk is one of the first's shape
+-- the disk has as many words on a track as the first one
 pub record IsLike (place : Place) (disk : Disk) : Type 0 where
   pub valid : IsDisk disk
   pub words : disk.words_per_track ≡ place.disk.words_per_track
@@ -157,7 +157,7 @@ timed_in place at deleted disk past drive after polls between asking fifo valid 
 
 -- ---- how a sector ends
 
--- this was handed in of what was taken, and so the words begin
+-- these bytes were handed in of what was taken, and the words written begin with them
 abbrev pub HasHanded : Past → Chrn → Bool → Type 0
 HasHanded past key deleted = (handed : List ℕ) × IsContent past.counted past.taken handed × HasBegun past key deleted handed
 
@@ -173,7 +173,7 @@ ended_idle Command ending is = refl
 ended_idle (Execute execution) ending is = absurd (cc is)
 ended_idle (Result answer) ending is = refl
 
--- ---- what it left
+-- ---- ---- what the sector left
 
 -- what the sector left of the disk
 pub record HasLeft (place : Place) (deleted : Bool) (at : Transfer) (past : Past) (disk now : Disk) : Type 0 where
@@ -235,7 +235,7 @@ module _ (place : Place) (at : Transfer) (deleted : Bool) (disk : Disk) (lead : 
           cut = subst (λ r. IsWithTrack disk place.cylinder (head_of at.head_drive) r put.now) row put.stands.track;
         }
 
-    -- all of them, where no word was lost
+    -- all words stand, if none was lost
     window_stands : (content : List ℕ) → late.words ≡ window deleted content → length content ≡ content_size at.key.n → HasWindow place deleted at content disk put.now
     window_stands content is size =
         let words = words_stand content ([], sym is ∙ sym (append-nil late.words)) size in

@@ -17,8 +17,14 @@ use Rattle.fdc_sequencer.specs.declared.stage.Stage.{Stage}
 use Rattle.fdc_sequencer.specs.declared.stage.Stage.TheVariants.{Through, Collecting}
 use Rattle.fdc_sequencer.specs.declared.transfer.Transfer.{Transfer}
 
--- a call: a device step; the channel takes a byte or finds none; it gives one, which is taken or not; it tells the terminal
--- count; a port is read, or written; a medium is put in or taken out; the strap for seeks is set or not
+-- one call, which does one of these things:
+-- - a device step passes;
+-- - the channel takes a byte or finds none;
+-- - the channel gives a byte, which is taken or not;
+-- - the channel gives the terminal count;
+-- - a port is read, or written;
+-- - a medium is put in or taken out;
+-- - the strap for seeks is set or not.
 pub data Call : Type 0 where
   Steps : Call
   Takes : Option ℕ → Call
@@ -29,7 +35,7 @@ pub data Call : Type 0 where
   Changes : Call
   Straps : Bool → Call
 
--- what it does
+-- what a call does
 abbrev pub Does : Call → Front → Front → Type 0
 Does Steps old new = StepsFront old new
 Does (Takes byte) old new = TakesFront old byte new
@@ -40,7 +46,7 @@ Does (Writes port value) old new = WritesFront port value old new
 Does Changes old new = KeepsFront old new
 Does (Straps on) old new = new ≡ record old { strapped = on }
 
--- the byte that passed in it
+-- the byte that passed in a call
 abbrev pub passed_by : Call → List ℕ
 passed_by (Takes byte) = passed_out byte
 passed_by (Gives byte was) = passed_in was byte
@@ -49,12 +55,12 @@ passed_by _ = []
 abbrev pub passed_in_all : List Call → List ℕ
 passed_in_all calls = flat_map passed_by calls
 
--- it tells the terminal count
+-- the call gives the terminal count
 abbrev pub is_count : Call → Bool
 is_count Counts = true
 is_count _ = false
 
--- while the bytes of a command come the controller takes commands, and none has begun there
+-- while the bytes of a command come, the controller takes commands, and no command has begun there
 abbrev pub WaitsAt : Stage → Fdc → Type 0
 WaitsAt (Collecting _) fdc = is_idle fdc ≡ true
 WaitsAt _ fdc = Unit {0}
@@ -62,13 +68,13 @@ WaitsAt _ fdc = Unit {0}
 abbrev pub Waits : Front → Type 0
 Waits front = WaitsAt front.stage front.adapter.controller
 
--- these calls, behind none of which each access is the controller's again
+-- these calls, after none of which each access is the controller's again
 abbrev pub AreWithin : List Call → Front → Front → Type 0
 AreWithin [] old new = new ≡ old
 AreWithin (call ∷ calls) old new =
     (between : Front) × Does call old between × (between.stage ≡ Through → ⊥) × AreWithin calls between new
 
--- what a call adds to what was heard and moved: a device step the word that the drive gave, or that was written
+-- what a call adds to what was heard and moved: a device step adds the word that the drive gave, or that was written
 abbrev pub Grows : (call : Call) (old new : Front) → Does call old new → History → History → Type 0
 Grows Steps old new step was now =
     (time : WordTime) × Passes old.stage time old.adapter step.between × (now ≡ history_stepped old.stage time step.between.controller was)
@@ -77,7 +83,7 @@ Grows (Gives byte given) old new does was now = now ≡ history_given old.stage 
 Grows Counts old new does was now = now ≡ history_counted old.stage was
 Grows _ old new does was now = now ≡ was
 
--- what all of them add, one behind the other, each between the fronts that it was made between
+-- what all of the calls add, one after the other. Each call stands between the fronts before and after it
 abbrev pub Gather : (calls : List Call) (old new : Front) → AreWithin calls old new → History → History → Type 0
 Gather [] old new same was now = now ≡ was
 Gather (call ∷ calls) old new within was now =
@@ -88,8 +94,9 @@ abbrev pub is_counted : (calls : List Call) (old new : Front) → AreWithin call
 is_counted [] old new same = false
 is_counted (call ∷ calls) old new within = (is_count call && hears_count old.stage) || is_counted calls within.0 new within.3
 
--- the command is served, and this is what it then heard and moved: what was, and what the calls added to it; behind the bytes that
--- had passed these did; and the terminal count came where it had come, or was heard in one of these calls
+-- after these calls the command is served, with the history here. This history is the old one with what the calls added
+-- to it. The bytes that passed in the calls come after those that had passed before. The terminal count has come if it
+-- had come before, or if it was heard in one of these calls
 pub record Behind (first : Transfer) (old : History) (calls : List Call) (start front : Front) (within : AreWithin calls start front) : Type 0 where
   pub history : History
   pub gather : Gather calls start front within old history
@@ -97,9 +104,10 @@ pub record Behind (first : Transfer) (old : History) (calls : List Call) (start 
   pub bytes : all_bytes first.opcode.operation history ≡ all_bytes first.opcode.operation old ++ passed_in_all calls
   pub told : history.counted ≡ (old.counted || is_counted calls start front within)
 
--- what passed between the last byte of a command and these results: what the calls added, one behind the other, to nothing; the bytes
--- that passed are those of its sectors, in order, of which this is known; what the results say of them; those of the last sector are
--- of that sector; and the terminal count came where one of the calls was heard
+-- what passed between the last byte of a command and these results. The history is what the calls added, one after the
+-- other, to an empty one. The bytes that passed are those of the command's sectors, in order, each of which was moved.
+-- The results say of the sectors what `ResultsSay` has. The bytes of the last sector are of that sector. The terminal
+-- count has come if it was heard in one of the calls
 pub record Served (first : Transfer) (calls : List Call) (begun end : Front) (within : AreWithin calls begun end) (results : Results) : Type 0 where
   pub history : History
   pub gather : Gather calls begun end within (nothing_moved false) history
@@ -109,7 +117,7 @@ pub record Served (first : Transfer) (calls : List Call) (begun end : Front) (wi
   pub of_sector : PassesOfSector first history
   pub told : history.counted ≡ is_counted calls begun end within
 
--- with this byte a command of this code is whole, and begins at this sector
+-- with this byte a command of this code is whole, and the command begins at this sector
 pub record IsLastByte (byte : ℕ) (first : Transfer) (front : Front) : Type 0 where
   pub opcode : Opcode
   pub collects : front.stage ≡ Collecting opcode

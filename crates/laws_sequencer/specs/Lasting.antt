@@ -11,11 +11,11 @@ use Rattle.laws_sequencer.specs.Calls.{Call, Steps}
 
 -- ---- sectors
 
--- the sectors of a head from this record to the last one: behind record FF comes 00
+-- the sectors of a head from this record to the last one. After record FF comes 00
 abbrev pub records_from : ℕ → ℕ → ℕ
 records_from last r = (last + 256 - r) % 256 + 1
 
--- with MT those of head 1 come behind those of head 0
+-- with MT the sectors of head 1 come after those of head 0
 abbrev pub goes_to_other : Transfer → Bool
 goes_to_other at = at.opcode.multitrack && not (is_second_head at.head_drive)
 
@@ -23,7 +23,7 @@ goes_to_other at = at.opcode.multitrack && not (is_second_head at.head_drive)
 abbrev pub sectors_from : Transfer → ℕ
 sectors_from at = records_from at.last_sector at.key.r + (if goes_to_other at then records_from at.last_sector 1 else 0)
 
--- the numbers of its record and of the last one are bytes, where another sector comes after its own
+-- if another sector comes after this one, the numbers of its record and of the last record are bytes
 abbrev pub HasRecords : Transfer → Type 0
 HasRecords at = is_last at ≡ false → HasByteRecords at
 
@@ -44,7 +44,7 @@ abbrev pub steps_in : List Call → ℕ
 steps_in [] = 0
 steps_in (call ∷ calls) = steps_of call + steps_in calls
 
--- an implied seek steps over 255 cylinders at most, and ends in one device step more; each sector takes 65,536 at most
+-- an implied seek steps over at most 255 cylinders, and ends in one device step more. Each sector takes at most 65,536
 abbrev pub most_steps : Transfer → ℕ
 most_steps first = 256 + 65536 * sectors_from first
 

@@ -1,5 +1,5 @@
--- What a command of several sectors means: the bytes that pass are, in order, those of its sectors, each found in the words of
--- its own search.
+-- What a command of several sectors means: the bytes that pass are, in order, those of its sectors. Each sector is
+-- found in the words of its own search.
 use Rattle.std.specs.Prelude.{◌≡◌, ◌≤◌, ◌⊎◌, ℕ, zero, suc, ◌+◌, ◌-◌, nat_le, Bool, true, false, ◌||◌, ◌==◌, Option, None, Some, List, [], ◌∷◌, ◌++◌, length, flat_map}
 use Rattle.std.specs.List.{list_any}
 use Rattle.flop_base.specs.declared.key.Chrn.{Chrn}
@@ -42,44 +42,45 @@ use Rattle.fdc_sequencer.specs.declared.transfer.Transfer.{Transfer}
 
 -- ---- the controller's own command for a sector
 
--- what it sends
+-- what the controller's own command sends
 abbrev pub sent_of : Transfer → Sent
 sent_of at = record { head_drive = at.head_drive; key = at.key; last_sector = at.last_sector }
 
--- it is in execution, or its results are told, and this is what it heard and moved
+-- the controller's own command is in execution, or its results are given, and this is what it heard and moved
 abbrev pub MayMove : Operation → Past → Sent → Fdc → Type 0
 MayMove (Read _ _) past sent fdc = MayRead past sent fdc
 MayMove (Write deleted) past sent fdc = MayWrite past sent deleted fdc
 
--- the bytes that passed: those that a read gave, and those that a write took
+-- the bytes that passed: those that a read gave, or those that a write took
 abbrev pub bytes_moved : Operation → Past → List ℕ
 bytes_moved (Read _ _) past = past.given
 bytes_moved (Write _) past = past.taken
 
--- whatever passed is of its sector: what was given are the first bytes behind a data mark of an address field of the key; the words
--- written are the first of the window of one, with what was taken as its content
+-- whatever passed is of its sector. The bytes that a read gave are the first ones after a data mark of an address field
+-- of the key. The words that a write wrote are the first of the window of such an address field, with what was taken as
+-- its content
 abbrev pub IsOfSector : Operation → Past → Sent → Type 0
 IsOfSector (Read _ _) past sent = AreOfField past sent.key past.given
 IsOfSector (Write deleted) past sent = WritesWindow past sent deleted
 
--- what its ending says of the words heard and written
+-- what the ending of the command says of the words heard and written
 abbrev pub Means : Operation → Past → Sent → Ending → Type 0
 Means (Read _ _) past sent ending = ReadMeans past sent ending
 Means (Write deleted) past sent ending = WriteMeans past sent deleted ending (results_sent ending sent)
 
 -- ---- fields that a read heard
 
--- a turn has an address field of the key at p, and its data field at q, with this mark
+-- a revolution has an address field of the key at p, and its data field at q, with this mark
 pub record HasFieldIn (past : Past) (key : Chrn) (marked : Bool) (turn : List ℕ) (p q : ℕ) : Type 0 where
   pub among : IsTurn past turn
   pub address : IsAddressAt turn p key
   pub field : HasDataField turn p key.n q marked
 
--- some turn has, whatever the data field's check is
+-- some revolution has such a field, whether the CRC of its data field is right or not
 abbrev pub FindsField : Past → Chrn → Bool → Type 0
 FindsField past key marked = (turn : List ℕ) × (p : ℕ) × (q : ℕ) × HasFieldIn past key marked turn p q
 
--- and the data field isn't whole
+-- some revolution has such a field, and the data field isn't whole
 abbrev pub FindsBadField : Past → Chrn → Bool → Type 0
 FindsBadField past key marked =
     (turn : List ℕ) × (p : ℕ) × (q : ℕ) × HasFieldIn past key marked turn p q × (IsIntact turn q key.n → ⊥)
@@ -92,20 +93,20 @@ pub record Part : Type 0 where
   pub past : Past
   pub marked : Bool
 
--- a read found the sector with this mark, so that what was given, where it is as much as the sector's size, is its content; a
--- write wrote the sector's whole field with the bytes that were taken
+-- a read found the sector with this mark. What it gave is the sector's content, if it gave as many bytes as the
+-- sector's size. A write wrote the sector's whole field with the bytes that were taken
 abbrev pub IsWholeField : Operation → Past → Chrn → Bool → Type 0
 IsWholeField (Read _ _) past key marked = FindsSector past key past.given marked
 IsWholeField (Write deleted) past key marked = WritesWhole past key deleted past.taken
 
--- all bytes of a field passed, whose mark is wanted
+-- all bytes of a field passed, and its mark is wanted
 pub record IsMovedWhole (operation : Operation) (part : Part) : Type 0 where
   pub field : IsWholeField operation part.past part.at.key part.marked
   pub wanted : is_other operation part.marked ≡ false
   pub all : length (bytes_moved operation part.past) ≡ content_size part.at.key.n
 
--- or none passed of one with the other mark, where such are passed over: it was found, its check good or bad, and the controller was
--- told the count
+-- no byte passed of a field with the other mark, and such fields are passed over. The field was found, its CRC right or
+-- wrong, and the controller was given the terminal count
 pub record IsPassedOver (operation : Operation) (past : Past) (key : Chrn) (marked : Bool) : Type 0 where
   pub skips : is_skipping operation ≡ true
   pub other : is_other operation marked ≡ true
@@ -116,12 +117,12 @@ pub record IsPassedOver (operation : Operation) (past : Past) (key : Chrn) (mark
 abbrev pub IsMoved : Operation → Part → Type 0
 IsMoved operation part = IsMovedWhole operation part ⊎ IsPassedOver operation part.past part.at.key part.marked
 
--- the sectors from the first on, one behind the other, and each was moved
+-- the sectors from the first on, one after the other, and each was moved
 abbrev pub AreMoved : Operation → Transfer → List Part → Type 0
 AreMoved operation first [] = Unit {0}
 AreMoved operation first (part ∷ parts) = (part.at ≡ first) × IsMoved operation part × AreMoved operation (next_of first) parts
 
--- the sector behind so many
+-- the sector after so many sectors
 abbrev pub sector_after : ℕ → Transfer → Transfer
 sector_after zero first = first
 sector_after (suc n) first = sector_after n (next_of first)
@@ -132,33 +133,34 @@ has_other operation parts = list_any (λ part. is_other operation part.marked) p
 
 -- ---- the sector under way
 
--- its field has the mark that isn't wanted
+-- the field of the sector has the mark that isn't wanted
 abbrev pub IsOfOther : Operation → Option Bool → Type 0
 IsOfOther operation mark = (marked : Bool) × (mark ≡ Some marked) × (is_other operation marked ≡ true)
 
--- so many of its bytes passed, and so many are left; or none passed and none is left, since its field is passed over. What is
--- remembered of fields of the other mark is whether one was met, here or before
+-- either so many bytes of the sector passed, and so many are left. Or none passed and none is left, because the
+-- sector's field is passed over. What is remembered of fields of the other mark is whether one was met, here or before
 abbrev pub AreLeft : Operation → Bool → MovingSector → Option Bool → List ℕ → Type 0
 AreLeft operation met moving mark bytes =
     ((moving.skipped ≡ false) × (moving.passed_over ≡ met) × (length bytes + moving.left ≡ content_size moving.transfer.key.n))
     ⊎ ((moving.skipped ≡ true) × (moving.passed_over ≡ true) × (is_skipping operation ≡ true) × IsOfOther operation mark × (moving.left ≡ 0)
     × (bytes ≡ []))
 
--- what is left of the sector, behind such that met the other mark or didn't, once the mark of its own field is known or not
+-- what is left of the sector. `met` says whether a sector before it met the other mark. The mark of its own field may
+-- be known or not
 pub record Accounts (operation : Operation) (met : Bool) (moving : MovingSector) (past : Past) (mark : Option Bool) : Type 0 where
   pub sized : IsSizeCode moving.transfer.key.n
   pub bytes : AreLeft operation met moving mark (bytes_moved operation past)
-  -- where such are passed over, no byte of a field of the other mark passes
+  -- if fields of the other mark are passed over, no byte of such a field passes
   pub clean : is_skipping operation ≡ true → IsOfOther operation mark → bytes_moved operation past ≡ []
-  -- the controller was told the count where the command was, or where nothing is left
+  -- the controller was given the terminal count if the command was, or if nothing is left
   pub told : past.counted ≡ (moving.counted || (moving.left == 0))
 
--- no seek bit is set, and SPECIFY's ND isn't: a command for a sector is executed
+-- no seek bit is set, and SPECIFY didn't set ND. A command for a sector is then executed
 pub record IsFree (fdc : Fdc) : Type 0 where
   pub rests : seek_bits fdc.seeks ≡ 0
   pub by_dma : fdc.non_dma ≡ false
 
--- the controller executes its own command for the sector, and is free for the next
+-- the controller executes its own command for the sector, and is free for the next one
 pub record Carries (operation : Operation) (met : Bool) (moving : MovingSector) (past : Past) (fdc : Fdc) : Type 0 where
   pub moves : MayMove operation past (sent_of moving.transfer) fdc
   pub busy : is_executing fdc.phase ≡ true
@@ -168,40 +170,42 @@ pub record Carries (operation : Operation) (met : Bool) (moving : MovingSector) 
 
 -- ---- how the command ends
 
--- with this mark a field is done: one that is passed over was found; of another the controller's ending says so
+-- with this mark a field is done. A field that is passed over was found. Of any other the controller's ending says that
+-- it was done
 abbrev pub IsFieldDone : Bool → Operation → Past → Sent → Bool → Type 0
 IsFieldDone true operation past sent marked = FindsField past sent.key marked
 IsFieldDone false operation past sent marked = Means operation past sent (Done marked)
 
--- a field that isn't whole has a mark that is wanted, or such as haven't it aren't passed over
+-- a field that isn't whole has a mark that is wanted, or fields without that mark aren't passed over
 abbrev pub HasBadField : Operation → Past → Chrn → Type 0
 HasBadField (Read wanted skip) past key =
     (marked : Bool) × FindsBadField past key marked × (skip ≡ true → is_other (Read wanted skip) marked ≡ false)
 HasBadField (Write deleted) past key = Unit {0}
 
--- what an ending says, as it is judged, of a sector whose field is passed over or isn't
+-- what an ending says, as the front judges it, of a sector whose field is passed over or isn't
 abbrev pub MeansJudged : Ending → Bool → Operation → Past → Sent → Type 0
 MeansJudged (Done marked) skipped operation past sent = IsFieldDone skipped operation past sent marked
 MeansJudged BadCheck skipped operation past sent =
     (skipped ≡ false) × Means operation past sent BadCheck × HasBadField operation past sent.key
 MeansJudged ending skipped operation past sent = Means operation past sent ending
 
--- no sector comes behind this one
+-- no sector comes after this one
 abbrev pub IsLastOne : MovingSector → Ending → Type 0
 IsLastOne moving (Done marked) = goes_on moving marked ≡ false
 IsLastOne moving _ = Unit {0}
 
--- the mark that the ending tells
+-- the mark that the ending reports
 abbrev pub IsMarkOf : Ending → Option Bool → Type 0
 IsMarkOf (Done marked) mark = mark ≡ Some marked
 IsMarkOf _ mark = Unit {0}
 
--- its results
+-- the results of a sector that ended in this way
 abbrev pub results_ended : MovingSector → Ending → Results
 results_ended moving (Done marked) = results_behind moving marked
 results_ended moving ending = results_failed moving ending
 
--- the command ended at this sector, since the controller's own command for it ended so, as it is judged
+-- the command ended at this sector, because the controller's own command for it ended in this way, as the front judges
+-- it
 pub record Ends (operation : Operation) (met told : Bool) (at : Transfer) (past : Past) (results : Results) : Type 0 where
   pub moving : MovingSector
   pub here : moving.transfer ≡ at
@@ -217,7 +221,8 @@ pub record Ends (operation : Operation) (met told : Bool) (at : Transfer) (past 
 
 -- ---- the whole command
 
--- the sectors that are over, in order; what was heard and moved of the one behind them; and whether the terminal count came
+-- the sectors that are over, in order; what was heard and moved of the sector after them; and whether the terminal
+-- count came
 pub record History : Type 0 where
   pub parts : List Part
   pub past : Past
@@ -234,8 +239,8 @@ bytes_of_parts operation parts = flat_map (λ part. bytes_moved operation part.p
 abbrev pub all_bytes : Operation → History → List ℕ
 all_bytes operation history = bytes_of_parts operation history.parts ++ bytes_moved operation history.past
 
--- while the heads seek nothing has passed; then the sectors that are over were moved, and the one behind them is under way; or
--- the command ended there
+-- while the heads seek nothing has passed. After that the sectors that are over were moved. The one after them is under
+-- way, or the command ended there
 abbrev pub ServesAt : Stage → Transfer → History → Fdc → Type 0
 ServesAt (Seeking at counted) first history fdc = (at ≡ first) × (history ≡ nothing_moved counted)
 ServesAt (Moving moving) first history fdc =
@@ -245,8 +250,8 @@ ServesAt (Telling results _) first history fdc =
     Ends first.opcode.operation (has_other first.opcode.operation history.parts) history.counted (sector_after (length history.parts) first) history.past results
 ServesAt _ first history fdc = ⊥
 
--- a command that began at this sector, of a size that there is, is served, or its results are told, and this is what it heard and
--- moved
+-- a command that began at this sector is served, or its results are given, and this is what it heard and moved. The
+-- sector's size code is valid
 pub record Serves (first : Transfer) (history : History) (front : Front) : Type 0 where
   pub sized : IsSizeCode first.key.n
   pub parts : AreMoved first.opcode.operation first history.parts
@@ -254,19 +259,20 @@ pub record Serves (first : Transfer) (history : History) (front : Front) : Type 
 
 -- ---- what a call adds
 
--- where no drive is selected words 0000 are heard, and no index; and none is written
+-- where no drive is selected words 0000 are heard, without an index, and no word is written
 abbrev pub IsNowhere : WordTime → Type 0
 IsNowhere (Saw index word) = (index ≡ false) × (word ≡ 0)
 IsNowhere (KeptOut index word) = (index ≡ false) × (word ≡ 0)
 IsNowhere (Wrote opened closed index word) = ⊥
 IsNowhere Stopped = Unit {0}
 
--- no word is heard or written only where the controller's own command ended
+-- a step in which no word is heard or written is one in which the controller's own command ended
 abbrev pub StopsAtEnd : WordTime → Fdc → Type 0
 StopsAtEnd Stopped fdc = (ending : Ending) × (ending_told fdc ≡ Some ending)
 StopsAtEnd _ fdc = Unit {0}
 
--- what the selected drive did in a device step, at the controller's rate and under this head: the word that it gave, or took
+-- what the selected drive did in a device step, at the controller's rate and under this head: it gave a word, or took
+-- one
 pub record PassesAt (selected head : ℕ) (time : WordTime) (old new : AdapterState) : Type 0 where
   pub at_first : selected ≡ 0 → IsTime time old.controller.rate head old.first new.first × StopsAtEnd time new.controller
   pub at_second : selected ≡ 1 → IsTime time old.controller.rate head old.second new.second × StopsAtEnd time new.controller
@@ -278,38 +284,38 @@ IsTimeOf (Read _ _) (Saw index word) = Unit {0}
 IsTimeOf (Read _ _) time = ⊥
 IsTimeOf (Write _) time = Unit {0}
 
--- while a sector is moved it is under the sector's head
+-- while a sector is moved, the word time passes under the sector's head
 abbrev pub Passes : Stage → WordTime → AdapterState → AdapterState → Type 0
 Passes (Moving moving) time old new =
     IsTimeOf moving.transfer.opcode.operation time × PassesAt (selected_at old) (head_of moving.transfer.head_drive) time old new
 Passes _ time old new = Unit {0}
 
--- the sector was moved with this mark, and the next begins or none does
+-- the sector was moved with this mark. Either the next one begins, or none does
 abbrev pub history_ended : Bool → Transfer → Bool → Past → History → History
 history_ended true at marked past old =
     record { parts = old.parts ++ record { at = at; past = past; marked = marked } ∷ []; past = new_past; counted = false }
 history_ended false at marked past old = record old { past = past }
 
--- behind a device step of a sector: the controller's own command ended so, as it is judged, or a field that isn't wanted is passed
--- over, or it goes on
+-- what is known after a device step of a sector: the controller's own command ended in this way, as the front judges
+-- it. Or a field that isn't wanted is passed over, or the command goes on
 abbrev pub history_moved : Option Ending → MovingSector → Option Bool → Past → History → History
 history_moved (Some (Done marked)) moving mark past old = history_ended (goes_on moving marked) moving.transfer marked past old
 history_moved (Some _) moving mark past old = record old { past = past }
 history_moved None moving mark past old = record old { past = told_in (is_unwanted moving mark) past }
 
--- the heads came to the command's cylinder, and the first sector begins, or not
+-- the heads came to the command's cylinder, and the first sector begins. Or they didn't come there
 abbrev pub history_sought : Bool → Bool → History → History
 history_sought true counted old = record old { past = told_in counted new_past }
 history_sought false counted old = old
 
--- behind a device step in which this passed, once the controller made this of it
+-- the history after a device step in which this passed, and which left the controller in this state
 abbrev pub history_stepped : Stage → WordTime → Fdc → History → History
 history_stepped (Seeking at counted) time fdc old = history_sought (has_ended_seek fdc.seeks) counted old
 history_stepped (Moving moving) time fdc old =
     history_moved (judged_if moving (ending_told fdc)) moving (mark_of fdc) (after_time time old.past) old
 history_stepped _ time fdc old = old
 
--- behind a byte, and with the last of a sector the controller was told the count
+-- the history after a byte. With the last byte of a sector the controller is given the terminal count
 abbrev pub history_passed : MovingSector → Past → History → History
 history_passed moving past old = record old { past = told_in (moving.left - 1 == 0) past }
 
@@ -321,7 +327,7 @@ abbrev pub history_given : Stage → ℕ → Bool → History → History
 history_given (Moving moving) byte true old = history_passed moving (took byte old.past) old
 history_given _ _ _ old = old
 
--- behind the terminal count, where it is heard
+-- the history after the terminal count, if it is heard
 abbrev pub history_counted : Stage → History → History
 history_counted (Seeking _ _) old = record old { counted = true }
 history_counted (Moving _) old = record old { past = told_in true old.past; counted = true }
@@ -329,25 +335,25 @@ history_counted _ old = old
 
 -- ---- what a call leaves of it
 
--- it is still served, and this is then what it heard and moved; behind the bytes that had passed these did, and the terminal count
--- came, where it came before or with this
+-- the command is still served, with the history here of what it heard and moved. The bytes that passed in the call come
+-- after those that had passed before. The terminal count has come if it had come before, or if it came in this call
 abbrev pub GoesOn : List ℕ → Bool → Transfer → History → History → Front → Type 0
 GoesOn passed told first old history front =
     (all_bytes first.opcode.operation history ≡ all_bytes first.opcode.operation old ++ passed)
     × (history.counted ≡ (old.counted || told)) × Serves first history front
 
--- whatever command was served still is: these bytes passed, and this is what it then heard and moved
+-- whatever command was served still is. These bytes passed, and the history has grown in this way
 abbrev pub KeepsServing : List ℕ → (History → History) → Front → Front → Type 0
 KeepsServing passed grown old new =
     (first : Transfer) (history : History) → Serves first history old → GoesOn passed false first history (grown history) new
 
--- the terminal count is heard until the results are told
+-- the terminal count is heard until results are given
 abbrev pub hears_count : Stage → Bool
 hears_count (Seeking _ _) = true
 hears_count (Moving _) = true
 hears_count _ = false
 
--- whatever command was served still is, and the terminal count came
+-- whatever command was served still is, and the terminal count came, if it is heard
 abbrev pub ServesCounted : Front → Front → Type 0
 ServesCounted old new =
     (first : Transfer) (history : History) → Serves first history old
@@ -363,19 +369,19 @@ abbrev pub still_seeks : Stage → Bool
 still_seeks (Seeking _ _) = true
 still_seeks _ = false
 
--- the first sector is refused, once the heads came to its cylinder, since SPECIFY set ND
+-- the first sector is refused once the heads came to its cylinder, because SPECIFY set ND
 pub record RefusesFirst (old new : Front) : Type 0 where
   pub seeks : still_seeks old.stage ≡ true
   pub non_dma : old.adapter.controller.non_dma ≡ true
   pub refused : IsRefused new
 
--- this passed under the head in a device step, and it is added to what was heard and moved; no byte passed
+-- this passed under the head in a device step, and it is added to what was heard and moved. No byte passed
 pub record StepsTo (first : Transfer) (history : History) (old : Front) (between : AdapterState) (new : Front) : Type 0 where
   pub time : WordTime
   pub passes : Passes old.stage time old.adapter between
   pub goes : GoesOn [] false first history (history_stepped old.stage time between.controller history) new
 
--- whatever command was served still is, with what passed in this step; or its first sector is refused
+-- whatever command was served still is, with what passed in this step. Or its first sector is refused
 abbrev pub ServesStep : (old new : Front) → StepsFront old new → Type 0
 ServesStep old new step = (first : Transfer) (history : History) → Serves first history old → StepsTo first history old step.between new ⊎ RefusesFirst old new
 
@@ -384,7 +390,7 @@ abbrev pub gives_last : Stage → Bool
 gives_last (Telling _ read) = nat_le 6 read
 gives_last _ = false
 
--- where this is so each access is the controller's again; else whatever command was served still is, and no byte passed
+-- either each access is the controller's again. Or whatever command was served still is, and no byte passed
 abbrev pub ServesUnless : Bool → Front → Front → Type 0
 ServesUnless true old new = new.stage ≡ Through
 ServesUnless false old new = KeepsServing [] (λ history. history) old new
@@ -398,11 +404,12 @@ abbrev pub passed_in : Bool → ℕ → List ℕ
 passed_in true byte = byte ∷ []
 passed_in false byte = []
 
--- each access is the controller's again, and it answers 80, where it took commands
+-- each access is the controller's again. It answers 80, if it took commands
 abbrev pub IsLeft : Front → Front → Type 0
 IsLeft old new = (new.stage ≡ Through) × (is_idle old.adapter.controller ≡ true → new.adapter.controller.phase ≡ Result (Short 0x80 None))
 
--- where this byte makes a command whole, it is served from then on, and nothing has passed; or it is left to the controller
+-- if this byte makes a command whole, that command is served from then on, and nothing has passed. Or the command is
+-- left to the controller
 abbrev pub BeginsWith : Opcode → ℕ → Front → Front → Type 0
 BeginsWith opcode byte old new =
     (command : Command) (first : Transfer) → answer (old.bytes ++ byte ∷ []) ≡ Ready command → transfer_of opcode command ≡ Some first

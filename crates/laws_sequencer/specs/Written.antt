@@ -22,7 +22,8 @@ use Rattle.laws_sequencer.specs.Serving.{History, Part, sector_after}
 
 -- ---- the run
 
--- DOR selects the bay, and its motor is on, whatever its speed, with the heads over the cylinder; the medium may have changed
+-- DOR selects the bay, its motor is on, whatever its speed, and the heads are over the cylinder. The medium may have
+-- changed
 pub record IsOverCylinder (place : Place) (front : Front) : Type 0 where
   pub bay : place.bay ≤ 1
   pub disk : IsDisk place.disk
@@ -33,13 +34,13 @@ pub record IsOverCylinder (place : Place) (front : Front) : Type 0 where
   pub inside : (drive_at front.adapter place.bay).place < place.disk.words_per_track
   pub clean : IsClean place front
 
--- while a sector is moved; and no word was lost of the last one
+-- this holds while a sector is moved. Once results are given, no word of the last sector was lost
 abbrev pub IsOverCylinderWhile : Stage → Place → Front → Type 0
 IsOverCylinderWhile (Moving moving) place front = IsOverCylinder place front
 IsOverCylinderWhile (Telling results read) place front = IsClean place front
 IsOverCylinderWhile _ place front = Unit {0}
 
--- a drive keeps its medium, where it is, and its gate; no fault is taken back
+-- a drive keeps its medium, its place on the track and its gate. Its count of faults doesn't fall
 pub record StaysPut (old new : DriveState) : Type 0 where
   pub medium : new.medium ≡ old.medium
   pub place : new.place ≡ old.place
@@ -47,16 +48,16 @@ pub record StaysPut (old new : DriveState) : Type 0 where
   pub cut : new.cut ≡ old.cut
   pub never_falls : old.faults ≤ new.faults
 
--- it stays at speed where it was
+-- a drive that was at speed stays at speed
 abbrev pub KeepsSpeed : DriveState → DriveState → Type 0
 KeepsSpeed old new = 6250 ≤ old.spin → 6250 ≤ new.spin
 
--- so it does while a sector is moved
+-- a drive that was at speed stays at speed while a sector is moved
 abbrev pub KeepsSpeedWhile : Stage → DriveState → DriveState → Type 0
 KeepsSpeedWhile (Moving moving) old new = KeepsSpeed old new
 KeepsSpeedWhile _ old new = Unit {0}
 
--- this drive does all that where another medium is put in or taken out
+-- where another medium is put in or taken out, this drive keeps all of this
 abbrev pub LeavesPut : Stage → Call → DriveState → DriveState → Type 0
 LeavesPut stage Changes old new = StaysPut old new × KeepsSpeedWhile stage old new
 LeavesPut stage _ old new = Unit {0}
@@ -68,14 +69,14 @@ KeepsIn place (call ∷ calls) old new within =
     IsOverCylinderWhile old.stage place old × LeavesPut old.stage call (drive_at old.adapter place.bay) (drive_at within.0.adapter place.bay)
     × KeepsIn place calls within.0 new within.3
 
--- ---- what it leaves
+-- ---- ---- what a write leaves
 
 -- the track under the head of a sector
 abbrev pub track_on : Disk → Place → Transfer → List ℕ
 track_on disk place at = track_of disk place.cylinder (head_of at.head_drive)
 
--- behind an address field of the sector's key on the track under its head, at this cell, the first so many words of the window of
--- this content stand; of the disk that it was nothing else changed, and that wasn't protected
+-- after an address field of the sector's key, which begins at this cell of the track under its head, the first so many
+-- words of the window of this content stand. Nothing else of the disk changed. The disk wasn't protected
 pub record HasWords (place : Place) (deleted : Bool) (at : Transfer) (content : List ℕ) (spot count : ℕ) (disk now : Disk) : Type 0 where
   pub unprotected : disk.protected ≡ false
   pub rate : rate_fits place.rate disk.rate ≡ true
@@ -85,21 +86,22 @@ pub record HasWords (place : Place) (deleted : Bool) (at : Transfer) (content : 
   pub cuttable : IsCuttable (track_on disk place at) spot count (window deleted content)
   pub cut : IsWithTrack disk place.cylinder (head_of at.head_drive) (cut_of (track_on disk place at) spot count (window deleted content)) now
 
--- some do, and where no word is lost the track is that with the whole window
+-- such words stand. If no word is lost, the track is the earlier one with the whole window
 pub record HasWindow (place : Place) (deleted : Bool) (at : Transfer) (content : List ℕ) (disk now : Disk) : Type 0 where
   pub spot : ℕ
   pub count : ℕ
   pub words : HasWords place deleted at content spot count disk now
   pub whole : place.clean ≡ true → track_on now place at ≡ with_window (track_on disk place at) spot deleted content
 
--- the sectors that are over, one behind the other: each has a window of the bytes that were taken
+-- the sectors that are over, one after the other. Each has a window of the bytes that were taken
 abbrev pub AreWritten : Place → Bool → List Part → Disk → Disk → Type 0
 AreWritten place deleted [] disk now = now ≡ disk
 AreWritten place deleted (part ∷ parts) disk now =
     (between : Disk) × HasWindow place deleted part.at part.past.taken disk between × AreWritten place deleted parts between now
 
--- so many words stand that are the first of a window, whatever its content is behind what was handed in: the first of the bytes that were
--- taken, or, once the terminal count came, all of them and then 00
+-- so many words stand that are the first of a window. Its content begins with what was handed in, and may go on in any
+-- way. What was handed in is the first of the bytes that were taken, or, once the terminal count came, all of them and
+-- then bytes 00
 pub record HasFirst (place : Place) (deleted : Bool) (at : Transfer) (past : Past) (disk now : Disk) : Type 0 where
   pub handed : List ℕ
   pub content : IsContent past.counted past.taken handed
@@ -108,20 +110,20 @@ pub record HasFirst (place : Place) (deleted : Bool) (at : Transfer) (past : Pas
   pub count : ℕ
   pub words : (rest : List ℕ) → length handed + length rest ≡ content_size at.key.n → HasWords place deleted at (handed ++ rest) spot count disk now
 
--- nothing was written of a sector, or such words
+-- either nothing was written of a sector, or such words were
 abbrev pub IsBegun : Place → Bool → Transfer → Past → Disk → Disk → Type 0
 IsBegun place deleted at past disk now = (now ≡ disk) ⊎ HasFirst place deleted at past disk now
 
--- a window of the bytes that were taken, and 00 in place of so many
+-- a window of the bytes that were taken, and then of bytes 00 for those that are missing
 abbrev pub IsDone : Place → Bool → Transfer → List ℕ → Disk → Disk → Type 0
 IsDone place deleted at taken disk now = (missing : ℕ) × HasWindow place deleted at (taken ++ replicate missing 0) disk now
 
--- the last sector was done: ST1 is 00, or EN alone
+-- the last sector was done: ST1 is 00, or has EN and nothing else
 abbrev pub TellsDone : Results → Type 0
 TellsDone results = (results.st1.0 ≡ 0x00) ⊎ (results.st1.0 ≡ 0x80)
 
--- what a write took stands on the medium: of each sector that is over, in order, and of the last one. The medium that was in was changed
--- in no other way, and a protected one in none
+-- what a write took stands on the medium. This holds of each sector that is over, in order, and of the last one.
+-- Nothing else of the medium that was in changed. A protected medium didn't change at all
 pub record IsWrittenTo (place : Place) (deleted : Bool) (first : Transfer) (history : History) (results : Results) (end : Front) : Type 0 where
   pub before : Disk
   pub now : Disk

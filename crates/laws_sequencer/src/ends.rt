@@ -1,5 +1,5 @@
-// That a command of several sectors ends, and how its end is seen. The bodies are empty: the contracts say what follows from what
-// each call does.
+// A command of several sectors ends, and its end is seen in a certain way. The bodies are empty: the contracts say what
+// follows from what each call does.
 ghost use Rattle.std.specs.Prelude.{◌≡◌, ◌<◌, ◌≤◌, ◌+◌, ◌==◌, ◌&&◌, ℕ, Bool, true, false, List, ◌++◌, nat_le, replicate, slice_index, if◌then◌else◌};
 ghost use Rattle.fdc_commands.specs.Results.{result_bytes};
 ghost use Rattle.fdc_commands.specs.declared.results.Results.{Results};
@@ -12,9 +12,9 @@ ghost use Rattle.fdc_sequencer.specs.declared.transfer.Transfer.{Transfer};
 ghost use Rattle.laws_sequencer.specs.Calls.{AreWithin, Call, IsLastByte, Steps};
 ghost use Rattle.laws_sequencer.specs.Lasting.{HasByteNumbers, HasByteRecords, HasResults, is_under_way, most_steps, sectors_from, steps_in};
 
-/// A command of several sectors ends, whatever calls come between: in 256 device steps for an implied seek and 65,536 for each of
-/// its sectors, unless each access is the controller's again before. Then there are results. `ranges` tells of a sequencer, as it
-/// begins, that its numbers are in range.
+/// A command of several sectors ends, whatever calls come between. It takes at most 256 device steps for an implied
+/// seek and 65,536 for each of its sectors, unless each access is the controller's again before. Then there are
+/// results. `ranges` says of a sequencer, as it begins, that its numbers are in range.
 pub fn a_command_ends()
     ensures within { (byte : ℕ) (first : Transfer) (start begun end : Front) (calls : List Call)
         → IsLastByte byte first start → HasByteNumbers begun.stage → WritesFront 0x3F5 byte start begun → (begun.stage ≡ Through → ⊥)
@@ -24,7 +24,7 @@ pub fn a_command_ends()
         → IsInRange begun.adapter.controller → AreWithin calls begun end → most_steps first ≤ steps_in calls → HasResults end }
 {}
 
-/// A command has 512 sectors at most, and one fewer from each next sector on. A run is as many device steps.
+/// A command has at most 512 sectors, and one fewer from each next sector on. A run is as many device steps.
 pub fn sectors_and_steps_are_counted()
     ensures most { (at : Transfer) → sectors_from at ≤ 512 }
     ensures next { (at : Transfer) → HasByteRecords at → is_last at ≡ false → sectors_from (next_of at) + 1 ≡ sectors_from at }
@@ -32,8 +32,9 @@ pub fn sectors_and_steps_are_counted()
     ensures both { (first second : List Call) → steps_in (first ++ second) ≡ steps_in first + steps_in second }
 {}
 
-/// How the end is seen: while the heads seek or a sector is moved MSR is 10, and INT is down. Then MSR is D0, DRQ is down, INT is
-/// up until the first result byte is read, where DOR lets it out, and the data port gives the seven result bytes in order.
+/// How the end is seen. While the heads seek or a sector is moved, MSR is 10, and INT is down. Then MSR is D0 and DRQ
+/// is down. INT is up until the first result byte is read, where DOR lets it out. The data port gives the seven result
+/// bytes in order.
 pub fn results_are_told()
     ensures busy { (front : Front) → is_under_way front.stage ≡ true → value_outside 0x3F4 front ≡ 0x10 }
     ensures silent { (front : Front) → is_under_way front.stage ≡ true → interrupts_outside front ≡ false }

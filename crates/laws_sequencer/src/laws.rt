@@ -1,4 +1,5 @@
-// What is known of a command of several sectors. The bodies are empty: the contracts say what follows from what each call does.
+// What is known of a command of several sectors. The bodies are empty: the contracts say what follows from what each
+// call does.
 ghost use Rattle.std.specs.Prelude.{◌≡◌, ◌==◌, ◌&&◌, ℕ, Bool, Option, List, [], ◌++◌, length, replicate};
 ghost use Rattle.fdc_sequencer.specs.Fronts.{Front, IsNewFront, KeepsFront, TakesFront, GivesFront, WritesFront, after_reading, told_front};
 ghost use Rattle.fdc_sequencer.specs.Moves.{RunsFront, StepsFront};
@@ -18,8 +19,9 @@ ghost use Rattle.fdc_commands.specs.declared.results.Results.{Results};
 ghost use Rattle.fdc_sequencer.specs.declared.stage.Stage.TheVariants.{Through, Telling};
 ghost use Rattle.fdc_sequencer.specs.declared.transfer.Transfer.{Transfer};
 
-/// A command that is served goes on through each call. It is over only where the seventh result byte is read or the controller is
-/// reset; and where an implied seek ends while SPECIFY's ND is set, which refuses the first sector.
+/// A command that is served goes on through each call. It is over only where the seventh result byte is read or the
+/// controller is reset. It is over too where an implied seek ends while SPECIFY's ND is set, which refuses the first
+/// sector.
 pub fn a_served_command_goes_on()
     ensures steps { (old new : Front) (step : StepsFront old new) → ServesStep old new step }
     ensures takes { (old : Front) (byte : Option ℕ) (new : Front) → TakesFront old byte new → KeepsServing (passed_out byte) (history_taken old.stage byte) old new }
@@ -31,7 +33,7 @@ pub fn a_served_command_goes_on()
     ensures begins { (port byte : ℕ) (old new : Front) → WritesFront port byte old new → port ≡ 0x3F5 → BeginsAt old.stage byte old new }
 {}
 
-/// A run is as many device steps, and calls behind calls are calls.
+/// A run is as many device steps, and calls after calls are calls.
 pub fn a_run_is_its_steps()
     ensures steps { (most : ℕ) (old : Front) (n : ℕ) (new : Front) → RunsFront most old n new → (new.stage ≡ Through → ⊥) → AreWithin (replicate n Steps) old new }
     ensures both { (first second : List Call) (old between new : Front) → AreWithin first old between → AreWithin second between new → AreWithin (first ++ second) old new }
@@ -43,8 +45,8 @@ pub fn results_say()
         → front.stage ≡ Telling results read → ResultsSay first history results }
 {}
 
-/// What passed of a sector that is over is the whole content of a field, or nothing of one that was passed over. As many bytes of the
-/// last one as it has are its content, too.
+/// What passed of a sector that is over is the whole content of a field, or nothing of one that was passed over. If as
+/// many bytes of the last sector passed as its size, they are its content too.
 pub fn sectors_are_whole()
     ensures parts { (operation : Operation) (part : Part) → IsMoved operation part → PassedWhole operation part }
     ensures last { (past : Past) (key : Chrn) (marked : Bool) (given : List ℕ) → FindsSector past key given marked
@@ -62,15 +64,15 @@ pub fn bytes_pass_in_order()
         → Behind first history calls old new within }
 {}
 
-/// What passes between the last byte of a command and its results are the bytes of its sectors, in order, and the results say
-/// how it ended.
+/// What passes between the last byte of a command and its results are the bytes of its sectors, in order, and the
+/// results say how the command ended.
 pub fn a_command_moves_its_sectors()
     ensures { (byte : ℕ) (first : Transfer) (start begun end : Front) (calls : List Call) (results : Results) (read : ℕ)
         → IsLastByte byte first start → WritesFront 0x3F5 byte start begun → (begun.stage ≡ Through → ⊥)
         → (within : AreWithin calls begun end) → end.stage ≡ Telling results read → Served first calls begun end within results }
 {}
 
-/// What a read gives, from its last byte to its results, while a medium stays in is what stands on that medium under its heads.
+/// What a read gives, from its last byte to its results, stands on the medium under its heads, if the medium stays in.
 pub fn what_is_read_stands_on_the_medium()
     ensures { (place : Place) (wanted skip : Bool) (byte : ℕ) (first : Transfer) (start begun end : Front) (calls : List Call) (results : Results) (read : ℕ)
         → first.opcode.operation ≡ Read wanted skip → IsLastByte byte first start → WritesFront 0x3F5 byte start begun → (begun.stage ≡ Through → ⊥)

@@ -1,5 +1,5 @@
-//! What a command of several sectors means, call by call and from its last byte to its results: the bytes that pass are, in
-//! order, those of its sectors; and it ends.
+//! What a command of several sectors means, call by call and from its last byte to its results. The bytes that pass
+//! are, in order, those of its sectors, and the command ends.
 #![tactic(auto)]
 
 pub mod ends;

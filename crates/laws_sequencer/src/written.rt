@@ -10,8 +10,9 @@ ghost use Rattle.laws_sequencer.specs.Calls.{AreWithin, Call, IsLastByte, Served
 ghost use Rattle.laws_sequencer.specs.Media.{Place};
 ghost use Rattle.laws_sequencer.specs.Written.{IsWrittenTo, KeepsIn};
 
-/// What a write takes, from its last byte to its results, while a medium stays in stands on that medium: of each sector that is
-/// over, in order, under its head and behind an address field of its key, and of the last one. Nothing else of the medium changes.
+/// What a write takes, from its last byte to its results, stands on the medium, if the medium stays in. This holds of
+/// each sector that is over, in order, and of the last one. Each stands under its head and after an address field of
+/// its key. Nothing else of the medium changes.
 pub fn what_is_written_stands_on_the_medium()
     ensures { (place : Place) (deleted : Bool) (byte : ℕ) (first : Transfer) (start begun end : Front) (calls : List Call) (results : Results) (read : ℕ)
         → first.opcode.operation ≡ Write deleted → IsLastByte byte first start → WritesFront 0x3F5 byte start begun → (begun.stage ≡ Through → ⊥)

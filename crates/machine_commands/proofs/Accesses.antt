@@ -1,4 +1,4 @@
--- Port accesses behind which the controller rests.
+-- Port accesses after which the controller rests.
 use Rattle.std.proofs.Common.{◌≡◌, ℕ, ◌==◌, Bool, true, false, if◌then◌else◌, refl, sym, ◌∙◌, ap, subst, arith}
 use Rattle.machine_commands.proofs.Common.{DriveState, Writes, given, interrupt_after, asks, Fdc, Phase, Command, Execute, Result, gap, Holds, shown, Board, controller_of, lines_of, is_controllers, Inputs, Outputs, RunsGap, sets_lines, shown_again, Bus, drive_stays}
 use Rattle.fdc_phases.specs.Answers.{is_fresh}
@@ -22,7 +22,7 @@ shown_stalls : (asked : Bool) (holds : Holds) → (shown asked holds).stalls ≡
 shown_stalls true holds = refl
 shown_stalls false holds = refl
 
--- what the chips are behind an access to the controller that leaves it so
+-- the chips after an access to the controller that leaves it as this
 abbrev pub accessed : Fdc → Bus → Bus
 accessed fdc old = record old { chips = shown_again (record old.chips { controller = fdc }); fresh = false }
 
@@ -32,7 +32,7 @@ same_drive old new same = subst (λ drive. KeepsDrive old drive) (sym same) (dri
 pub same_speed : (old new : DriveState) → new ≡ old → KeepsSpeed old new
 same_speed old new same = subst (λ drive. KeepsSpeed old drive) (sym same) (speed_none old)
 
--- an interrupt line that is low stays so
+-- an interrupt line that is low stays low
 abbrev pub Quiets : Fdc → Fdc → Type 0
 Quiets old new = old.interrupt ≡ false → new.interrupt ≡ false
 

@@ -1,4 +1,4 @@
--- What driver and machine owe each other, once something was done past the driver.
+-- What driver and machine owe each other after something was done past the driver.
 use Rattle.std.proofs.Common.{◌≡◌, ℕ, zero, suc, ◌-◌, ◌≤◌, Bool, true, false, refl, sym, ap, ◌∙◌, arith}
 use Rattle.std.specs.Prelude.{◌&&◌, Option, Some, None, Result, Ok, Err}
 use Rattle.raw_image.specs.Disk.{Disk}
@@ -12,7 +12,7 @@ use Rattle.floppy_driver.specs.declared.driver.Driver.{Driver}
 use Rattle.floppy_driver.specs.Shown.{is_held}
 use Rattle.floppy_driver.specs.Attached.{IsNoted, IsAttached}
 
--- the notes on a drive stay true where nothing but its count changed
+-- the notes on a drive stay true where nothing of the drive changed but its count of faults
 noted_later : (notes : Notes) (medium medium' : Option Disk) (line line' spun spun' : Bool) (pcn pcn' cylinder cylinder' faults faults' : ℕ) → medium' ≡ medium → line' ≡ line → spun' ≡ spun → pcn' ≡ pcn → cylinder' ≡ cylinder → faults ≤ faults' → IsNoted notes medium line spun pcn cylinder faults → IsNoted notes medium' line' spun' pcn' cylinder' faults'
 noted_later notes medium medium' line line' spun spun' pcn pcn' cylinder cylinder' faults faults' same_medium same speed number place more noted =
     let held : is_held notes line' ≡ true → is_held notes line ≡ true = λ h. ap (λ (b : Bool). is_held notes b) (sym same) ∙ h in
@@ -32,7 +32,7 @@ never_held false held = cc held
 set_held : (notes : Notes) (line : Bool) → line ≡ true → is_held notes line ≡ true → ⊥
 set_held notes line set held = never_held notes.gate (ap (λ (b : Bool). is_held notes b) (sym set) ∙ held)
 
--- of a drive whose change line is set, little has to be noted
+-- where a drive's change line is set, little has to hold of the notes on it
 noted_set : (notes : Notes) (medium medium' : Option Disk) (line line' spun spun' : Bool) (pcn pcn' cylinder cylinder' faults faults' : ℕ) → line' ≡ true → pcn' ≡ pcn → IsNoted notes medium line spun pcn cylinder faults → IsNoted notes medium' line' spun' pcn' cylinder' faults'
 noted_set notes medium medium' line line' spun spun' pcn pcn' cylinder cylinder' faults faults' set number noted = record {
   empty = λ none. set;
@@ -43,7 +43,7 @@ noted_set notes medium medium' line line' spun spun' pcn pcn' cylinder cylinder'
   stands = λ c e h counted below. absurd (set_held notes line' set h);
 }
 
--- a change line was set, and the other bay left alone
+-- the change line of a bay was set, and the other bay left alone
 record SetsLine (old : Rig) (bay : ℕ) (new : Rig) : Type 0 where
   changes : new.changes ≡ with_bay old.changes bay true
   numbers : new.numbers ≡ old.numbers
@@ -83,7 +83,7 @@ module _ (driver : Driver) (old new : Rig) where
     other_faults = faults_go_on old.counters new.counters (1 - bay) exchanged.counts;
   })
 
-  -- nothing of the drives changed but their counts
+  -- nothing of the drives changed but their counts of faults
   attached_same : new.media ≡ old.media → new.changes ≡ old.changes → new.spun ≡ old.spun → new.numbers ≡ old.numbers → new.cylinders ≡ old.cylinders → GoesOn old.counters new.counters → IsAttached driver old → IsAttached driver new
   attached_same media changes spun numbers cylinders goes attached = record {
     first = noted_later driver.first old.media.first new.media.first old.changes.first new.changes.first old.spun.first new.spun.first old.numbers.first new.numbers.first old.cylinders.first new.cylinders.first old.counters.drives.first.faults new.counters.drives.first.faults
@@ -117,7 +117,7 @@ module _ (driver : Driver) (old new : Rig) (bay : ℕ) where
     other_faults = let same = ap (λ (d : DriveCounts). d.faults) exchanged.counters.other in omega arith;
   })
 
--- what calls past the driver leave of the counts
+-- how calls past the driver change the counts
 pub inserted_goes_on : (old new : Rig) (bay : ℕ) (disk : Disk) (answer : Result (Unit {0}) Disk) → PutsIn bay disk old answer new → GoesOn old.counters new.counters
 inserted_goes_on old new bay disk (Ok u) step = step.1.counts
 inserted_goes_on old new bay disk (Err back) step = step.2.counts

@@ -1,4 +1,4 @@
--- What holds of both drives holds of the drive in a bay, and so it is shown.
+-- What holds of both drives holds of the drive in a bay; and what a rig shows of that drive.
 use Rattle.std.proofs.Common.{◌≡◌, ℕ, zero, suc, ◌-◌, ◌≤◌, ◌==◌, Bool, true, false, if◌then◌else◌, refl, arith}
 use Rattle.machine_commands.proofs.Common.{Two, in_bay, faults_of, DriveState, Board, drive_in, counters_of, is_spun, number_of, rig_of}
 use Rattle.flop_base.specs.Bays.{with_bay}

@@ -1,4 +1,4 @@
--- A data command begins on an idle machine, once all is set and its bytes are sent.
+-- A data command begins on an idle machine, once all is set up and its bytes are sent.
 use Rattle.std.proofs.Common.{◌≡◌, inl, inr, ℕ, zero, suc, ◌+◌, ◌*◌, ◌/◌, ◌%◌, ◌<◌, ◌≤◌, ◌==◌, not, Bool, true, false, List, [], ◌∷◌, ◌++◌, length, Result as result, refl, sym, ◌∙◌, ap, subst, arith}
 use Rattle.std.specs.Prelude.{bit_and}
 use Rattle.std.specs.List.{All}
@@ -32,7 +32,7 @@ use Rattle.machine_commands.proofs.Steps.{calm_asks, idles_then, stays_then, ste
 
 -- ---- the request
 
--- one that is low stays so, while the controller rests
+-- a DMA request that is low stays low while the controller rests
 low_stays : Steady (λ board. IsResting (controller_of board) × ((holds_of board).request ≡ Low))
 low_stays = record {
   step = λ old new step (rests, low). (let to = step_to old new (controller_of old) step (unpolled (controller_of old) rests.no_poll) rests in (subst IsResting (sym to.controller_is) rests, to.request));
@@ -43,7 +43,7 @@ shown_low : (line : Bool) (holding : Holds) → line ≡ false → (shown line h
 shown_low true holding is = absurd cc
 shown_low false holding is = refl
 
--- none is left behind a byte of a command that isn't whole
+-- there is no DMA request after a byte of a command that isn't whole
 byte_low : (byte : ℕ) (old new : Board) → IsListening (controller_of old) → answer ((controller_of old).command ++ byte ∷ []) ≡ More → Outputs 0x3F5 byte old new → (holds_of new).request ≡ Low
 byte_low byte old new listens more access =
     let fdc = controller_of old in
@@ -60,7 +60,7 @@ byte_low byte old new listens more access =
 
 -- ---- the bytes of the command
 
--- all but the last were sent
+-- all bytes of a command but the last were sent
 record IsSentTo (bytes : List ℕ) (byte : ℕ) (set sent : Board) : Type 0 where
   start : Board
   idles : Idles (with_bytes bytes (controller_of set)) set start
@@ -108,7 +108,7 @@ set_from_memory address left c inside room =
 
 -- ---- a machine to which all but the last byte was sent
 
--- that was idle, and has a medium at speed in the bay
+-- the machine was idle, and has a medium at speed in the bay
 pub record HasSent (motors : Motors) (bay : ℕ) (rate : Rate) (old start : Board) : Type 0 where
   pub counts : AreCounts old
   pub stays : StaysIdle old start
@@ -155,7 +155,7 @@ sending_free motors bay board sending = not_held motors bay (controller_of board
 selects_bay : (motors : Motors) (bay : ℕ) (board : Board) → IsSending motors bay board → dor_of (controller_of board) % 4 ≡ bay
 selects_bay motors bay board sending = ap (λ n. n % 4) sending.dor ∙ (is_dor motors bay sending.bay_in).selects
 
--- what a command that begins then needs
+-- what a command needs that begins on such a machine
 stands_ready : (motors : Motors) (bay : ℕ) (board : Board) → IsSending motors bay board → StandsReady board
 stands_ready motors bay board sending = record {
   out = record {
@@ -181,7 +181,7 @@ drive_of s bay disk address size start has = record {
   faults = refl;
 }
 
--- the controller takes one byte more, with which the command is this
+-- the controller takes one more byte, and with it the command is this one
 pub record IsTaking (bytes : List ℕ) (byte : ℕ) (fdc : Fdc) : Type 0 where
   pub whole : (accepted : Accepted) → answer (bytes ++ byte ∷ []) ≡ accepted → answer (fdc.command ++ byte ∷ []) ≡ accepted
   pub taking : is_taking fdc ≡ true

@@ -18,7 +18,7 @@ pub record IsListening (fdc : Fdc) : Type 0 where
 taking : (fdc : Fdc) → IsListening fdc → is_taking fdc ≡ true
 taking fdc listens = ap (λ q. takes_in q (is_held fdc)) listens.phase_is ∙ ap not listens.not_held
 
--- the same with other bytes of a command
+-- the controller with these bytes of a command
 abbrev pub with_bytes : List ℕ → Fdc → Fdc
 with_bytes bytes fdc = record fdc { command = bytes }
 
@@ -30,7 +30,7 @@ pub listens_with : (bytes : List ℕ) (fdc : Fdc) → IsListening fdc → IsList
 listens_with bytes fdc listens =
     record { rests = rests_with bytes fdc listens.rests; phase_is = listens.phase_is; not_held = listens.not_held }
 
--- a byte comes behind which more are to come
+-- a byte comes after which more are to come
 pub byte_more : (byte : ℕ) (bytes : List ℕ) (old new : Board) → IsListening (controller_of old) → (controller_of old).command ++ byte ∷ [] ≡ bytes → answer bytes ≡ More
     → Outputs 0x3F5 byte old new → Idles (with_bytes bytes (controller_of old)) old new
 byte_more byte bytes old new listens whole more access =
@@ -44,7 +44,7 @@ byte_more byte bytes old new listens whole more access =
         subst (λ b. TakesAs (answer b) (lines_of old) (record (controller_of old) { command = kept (answer b) b }) controller) whole takes in
         subst (λ a. TakesAs a (lines_of old) (record (controller_of old) { command = kept a bytes }) controller) more at
 
--- each of these bytes has more behind it
+-- more bytes are to come after each of these
 abbrev pub AreMore : List ℕ → List ℕ → Type 0
 AreMore done [] = Unit {0}
 AreMore done (byte ∷ rest) = (answer (done ++ byte ∷ []) ≡ More) × AreMore (done ++ byte ∷ []) rest
@@ -66,7 +66,7 @@ first_bytes done (byte ∷ rest) old new begun listens (more, others) (between, 
     idles_as old new (with_bytes (next ++ rest) (controller_of between)) (with_bytes (done ++ byte ∷ rest) fdc) same
     (idles_then one two)
 
--- a controller that was given the last byte
+-- what a controller becomes that was given the last byte
 pub last_written : (byte : ℕ) (command : Command) (fdc controller : Fdc) (lines : Lines) → IsListening fdc → answer (fdc.command ++ byte ∷ []) ≡ Ready command
     → Writes 0x3F5 byte lines fdc controller → Obeys command lines (with_bytes [] fdc) controller
 last_written byte command fdc controller lines listens whole writes =
@@ -120,7 +120,7 @@ whole_command first byte command old new listens none more whole fdc obeys quiet
     let after = byte_last byte command between last here at fdc obeyed quiets rest access in
     subst (λ board. Idles fdc old board) (sym same) (idles_then before after)
 
--- the same of a controller that is known
+-- such a command, where the controller that listens is named
 pub whole_at : (first : List ℕ) (byte : ℕ) (command : Command) (old new : Board) (fdc : Fdc) → controller_of old ≡ fdc → IsListening fdc → fdc.command ≡ []
     → AreMore [] first → answer (first ++ byte ∷ []) ≡ Ready command → (target : Fdc)
     → ((lines : Lines) (controller : Fdc) → Obeys command lines (with_bytes [] fdc) controller → controller ≡ target)

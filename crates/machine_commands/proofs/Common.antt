@@ -1,4 +1,4 @@
--- What the lemmas of this crate cite of others, and of its own words.
+-- What the lemmas of this crate use from other crates, and definitions of its own.
 pub use Rattle.flop_base.proofs.Counted.{spends_twice}
 pub use Rattle.flop_base.specs.Bays.{Two, in_bay}
 pub use Rattle.flop_base.specs.Counters.{DriveGoesOn, GoesOn, IsDriven, IsFaultless, IsUndisturbed, faults_of}

@@ -1,4 +1,4 @@
--- A data command, from its last byte until its end is told.
+-- A data command, from its last byte until its end is reported.
 use Rattle.std.proofs.Common.{◌≡◌, inl, inr, ℕ, zero, suc, ◌+◌, ◌-◌, ◌≤◌, ◌==◌, ◌&&◌, not, Bool, true, false, None, if◌then◌else◌, refl, sym, ◌∙◌, ap, subst, arith}
 use Rattle.std.specs.Int.RustNames.{bit_or}
 use Rattle.std.specs.Option.{option_map_or}
@@ -54,13 +54,13 @@ step_positive : (old new : Board) → Step old new → is_executing (controller_
 step_positive old new step busy = controller (1 ≤ left_of old) old new step (λ before after works. positive_in (controller_of old).phase step.between.phase busy works.ends)
     (λ works. positive_in (controller_of old).phase step.between.phase busy works.ends)
 
--- where it takes no more than so many, one is left of as many and one more
+-- a command that took at most `most` steps has at least one left of `most + 1`
 positive_by : (most : ℕ) (phase : Phase) → is_executing phase ≡ true → steps_taken phase ≤ most → most ≤ 65535 → 1 ≤ steps_left phase - (65535 - most)
 positive_by most Command busy taken small = absurd (false≢true busy)
 positive_by most (Result answer) busy taken small = absurd (false≢true busy)
 positive_by most (Execute execution) busy taken small = omega arith
 
--- none comes back
+-- the number of steps that are left never grows
 fewer : (most : ℕ) → Steady (λ board. left_of board ≤ most)
 fewer most = record { step = λ old new step was. (let less = step_ends old new step in omega arith); idle = λ old gaps fresh was. was }
 
@@ -69,9 +69,9 @@ most_left Command = omega arith
 most_left (Result answer) = omega arith
 most_left (Execute execution) = omega arith
 
--- ---- behind the end
+-- ---- after the end
 
--- a board on which the end is told
+-- a controller whose data command has ended rests
 pub resting : (begun : ℕ) (start now : Board) → IsAwaited begun start now → is_executing (controller_of now).phase ≡ false → IsResting (controller_of now)
 resting begun start now was idle = record {
   no_command = idle;
@@ -80,7 +80,7 @@ resting begun start now was idle = record {
   no_poll = ap (λ due. due && not (is_held (controller_of now))) was.calm.polled;
 }
 
--- the end, which MSR tells
+-- the command has ended, and MSR is read
 pub record EndsAt (order : Order) (scene : Scene) (start new : Board) : Type 0 where
   pub at : Board
   pub goes : GoesOn order scene start at
@@ -118,7 +118,7 @@ module _ (order : Order) (scene : Scene) (start : Board) (free : is_held (contro
     still_busy : ready ≡ false → is_executing fdc.phase ≡ true
     still_busy no_results = true_from_ne_false (is_executing fdc.phase) (λ idle. false≢true (sym no_results ∙ ended_ready idle))
 
-    -- what has ended stays so
+    -- a command that has ended stays ended
     ended_stays : is_executing (controller_of old).phase ≡ false → is_executing fdc.phase ≡ false
     ended_stays idle =
         let rest = resting (with_one start) start old was.awaited idle in
@@ -167,13 +167,13 @@ module _ (order : Order) (scene : Scene) (start : Board) (free : is_held (contro
       never : left_of new + 65537 ≤ left_of old → EndsAt order scene start new
       never left = let most = most_left (controller_of old).phase in absurd (omega arith)
 
-  -- ---- how long it lasts, where the holds were bytes as it began
+  -- ---- how long it lasts, where the DMA latencies were bytes when it began
 
   module _ (short : AreShort (holds_of start)) where
     abbrev most : ℕ
     most = most_steps_of scene.disk.words_per_track
 
-    -- of as many device steps as it takes, and one more, so many are left
+    -- how many are left of `most + 1` device steps
     abbrev still : Board → ℕ
     still board = left_of board - (65535 - most)
 
@@ -193,7 +193,7 @@ module _ (order : Order) (scene : Scene) (start : Board) (free : is_held (contro
         let less = step_ends old new step in
         omega arith
 
-    -- each step while the latch isn't set is in execution
+    -- in each step in which the latch isn't set, the command is in execution
     unset_still : (n : ℕ) (old new : Board) → RunsUnset n old new → GoesOn order scene start old → n + still new ≤ still old
     unfolding RunsUnset
     unset_still zero old new same was = subst (λ b. 0 + still b ≤ still old) (sym same) (omega arith)
@@ -232,7 +232,7 @@ module _ (order : Order) (scene : Scene) (start : Board) (free : is_held (contro
           let read = read_still in
           omega arith
 
-      -- the last one may begin behind the end
+      -- the last watch may begin after the end
       last_still : 1 + watch.waits.steps ≤ still old + 1
       last_still =
           let same : still old ≤ still old = omega arith in

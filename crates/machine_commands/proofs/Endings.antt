@@ -67,7 +67,7 @@ same_outcome : (a b c x y z : ℕ) (key other : Chrn) → a ≡ x → b ≡ y �
 same_outcome a b c x y z key other one two three four =
     ap (λ v. outcome_of v b c key) one ∙ (ap (λ v. outcome_of x v c key) two ∙ (ap (λ v. outcome_of x y v key) three ∙ ap (λ v. outcome_of x y z v) four))
 
--- the outcome that results come to
+-- the outcome that these results come to
 abbrev pub outcome_in : Results → result Done Code
 outcome_in results = outcome_of results.st0.0 results.st1.0 results.st2.0 results.key
 

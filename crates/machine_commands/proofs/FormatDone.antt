@@ -1,4 +1,4 @@
--- A whole FORMAT TRACK, from an idle machine whose memory has the keys to the next.
+-- A whole FORMAT TRACK, from an idle machine whose memory has the keys until the machine is idle again.
 use Rattle.std.proofs.Common.{◌≡◌, ℕ, ◌+◌, ◌-◌, ◌*◌, ◌≤◌, true, false, [], ◌∷◌, length, take, drop, Option, Result, refl, sym, ◌∙◌, ap, subst, arith}
 use Rattle.std.specs.List.{flat_map}
 use Rattle.std.specs.Option.{option_map_or}
@@ -24,7 +24,7 @@ few_sectors : (rate : Rate) → (1 ≤ sectors_at rate) × (sectors_at rate ≤ 
 few_sectors R500 = (omega arith, omega arith)
 few_sectors R250 = (omega arith, omega arith)
 
--- what is shown behind it
+-- what is shown after it
 pub record IsFormatted (motors : Motors) (bay : ℕ) (asked : Format) (outcome : Result Done Code) (old new : Board) : Type 0 where
   pub idle : IsIdle motors new
   pub laying : Option Laying

@@ -210,7 +210,7 @@ format_whole motors bay asked outcome old put new idle small low spun free bytes
       lasts = let lasts = subst (λ r. LastsFor bay 2 261 r (rig_of new)) rig is.lasts in record { turn = lasts.turn; few = lasts.few };
     }
 
--- ---- for the code
+-- ---- in the form in which the code's contracts use it
 
 pub format_as : (bay h sectors other gap3 fill : ℕ) (old new : Board) → sectors ≡ other → Sends (0x4D ∷ (h * 4 + bay) ∷ standard_code ∷ sectors ∷ gap3 ∷ fill ∷ []) old new
     → Sends (0x4D ∷ (h * 4 + bay) ∷ standard_code ∷ other ∷ gap3 ∷ fill ∷ []) old new

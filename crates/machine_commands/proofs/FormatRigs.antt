@@ -23,7 +23,7 @@ pub record IsFormatOn (scene : Scene) (numbers : Numbers) (keys : List Chrn) (fo
   pub gap_is : numbers.gap3 ≡ format.gap3
   pub unprotected : scene.disk.protected ≡ false
 
--- whether the track is there
+-- whether the medium has the track
 is_there : (scene : Scene) → IsThere scene ⊎ (IsThere scene → ⊥)
 is_there scene = elim (cases_lt scene.cylinder scene.disk.cylinders) [
   | inl low ↦ elim (cases_lt (head_sent scene.sent) scene.disk.heads) [
@@ -60,7 +60,7 @@ module _ {numbers : Numbers} {scene : Scene} {motors : Motors} {format : Format}
     makes = lays has.laying has.after has.lays;
   }
 
-  -- the disk that a driver sees under the head is the scene's, and has the track
+  -- the disk that a driver sees under the head is the disk of the scene, and has the track
   the_disk : (disk : Disk) → HasTrackUnder (rig_of old) scene.bay format disk → disk ≡ scene.disk
   the_disk disk under = some_same scene.disk disk (in_bay (rig_of old).media scene.bay) (medium_before run) under.medium
 
@@ -82,13 +82,13 @@ module _ {numbers : Numbers} {scene : Scene} {motors : Motors} {format : Format}
       (subst (λ k. Fits k standard_code format.gap3 scene.disk.words_per_track) (sym on.keys_are)
       (subst (λ d. Fits (format_keys format) standard_code format.gap3 d.words_per_track) (the_disk disk under) fits)))
 
-  -- it has the rate of the format
+  -- that disk has the rate of the format
   rate_under : (disk : Disk) → HasTrackUnder (rig_of old) scene.bay format disk → rate_fits scene.rate scene.disk.rate ≡ true
   rate_under disk under =
       ap (λ r. rate_fits r scene.disk.rate) run.rate_is
       ∙ (fits_same format.rate scene.disk.rate ∙ same_rates scene.disk.rate format.rate (sym (ap (λ d. d.rate) (the_disk disk under)) ∙ under.same_rate))
 
-  -- what is shown of the media with the answer
+  -- what is shown of the media, together with the answer
   pub record ShowsFormat (laying : Option Laying) (answer : Result (Unit {0}) Code) : Type 0 where
     pub does : MatchOption laying ((rig_of new).media ≡ (rig_of old).media) (λ one. LaysMedium scene.bay format one (rig_of old) (rig_of new))
     pub turn : (IsUndisturbed scene.bay (counters_of old) (counters_of new) ⊎ (IsOk answer × IsFaultless scene.bay (counters_of old) (counters_of new)))
@@ -102,7 +102,7 @@ module _ {numbers : Numbers} {scene : Scene} {motors : Motors} {format : Format}
   either_faultless (inl none) = faultless run none
   either_faultless (inr (ok, none)) = none
 
-  -- behind a whole turn, whatever the answer
+  -- what is shown after a whole revolution, whatever the answer
   turned : (answer : Result (Unit {0}) Code) → LaysTurn scene numbers keys (drive_in now scene.bay)
       → (IsOk answer → FitsOn scene numbers keys) → IfErr answer (λ code. IsFormatMiss scene.bay format (rig_of old) code (rig_of new))
       → (laying : Option Laying) × ShowsFormat laying answer
@@ -134,7 +134,7 @@ module _ {numbers : Numbers} {scene : Scene} {motors : Motors} {format : Format}
   none_overrun : (reason : Code) → (reason ≡ code.Overrun → ⊥) → reason ≡ code.Overrun → RoseBy 1 (counters_of old).stalls (counters_of new).stalls
   none_overrun reason other is = absurd (other is)
 
-  -- a refusal where a turn can't have been undisturbed, but on tracks that aren't there
+  -- what is shown with a refusal that can't come of an undisturbed revolution, where the track is there
   refuses : (laying : Option Laying) (reason : Code)
       → MatchOption laying ((rig_of new).media ≡ (rig_of old).media) (λ one. LaysMedium scene.bay format one (rig_of old) (rig_of new))
       → (IsUndisturbed scene.bay (counters_of old) (counters_of new) → (disk : Disk) → HasTrackUnder (rig_of old) scene.bay format disk → ⊥)
@@ -149,7 +149,7 @@ module _ {numbers : Numbers} {scene : Scene} {motors : Motors} {format : Format}
     },
   )
 
-  -- the ways it ends
+  -- what is shown, by the way in which the command ended
   shows_as : (key : Chrn) (over : Ending) → FormatEndsAs scene numbers keys (drive_in now scene.bay) over → (over ≡ ending.Overrun → Stalled start now) → (laying : Option Laying) × ShowsFormat laying (told_of (told_as over key))
   shows_as key (ending.Done marked) (turn, fits) stalls = turned (Ok tt) turn (λ ok. fits) tt
   shows_as key ending.NoField (turn, out) stalls = turned (Err code.NoMark) turn (λ ok. absurd (false≢true ok)) (record {
@@ -183,7 +183,7 @@ module _ {numbers : Numbers} {scene : Scene} {motors : Motors} {format : Format}
   shows_as key ending.NoCount none stalls = absurd none
   shows_as key ending.Late none stalls = absurd none
 
-  -- what the driver is told, and what was laid
+  -- what the driver is answered, and what was recorded
   pub format_shown : (key : Chrn) (over : Ending) → FormatEndsAs scene numbers keys (drive_in now scene.bay) over → (over ≡ ending.Overrun → Stalled start now)
       → (laying : Option Laying) × FormatsTrack scene.bay format laying (rig_of old) (told_of (told_as over key)) (rig_of new)
   format_shown key over ends stalls =

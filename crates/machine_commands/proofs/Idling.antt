@@ -2,7 +2,7 @@
 use Rattle.std.specs.Prelude.{◌≡◌, ◌<◌, ◌≤◌, ◌&&◌, true, false, not}
 use Rattle.machine_commands.proofs.Common.{Spends, DriveState, track_words, is_seeking, is_executing, is_held, Fdc, Board, controller_of, channel_of, memory_of, holds_of, is_up}
 
--- no command is in execution, no seek runs, no byte is asked for, and no poll is to come
+-- no command is in execution, no seek runs, no DMA request is up, and no poll is to come
 pub record IsResting (fdc : Fdc) : Type 0 where
   pub no_command : is_executing fdc.phase ≡ false
   pub no_seek : is_seeking fdc.seeks ≡ false
@@ -23,7 +23,7 @@ pub record KeepsSpeed (old new : DriveState) : Type 0 where
   pub motor : new.motor ≡ old.motor
   pub spin : old.motor ≡ true → old.spin ≤ new.spin
 
--- no medium, no memory and no place of heads was changed
+-- neither media nor memory nor the places of heads were changed
 pub record KeepsAll (old new : Board) : Type 0 where
   pub memory : memory_of new ≡ memory_of old
   pub entries : (holds_of new).entries ≡ (holds_of old).entries
@@ -33,7 +33,7 @@ pub record KeepsAll (old new : Board) : Type 0 where
   pub direct : new.bus.direct ≡ old.bus.direct
   pub taken : old.bus.taken ≤ new.bus.taken
 
--- and no motor; a line that is low stays so, and the latch sees no rise of it
+-- nor was a motor; an interrupt line that is low stays low, and the latch sees no rise of it
 pub record StaysIdle (old new : Board) : Type 0 where
   pub keeps : KeepsAll old new
   pub first : KeepsSpeed old.first new.first
@@ -41,7 +41,7 @@ pub record StaysIdle (old new : Board) : Type 0 where
   pub quiet : (controller_of old).interrupt ≡ false → (controller_of new).interrupt ≡ false
   pub low : (controller_of old).interrupt ≡ false → is_up old ≡ false → is_up new ≡ false
 
--- the controller is then this, and the channel is as it was
+-- nothing happened but that the controller is now this; the channel is as it was
 pub record Idles (controller : Fdc) (old new : Board) : Type 0 where
   pub stays : StaysIdle old new
   pub controller_is : controller_of new ≡ controller

@@ -15,7 +15,7 @@ use Rattle.sector_model.specs.Formats.{FormatsTo, FormatsDrive, Lays}
 use Rattle.machine_commands.specs.Flagged.{flags_shown}
 use Rattle.machine_commands.proofs.StationBays.{flags_medium}
 
--- a refusal at once
+-- a request that is refused at once
 pub flags_refused : {A : Type 0} (old : StationState) (code : Code) (answer : Result A Code) (new : StationState) → IsRefusedAtOnce code old answer new → flags_shown new ≡ flags_shown old
 flags_refused old code answer new refused = ap flags_shown refused.stays
 

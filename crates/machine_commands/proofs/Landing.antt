@@ -26,7 +26,7 @@ pub page_at : (memory : List ℕ) (k : ℕ) → get_or (page_part memory) k 0 �
 unfolding page_part
 page_at memory k = get_or-drop user_bytes memory k 0
 
--- what is the same outside a range
+-- memory is the same outside a range
 pub record SameBut (old : List ℕ) (address size : ℕ) (new : List ℕ) : Type 0 where
   pub lengths : length new ≡ length old
   pub others : (k : ℕ) → (k < address) ⊎ (address + size ≤ k) → get_or new k 0 ≡ get_or old k 0

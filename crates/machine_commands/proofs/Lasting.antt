@@ -1,4 +1,4 @@
--- How long commands last, beside the gaps behind their port accesses.
+-- How long commands last, apart from the gaps after their port accesses.
 use Rattle.std.proofs.Common.{◌≡◌, ℕ, ◌+◌, ◌*◌, ◌≤◌, ◌==◌, Bool, true, false, List, [], ◌∷◌, Result as result, sym, subst, arith}
 use Rattle.machine_commands.proofs.Common.{Code, Rate, is_held, Order, Scene, Board, controller_of, holds_of, Finishes, Prepares, SetsChannel, Sends, Settles, dor_with, latch_taken, rate_byte, rig_of, Motors, Done}
 use Rattle.irq_events.specs.Holds.{AreShort}
@@ -13,7 +13,7 @@ use Rattle.machine_commands.specs.Motored.{with_motor_of}
 use Rattle.machine_commands.specs.Sending.{Senses, TakesNumber}
 use Rattle.machine_commands.proofs.Courses.{awaits_last}
 
--- ---- accesses, which use up gaps alone, before and behind
+-- ---- accesses, which take only the device steps of gaps, before and after others
 
 pub before : (n : ℕ) (a b c : Board) → Lasts 0 a b → Lasts n b c → Lasts n a c
 before n a b c first second = lasts_within (0 + n) n a c (omega arith) (lasts_twice 0 n a b c first second)
@@ -124,7 +124,8 @@ results_last outcome old new takes =
     (before 0 keys.after_c keys.after_h new (lasts_input 0x3F5 takes.key.h keys.after_c keys.after_h keys.h)
     (before 0 keys.after_h keys.after_r new (lasts_input 0x3F5 takes.key.r keys.after_h keys.after_r keys.r) (lasts_input 0x3F5 takes.key.n keys.after_r new keys.n))))))
 
--- ---- the end of a data command: the steps that it takes, one more while it goes on, one behind its end, and one to settle
+-- ---- the end of a data command: the steps that it takes, one more while it goes on, one after its end, and one to
+-- settle
 
 pub finishes_last : (order : Order) (scene : Scene) (start : Board) → is_held (controller_of start) ≡ false → AreShort (holds_of start) → (outcome : result Done Code) (sent new : Board)
     → GoesOn order scene start sent → Finishes sent outcome new → Lasts (most_steps_of scene.disk.words_per_track + 3) sent new

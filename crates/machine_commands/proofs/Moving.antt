@@ -12,7 +12,7 @@ use Rattle.machine_commands.proofs.Steps.{gate_turns}
 
 -- ---- the drive
 
--- the heads may have moved, and the change line was cleared where a medium is in, or not
+-- the heads may have moved; the change line is as it was, or it was cleared because a medium is in
 pub record MovesDrive (old new : DriveState) : Type 0 where
   pub medium : new.medium ≡ old.medium
   pub speed : KeepsSpeed old new
@@ -66,7 +66,7 @@ lost_moves old new becomes = record {
   change = inl (ap (λ d. d.change) becomes.becomes);
 }
 
--- a pulse and the word time behind it: it moved the heads, or it was lost
+-- a pulse and the word time after it: the pulse moved the heads, or it was lost
 pub record IsPulsed (inward : Bool) (old new : DriveState) : Type 0 where
   pub moves : MovesDrive old new
   pub either : ((new.cylinder ≡ (if inward then min (old.cylinder + 1) 82 else old.cylinder - 1)) × (is_some old.medium ≡ true → new.change ≡ false))
@@ -194,7 +194,7 @@ outward_rule bay old = record { steps = outward_steps bay old; stays = outward_s
 
 -- ---- SEEK
 
--- so many pulses toward the target, by the controller's number
+-- so many pulses toward the target, counted from the cylinder number that the controller keeps
 pub record HasSought (old : DriveState) (from target n cylinder : ℕ) (new : DriveState) : Type 0 where
   pub way : ((from + n ≡ cylinder) × (cylinder ≤ target)) ⊎ ((cylinder + n ≡ from) × (target ≤ cylinder))
   pub follows : old.cylinder ≡ from → RoseLess 1 old.faults new.faults → new.cylinder ≡ cylinder
@@ -218,7 +218,7 @@ less_by a b h = grind (arith, nat_tests)
 more_by : (a b : ℕ) → (a == b) ≡ false → nat_lt a b ≡ false → b < a
 more_by a b apart h = grind (arith, nat_tests)
 
--- the other half of a clause, where nothing else moved
+-- the line stays cleared, or the fault counted, where nothing more moved
 keeps_cleared : (old before after : DriveState) → after.change ≡ before.change → before.faults ≤ after.faults
     → (before.change ≡ false) ⊎ Rose old.faults before.faults → (after.change ≡ false) ⊎ Rose old.faults after.faults
 keeps_cleared old before after same more was = elim was [
@@ -226,7 +226,7 @@ keeps_cleared old before after same more was = elim was [
   | inr rose ↦ inr (omega arith)
 ]
 
--- a pulse that moves the heads clears the line, and one that is lost is counted
+-- a pulse that moves the heads clears the change line, and a pulse that is lost is counted
 pulse_clears : (old before after : DriveState) (inward : Bool) → old.faults ≤ before.faults → before.medium ≡ old.medium → IsPulsed inward before after → is_some old.medium ≡ true
     → (after.change ≡ false) ⊎ Rose old.faults after.faults
 pulse_clears old before after inward more same is some = elim is.either [
@@ -241,7 +241,7 @@ some_steps : (k : ℕ) → (k ≡ 0 → ⊥) → 1 ≤ k
 some_steps zero none = absurd (none refl)
 some_steps (suc k) none = omega arith
 
--- the cylinder beside it
+-- the next cylinder inward or outward
 abbrev next_to : Bool → ℕ → ℕ
 next_to inward cylinder = if inward then cylinder + 1 else cylinder - 1
 

@@ -23,7 +23,7 @@ use Rattle.machine_commands.proofs.Showing.{counts_go}
 
 -- ---- counts
 
--- no hold, no data command, no interrupt and no device step came, and at most one access past the driver
+-- no DMA latency, no data command, no interrupt and no device step came, and at most one access past the driver
 record LeavesCounts (old new : Board) : Type 0 where
   holding : holds_of new ≡ holds_of old
   sent : data_commands_of (controller_of new) ≡ data_commands_of (controller_of old)
@@ -55,7 +55,7 @@ past_driver old new leaves = record { accesses = leaves.most; no_commands = leav
 
 -- ---- drives
 
--- nothing but the count of faults was changed
+-- nothing of the drive was changed but its count of faults
 record SameDrive (old new : DriveState) : Type 0 where
   medium : new.medium ≡ old.medium
   cylinder : new.cylinder ≡ old.cylinder
@@ -72,7 +72,7 @@ same_drive old new is = record {
   counts = drive_same (counts_of old) (counts_of new) (ap counts_of is);
 }
 
--- the count of a drive that is just this goes on, where this has the count that was there
+-- how the counts of a drive go on that equals the target, where the target has the old count of faults
 drive_goes : (old target new : DriveState) → new ≡ target → target.faults ≡ old.faults → target.left ≡ old.left → DriveGoesOn (counts_of old) (counts_of new)
 drive_goes old target new is faults left =
     let becomes = becomes_at target old new is faults left in
@@ -87,7 +87,7 @@ becomes_same old new becomes = record {
   counts = drive_goes old old new becomes refl refl;
 }
 
--- it has another medium, or none
+-- the drive has another medium, or none
 record Swapped (medium : Option Disk) (old new : DriveState) : Type 0 where
   is : new.medium ≡ medium
   cylinder : new.cylinder ≡ old.cylinder
@@ -301,7 +301,7 @@ pub taken_idle : (motors : Motors) (old new : Board) (bay : ℕ) → bay ≤ 1 �
     → InRange new.first → InRange new.second → IsIdle motors old → IsIdle motors new
 taken_idle motors old new bay small touches becomes = touched_idle motors old new bay small touches (ap (λ (d : DriveState). d.motor) becomes)
 
--- the motor of a drive that takes the place of another goes on as DOR says
+-- the motor of a drive that takes the place of another goes on as DOR commands
 follows : (motors : Motors) (old : Board) (bay : ℕ) (drive after : DriveState) → bay ≤ 1 → IsIdle motors old → FollowsMotor bay (controller_of old) drive after
     → after.motor ≡ (drive_in old bay).motor
 follows motors old zero drive after small was moves =

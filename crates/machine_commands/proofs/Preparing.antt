@@ -1,4 +1,4 @@
--- What is set up before a data command, on an idle machine: all stays but what was set.
+-- What is set up before a data command on an idle machine; all else stays.
 use Rattle.std.proofs.Common.{◌≡◌, ℕ, ◌-◌, ◌/◌, ◌%◌, ◌<◌, ◌≤◌, nat_le, true, false, Option, Some, None, is_some, IfSome, refl, sym, ◌∙◌, ap, subst, arith}
 use Rattle.std.proofs.lemmas.Bool.{false≢true, and_parts}
 use Rattle.std.proofs.lemmas.Bool.Decides.{nat_tests}
@@ -53,7 +53,7 @@ disk_stays bay disk old new stays has =
 
 -- ---- the bay and the rate
 
--- the controller then
+-- the controller with this bay selected and this rate set
 abbrev pub prepared : Motors → ℕ → Rate → Fdc → Fdc
 prepared motors bay rate fdc = ccr_written (rate_byte rate) (with_dor (dor_with motors bay) fdc)
 
@@ -91,13 +91,13 @@ is_prepared motors bay rate old ready idle small spun prepares =
 
 -- ---- DMA channel 2
 
--- the channel is set so, and all else stays
+-- the channel is set in this way, and all else stays
 pub record IsSetTo (old : Board) (channel : Channel) (new : Board) : Type 0 where
   pub stays : StaysIdle old new
   pub controller_is : controller_of new ≡ controller_of old
   pub channel_is : channel_of new ≡ channel
 
--- before the gap
+-- a port outside the controller was written, and the gap is still to come
 written_to : (port value : ℕ) (old new : Board) → is_controllers port ≡ false → sets_lines port value ≡ false → (access : Outputs port value old new)
     → IsSetTo old (after_write port value (channel_of old)) access.between
 written_to port value old new beside other access =

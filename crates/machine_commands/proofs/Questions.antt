@@ -24,7 +24,7 @@ ready_rests fdc ready = record {
   no_poll = ap (λ due. due && not (is_held fdc)) ready.polled;
 }
 
--- whatever DOR and the rate are
+-- a controller stays ready, whatever DOR and the rate are
 pub ready_set : (fdc other : Fdc) → IsReady fdc → IsReady (record fdc { dor = other.dor; rate = other.rate })
 ready_set fdc other ready = record {
   phase = ready.phase;
@@ -48,7 +48,7 @@ not_held motors bay fdc small dor =
 pub ready_listens : (motors : Motors) (bay : ℕ) (fdc : Fdc) → bay ≤ 1 → dor_of fdc ≡ dor_with motors bay → IsReady fdc → IsListening fdc
 ready_listens motors bay fdc small dor ready = record { rests = ready_rests fdc ready; phase_is = ready.phase; not_held = not_held motors bay fdc small dor }
 
--- ---- behind a command the machine is idle again
+-- ---- after a command the machine is idle again
 
 pub idle_again : (motors : Motors) (bay : ℕ) (old new : Board) (fdc : Fdc) → IsIdle motors old → bay ≤ 1 → dor_of fdc ≡ dor_with motors bay → IsReady fdc → Idles fdc old new
     → InRange new.first → InRange new.second → IsIdle motors new

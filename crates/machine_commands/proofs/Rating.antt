@@ -42,13 +42,13 @@ acked_drive driver rig spares waiting old bay rate (Ok u) acks is =
 acked_drive driver rig spares waiting old bay rate (Err code) acks is =
     ap flags_shown acks.refused.becomes ∙ flags_rate old.bays bay (fresh_bay (bay_of old bay).medium) rate refl (sym is)
 
--- a bay is at its noted rate where it could be acknowledged, and else at 500 kbit/s
+-- a bay is at its noted rate if it could be acknowledged, and else at 500 kbit/s
 pub flags_acked : (driver : Driver) (rig : Rig) (spares : ℕ) (waiting : List DriveCounts) (old : StationState) (bay : ℕ) (rate : Rate) (answer : Result (Unit {0}) Code) → bay ≤ 1 → Acks bay old answer (shown driver rig spares waiting) → rate ≡ (if is_ok answer then (notes_of driver bay).rate else R500) → flags_shown (shown driver rig spares waiting) ≡ with_rate (flags_shown old) bay rate
 flags_acked driver rig spares waiting old bay rate answer in_range step is =
     let new = shown driver rig spares waiting in
     acked_drive driver rig spares waiting old bay rate answer (subst (λ b. MatchBool b (AcksDrive bay old answer new) (IsRefusedAtOnce BadRequest old answer new)) (le-leb bay 1 in_range) step) is
 
--- no such bay
+-- there is no such bay
 pub flags_no_bay : (old : StationState) (bay : ℕ) (answer : Result (Unit {0}) Code) (new : StationState) → 1 < bay → Acks bay old answer new → flags_shown new ≡ flags_shown old
 flags_no_bay old bay answer new above step =
     flags_refused old BadRequest answer new (subst (λ b. MatchBool b (AcksDrive bay old answer new) (IsRefusedAtOnce BadRequest old answer new)) (lt-leb bay 1 above) step)

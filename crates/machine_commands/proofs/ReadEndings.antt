@@ -30,9 +30,9 @@ use Rattle.machine_commands.proofs.Outcomes.{outcome_is, told_as}
 use Rattle.machine_commands.proofs.Preparing.{channel_sets}
 use Rattle.machine_commands.proofs.Seeing.{calm_drive, cylinder_before, faultless, idle_after, medium_before, memory_after, memory_before, read_sends, run_lasts, stall_counts, track_before, unstalled}
 
--- ---- what is told
+-- ---- what the driver is answered
 
--- a refusal, where a stall is this
+-- when a refusal is right; `Stall` says that a late DMA (stall) was counted
 record Refuses (scene : Scene) (faults : ℕ) (Stall : Type 0) (refusal : Code) : Type 0 where
   pub coded : IsReadCode refusal
   pub cause : IsCalm scene.faults faults → IsReadReason (track_met scene) scene.sent.key refusal ⊎ (refusal ≡ code.Overrun)
@@ -42,7 +42,7 @@ abbrev Tells : Scene → ℕ → List ℕ → Type 0 → result Bool Code → Ty
 Tells scene faults memory Stall (Ok deleted) = (content : List ℕ) × heard.FindsField scene faults deleted content memory
 Tells scene faults memory Stall (Err refusal) = Refuses scene faults Stall refusal
 
--- a read never ends late, and overruns by a stall
+-- a read never ends late, and it overruns only by a stall
 tells_by : (scene : Scene) (faults : ℕ) (memory : List ℕ) (Stall : Type 0) (ending : Ending) → heard.ReadEndsAs scene faults memory ending → ends_late ending ≡ false → (ending ≡ Overrun → Stall)
     → (key : Chrn) → Tells scene faults memory Stall (mark_told (told_as ending key))
 tells_by scene faults memory Stall (Finished deleted) says never overran key = says

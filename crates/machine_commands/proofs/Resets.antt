@@ -81,7 +81,7 @@ ready_set_up fdc = record {
 
 -- ---- a part of the way
 
--- all is kept, the motors stay as they are, and the controller is this
+-- all is kept, the motors stay as they are, and the controller is now this
 record Goes (old : Board) (fdc : Fdc) (new : Board) : Type 0 where
   pub keeps : KeepsAll old new
   pub first : KeepsSpeed old.first new.first
@@ -99,7 +99,7 @@ goes_then {a} {b} {c} first second = record {
 idles_go : {old new : Board} {fdc : Fdc} → Idles fdc old new → Goes old fdc new
 idles_go idles = record { keeps = idles.stays.keeps; first = idles.stays.first; second = idles.stays.second; controller_is = idles.controller_is }
 
--- the reset pulse
+-- what the reset pulse leaves
 record Held (old : Board) (new : Board) : Type 0 where
   pub keeps : KeepsAll old new
   pub controller_is : controller_of new ≡ held_at (controller_of old)
@@ -116,7 +116,7 @@ holds old new resets =
       controller_is = gap.controller_is ∙ here;
     }
 
--- the motors are off, and the poll may have come
+-- the reset is released: the motors are off, and the poll may have come
 record Released (fdc : Fdc) (old new : Board) : Type 0 where
   pub keeps : KeepsAll old new
   pub first_off : new.first.motor ≡ false
@@ -192,7 +192,7 @@ rates old new resets =
 
 -- ---- all of it
 
--- behind the reset the motors are off, and the controller is ready
+-- after the reset the motors are off, and the controller is ready
 record IsSetUp (old new : Board) : Type 0 where
   pub keeps : KeepsAll old new
   pub first_off : new.first.motor ≡ false

@@ -1,4 +1,4 @@
--- What a driver sees of a data command, from an idle machine to the next.
+-- What a driver sees of a data command, from an idle machine until the machine is idle again.
 use Rattle.std.proofs.Common.{◌≡◌, ℕ, zero, suc, ◌+◌, ◌-◌, ◌≤◌, ◌==◌, true, List, [], ◌∷◌, Some, is_some, min, nat_lt, if◌then◌else◌, slice_index, Result as result, refl, sym, ◌∙◌, ap, arith}
 use Rattle.std.proofs.lemmas.List.Sums.{sum_by-cons}
 use Rattle.machine_commands.proofs.Common.{last_count, RoseBy, Spends, Code, Rate, Two, in_bay, GoesOn, IsDriven, IsFaultless, IsUndisturbed, faults_of, spends_twice, DriveState, InRange, data_commands_of, Order, Scene, head_sent, track_met, IsCalm, Stalled, met_is, counted, Board, controller_of, drive_in, holds_of, memory_of, met_in, track_under, IsIdle, latch_taken, counters_of, is_spun, rig_of, stalls_left, Motors, Done}
@@ -194,7 +194,7 @@ module _ {order : Order} {scene : Scene} {motors : Motors} {rate : Rate} {start 
   pub run_lasts : turn_in (rig_of new) scene.bay ≡ turn_in (rig_of old) scene.bay → LastsFor scene.bay 2 261 (rig_of old) (rig_of new)
   run_lasts same = let turn = turn_before in rig_lasts scene.bay 2 261 (most_steps_of scene.disk.words_per_track + 3) old new same (omega arith) run.lasts
 
-  -- ---- what disturbs
+  -- ---- disturbances
 
   faults_before : faults_of (counters_of old) scene.bay ≤ scene.faults
   faults_before = let same = faults_in scene.bay old in let is = run.drive.faults in let more = (drive_kept old start scene.bay run.sent.stays.keeps).never_falls in omega arith

@@ -50,11 +50,11 @@ pub record SeekCommand (bay : ℕ) (fdc : Fdc) (drive : DriveState) (Way : ℕ �
   pub runs : has_ended motion ≡ false
   pub rule : IsRule bay Way Over
   pub begins : (now : DriveState) → KeepsDrive drive now → KeepsSpeed drive now → Way 0 motion now
-  -- it doesn't take as many steps as are waited for
+  -- the command takes fewer steps than are waited for
   pub ends : (n : ℕ) (m : Motion) (now : DriveState) → 80 ≤ n → Way n m now → ⊥
   pub told : (number status : ℕ) (now : DriveState) → Over number status now → (status == 0x80) ≡ false
 
--- what it leaves
+-- what a seek leaves
 pub record SeekDone (bay : ℕ) (fdc : Fdc) (Over : ℕ → ℕ → DriveState → Type 0) (status : ℕ) (old new : Board) : Type 0 where
   pub number : ℕ
   pub code : ℕ
@@ -64,7 +64,7 @@ pub record SeekDone (bay : ℕ) (fdc : Fdc) (Over : ℕ → ℕ → DriveState �
   pub controller_is : controller_of new ≡ sensed_to (at_end fdc bay number code)
   pub low : is_up new ≡ false
 
--- the command is begun: its last byte is written, and the gap is to come
+-- the command has begun: its last byte is written, and the gap is to come
 record Begun (bay : ℕ) (fdc : Fdc) (Way : ℕ → Motion → DriveState → Type 0) (old between : Board) : Type 0 where
   pub on_its_way : IsOnWay fdc bay 0 Way between
   pub leaves : Leaves bay old between
@@ -101,7 +101,7 @@ begins bay fdc Way Over old mid sent does idles listens none access =
       leaves = left;
     }
 
--- it is over behind the wait
+-- the seek is over after the wait
 record Waited (bay : ℕ) (fdc : Fdc) (Over : ℕ → ℕ → DriveState → Type 0) (old waited : Board) : Type 0 where
   pub over : IsOver fdc bay Over waited
   pub leaves : Leaves bay old waited

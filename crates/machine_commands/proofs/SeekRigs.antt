@@ -44,7 +44,7 @@ seek_whole : (bay target : ℕ) → answer ((0x0F ∷ bay ∷ []) ++ target ∷ 
 unfolding answer
 seek_whole bay target = refl
 
--- a result that is pending isn't read as none
+-- status register 0 of a pending result isn't 80, the sign that none is pending
 recalibrated_told : (bay : ℕ) (reached : Bool) → bay ≤ 1 → (recalibrated bay reached == 0x80) ≡ false
 recalibrated_told zero true small = refl
 recalibrated_told zero false small = refl
@@ -57,7 +57,7 @@ sought_told zero small = refl
 sought_told (suc zero) small = refl
 sought_told (suc (suc bay)) small = absurd (omega arith)
 
--- equipment check tells that track 0 was not reached
+-- the bit EQUIPMENT CHECK says that track 0 was not reached
 reached_told : (bay : ℕ) (reached : Bool) → bay ≤ 1 → (bit_and (recalibrated bay reached) 0x10 == 0) ≡ reached
 reached_told zero true small = refl
 reached_told zero false small = refl
@@ -233,7 +233,7 @@ moves_heads bay old new small moves left number sent =
       driven = drives_on old new left.direct left.taken sent;
     }
 
--- ---- what is known behind a seek
+-- ---- what is known after a seek
 
 number_new : (motors : Motors) (bay number code : ℕ) (old new : Board) → IsIdle motors old → bay ≤ 1
     → controller_of new ≡ sensed_to (at_end (with_dor (dor_with motors bay) (controller_of old)) bay number code) → number_of new bay ≡ number

@@ -45,7 +45,7 @@ all_leave bay old new keeps first second = record {
 
 -- ---- one device step
 
--- no command is in execution, no byte is asked for, no poll is to come, and this bay is selected
+-- no command is in execution, no DMA request is up, no poll is to come, and this bay is selected
 pub record CanSeek (bay : ℕ) (fdc : Fdc) : Type 0 where
   pub no_command : is_executing fdc.phase ≡ false
   pub not_asking : fdc.asking ≡ false
@@ -57,7 +57,7 @@ pub record SeekStep (bay : ℕ) (old new : Board) : Type 0 where
   pub moves : Moves (pulse_due (controller_of old).seeks ((drive_in old bay).cylinder == 0)) (drive_in old bay) (drive_in new bay)
   pub leaves : Leaves bay old new
 
--- the word time of a step
+-- the word time of one device step
 record SeekWordTime (bay : ℕ) (old : Board) (between : Fdc) (new : Board) : Type 0 where
   pub controller_is : between ≡ seek_stepped ((drive_in old bay).cylinder == 0) (controller_of old)
   pub moves : Moves (pulse_due (controller_of old).seeks ((drive_in old bay).cylinder == 0)) (drive_in old bay) (drive_in new bay)
@@ -119,7 +119,7 @@ pub record EndsNow (bay : ℕ) (motion : Motion) (drive : DriveState) (Over : �
   pub ends : (seeks : Seeking) → stepped_seek seeks bay motion (drive.cylinder == 0) ≡ ended seeks bay number status
   pub leaves : (after : DriveState) → Moves None drive after → Over number status after
 
--- or it gives a pulse
+-- or the step gives a pulse
 pub record GivesPulse (bay n : ℕ) (motion : Motion) (drive : DriveState) (Way : ℕ → Motion → DriveState → Type 0) : Type 0 where
   pub inward : Bool
   pub next : Motion
@@ -128,13 +128,13 @@ pub record GivesPulse (bay n : ℕ) (motion : Motion) (drive : DriveState) (Way 
   pub goes : (seeks : Seeking) → stepped_seek seeks bay motion (drive.cylinder == 0) ≡ with_motion seeks bay next
   pub leaves : (after : DriveState) → Moves (Some inward) drive after → Way (n + 1) next after
 
--- the seek of a bay goes by this rule: after so many steps it is on its way, or over
+-- the seek of a bay follows this rule: after so many steps it is on its way, or over
 pub record IsRule (bay : ℕ) (Way : ℕ → Motion → DriveState → Type 0) (Over : ℕ → ℕ → DriveState → Type 0) : Type 0 where
   pub steps : (n : ℕ) (motion : Motion) (drive : DriveState) → has_ended motion ≡ false → Way n motion drive
       → EndsNow bay motion drive Over ⊎ GivesPulse bay n motion drive Way
   pub stays : (number status : ℕ) (before after : DriveState) → KeepsDrive before after → KeepsSpeed before after → Over number status before → Over number status after
 
--- ---- runs of it
+-- ---- runs by such a rule
 
 abbrev pub on_way : Fdc → ℕ → Motion → Fdc
 on_way fdc bay motion = record fdc { seeks = with_motion fdc.seeks bay motion }
@@ -142,7 +142,7 @@ on_way fdc bay motion = record fdc { seeks = with_motion fdc.seeks bay motion }
 abbrev pub at_end : Fdc → ℕ → ℕ → ℕ → Fdc
 at_end fdc bay number status = record fdc { seeks = ended fdc.seeks bay number status; interrupt = true }
 
--- how it is after so many steps
+-- the state of a seek that is on its way after so many steps
 pub record IsOnWay (fdc : Fdc) (bay n : ℕ) (Way : ℕ → Motion → DriveState → Type 0) (board : Board) : Type 0 where
   pub motion : Motion
   pub runs : has_ended motion ≡ false
@@ -231,7 +231,7 @@ pub record RunsSeek (fdc : Fdc) (bay n : ℕ) (Way : ℕ → Motion → DriveSta
   pub sought : Sought fdc bay Way Over n new
   pub leaves : Leaves bay old new
 
--- gaps play no part
+-- the gaps that are left don't matter
 regapped_sought : (fdc : Fdc) (bay n : ℕ) (Way : ℕ → Motion → DriveState → Type 0) (Over : ℕ → ℕ → DriveState → Type 0) (board : Board) (gaps : List ℕ) (fresh : Bool)
     → Sought fdc bay Way Over n board → Sought fdc bay Way Over n (regapped gaps fresh board)
 regapped_sought fdc bay n Way Over board gaps fresh sought = elim sought [

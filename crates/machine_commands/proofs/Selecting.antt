@@ -90,7 +90,7 @@ pub switched : (k byte : ℕ) (want : Bool) (before after : DriveState) → (IsT
 switched k byte want before after is (on, follows, becomes) =
     subst (λ b. IsSwitched b before after) (same_truth on want (IsBitSet byte k) follows is) (switched_by on before after becomes)
 
--- the gate is closed besides, or stays as it is
+-- the gate is then closed, or stays as it is
 switched_closed : (want closed : Bool) (a b c : DriveState) → IsSwitched want a b → Closes closed b c → IsSwitched want a c
 switched_closed want true a b c is becomes = record {
   keeps = drive_then a b c is.keeps (becomes_keeps (with_gate false b) b c refl refl refl refl (becomes_at (with_gate false b) b c becomes refl refl));
@@ -101,7 +101,7 @@ switched_closed want false a b c is same = subst (λ d. IsSwitched want a d) (sy
 
 -- ---- a write of DOR
 
--- what it leaves, before the gap
+-- what a write of DOR leaves, before the gap
 pub record IsDorWritten (fdc : Fdc) (first second : Bool) (old between : Board) : Type 0 where
   pub bus : between.bus ≡ accessed fdc old.bus
   pub first_is : IsSwitched first old.first between.first

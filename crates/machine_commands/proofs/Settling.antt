@@ -1,4 +1,4 @@
--- One device step behind results, and polls.
+-- One device step after results were read, and polls.
 use Rattle.std.proofs.Common.{◌≡◌, ◌⊎◌, inl, inr, sym, ◌∙◌, ap, subst}
 use Rattle.machine_commands.proofs.Common.{interrupts, polled, Fdc, Board, controller_of, regapped, Steady, gap, RunsGap, Step, stirred, is_up, Settles}
 use Rattle.pc_bus.specs.Steps.{Runs}
@@ -9,7 +9,7 @@ pub runs_one : (old new : Board) → Runs 1 old new → Step old new
 unfolding Runs
 runs_one old new (between, same, step) = subst (λ board. Step board new) same step
 
--- a device step and a look at the latch behind whose poll the controller rests
+-- a device step, and the latch is taken; once the poll has come, the controller rests
 pub record SettlesTo (old : Board) (fdc : Fdc) (new : Board) : Type 0 where
   pub keeps : KeepsAll old new
   pub first : KeepsSpeed old.first new.first
@@ -45,7 +45,7 @@ pub record RunsPolled (before after : Fdc) (old new : Board) : Type 0 where
   pub second : KeepsSpeed old.second new.second
   pub controller : (controller_of new ≡ before) ⊎ (controller_of new ≡ after)
 
--- whether the poll has come or not, the next device step has it behind it
+-- after the next device step the poll has come, whether it came before or not
 pub polls_next : (before after : Fdc) (board : Board) → polled before ≡ after → IsResting after → (controller_of board ≡ before) ⊎ (controller_of board ≡ after)
     → polled (controller_of board) ≡ after
 polls_next before after board poll rest is = elim is [

@@ -11,7 +11,7 @@ two_same a b c d one two = ap (λ v. let x : Two _ = record { first = v; second 
 
 -- ---- counts
 
--- what goes on where drives, stalls and accesses do
+-- the counts of a machine go on, if those of its drives, its stalls and its accesses do
 pub counts_go : (old new : Board) → DriveGoesOn (counts_of old.first) (counts_of new.first) → DriveGoesOn (counts_of old.second) (counts_of new.second)
     → (holds_of new).entries ≡ (holds_of old).entries → (holds_of new).stalls ≡ (holds_of old).stalls → old.bus.direct ≤ new.bus.direct
     → old.bus.taken ≤ new.bus.taken → data_commands_of (controller_of new) ≡ data_commands_of (controller_of old) → GoesOn (counters_of old) (counters_of new)

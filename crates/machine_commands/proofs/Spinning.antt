@@ -12,8 +12,7 @@ use Rattle.machine_commands.proofs.Selecting.{IsSwitched, IsDorWritten, is_dor, 
 use Rattle.machine_commands.proofs.Showing.{keeps_asking, at_speed_on}
 use Rattle.machine_commands.proofs.Steps.{same_turning, keeps_then, idles_then, waits_spinning}
 
--- a call came
--- the motor is on, behind the write of DOR and behind all
+-- the driver turned a motor on and waited: the motor is on after the write of DOR, and after the wait
 pub record IsStarted (motors : Motors) (old on new : Board) (fdc : Fdc) : Type 0 where
   pub written : IsDorWritten fdc motors.first motors.second old on
   pub idles : Idles fdc on new

@@ -12,7 +12,7 @@ flags_put_at : (b : Bool) (bays : Two Bay) (value : Bay) → flags_of_both (if b
 flags_put_at true bays value = refl
 flags_put_at false bays value = refl
 
--- another bay brings its flags
+-- flags of two bays, of which one was replaced
 pub flags_put : (bays : Two Bay) (n : ℕ) (value : Bay) → flags_of_both (with_bay bays n value) ≡ with_bay (flags_of_both bays) n (flags_of value)
 flags_put bays n value = flags_put_at (n == 0) bays value
 
@@ -28,7 +28,7 @@ put_same_at : {T : Type 0} (b : Bool) (two : Two T) (value : T) → value ≡ (i
 put_same_at true two value same = ap (λ v. record two { first = v }) same
 put_same_at false two value same = ap (λ v. record two { second = v }) same
 
--- what is there already changes nothing
+-- putting in what is there already changes nothing
 pub put_same : {T : Type 0} (two : Two T) (n : ℕ) (value : T) → value ≡ in_bay two n → with_bay two n value ≡ two
 put_same two n value same = put_same_at (n == 0) two value same
 
@@ -36,21 +36,21 @@ in_put_at : {T : Type 0} (b : Bool) (two : Two T) (value : T) → (if b then (if
 in_put_at true two value = refl
 in_put_at false two value = refl
 
--- the one that was put in
+-- what was put in is what is there
 pub in_put : {T : Type 0} (two : Two T) (n : ℕ) (value : T) → in_bay (with_bay two n value) n ≡ value
 in_put two n value = in_put_at (n == 0) two value
 
 abbrev flagged : Bool → Rate → BayFlags
 flagged loaded rate = record { loaded = loaded; rate = rate }
 
--- a medium in another's place leaves the flags
+-- another medium in place of one leaves the flags as they are
 pub flags_medium : (bays : Two Bay) (n : ℕ) (medium : Option Disk) → is_some medium ≡ is_some (in_bay bays n).medium → flags_of_both (with_bay bays n (record (in_bay bays n) { medium = medium })) ≡ flags_of_both bays
 flags_medium bays n medium same =
     flags_put bays n (record (in_bay bays n) { medium = medium })
     ∙ put_same (flags_of_both bays) n (flags_of (record (in_bay bays n) { medium = medium }))
     (ap (λ b. flagged b (in_bay bays n).rate) same ∙ sym (flags_in bays n))
 
--- a bay with the same medium in, or another, has another rate
+-- the flags where a bay gets another rate, with the same medium in or another
 pub flags_rate : (bays : Two Bay) (n : ℕ) (value : Bay) (rate : Rate) → is_some value.medium ≡ is_some (in_bay bays n).medium → value.rate ≡ rate → flags_of_both (with_bay bays n value) ≡ with_rate (flags_of_both bays) n rate
 flags_rate bays n value rate same is =
     flags_put bays n value

@@ -66,7 +66,7 @@ line_put_at true driver media changes medium = ap (λ v. two_bays v (bay_shown d
 line_put_at false driver media changes medium = ap (λ v. two_bays (bay_shown driver.first media.first changes.first) v) (line_set driver.second medium)
 
 module _ (driver : Driver) (old new : Rig) (spares : ℕ) (waiting : List DriveCounts) where
-  -- a bay with this medium in or none, and its change line set
+  -- a bay has this medium or none, and its change line is set
   pub becomes_exchanged : (left : ℕ) (after : List DriveCounts) (bay : ℕ) (medium : Option Disk) → new.media ≡ with_bay old.media bay medium → new.changes ≡ with_bay old.changes bay true → new.memory ≡ old.memory → Becomes (record (set_bay (shown driver old spares waiting) bay (fresh_bay medium)) { spares = left }) (shown driver new left after)
   becomes_exchanged left after bay medium media changes memory =
       let counters = with_waiting new.counters after in
@@ -130,7 +130,7 @@ module _ (driver : Driver) (old new : Rig) (spares : ℕ) (waiting : List DriveC
 
 -- ---- flags
 
--- of a station whose bay was exchanged
+-- the flags of a station in one of whose bays the medium was exchanged
 pub flags_exchanged : (old : StationState) (bay : ℕ) (medium : Option Disk) (new : StationState) → Exchanges bay medium old new → flags_shown new ≡ with_bay (flags_shown old) bay (flags_of (fresh_bay medium))
 flags_exchanged old bay medium new exchanged = ap flags_shown exchanged.becomes ∙ flags_put old.bays bay (fresh_bay medium)
 

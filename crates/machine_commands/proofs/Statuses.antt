@@ -30,7 +30,7 @@ whole bay = refl
 pub no_bits : (seeks : Seeking) → AreSeeksOver seeks → seek_bits seeks ≡ 0
 no_bits seeks over = ap (λ seek. option_map_or (λ s. 2 ^ s.drive) seek 0) over.no_seek
 
--- the controller behind the command, before its result is read and after
+-- the controller after the command, before its result is read and after
 abbrev pub status_given : Board → ℕ → Fdc
 status_given board bay = answered (status_of_lines (lines_of board) bay) None (with_bytes [] (controller_of board))
 
@@ -85,7 +85,7 @@ senses_drive motors bay status old new idle small senses =
 
 -- ---- what it says
 
--- bit 6 of the status tells it
+-- bit 6 of the status says whether the medium is protected
 bit_told : (protected track0 : Bool) (bay : ℕ) → bay ≤ 1 → not (bit_and (bits_if protected 0x40 (bits_if track0 0x10 (bit_or (bit_and bay 7) 0x28))) 0x40 == 0) ≡ protected
 bit_told true true zero small = refl
 bit_told true false zero small = refl

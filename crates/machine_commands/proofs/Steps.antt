@@ -20,7 +20,7 @@ pub or_false : (b : Bool) → (b || false) ≡ b
 or_false true = refl
 or_false false = refl
 
--- nothing is moved where nothing is asked for
+-- no byte is moved where no DMA request is up
 pub calm_dma : (chips : Chips) → asks chips.controller ≡ false → dma_stepped chips ≡ record chips { holding = record chips.holding { request = Low } }
 unfolding dma_stepped
 calm_dma chips calm = rw calm refl
@@ -69,7 +69,7 @@ rests_in Command old track0 new idle is = is
 rests_in (Execute execution) old track0 new busy is = absurd cc
 rests_in (Result answer) old track0 new idle is = is
 
--- the controller behind the poll rests: it stays so
+-- a controller that rests once the poll has come stays as it is
 stays_same : (old polled_to : Fdc) (track0 : Bool) (new : Fdc) → polled old ≡ polled_to → IsResting polled_to → RestsIn (polled old).phase track0 (polled old) new → new ≡ polled_to
 stays_same old polled_to track0 new poll rest is =
     let here = subst (λ fdc. RestsIn fdc.phase track0 fdc new) poll is in
@@ -118,7 +118,7 @@ moves_turn old polled_to before after poll rest is =
 
 -- ---- a device step
 
--- a device step behind whose poll the controller rests
+-- a device step; once the poll has come, the controller rests
 pub record StepsTo (old : Board) (fdc : Fdc) (new : Board) : Type 0 where
   pub keeps : KeepsAll old new
   pub first : OnlyTurns old.first new.first
@@ -228,7 +228,7 @@ idles_then {a} {b} {c} first second = record {
 pub idles_as : (old new : Board) (one two : Fdc) → one ≡ two → Idles one old new → Idles two old new
 idles_as old new one two same idles = subst (λ fdc. Idles fdc old new) same idles
 
--- gaps play no part
+-- the gaps that are left don't matter
 pub regapped_idles : (board : Board) (gaps : List ℕ) (fresh : Bool) → Idles (controller_of board) board (regapped gaps fresh board)
 regapped_idles board gaps fresh = record {
   stays = record {
@@ -245,7 +245,7 @@ regapped_idles board gaps fresh = record {
 pub idles_none : (board : Board) → Idles (controller_of board) board board
 idles_none board = regapped_idles board board.bus.gaps board.bus.fresh
 
--- what holds of a device step holds of all
+-- what holds of the device steps so far and of one more holds of all
 idles_on : (old now new : Board) → Idles (controller_of old) old now → Idles (controller_of now) now new → Idles (controller_of old) old new
 idles_on old now new was on = idles_as old new (controller_of now) (controller_of old) was.controller_is (idles_then was on)
 

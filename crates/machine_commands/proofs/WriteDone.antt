@@ -1,4 +1,4 @@
--- A whole WRITE DATA or WRITE DELETED DATA, from an idle machine to the next.
+-- A whole WRITE DATA or WRITE DELETED DATA, from an idle machine until the machine is idle again.
 use Rattle.std.proofs.Common.{◌≡◌, ℕ, ◌+◌, ◌-◌, ◌*◌, ◌%◌, ◌<◌, ◌≤◌, Bool, true, false, [], ◌∷◌, Option, Result, refl, sym, ◌∙◌, ap, subst, arith}
 use Rattle.std.specs.Option.{option_map_or}
 use Rattle.machine_commands.proofs.Common.{read_gap_at, Chrn, Rate, Code, in_bay, user_bytes, bytes_from, set_up, InRange, Ready, key_after, Sent, Long, Window, Write, scene_of, only, Board, channel_of, drive_in, memory_of, Change, WritesData, IsSizeCode, content_size, sector_bytes, IsIdle, Sends, rig_of, told_of, Motors, Done}
@@ -24,7 +24,7 @@ command_same : (deleted : Bool) (sent : Sent) (gap length_code : ℕ) → write_
 command_same true sent gap length_code = refl
 command_same false sent gap length_code = refl
 
--- what is shown behind it
+-- what is shown after it
 pub record IsWritten (motors : Motors) (bay : ℕ) (key : Chrn) (rate : Rate) (address : ℕ) (deleted : Bool) (outcome : Result Done Code) (old new : Board) : Type 0 where
   pub idle : IsIdle motors new
   pub change : Option Change

@@ -55,7 +55,7 @@ two_bays (suc (suc bay)) a b small here there = absurd (omega arith)
 
 -- ---- a write
 
--- a command that writes tells OR only where a stall was counted
+-- a command that writes has OR in its results only where a stall was counted
 pub overruns : {laid : Laid} {scene : Scene} {motors : Motors} {rate : Rate} {start old : Board} {outcome : Result Done Code} {new : Board} → (run : HasRun (Write laid) scene motors rate start old outcome new)
     → run.over.results.ending ≡ ending.Overrun → Stalled start run.over.at
 overruns run is = elim run.over.goes.in_time [
@@ -75,7 +75,7 @@ module _ {deleted : Bool} {scene : Scene} {motors : Motors} {rate : Rate} {start
   abbrev now : Board
   now = run.over.at
 
-  -- what is asked of it
+  -- what the driver asked for
   abbrev pub asked : Written
   asked = record { key = scene.sent.key; deleted = deleted; content = bytes_from (rig_of old).memory scene.address (content_size scene.sent.key.n) }
 
@@ -136,7 +136,7 @@ module _ {deleted : Bool} {scene : Scene} {motors : Motors} {rate : Rate} {start
     whole = whole;
   }
 
-  -- ---- what the ending tells
+  -- ---- what each ending says
 
   out_after : (IsUnchanged scene (drive_in now scene.bay) ⊎ write.ChangesOut scene deleted (drive_in now scene.bay)) → write.HasWindowOut (track_met scene) scene.sent.key
       → HasWindowOut (track_under (rig_of new) scene.bay rate scene.sent.key.h) scene.sent.key
@@ -148,7 +148,7 @@ module _ {deleted : Bool} {scene : Scene} {motors : Motors} {rate : Rate} {start
       let words = it.changed.changes.cut.words_per_track in
       (place, subst (λ track. IsAddressAt track place scene.sent.key) (met_changed it.changed) it.changed.changes.stays, λ fits. it.out (omega arith))
 
-  -- the answer with what is shown of the media
+  -- what is shown of the media, together with the answer
   pub record ShowsWrite (change : Option Change) (answer : Result (Unit {0}) Code) : Type 0 where
     pub does : MatchOption change ((rig_of new).media ≡ (rig_of old).media) (λ one. ChangesMedium scene.bay rate (written_in scene deleted) one (rig_of old) (rig_of new))
     pub done : IsOk answer → IsFaultless scene.bay (counters_of old) (counters_of new) → MatchOption change ⊥ (λ one. one.words ≡ length (window_of (written_in scene deleted)))
@@ -165,7 +165,7 @@ module _ {deleted : Bool} {scene : Scene} {motors : Motors} {rate : Rate} {start
       → (change : Option Change) × ShowsWrite change (Err reason)
   refuses change reason does missed = (change, record { does = does; done = λ ok none. absurd (false≢true ok); refused = missed })
 
-  -- the ways it ends
+  -- what is shown, by the way in which the command ended
   shows_as : (key : Chrn) (over : Ending) → WriteEndsAs scene deleted (drive_in now scene.bay) over → (over ≡ ending.Overrun → Stalled start now) → (change : Option Change) × ShowsWrite change (told_of (told_as over key))
   shows_as key (ending.Done marked) whole stalls = (
     Some whole.changed.change,
@@ -220,7 +220,7 @@ module _ {deleted : Bool} {scene : Scene} {motors : Motors} {rate : Rate} {start
   shows_as key ending.NoCount none stalls = absurd none
   shows_as key ending.Late none stalls = absurd none
 
-  -- what the driver is told, and what it wrote
+  -- what the driver is answered, and what the command wrote
   pub write_shown : (key : Chrn) (over : Ending) → WriteEndsAs scene deleted (drive_in now scene.bay) over → (over ≡ ending.Overrun → Stalled start now)
       → (change : Option Change) × WritesData scene.bay rate asked change (rig_of old) (told_of (told_as over key)) (rig_of new)
   write_shown key over ends stalls =

@@ -8,7 +8,7 @@ use Rattle.machine_commands.specs.Ready.{dor_with}
 use Rattle.machine_commands.specs.Sending.{Sends, Senses, Settles}
 use Rattle.machine_commands.specs.declared.motors.Motors.{Motors}
 
--- the input register of a bay's drive is read: its change line is this
+-- the input register is read with this bay's drive selected, and this is the drive's change line
 pub record ReadsLine (motors : Motors) (bay : ℕ) (old : Board) (changed : Bool) (new : Board) : Type 0 where
   pub selected : Board
   pub selects : Outputs 0x3F2 (dor_with motors bay) old selected
@@ -24,13 +24,13 @@ pub record SensesDrive (motors : Motors) (bay : ℕ) (old : Board) (status : ℕ
   pub sends : Sends (0x04 ∷ bay ∷ []) selected sent
   pub takes : Inputs 0x3F5 sent status new
 
--- the motor of a bay goes on, and it is waited until a medium has come to speed
+-- the motor of a bay goes on, and then so many device steps pass that a medium has come to speed
 pub record StartsMotor (motors : Motors) (bay : ℕ) (old new : Board) : Type 0 where
   pub between : Board
   pub turns_on : Outputs 0x3F2 (dor_with (with_motor_of bay motors) bay) old between
   pub runs : Runs 6250 (stirred between) new
 
--- as many device steps as a seek takes at most, and then its status register 0
+-- as many device steps pass as a seek takes at most, and then its status register 0 is read
 pub record EndsSeek (old : Board) (status : ℕ) (new : Board) : Type 0 where
   pub waited : Board
   pub runs : Runs 80 (stirred old) waited

@@ -54,7 +54,7 @@ pub record SetsCount (last : ℕ) (old new : Board) : Type 0 where
   pub lows : Outputs 0x05 (last % 256) old low
   pub highs : Outputs 0x05 (last / 256) low new
 
--- the chip is enabled, the channel masked, its mode, address and count are set, and it is let in
+-- the DMA chip is enabled and the channel masked; its mode, address and count are set, and it is unmasked
 pub record SetsChannel (mode address last : ℕ) (old new : Board) : Type 0 where
   pub enabled : Board
   pub enables : Outputs 0x08 0 old enabled
@@ -78,7 +78,8 @@ sector_bytes command bay key rate =
 
 -- ---- the end
 
--- a device step, and as many as line 6 takes; then the latch is taken, and MSR tells whether results are ready
+-- a device step, and then as many as it takes until line 6 sets the latch; then the latch is taken, and MSR says
+-- whether results are ready
 pub record Watch (old : Board) (ready : Bool) (new : Board) : Type 0 where
   pub stepped : Board
   pub steps : Runs 1 (stirred old) stepped
@@ -89,12 +90,12 @@ pub record Watch (old : Board) (ready : Bool) (new : Board) : Type 0 where
   pub reads : Inputs 0x3F4 (latch_taken waited) value new
   pub answer : ready ≡ (value == 0xD0)
 
--- so often they weren't
+-- so many watches in which no results were ready
 abbrev pub Watches : ℕ → Board → Board → Type 0
 Watches zero old new = new ≡ old
 Watches (suc n) old new = (between : Board) × Watches n old between × Watch between false new
 
--- they were once, or never in 65,537 watches
+-- results were ready in one watch, and in none before it; or in none of 65,537 watches
 abbrev pub AwaitsResults : Board → Board → Type 0
 AwaitsResults old new = ((n : ℕ) × (between : Board) × Watches n old between × Watch between true new) ⊎ Watches 65537 old new
 
@@ -108,7 +109,7 @@ pub record TakesKey (old : Board) (key : Chrn) (new : Board) : Type 0 where
   pub r : Inputs 0x3F5 after_h key.r after_r
   pub n : Inputs 0x3F5 after_r key.n new
 
--- what the results come to
+-- the outcome that the results come to
 abbrev pub outcome_of : ℕ → ℕ → ℕ → Chrn → Result Done Code
 outcome_of st0 st1 st2 key =
     if has_set st0 0xC0 then Err (refusal_of st1) else Ok (record { deleted = has_set st2 0x40; key = key })
@@ -156,7 +157,7 @@ pub record SendsRead (motors : Motors) (bay : ℕ) (key : Chrn) (rate : Rate) (a
   pub sends : Sends (sector_bytes 0x46 bay key rate) set sent
   pub finishes : Finishes sent outcome new
 
--- the key of an outcome, and its mark
+-- the key of an outcome; below, its mark
 abbrev pub key_told : Result Done Code → Result Chrn Code
 key_told (Ok done) = Ok done.key
 key_told (Err code) = Err code

@@ -5,7 +5,7 @@ use Rattle.flop_base.specs.Bays.{Two, in_bay, with_bay}
 use Rattle.sector_model.specs.Stations.{Bay, StationState}
 use Rattle.machine_commands.specs.declared.flags.BayFlags.{BayFlags}
 
--- the same with another rate for a bay
+-- the flags of two bays, with another rate for one
 abbrev pub with_rate : Two BayFlags → ℕ → Rate → Two BayFlags
 with_rate flags bay rate = with_bay flags bay (record (in_bay flags bay) { rate = rate })
 
@@ -13,10 +13,10 @@ with_rate flags bay rate = with_bay flags bay (record (in_bay flags bay) { rate 
 abbrev pub flags_of : Bay → BayFlags
 flags_of bay = record { loaded = is_some bay.medium; rate = bay.rate }
 
--- and those of two
+-- what the flags of two bays have to be
 abbrev pub flags_of_both : Two Bay → Two BayFlags
 flags_of_both bays = record { first = flags_of bays.first; second = flags_of bays.second }
 
--- and those of a station
+-- what the flags of a station's bays have to be
 abbrev pub flags_shown : StationState → Two BayFlags
 flags_shown station = flags_of_both station.bays

@@ -1,4 +1,5 @@
--- What calls past the driver make of a machine: a medium is put in or taken out, a drive is exchanged, a byte of user memory is set.
+-- What calls past the driver make of a machine. A medium is put in or taken out, a drive is exchanged, or a byte of
+-- user memory is set.
 use Rattle.std.specs.Prelude.{◌≡◌, ◌≤◌, ◌-◌, ℕ, true, slice_set, Option, Some, None, IsSome, Result, Ok, Err}
 use Rattle.raw_image.specs.Disk.{Disk}
 use Rattle.flop_base.specs.Bays.{in_bay, with_bay}
@@ -33,7 +34,7 @@ pub record Exchanged (bay : ℕ) (medium : Option Disk) (old new : Rig) : Type 0
   pub past_driver : IsPastDriver 1 old.counters new.counters
   pub taken : new.counters.taken ≡ old.counters.taken
 
--- a medium was put into an empty bay, or was given back
+-- a medium was put into an empty bay; or a medium was in, and the new one was given back
 abbrev pub PutsIn : ℕ → Disk → Rig → Result (Unit {0}) Disk → Rig → Type 0
 PutsIn bay medium old (Ok _) new = (in_bay old.media bay ≡ None) × Exchanged bay (Some medium) old new
 PutsIn bay medium old (Err back) new = IsSome (in_bay old.media bay) × (back ≡ medium) × Untouched old new

@@ -12,7 +12,7 @@ use Rattle.machine_commands.specs.declared.motors.Motors.{Motors}
 abbrev pub is_up : Board → Bool
 is_up board = (latch_of board).level
 
--- DOR with these motors on and a bay selected: out of reset, with INT and DRQ let out
+-- DOR with these motors on and a bay selected, out of reset and with INT and DRQ enabled
 abbrev pub dor_with : Motors → ℕ → ℕ
 dor_with motors bay =
     0x0C + (if motors.first then 0x10 else 0) + (if motors.second then 0x20 else 0) + bay
@@ -21,7 +21,8 @@ dor_with motors bay =
 abbrev pub none_pending : List (Option ℕ)
 none_pending = None ∷ None ∷ None ∷ None ∷ []
 
--- no seek and no result, and the numbers of both bays' cylinders are those that a driver asks for
+-- no seek runs, no result is pending, and the controller's cylinder numbers of both bays are among those that a driver
+-- seeks to
 pub record AreSeeksOver (seeks : Seeking) : Type 0 where
   pub no_seek : seeks.seek ≡ None
   pub no_result : seeks.pending ≡ none_pending

@@ -21,7 +21,7 @@ pub record Settles (old new : Board) : Type 0 where
   pub taken : new ≡ latch_taken between
   pub counts : old.bus.taken ≤ new.bus.taken
 
--- the cylinder number that follows status register 0, where a result was pending
+-- the cylinder number after status register 0 is read, if a result was pending
 abbrev pub TakesNumber : Bool → Board → Board → Type 0
 TakesNumber true old new = new ≡ old
 TakesNumber false old new = (number : ℕ) × Inputs 0x3F5 old number new

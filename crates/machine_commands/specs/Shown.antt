@@ -23,7 +23,7 @@ user_part memory = take user_bytes memory
 unfoldable pub page_part : List ℕ → List ℕ
 page_part memory = drop user_bytes memory
 
--- the holds that are too long
+-- the DMA latencies that are late (stalls)
 abbrev pub stalls_left : List ℕ → ℕ
 stalls_left entries = count_by (λ hold. nat_lt 8 hold) entries
 
@@ -40,7 +40,7 @@ counters_of board = record {
   clock = clock_of board;
 }
 
--- the number that the controller has of a drive's cylinder
+-- the number that the controller keeps of a drive's cylinder
 abbrev pub number_of : Board → ℕ → ℕ
 number_of board drive = slice_index (controller_of board).seeks.cylinders drive
 

@@ -8,7 +8,7 @@ use Rattle.sector_model.specs.Stations.{StationState}
 use Rattle.machine_commands.specs.Shown.{counters_of}
 use Rattle.floppy_driver.specs.Shown.{with_waiting}
 
--- the board of a machine as it is made, with some pace and two empty drives
+-- the board of a new machine, with some timing (pace) and two empty drives
 pub record IsFreshBoard (board : Board) : Type 0 where
   pub pace : Pace
   pub bay0 : DriveState
@@ -17,8 +17,8 @@ pub record IsFreshBoard (board : Board) : Type 0 where
   pub second : IsEmpty bay1
   pub new : IsNew pace bay0 bay1 board
 
--- a station was set up on this board: its spare drives have these counts, its counts go on from the board's, and no data
--- command was sent nor anything done past the driver, in two device steps
+-- a station was set up on this board, in at most two device steps apart from gaps. Its spare drives have these counts,
+-- and its counts go on from the board's. No data command was sent, and nothing was done past the driver
 pub record Starts (board : Board) (spares : List DriveCounts) (station : StationState) : Type 0 where
   pub spares_are : station.counters.spares ≡ spares
   pub counts : GoesOn (with_waiting (counters_of board) spares) station.counters

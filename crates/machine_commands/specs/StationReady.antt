@@ -1,4 +1,4 @@
--- What a station with a machine owes itself between two calls.
+-- What holds of a station with a machine between two calls.
 use Rattle.std.specs.Prelude.{◌≡◌, All}
 use Rattle.drive_model.specs.Drive.{DriveState}
 use Rattle.pc_bus.specs.Boards.{IsEmpty}

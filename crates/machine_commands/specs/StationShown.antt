@@ -18,7 +18,8 @@ abbrev pub station_shown : {D : Type 0} → (D → DriveState) → MachineStatio
 station_shown state station = shown station.driver (rig_shown state station.machine)
     (length station.spare.items) (all_counts state station.spare.items)
 
--- what a board shows of a station that stands on it: the media of its drives, the user's part of its memory, and its counts
+-- what a board shows of a station that stands on it: the media of its drives, the user's part of its memory, and its
+-- counts
 pub record ShowsStation (board : Board) (station : StationState) : Type 0 where
   pub first : station.bays.first.medium ≡ board.first.medium
   pub second : station.bays.second.medium ≡ board.second.medium

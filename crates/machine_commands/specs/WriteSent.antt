@@ -23,12 +23,12 @@ pub record SendsWriteBytes (motors : Motors) (bay : ℕ) (key : Chrn) (rate : Ra
   pub sends : Sends (sector_bytes (write_code deleted) bay key rate) set sent
   pub finishes : Finishes sent outcome new
 
--- what a driver is told of a command that tells nothing but that it was done
+-- what a driver is answered where a command has no answer but that it was done
 abbrev pub told_of : Result Done Code → Result (Unit {0}) Code
 told_of (Ok done) = Ok tt
 told_of (Err code) = Err code
 
--- the keys of a format stand here, in the driver's page
+-- the address of the keys of a format, in the driver's page
 abbrev pub keys_at : ℕ
 keys_at = 0xF8000
 
@@ -44,7 +44,7 @@ pub record SendsFormatBytes (motors : Motors) (bay : ℕ) (asked : Format) (old 
 
 -- ---- the keys of a format
 
--- memory is changed alone
+-- only memory is changed
 pub record OnlyMemory (old new : Board) : Type 0 where
   pub controller : controller_of new ≡ controller_of old
   pub channel : channel_of new ≡ channel_of old
@@ -57,7 +57,7 @@ pub record OnlyMemory (old new : Board) : Type 0 where
   pub first : new.first ≡ old.first
   pub second : new.second ≡ old.second
 
--- by one byte
+-- one byte of memory is changed
 pub record PutsByte (address value : ℕ) (old new : Board) : Type 0 where
   pub only : OnlyMemory old new
   pub memory : memory_of new ≡ slice_set (memory_of old) address value

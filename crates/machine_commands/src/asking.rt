@@ -44,7 +44,7 @@ impl<D: Drive> CommandedMachine<D> {
         self.result_byte()
     }
 
-    /// Turns a motor on, and waits.
+    /// Turns a motor on, and waits until a medium has come to speed.
     pub(crate) fn spin_up(&mut self, bay: u8)
         requires { bay ≤ 1 }
         ensures starts { StartsMotor self.old.motors bay (board_of D.state self.old) (board_of D.state self.new) }

@@ -10,7 +10,7 @@ use floppy_driver::{Commands, Driver};
 use raw_image::Medium;
 use sector_model::Station;
 
-/// The rate of a bay once an acknowledgement was tried.
+/// The rate of a bay after an acknowledgement was tried.
 fn rate_after(driver: &Driver, bay: u8, acknowledged: bool) -> Rate
     requires { bay ≤ 1 }
     ensures { result ≡ (if acknowledged then (notes_of driver.now bay).rate else R500) }

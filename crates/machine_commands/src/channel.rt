@@ -8,10 +8,10 @@ use crate::machine::CommandedMachine;
 use crate::ports::{ADDRESS, CLEAR_FLIP_FLOP, COUNT, DMA_COMMAND, MASK, MODE, PAGE};
 use drive_model::Drive;
 
-/// Channel 2 is masked.
+/// The mask of channel 2 set.
 const MASKED: u8 = 0x06;
 
-/// Channel 2 is let in.
+/// The mask of channel 2 cleared.
 const UNMASKED: u8 = 0x02;
 
 /// Which way the bytes of a transfer go: single transfers of channel 2, the address going up.
@@ -34,8 +34,8 @@ impl Way {
 }
 
 impl<D: Drive> CommandedMachine<D> {
-    /// Sets the channel to a range of memory inside one page of 65,536 bytes, given by its first address and one less than its
-    /// bytes.
+    /// Sets the channel to a range of memory inside one page of 65,536 bytes. The range is given by its first address,
+    /// and by its number of bytes less one.
     pub(crate) fn set_channel(&mut self, way: Way, address: u32, last: u16)
         requires { address < 1048576 }
         ensures sets { SetsChannel (mode_of way) address last (board_of D.state self.old) (board_of D.state self.new) }
@@ -50,7 +50,7 @@ impl<D: Drive> CommandedMachine<D> {
         self.machine.outb(MASK, UNMASKED);
     }
 
-    /// The first address, by the low and the high byte and the page.
+    /// Sets the first address, by the low and the high byte and the page.
     fn set_address(&mut self, address: u32)
         requires { address < 1048576 }
         ensures sets { SetsAddress address (board_of D.state self.old) (board_of D.state self.new) }
@@ -61,7 +61,7 @@ impl<D: Drive> CommandedMachine<D> {
         self.machine.outb(PAGE, (address / 65_536) as u8);
     }
 
-    /// One less than the bytes, by the low and the high byte.
+    /// Sets the number of bytes less one, by the low and the high byte.
     fn set_count(&mut self, last: u16)
         ensures sets { SetsCount last (board_of D.state self.old) (board_of D.state self.new) }
         ensures motors { self.new.motors ≡ self.old.motors }

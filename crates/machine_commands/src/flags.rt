@@ -22,7 +22,7 @@ pub(crate) struct Flags {
 }
 
 impl Flags {
-    /// Of two empty bays.
+    /// The flags of two empty bays.
     pub fn empty() -> Flags
         ensures { result.bays ≡ both (record { loaded = false; rate = R500 }) }
     {
@@ -35,7 +35,7 @@ impl Flags {
         }
     }
 
-    /// Those of a bay, of the second for all but 0.
+    /// The flags of a bay: of the first for 0, of the second for any other number.
     pub fn get(&self, bay: u8) -> BayFlags
         ensures { result ≡ in_bay self.now.bays bay }
     {
@@ -58,7 +58,7 @@ impl Flags {
         self.bays.replace(bay, BayFlags { loaded, rate });
     }
 
-    /// An empty drive took the place of the bay's.
+    /// An empty drive took the place of the drive in the bay.
     pub fn exchange_drive(&mut self, bay: u8)
         ensures { self.new.bays ≡ with_bay self.old.bays bay (record { loaded = false; rate = R500 }) }
     {

@@ -13,7 +13,7 @@ use fdc_commands::Command;
 use flop_base::standard::SIZE_CODE;
 use flop_base::{Code, Rate};
 
-/// The keys of a format stand here, in the driver's page.
+/// The address of the keys of a format, in the driver's page.
 const KEYS: u32 = 0xF_8000;
 
 /// The bytes of a key.
@@ -47,7 +47,7 @@ impl<D: Drive> CommandedMachine<D> {
         self.finish()
     }
 
-    /// Puts the keys of the records of a rate, from 1 on, into the driver's page.
+    /// Puts the keys of all records that a track of a rate has, from record 1 on, into the driver's page.
     pub(crate) fn put_keys(&mut self, c: u8, h: u8, rate: Rate)
         requires { length (memory_of (board_of D.state self.old)) ≡ 1048576 }
         ensures keys { PutsKeys c h (sectors_at rate) (board_of D.state self.old) (board_of D.state self.new) }

@@ -35,8 +35,8 @@ impl<D: Drive> CommandedMachine<D> {
         medium
     }
 
-    /// Puts another drive into a bay, and hands the old one out, with the medium that is in it. The motor of the new one goes on
-    /// as that of the bay.
+    /// Puts another drive into a bay, and hands the old one out, with the medium that is in it. The motor of the new
+    /// drive runs as that of the old one did.
     pub fn exchange(&mut self, bay: u8, drive: D) -> D
         requires bay { bay ≤ 1 }
         requires empty { IsEmpty (D.state drive) }

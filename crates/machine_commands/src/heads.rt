@@ -16,7 +16,7 @@ pub(crate) const EQUIPMENT_CHECK: u8 = St0::EQUIPMENT_CHECK.0;
 const LONGEST_SEEK: u32 = 80;
 
 impl<D: Drive> CommandedMachine<D> {
-    /// RECALIBRATE: its status register 0.
+    /// RECALIBRATE; gives its status register 0.
     pub(crate) fn step_outward(&mut self, bay: u8) -> u8
         requires { bay ≤ 1 }
         ensures sends { SendsRecalibrate self.old.motors bay (board_of D.state self.old) result (board_of D.state self.new) }
@@ -52,7 +52,8 @@ impl<D: Drive> CommandedMachine<D> {
         status
     }
 
-    /// SENSE INTERRUPT: status register 0 of the lowest drive with a pending result, 80 where there is none.
+    /// SENSE INTERRUPT; gives status register 0 of the lowest drive with a pending result, 80 where no result is
+    /// pending.
     pub(crate) fn sense_interrupt(&mut self) -> u8
         ensures senses { Senses (board_of D.state self.old) result (board_of D.state self.new) }
         ensures motors { self.new.motors ≡ self.old.motors }
@@ -63,7 +64,7 @@ impl<D: Drive> CommandedMachine<D> {
         status
     }
 
-    /// Reads the cylinder number behind status register 0, where a result was pending.
+    /// Reads the cylinder number that follows status register 0, if a result was pending.
     fn take_number(&mut self, is_none: bool)
         ensures takes { TakesNumber is_none (board_of D.state self.old) (board_of D.state self.new) }
         ensures motors { self.new.motors ≡ self.old.motors }

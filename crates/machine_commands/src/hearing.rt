@@ -1,4 +1,4 @@
-// What drives tell of the faults that are left to them. These functions do nothing but ask.
+// What drives tell of the faults that are left to them. These functions only ask.
 ghost use Rattle.std.specs.Prelude.{All};
 ghost use Rattle.flop_base.specs.Counters.{DriveTells};
 ghost use Rattle.drive_model.specs.Drive.{InRange};
@@ -15,7 +15,7 @@ fn hear_drive<D: Drive>(drive: &D)
     let _faults = drive.faults();
 }
 
-/// So do all of these drives.
+/// Each of these drives tells what is left only where its count can't reach its last value.
 pub(crate) fn hear_spare<D: Drive>(drives: &[D])
     ensures { All (λ drive. DriveTells (counts_of (D.state drive))) drives.now }
 {
@@ -24,7 +24,7 @@ pub(crate) fn hear_spare<D: Drive>(drives: &[D])
     }
 }
 
-/// So do both drives of a machine.
+/// Both drives of a machine tell what is left only where their counts can't reach the last value.
 pub(crate) fn hear_machine<D: Drive>(machine: &MachineOf<D>)
     ensures first { DriveTells (counts_of (board D.state machine.now).first) }
     ensures second { DriveTells (counts_of (board D.state machine.now).second) }

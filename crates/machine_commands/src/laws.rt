@@ -20,15 +20,19 @@ ghost use Rattle.pc_bus.specs.Boards.{AreSetIfEmpty, Board, controller_of, holds
 ghost use Rattle.pc_bus.specs.Calls.{AreCalled};
 ghost use Rattle.std.specs.Prelude.{◌≡◌, ◌+◌, ℕ, Bool, false, Result};
 
-/// A driver can be set up on every machine that was made and then used in any way, since each empty drive has its change line set.
+/// A driver can be set up on every machine that was new and was then used in any way, because each empty drive has its
+/// change line set.
 pub fn a_machine_can_be_set_up()
     ensures shown { (board : Board) → AreSetIfEmpty board → CanSetUp (rig_of board) }
     ensures used { (calls : ℕ) (made board : Board) → IsFreshBoard made → AreCalled calls made board → CanSetUp (rig_of board) }
 {}
 
-/// How many device steps each command lasts at most, beside those of the gaps behind its port accesses, whatever the gaps, the strays
-/// and the holds are. A data command that goes on on a medium at speed ends, and its results are taken, within 261 more than two turns
-/// of the track have words: strays are watches that find no results, and each takes steps of the command.
+/// How many device steps each command lasts at most, apart from those of the gaps after its port accesses. The bounds
+/// hold whatever the gaps, the spurious interrupts and the DMA latencies are.
+///
+/// A data command that goes on with a medium at speed ends, and its results are taken, within 261 device steps more
+/// than two revolutions have words. Spurious interrupts don't add to this: a watch that such an interrupt ends finds no
+/// results, and the steps of that watch are steps of the command.
 pub fn commands_last()
     ensures resets { (old new : Board) → Resets old new → Lasts 2 old new }
     ensures asks_line { (motors : Motors) (bay : ℕ) (changed : Bool) (old new : Board) → ReadsLine motors bay old changed new → Lasts 0 old new }

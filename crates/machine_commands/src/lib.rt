@@ -1,10 +1,10 @@
-//! The commands of the machine, one at a time: what stands between a driver and the chips. A command is set up at the ports,
-//! sent, awaited at interrupt line 6, and its results are read. Over them stands the station: a machine with its driver and spare
-//! drives, on which a session works.
+//! The commands of the machine, one at a time: what stands between a driver and the chips. A command is set up at the
+//! ports, sent, and awaited at interrupt line 6; then its results are read. Above the commands is the station: a
+//! machine with its driver and spare drives, on which a session works.
 //!
-//! Nothing passes the chips: fields go through DMA channel 2, and only the keys of a format are put into the driver's page. Sectors
-//! are read and written by the driver alone. Only the calls that a session makes past it, on media, drives and user memory, go to
-//! the machine itself, and each of them is counted there.
+//! Everything goes by way of the chips: fields go through DMA channel 2, and only the keys of a format are put into the
+//! driver's page. Only the driver reads and writes sectors. The calls that a session makes past the driver, on media,
+//! drives and user memory, go to the machine itself, and each of them is counted there.
 #![tactic(auto)]
 
 mod asking;

@@ -1,4 +1,4 @@
-// The machine with what its commands keep.
+// The machine, together with what its commands keep.
 ghost use Rattle.std.specs.Prelude.{◌≡◌};
 ghost use Rattle.pc_bus.specs.Boards.{board};
 ghost use Rattle.machine_commands.specs.Shown.{board_of};
@@ -33,7 +33,7 @@ impl<D: Drive> CommandedMachine<D> {
         &self.machine
     }
 
-    /// The machine, with no commands any more.
+    /// Gives the machine back, without the commands.
     pub fn into_machine(self) -> MachineOf<D>
         ensures { board D.state result ≡ board_of D.state self }
     {

@@ -20,7 +20,7 @@ impl Motors {
         second: false,
     };
 
-    /// These, with that of a bay on too.
+    /// The motors that are on, with that of a bay added.
     pub fn with(self, bay: u8) -> Motors
         requires { bay ≤ 1 }
         ensures { result ≡ with_motor_of bay self }
@@ -31,7 +31,7 @@ impl Motors {
         }
     }
 
-    /// DOR (82077AA) with these motors on and a bay selected, out of reset and with INT and DRQ let out.
+    /// DOR (82077AA) with these motors on and a bay selected, out of reset and with INT and DRQ enabled.
     pub fn dor(self, bay: u8) -> u8
         requires { bay ≤ 1 }
         ensures { result ≡ dor_with self bay }

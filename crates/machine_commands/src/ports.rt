@@ -11,7 +11,7 @@ pub(crate) const ADDRESS: u16 = 0x04;
 
 pub(crate) const COUNT: u16 = 0x05;
 
-/// The command register of the channel's chip: zero lets it work.
+/// The command register of the channel's chip: zero enables it.
 pub(crate) const DMA_COMMAND: u16 = 0x08;
 
 /// The mask of one channel.

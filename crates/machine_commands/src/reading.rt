@@ -12,7 +12,7 @@ use fdc_commands::Command;
 use fdc_commands::codes::READ_DATA;
 use flop_base::{Chrn, Code, Rate, sector_size};
 
-/// The data length, which counts where the size code is 0 alone.
+/// The data length, which matters only where the size code is 0.
 const DATA_LENGTH: u8 = 0xFF;
 
 impl<D: Drive> CommandedMachine<D> {
@@ -52,7 +52,8 @@ impl<D: Drive> CommandedMachine<D> {
     }
 }
 
-/// The bytes of a command of one sector: it is the last of its track, so that the command ends with it.
+/// The bytes of a command of one sector. That sector is given as the last of its track, so that the command ends with
+/// it.
 pub(crate) fn sector_command(command: u8, bay: u8, key: Chrn, rate: Rate) -> [u8; 9]
     requires bay { bay ≤ 1 }
     requires head { key.h ≤ 1 }

@@ -14,10 +14,10 @@ use flop_base::{Chrn, Code};
 /// A data command ends within so many device steps.
 const LONGEST_COMMAND: u32 = 65_536;
 
-/// Its end is awaited so often: each time takes a device step at least.
+/// How often the end of a data command is awaited: each time takes at least one device step.
 const MOST_WATCHES: u32 = LONGEST_COMMAND + 1;
 
-/// What a data command that was done tells.
+/// What is known of a data command that was done.
 #[derive(Clone, Copy, Debug, PartialEq, Eq)]
 pub(crate) struct Done {
     /// The data field is marked deleted.
@@ -57,7 +57,7 @@ impl<D: Drive> CommandedMachine<D> {
         outcome
     }
 
-    /// Waits for line 6, again where the latch was set with no end: a stray.
+    /// Waits for line 6. If the latch was set and no results are ready (a spurious interrupt), waits again.
     fn await_results(&mut self)
         ensures awaits { AwaitsResults (board_of D.state self.old) (board_of D.state self.new) }
         ensures motors { self.new.motors ≡ self.old.motors }
@@ -115,7 +115,7 @@ impl<D: Drive> CommandedMachine<D> {
     }
 }
 
-/// What the results come to: the interrupt code in status register 0 is 00 where all was done.
+/// The outcome that the results come to. All was done if the interrupt code in status register 0 is 00.
 fn outcome(st0: u8, st1: u8, st2: u8, key: Chrn) -> Result<Done, Code>
     ensures { result ≡ outcome_of st0 st1 st2 key }
 {

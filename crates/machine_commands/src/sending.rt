@@ -48,7 +48,7 @@ impl<D: Drive> CommandedMachine<D> {
         self.machine.inb(DATA)
     }
 
-    /// Lets the latch see the interrupt line, which fell as a result was read, and takes what is left in it.
+    /// Lets the latch see the interrupt line, which fell when a result was read, and takes what is left in the latch.
     pub(crate) fn settle(&mut self)
         ensures settles { Settles (board_of D.state self.old) (board_of D.state self.new) }
         ensures motors { self.new.motors ≡ self.old.motors }

@@ -47,7 +47,8 @@ impl<D: Drive> CommandedMachine<D> {
         self.settle();
     }
 
-    /// Takes the results of the poll that follows a reset, one for each of the four drives. It comes in the first device step.
+    /// Takes the results of the poll that follows a reset, one for each of the four drives. The poll comes in the first
+    /// device step.
     fn take_polls(&mut self)
         ensures polls { TakesPolls (board_of D.state self.old) (board_of D.state self.new) }
         ensures motors { self.new.motors ≡ self.old.motors }

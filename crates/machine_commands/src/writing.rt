@@ -45,7 +45,7 @@ fn write_byte(deleted: bool) -> u8
     if deleted { WRITE_DELETED } else { WRITE_DATA }
 }
 
-/// What a driver is told of a command that tells nothing but that it was done.
+/// What a driver is answered where a command has no answer but that it was done.
 pub(crate) fn told(outcome: Result<Done, Code>) -> Result<(), Code>
     ensures { result ≡ told_of outcome }
 {

@@ -1,4 +1,4 @@
--- Device steps made at once are as many made one by one.
+-- Device steps that are made at once are the same as device steps made one by one.
 use Rattle.std.proofs.Common.{◌≡◌, ◌≤◌, ◌+◌, ℕ, zero, suc, min, Bool, true, false, ◌||◌, ◌&&◌, not, refl, sym, ap, ◌∙◌, subst, arith, ◌%◌}
 use Rattle.flop_base.specs.Counts.{last_count}
 use Rattle.drive_model.specs.Drive.{DriveState}
@@ -26,14 +26,14 @@ pub low_is : (request : DmaRequest) → is_low request ≡ true → request ≡ 
 low_is Low low = refl
 low_is (High left) low = absurd cc
 
--- with the request low nothing is moved
+-- while the request is low, no byte is moved
 dma_calm : (chips : Chips) → asks chips.controller ≡ false → chips.holding.request ≡ Low → dma_stepped chips ≡ chips
 unfolding dma_stepped
 dma_calm chips quiet low =
     let looks : dma_stepped chips ≡ record chips { holding = record chips.holding { request = Low } } = rw quiet refl in
     looks ∙ ap (λ (r : DmaRequest). record chips { holding = record chips.holding { request = r } }) (sym low)
 
--- a line that the latch has seen
+-- a line that the latch has already seen sets nothing
 no_edge : (set level : Bool) → (set || (level && not level)) ≡ set
 no_edge true true = refl
 no_edge true false = refl
@@ -45,7 +45,7 @@ seen_again latch level seen =
     subst (λ (b : Bool). lined b latch ≡ latch) seen
     (ap (λ (set : Bool). record latch { is_set = set }) (no_edge latch.is_set latch.level))
 
--- the bus behind one
+-- the bus after one such step
 abbrev stepped : Fdc → Bus → Bus
 stepped controller old = with_controller controller (record old { strays = strays_after old.strays; steps = counted old.steps })
 
@@ -78,7 +78,7 @@ calm_stepped old controller calm holds = record {
   stirred = calm.stirred;
 }
 
--- ---- so many
+-- ---- any number of steps
 
 abbrev leapt : ℕ → Fdc → Bus → Bus
 leapt count controller old = with_controller controller (skipped count old)
@@ -141,7 +141,7 @@ times_unset (suc count) old fdc first second times calm quiet range unset =
     unset_front count old mid _ unset step
     (subst (λ (bus : Bus). RunsUnset count mid (record { bus = bus; first = first; second = second })) (leapt_more count old.bus times.0 fdc) rest)
 
--- as the bus counts them
+-- the steps as the bus counts them
 pub leap_runs : (count : ℕ) (old : Board) (controller : Fdc) (new : Bus) (first second : DriveState)
     → WordTimes count (selected_of old) (controller_of old) old.first old.second controller first second
     → new ≡ skipped count (with_controller controller old.bus)

@@ -1,4 +1,4 @@
--- Device steps one by one, and their count.
+-- Device steps made one by one, and their count.
 use Rattle.std.proofs.Common.{◌≡◌, ℕ, zero, suc, add-suc, ◌+◌, ◌≤◌, min, Bool, true, false, refl, ap, sym, ◌∙◌, subst, add-one, arith}
 use Rattle.std.proofs.lemmas.Bool.{true≢false}
 use Rattle.flop_base.specs.Counts.{last_count}
@@ -22,33 +22,33 @@ pub unset_more : (n : ℕ) (old between new : Board) → RunsUnset n old between
 unfolding RunsUnset
 unset_more n old between new runs unset step = rw add-one (between, runs, unset, step)
 
--- each step counts, up to the last value
+-- each step is counted, until the count has its last value
 pub steps_more : (n : ℕ) (old between new : Board) → between.bus.steps ≡ min (old.bus.steps + n) last_count → Step between new
     → new.bus.steps ≡ min (old.bus.steps + (n + 1)) last_count
 steps_more n old between new so_far step =
     let one : new.bus.steps ≡ min (between.bus.steps + 1) last_count = ap (λ bus. bus.steps) step.bus in
     one ∙ rw so_far (omega arith)
 
--- a count is at most its last value
+-- the count of no steps: a count is never more than its last value
 pub steps_none : (board : Board) → board.bus.steps ≤ last_count → board.bus.steps ≡ min (board.bus.steps + 0) last_count
 steps_none board range = omega arith
 
--- the latch is set
+-- the run ends since the latch is set
 pub irq_set : (most i : ℕ) (old new : Board) → i ≤ most → RunsUnset i (stirred old) new → true ≡ (latch_of new).is_set → RunsToIrq most old i new
 irq_set most i old new within runs set =
     record { within = within; runs = runs; all = λ unset. absurd (true≢false (set ∙ unset)) }
 
--- all steps were made
+-- the run ends since all steps were made
 pub irq_all : (most i : ℕ) (old new : Board) → i ≡ most → RunsUnset i (stirred old) new → RunsToIrq most old most new
 irq_all most i old new all runs =
     record { within = omega arith; runs = subst (λ (n : ℕ). RunsUnset n (stirred old) new) all runs; all = λ _. refl }
 
--- whoever is told the number of steps can look at the latch behind them
+-- from the number of steps that were made, and the latch after them, follows what `wait_irq` says
 pub waits_of : (most steps : ℕ) (old new : Board) (set : Bool) → RunsToIrq most old steps new → set ≡ (latch_of new).is_set → Waits most old set new
 waits_of most steps old new set runs answer =
     record { steps = steps; within = runs.within; runs = runs.runs; answer = answer; all = λ no. runs.all (sym answer ∙ no) }
 
--- ---- a run behind another, and behind a step
+-- ---- a run after another run, and a run after a step
 
 pub runs_plus : (n m : ℕ) (old between new : Board) → Runs n old between → Runs m between new → Runs (n + m) old new
 unfolding Runs
@@ -78,7 +78,7 @@ unfolding RunsUnset
 unset_front zero old between new unset step runs = (old, refl, unset, subst (Step old) (sym runs) step)
 unset_front (suc n) old between new unset step runs = (runs.0, unset_front n old between runs.0 unset step runs.1, runs.2, runs.3)
 
--- a step alone
+-- one step is a run
 pub runs_once : (old new : Board) → Step old new → Runs 1 old new
 runs_once old new step = runs_more 0 old old new (runs_none old) step
 
@@ -88,7 +88,7 @@ unset_once old new unset step = unset_more 0 old old new (unset_none old) unset 
 pub steps_once : (old new : Board) → Step old new → new.bus.steps ≡ min (old.bus.steps + 1) last_count
 steps_once old new step = ap (λ bus. bus.steps) step.bus
 
--- a run where no step was made before
+-- a run before which no step was made
 pub runs_behind : (none n : ℕ) (old between new : Board) → none ≡ 0 → Runs none old between → Runs n between new → Runs n old new
 runs_behind none n old between new is runs more =
     let all : 0 + n ≡ n = omega arith in
@@ -99,7 +99,7 @@ unset_behind none n old between new is runs more =
     let all : 0 + n ≡ n = omega arith in
     subst (λ (count : ℕ). RunsUnset count old new) all (unset_plus 0 n old between new (subst (λ (count : ℕ). RunsUnset count old between) is runs) more)
 
--- a count that rises twice
+-- a count that rises twice in a row
 pub steps_plus : (n m before between now : ℕ) → between ≡ min (before + n) last_count → now ≡ min (between + m) last_count
     → now ≡ min (before + (n + m)) last_count
 steps_plus n m before between now first second = second ∙ rw first (omega arith)

@@ -32,22 +32,22 @@ controller_of board = board.bus.chips.controller
 abbrev pub channel_of : Board → Channel
 channel_of board = board.bus.chips.channel
 
--- its bytes, the first at address 0
+-- the bytes of memory, the first at address 0
 abbrev pub memory_of : Board → List ℕ
 memory_of board = board.bus.chips.memory
 
--- the request for DMA, the holds that are left, and the stalls
+-- the DMA request, the DMA latencies (holds) that are left, and the count of late DMA (stalls)
 abbrev pub holds_of : Board → Holds
 holds_of board = board.bus.chips.holding
 
 abbrev pub latch_of : Board → Latch
 latch_of board = board.bus.latch
 
--- the drive in a bay: bay 0 is the first, and 1 the second
+-- the drive in a bay: the first one in bay 0, the second one in bay 1
 abbrev pub drive_in : Board → ℕ → DriveState
 drive_in board bay = if bay == 0 then board.first else board.second
 
--- the drive that DOR selects: those of bays 2 and 3 are absent
+-- the number of the drive that DOR selects; the drives of bays 2 and 3 are absent
 abbrev pub selected_of : Board → ℕ
 selected_of board = selected_by (controller_of board)
 
@@ -56,11 +56,11 @@ pub record IsEmpty (drive : DriveState) : Type 0 where
   pub medium : drive.medium ≡ None
   pub change : drive.change ≡ true
 
--- a drive has its change line set where no medium is in
+-- if no medium is in the drive, its change line is set
 abbrev pub IsSetIfEmpty : DriveState → Type 0
 IsSetIfEmpty drive = drive.medium ≡ None → drive.change ≡ true
 
--- so it is with both drives
+-- this holds of both drives
 pub record AreSetIfEmpty (board : Board) : Type 0 where
   pub first : IsSetIfEmpty board.first
   pub second : IsSetIfEmpty board.second
@@ -83,13 +83,13 @@ new_bus pace = record {
   fresh = true;
 }
 
--- a new machine with these drives: the controller turns their motors off
+-- a new machine with these drives, whose motors the controller has turned off
 pub record IsNew (pace : Pace) (bay0 bay1 : DriveState) (new : Board) : Type 0 where
   pub bus : new.bus ≡ new_bus pace
   pub first : new.first ≡ with_motor false bay0
   pub second : new.second ≡ with_motor false bay1
 
--- the numbers of the drives, of the controller and of the holds are those that they hold
+-- the numbers in the drives, in the controller and in the DMA latencies are in range
 pub record IsInRange (board : Board) : Type 0 where
   pub first : InRange board.first
   pub second : InRange board.second

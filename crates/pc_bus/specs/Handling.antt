@@ -5,16 +5,17 @@ use Rattle.irq_events.specs.Holds.{counted}
 use Rattle.pc_bus.specs.Boards.{Board, drive_in}
 use Rattle.pc_bus.specs.declared.bus.Bus.{Bus}
 
--- an access past the controller was counted
+-- an access past the controller is counted
 abbrev pub touched : Bus → Bus
 touched old = record old { direct = counted old.direct; fresh = false }
 
--- one such access to the drive in a bay; the other drive stays
+-- one such access to the drive in a bay; the other drive stays as it was
 pub record Touches (bay : ℕ) (old new : Board) : Type 0 where
   pub bus : new.bus ≡ touched old.bus
   pub other : drive_in new (1 - bay) ≡ drive_in old (1 - bay)
 
--- a byte of memory was set: in user memory it counts, in the driver's page it doesn't
+-- A byte of memory is set. In user memory this is counted as an access past the controller, in the driver's page it
+-- isn't.
 abbrev pub byte_set : ℕ → ℕ → Bus → Bus
 byte_set address value old = record old {
   chips = record old.chips { memory = slice_set old.chips.memory address value };
@@ -22,7 +23,7 @@ byte_set address value old = record old {
   fresh = false;
 }
 
--- the latch was taken: where it was set, it counts
+-- The latch is taken. If it was set, this is counted as an interrupt that was taken.
 abbrev pub irq_taken : Bus → Bus
 irq_taken old = record old {
   latch = record old.latch { is_set = false };

@@ -9,7 +9,7 @@ use Rattle.pc_bus.specs.declared.bus.Bus.{Bus}
 use Rattle.pc_bus.specs.declared.chips.Chips.{Chips}
 use Rattle.pc_bus.specs.declared.machine.MachineOf.{MachineOf}
 
--- memory has all its bytes
+-- memory has as many bytes as it must have
 abbrev pub MemoryFits : List ℕ → Type 0
 MemoryFits memory = length memory ≡ 1048576
 
@@ -31,11 +31,11 @@ spelled_bus bus rest =
     spelled_chips bus.chips (spelled_latch bus.latch (spelled_gaps bus.gaps (spelled_strays bus.strays
     (spelled_count bus.steps (spelled_count bus.direct (spelled_count bus.taken (spelled_flag bus.fresh rest)))))))
 
--- a machine whose drives fit
+-- a machine whose parts fit, if its drives fit as given
 abbrev pub MachineFits : {D : Type 0} → (D → Type 0) → MachineOf D → Type 0
 MachineFits fits machine = BusFits machine.bus × fits machine.first × fits machine.second
 
--- a machine whose drives are spelled so: an 'M', the bus, and both drives
+-- the bytes of a machine: an 'M', the bus, and both drives, which are spelled as given
 abbrev pub spelled_machine : {D : Type 0} → (D → List ℕ → List ℕ) → MachineOf D → List ℕ → List ℕ
 spelled_machine spelled machine rest =
     0x4D ∷ spelled_bus machine.bus (spelled machine.first (spelled machine.second rest))

@@ -7,19 +7,19 @@ use Rattle.fdc_core.specs.declared.controller.Fdc.{Fdc}
 use Rattle.irq_events.specs.Holds.{looked, shown, is_due}
 use Rattle.pc_bus.specs.declared.chips.Chips.{Chips}
 
--- the byte that the channel gives of a memory: FF where it isn't set to read memory
+-- the byte of memory that the channel gives; it is FF if the channel isn't set to read memory
 abbrev pub byte_read : Channel → List ℕ → ℕ
 byte_read channel memory = if reads_memory channel then slice_index memory (place_of channel) else 0xFF
 
--- memory once the channel put a byte in: the same where it isn't set to write memory
+-- memory after the channel put a byte in; it is unchanged if the channel isn't set to write memory
 abbrev pub memory_after : Channel → ℕ → List ℕ → List ℕ
 memory_after channel byte memory = if writes_memory channel then slice_set memory (place_of channel) byte else memory
 
--- the controller asks, and the channel grants
+-- the controller requests a byte, and the channel grants the request
 abbrev pub can_move : Chips → Bool
 can_move chips = asks chips.controller && grants chips.channel
 
--- TC is told with the last byte
+-- the controller is told TC with the last byte
 abbrev pub told_if : Bool → Fdc → Fdc
 told_if true controller = told_count controller
 told_if false controller = controller
@@ -43,7 +43,7 @@ moved_from_memory old = record old {
 unfoldable pub moved : Chips → Chips
 moved old = if to_memory_of old.controller then moved_to_memory old else moved_from_memory old
 
--- bytes were moved until the controller doesn't ask or the channel doesn't grant, and so many at most
+-- Bytes were moved until the controller requests none or the channel doesn't grant, and at most this many.
 unfoldable pub moved_up_to : ℕ → Chips → Chips
 moved_up_to zero old = old
 moved_up_to (suc most) old = if can_move old then moved_up_to most (moved old) else old
@@ -56,7 +56,7 @@ looked_at old = record old { holding = looked (asks old.controller) old.holding 
 abbrev pub shown_again : Chips → Chips
 shown_again old = record old { holding = shown (asks old.controller) old.holding }
 
--- a request is due: it is granted where the channel grants, and moves bytes until it falls
+-- A request that is due is granted if the channel grants it. It then moves bytes until it falls, and at most 16.
 unfoldable pub granted : Chips → Chips
 granted old = if grants old.channel then shown_again (moved_up_to 16 old) else old
 

@@ -14,10 +14,10 @@ use flop_base::NoMemory;
 use irq_events::{Gaps, IrqLatch, Pace, Strays};
 use std::alloc::Global;
 
-/// Memory below this address is the user's; the page above it is the driver's.
+/// Memory below this address is the user's. The page from this address on is the driver's.
 const USER_BYTES: u32 = 0xF_0000;
 
-/// The chips, what is left of the pace, and the counts, each of which stays at its last value.
+/// The chips, what is left of the timing (pace), and the counts. Each count stays at its last value.
 #[derive(Drop)]
 pub struct Bus {
     pub chips: Chips,
@@ -25,19 +25,19 @@ pub struct Bus {
     pub latch: IrqLatch,
     pub gaps: Gaps,
     pub strays: Strays,
-    /// The device steps.
+    /// The number of device steps.
     pub steps: u64,
-    /// The accesses to user memory, media and drives past the controller.
+    /// The number of accesses to user memory, media and drives past the controller.
     pub direct: u64,
-    /// The interrupts that were taken.
+    /// The number of interrupts that were taken.
     pub taken: u64,
-    /// No call that may change the machine came yet.
+    /// Whether no call that may change the machine came yet.
     pub fresh: bool,
 }
 
 impl Bus {
-    /// The bus as a machine is made: the controller in reset, memory all 00, nothing counted, and the whole pace to
-    /// come.
+    /// The bus of a new machine. The controller is in reset, memory is all 00, nothing is counted, and the whole timing
+    /// (pace) is still to come.
     pub fn new(alloc: Global, pace: Pace) -> Result<Bus, NoMemory>
         ensures { IfOk result (λ bus. bus ≡ new_bus pace) }
     {
@@ -53,7 +53,7 @@ impl Bus {
         })
     }
 
-    /// Part 1 of a device step, which is counted: a stray sets the latch where it is due.
+    /// Part 1 of a device step. The step is counted, and a spurious interrupt sets the latch if one is due.
     pub fn begin_step(&mut self)
         ensures { self.new ≡ step_begun self.old }
     {
@@ -64,7 +64,7 @@ impl Bus {
         }
     }
 
-    /// Parts 3 and 4 of a device step: requests are served, and the interrupt line goes to the latch.
+    /// Parts 3 and 4 of a device step. DMA requests are served, and then the interrupt line goes to the latch.
     pub fn end_step(&mut self)
         ensures { self.new ≡ step_ended self.old }
     {
@@ -72,21 +72,21 @@ impl Bus {
         self.latch.line(self.chips.controller.int());
     }
 
-    /// No request is there, the latch has seen the interrupt line as it is, and a call came.
+    /// Whether the bus is calm: no DMA is requested, the latch has seen the interrupt line as it is, and a call came.
     fn is_calm(&self) -> bool
         ensures { result ≡ true → IsCalm self.now }
     {
         !self.fresh && !self.chips.controller.drq() && self.chips.holding.is_low() && self.is_seen()
     }
 
-    /// The latch has seen the interrupt line as it is.
+    /// Whether the latch has seen the interrupt line as it is.
     fn is_seen(&self) -> bool
         ensures { result ≡ true → self.now.latch.level ≡ interrupts self.now.chips.controller }
     {
         self.latch.level() == self.chips.controller.int()
     }
 
-    /// For how many device steps, `most` at most, nothing comes but word times.
+    /// For how many device steps, `most` at most, nothing but word times comes.
     #[tactic(auto, unfolding(irq_events::specs::Entries::AreQuiet))]
     pub fn quiet_for(&self, most: u32) -> u32
         ensures few { result ≤ most }
@@ -100,7 +100,7 @@ impl Bus {
         }
     }
 
-    /// Counts so many device steps in which no stray comes.
+    /// Counts this many device steps in which no spurious interrupt comes.
     pub fn skip(&mut self, count: u32)
         requires { AreQuiet count self.old.strays }
         ensures { self.new ≡ skipped count self.old }
@@ -109,7 +109,7 @@ impl Bus {
         self.strays.pass_many(count);
     }
 
-    /// Reads a port, where the selected drive has these lines.
+    /// Reads a port, when the selected drive has these lines.
     pub fn read_port(&mut self, port: u16, lines: Lines) -> u8
         ensures value { result ≡ port_value port lines self.old.chips }
         ensures after { self.new ≡ record self.old { chips = port_read port self.old.chips; fresh = false } }
@@ -118,7 +118,7 @@ impl Bus {
         self.chips.read_port(port, lines)
     }
 
-    /// Writes a port, where the selected drive has these lines.
+    /// Writes a port, when the selected drive has these lines.
     pub fn write_port(&mut self, port: u16, value: u8, lines: Lines)
         ensures writes { WritesChips port value lines self.old.chips self.new.chips }
         ensures others { self.new ≡ record self.old { chips = self.new.chips; fresh = false } }
@@ -127,7 +127,7 @@ impl Bus {
         self.chips.write_port(port, value, lines);
     }
 
-    /// Takes the next gap, in device steps.
+    /// Takes the next gap, a number of device steps.
     pub fn next_gap(&mut self) -> u8
         ensures gap { result ≡ next_entry self.old.gaps }
         ensures after { self.new ≡ record self.old { gaps = rest_of self.old.gaps } }
@@ -143,8 +143,8 @@ impl Bus {
         self.direct = self.direct.saturating_add(1);
     }
 
-    /// Sets a byte of memory, at an address from 00000 to FFFFF. Below F0000 it is user memory, and counts as an access
-    /// past the controller.
+    /// Sets a byte of memory, at an address from 00000 to FFFFF. Below F0000 the byte is user memory, and setting it is
+    /// counted as an access past the controller.
     pub fn set_byte(&mut self, address: u32, value: u8)
         requires { address < 1048576 }
         ensures { self.new ≡ byte_set address value self.old }
@@ -156,7 +156,7 @@ impl Bus {
         self.chips.memory.set(address, value);
     }
 
-    /// Takes the latch, and tells whether it was set, which counts as an interrupt that was taken.
+    /// Takes the latch, and tells whether it was set. If it was set, this is counted as an interrupt that was taken.
     pub fn take_irq(&mut self) -> bool
         ensures was { result ≡ self.old.latch.is_set }
         ensures after { self.new ≡ irq_taken self.old }

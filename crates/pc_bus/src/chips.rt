@@ -1,4 +1,4 @@
-// The controller, DMA channel 2 and memory, and a request between them.
+// The controller, DMA channel 2 and memory, and the DMA request between them.
 ghost use Rattle.std.specs.Prelude.{◌≡◌, IsTrue, IsFalse, IfOk, List};
 ghost use Rattle.flop_base.specs.Memory.{zeroes};
 ghost use Rattle.dma_8237.specs.Channel.{grants, power_up};
@@ -17,7 +17,7 @@ use flop_base::NoMemory;
 use irq_events::Holding;
 use std::alloc::Global;
 
-/// The chips on the way of a byte.
+/// The chips that a byte passes.
 #[derive(Drop)]
 pub struct Chips {
     pub controller: Fdc,
@@ -27,7 +27,7 @@ pub struct Chips {
 }
 
 impl Chips {
-    /// The controller is in reset, and memory all 00.
+    /// The chips of a new machine. The controller is in reset, and memory is all 00.
     pub fn new(alloc: Global, holds: Vec<u8>) -> Result<Chips, NoMemory>
         ensures { IfOk result (λ chips. chips ≡ record {
           controller = at_power_up;
@@ -44,7 +44,7 @@ impl Chips {
         })
     }
 
-    /// Part 3 of a device step: a request that is granted moves bytes until it falls.
+    /// Part 3 of a device step. A request that is granted moves bytes until it falls.
     #[tactic(auto, unfolding(crate::specs::Transfers::dma_stepped))]
     pub fn step_dma(&mut self)
         ensures { self.new ≡ dma_stepped self.old }
@@ -69,7 +69,7 @@ impl Chips {
         self.holding.show(self.controller.drq());
     }
 
-    /// Grants a request that is due, where the channel does.
+    /// Grants a request that is due, if the channel does.
     #[inline(never)]
     #[tactic(auto, unfolding(crate::specs::Transfers::granted))]
     fn grant(&mut self)
@@ -81,7 +81,7 @@ impl Chips {
         }
     }
 
-    /// Moves bytes while the controller asks and the channel grants: at most as many as a FIFO holds.
+    /// Moves bytes while the controller requests them and the channel grants. It moves at most as many as a FIFO holds.
     fn serve(&mut self)
         ensures { self.new ≡ moved_up_to 16 self.old }
     {
@@ -93,7 +93,7 @@ impl Chips {
         }
     }
 
-    /// The controller asks, and the channel grants.
+    /// Whether the controller requests a byte, and the channel grants the request.
     fn can_move(&self) -> bool
         ensures { result ≡ can_move self.now }
     {
@@ -113,7 +113,7 @@ impl Chips {
         }
     }
 
-    /// Moves one byte to memory. TC is told with the last one.
+    /// Moves one byte to memory. The controller is told TC with the last one.
     fn move_to_memory(&mut self)
         requires can_move { IsTrue (can_move self.old) }
         requires to_memory { IsTrue (to_memory_of self.old.controller) }
@@ -125,7 +125,7 @@ impl Chips {
         }
     }
 
-    /// Moves one byte from memory. TC is told with the last one.
+    /// Moves one byte from memory. The controller is told TC with the last one.
     fn move_from_memory(&mut self)
         requires can_move { IsTrue (can_move self.old) }
         requires from_memory { IsFalse (to_memory_of self.old.controller) }
@@ -138,7 +138,7 @@ impl Chips {
         }
     }
 
-    /// Reads a port, where the selected drive has these lines.
+    /// Reads a port, when the selected drive has these lines.
     pub fn read_port(&mut self, port: u16, lines: Lines) -> u8
         ensures value { result ≡ port_value port lines self.old }
         ensures after { self.new ≡ port_read port self.old }
@@ -151,7 +151,7 @@ impl Chips {
         value
     }
 
-    /// Writes a port, where the selected drive has these lines.
+    /// Writes a port, when the selected drive has these lines.
     pub fn write_port(&mut self, port: u16, value: u8, lines: Lines)
         ensures { WritesChips port value lines self.old self.new }
     {
@@ -164,7 +164,7 @@ impl Chips {
     }
 }
 
-/// The ports 3F0 to 3F7 are the controller's (PC/AT). All others go to the DMA channel, which knows its own.
+/// The ports 3F0 to 3F7 belong to the controller (PC/AT). All others go to the DMA channel, which knows its own ports.
 fn is_controllers(port: u16) -> bool
     ensures { result ≡ is_controllers port }
 {

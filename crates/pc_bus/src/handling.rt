@@ -1,4 +1,4 @@
-// Calls past the controller: memory, media and drives, and the latch.
+// Calls past the controller: to memory, media and drives, and to the latch.
 ghost use Rattle.std.specs.Prelude.{◌≡◌, ◌≤◌, ◌<◌, ◌^◌, ◌↔◌, ℕ, IsErr, IsSome, OnOk, IfErr, length, slice_index, true};
 ghost use Rattle.drive_model.specs.Drive.{loaded, unloaded};
 ghost use Rattle.fdc_core.specs.Drives.Following.{FollowsMotor};
@@ -20,7 +20,7 @@ impl<D: Drive> MachineOf<D> {
         self.bus.take_irq()
     }
 
-    /// A byte of memory, at an address from 00000 to FFFFF. It isn't counted as an access.
+    /// A byte of memory, at an address from 00000 to FFFFF. Reading it isn't counted as an access.
     pub fn ram(&self, address: u32) -> u8
         requires { address < 1048576 }
         ensures byte { result ≡ slice_index (memory_of (board D.state self.now)) address }
@@ -30,7 +30,8 @@ impl<D: Drive> MachineOf<D> {
         self.bus.chips.memory.byte(address)
     }
 
-    /// Sets a byte of memory, at an address from 00000 to FFFFF. Below F0000 that is an access past the controller.
+    /// Sets a byte of memory, at an address from 00000 to FFFFF. Below F0000 this is counted as an access past the
+    /// controller.
     pub fn ram_set(&mut self, address: u32, value: u8)
         requires { address < 1048576 }
         ensures { board D.state self.new ≡ record (board D.state self.old) { bus = byte_set address value (board D.state self.old).bus } }
@@ -38,7 +39,7 @@ impl<D: Drive> MachineOf<D> {
         self.bus.set_byte(address, value);
     }
 
-    /// Puts a medium into a bay. Where one is in already, the new one is given back.
+    /// Puts a medium into a bay. If one is in already, the new one is given back.
     pub fn insert(&mut self, bay: u8, medium: Medium) -> Result<(), Medium>
         requires { bay ≤ 1 }
         ensures touches { Touches bay (board D.state self.old) (board D.state self.new) }
@@ -71,7 +72,7 @@ impl<D: Drive> MachineOf<D> {
         }
     }
 
-    /// Puts another drive into a bay, gives it the motor line, and hands the old one out.
+    /// Puts another drive into a bay, sets the motor line of the new drive, and hands out the old one.
     pub fn exchange(&mut self, bay: u8, drive: D) -> D
         requires bay { bay ≤ 1 }
         requires empty { IsEmpty (D.state drive) }

@@ -1,8 +1,8 @@
-//! The machine of a PC/AT around its diskette controller: the ports, memory, DMA channel 2, interrupt line 6 as a latch, and
-//! two drives, device step by device step.
+//! The machine of a PC/AT around its diskette controller. It has the ports, memory, DMA channel 2, interrupt line 6 as
+//! a latch, and two drives. It goes on device step by device step.
 //!
-//! A device step is one word time. Nothing moves but in device steps: `wait`, `run_to_irq` and `wait_irq` run them, and the pace
-//! runs some behind each port access.
+//! A device step is one word time. Nothing moves outside of device steps. `wait`, `run_to_irq` and `wait_irq` run
+//! device steps, and the timing (pace) runs some after each port access.
 #![tactic(auto)]
 
 mod bus;

@@ -22,7 +22,7 @@ pub struct MachineOf<D> {
 pub type Machine = MachineOf<Box<dyn Drive>>;
 
 impl<D: Drive> MachineOf<D> {
-    /// The machine with its controller in reset, memory all 00 and two empty drives. It runs at this pace.
+    /// The machine with its controller in reset, memory all 00 and two empty drives. It runs at this timing (pace).
     pub fn new(alloc: Global, bay0: D, bay1: D, pace: Pace) -> Result<MachineOf<D>, NoMemory>
         requires first { IsEmpty (D.state bay0) }
         requires second { IsEmpty (D.state bay1) }
@@ -36,49 +36,49 @@ impl<D: Drive> MachineOf<D> {
         Ok(MachineOf { bus, first, second })
     }
 
-    /// No call that may change the machine came since it was made.
+    /// Whether no call that may change the machine came since it was made.
     pub fn is_fresh(&self) -> bool
         ensures { result ≡ (board D.state self.now).bus.fresh }
     {
         self.bus.fresh
     }
 
-    /// How many device steps were made, which stays at its last value.
+    /// How many device steps were made. The count stays at its last value.
     pub fn steps(&self) -> u64
         ensures { result ≡ (board D.state self.now).bus.steps }
     {
         self.bus.steps
     }
 
-    /// How many DMA requests were held back for more than 8 device steps, which stays at its last value.
+    /// How many DMA requests were held back for more than 8 device steps. The count stays at its last value.
     pub fn stalls(&self) -> u64
         ensures { result ≡ (holds_of (board D.state self.now)).stalls }
     {
         self.bus.chips.holding.stalls()
     }
 
-    /// How many data commands began execution, which stays at its last value.
+    /// How many data commands began execution. The count stays at its last value.
     pub fn data_commands(&self) -> u64
         ensures { result ≡ data_commands_of (controller_of (board D.state self.now)) }
     {
         self.bus.chips.controller.data_commands()
     }
 
-    /// How many accesses to user memory, media and drives went past the controller, which stays at its last value.
+    /// How many accesses to user memory, media and drives went past the controller. The count stays at its last value.
     pub fn direct(&self) -> u64
         ensures { result ≡ (board D.state self.now).bus.direct }
     {
         self.bus.direct
     }
 
-    /// How many interrupts were taken, which stays at its last value.
+    /// How many interrupts were taken. The count stays at its last value.
     pub fn taken(&self) -> u64
         ensures { result ≡ (board D.state self.now).bus.taken }
     {
         self.bus.taken
     }
 
-    /// The count of faults of a drive, which stays at its last value.
+    /// The count of faults of a drive. The count stays at its last value.
     pub fn faults(&self, bay: u8) -> u64
         requires { bay ≤ 1 }
         ensures count { result ≡ (drive_in (board D.state self.now) bay).faults }
@@ -91,7 +91,7 @@ impl<D: Drive> MachineOf<D> {
         }
     }
 
-    /// The rate of the medium in a bay, R500 where none is in.
+    /// The rate of the medium in a bay. It is R500 if no medium is in.
     pub fn rate(&self, bay: u8) -> Rate
         requires { bay ≤ 1 }
         ensures { result ≡ rate_of (drive_in (board D.state self.now) bay).medium }
@@ -103,7 +103,7 @@ impl<D: Drive> MachineOf<D> {
         }
     }
 
-    /// The numbers of its parts are those that they hold. It does nothing.
+    /// Makes known that the numbers in the machine's parts are in range. It does nothing.
     pub fn ranges(&self)
         ensures { IsInRange (board D.state self.now) }
     {

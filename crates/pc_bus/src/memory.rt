@@ -28,7 +28,7 @@ impl Model for Memory {
 }
 
 impl Memory {
-    /// All bytes are 00.
+    /// Memory whose bytes are all 00.
     pub fn new(alloc: Global) -> Result<Memory, NoMemory>
         ensures { IfOk result (λ memory. memory ≡ zeroes 1048576) }
     {
@@ -48,7 +48,7 @@ impl Memory {
         self.bytes[address as usize]
     }
 
-    /// Replaces the byte at an address. Here it isn't counted.
+    /// Replaces the byte at an address. This isn't counted as an access here.
     pub fn set(&mut self, address: u32, value: u8)
         requires { address < MEMORY_SIZE }
         ensures { self.new ≡ slice_set self.old address value }
@@ -77,12 +77,12 @@ impl Memory {
     }
 }
 
-/// The range of bytes; it does nothing.
+/// Makes the range of bytes known. It does nothing.
 fn keep_bytes(_bytes: &[u8])
     ensures { (k : ℕ) → slice_index _bytes.now k < 2 ^ 8 }
 {}
 
-/// So many bytes 00.
+/// This many bytes 00.
 #[tactic(auto, unfolding(flop_base::specs::Memory::zeroes))]
 fn blank(alloc: Global, count: usize) -> Result<Vec<u8>, NoMemory>
     ensures bytes { IfOk result (λ bytes. bytes.items ≡ zeroes count) }

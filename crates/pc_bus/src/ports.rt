@@ -7,7 +7,7 @@ use drive_model::Drive;
 use fdc_core::drives::{follow_write, lines};
 
 impl<D: Drive> MachineOf<D> {
-    /// Reads a port, and lets the device steps of the next gap pass. FF where nothing answers.
+    /// Reads a port, and then lets the device steps of the next gap pass. The value is FF if nothing answers.
     pub fn inb(&mut self, port: u16) -> u8
         ensures { Inputs port (board D.state self.old) result (board D.state self.new) }
     {
@@ -17,8 +17,8 @@ impl<D: Drive> MachineOf<D> {
         value
     }
 
-    /// Writes a port, and lets the device steps of the next gap pass. It is ignored where nothing answers. A write of
-    /// DOR turns motors at once, and one that resets the controller closes the write gates.
+    /// Writes a port, and then lets the device steps of the next gap pass. The write is ignored if nothing answers. A
+    /// write to DOR turns motors on or off at once. A write that resets the controller closes the write gates.
     pub fn outb(&mut self, port: u16, value: u8)
         ensures { Outputs port value (board D.state self.old) (board D.state self.new) }
     {
@@ -41,7 +41,7 @@ impl<D: Drive> MachineOf<D> {
         );
     }
 
-    /// The device steps behind an access.
+    /// Runs the device steps after an access.
     fn run_gap(&mut self)
         ensures { RunsGap (board D.state self.old) (board D.state self.new) }
     {

@@ -10,7 +10,7 @@ use irq_events::{Gaps, Holding, IrqLatch, Strays};
 use saved_state::{Saved, SavedWhole, Sink, Source};
 use std::alloc::Global;
 
-/// Stands before the bytes of a machine.
+/// This byte stands before the bytes of a machine.
 const MACHINE: u8 = b'M';
 
 impl SavedWhole for Chips {

@@ -8,8 +8,8 @@ use crate::machine::MachineOf;
 use drive_model::Drive;
 use fdc_core::drives::{may_leap, pass_word_time, pass_word_times};
 
-/// How many device steps are made alone where a try to make many found none, since such a try costs as much as one step or
-/// two. In so many a data mark passes, and in twice as many an address field.
+/// How many device steps are made alone after a try to make many at once found none. Such a try costs as much as one
+/// step or two. A data mark passes in this many steps, and an address field in twice as many.
 const STEPS_ALONE: u32 = 4;
 
 impl<D: Drive> MachineOf<D> {
@@ -26,8 +26,8 @@ impl<D: Drive> MachineOf<D> {
         self.bus.end_step();
     }
 
-    /// Makes device steps at once in which nothing comes of the pace, no line changes and no byte is moved, and tells how many,
-    /// `most` at most: where it is 0, the next step has to be made alone.
+    /// Makes several device steps at once, `most` at most, and tells how many. In these steps nothing of the timing
+    /// (pace) comes, no line changes and no byte is moved. If the answer is 0, the next step has to be made alone.
     fn leap(&mut self, most: u32) -> u32
         ensures few { result ≤ most }
         ensures runs { Runs result (board D.state self.old) (board D.state self.new) }
@@ -51,7 +51,7 @@ impl<D: Drive> MachineOf<D> {
         made
     }
 
-    /// At least one device step, `most` at most; tells how many.
+    /// Makes at least one device step and at most `most`, and tells how many.
     fn advance(&mut self, most: u32) -> u32
         requires { 1 ≤ most }
         ensures some { 1 ≤ result }
@@ -73,7 +73,7 @@ impl<D: Drive> MachineOf<D> {
         self.step_alone(most.min(STEPS_ALONE))
     }
 
-    /// Device steps made alone: one, and others until the latch is set, `most` at most; tells how many.
+    /// Makes device steps alone: one, and then others until the latch is set, `most` at most. Tells how many.
     #[inline(never)]
     fn step_alone(&mut self, most: u32) -> u32
         requires { 1 ≤ most }
@@ -97,7 +97,7 @@ impl<D: Drive> MachineOf<D> {
         made
     }
 
-    /// Device steps, so many.
+    /// Makes this many device steps.
     pub(crate) fn run(&mut self, steps: u32)
         ensures runs { Runs steps (board D.state self.old) (board D.state self.new) }
         ensures steps { self.new.bus.steps ≡ min (self.old.bus.steps + steps) last_count }
@@ -109,7 +109,7 @@ impl<D: Drive> MachineOf<D> {
         }
     }
 
-    /// Runs exactly so many device steps. One is a word time: 16 microseconds at 500 kbit/s, 32 at 250 kbit/s.
+    /// Runs exactly this many device steps. One is a word time: 16 microseconds at 500 kbit/s, 32 at 250 kbit/s.
     pub fn wait(&mut self, steps: u32)
         ensures runs { Runs steps (stirred (board D.state self.old)) (board D.state self.new) }
         ensures steps { (board D.state self.new).bus.steps ≡ min ((board D.state self.old).bus.steps + steps) last_count }
@@ -141,7 +141,7 @@ impl<D: Drive> MachineOf<D> {
         self.is_irq_set()
     }
 
-    /// Whether the latch of interrupt line 6 is set, which stays as it is.
+    /// Whether the latch of interrupt line 6 is set. The latch stays as it is.
     pub fn is_irq_set(&self) -> bool
         ensures { result ≡ (latch_of (board D.state self.now)).is_set }
     {

@@ -1,4 +1,4 @@
--- The bytes after a header, as the words and the half of a word that they spell.
+-- The bytes after a header, as the words that they spell and perhaps the first half of one more word.
 use Rattle.std.proofs.Common.{◌≡◌, ℕ, ◌+◌, ◌*◌, ◌≤◌, true, false, List, ◌++◌, length, refl, sym, ap, subst, ◌∙◌, arith, Option, None, Some, length-append}
 use Rattle.std.specs.Prelude.{option_to_list, is_some}
 use Rattle.raw_image.specs.Words.{words_of, bytes_of}
@@ -19,12 +19,12 @@ pub length_none : (o : Option ℕ) → is_some o ≡ false → length (option_to
 length_none None e = refl
 length_none (Some x) e = absurd cc
 
--- no more and no fewer bytes than words have: then no half of a word is left
+-- if there are as many bytes as the words need, no half of a word is left
 pub whole_words : (words : List ℕ) (high : Option ℕ) (count : ℕ) → 2 * count ≤ length (bytes_of words ++ option_to_list high) → 2 * length words + length (option_to_list high) ≤ 2 * count → (length words ≡ count) × (high ≡ None)
 whole_words words None count least most = (omega (arith, length_body words None), refl)
 whole_words words (Some x) count least most = absurd (omega (arith, length_body words (Some x)))
 
--- what the bytes spell, where no half of a word is left
+-- what the bytes spell if no half of a word is left
 pub words_of_body : (words : List ℕ) (high : Option ℕ) → IsWords words → high ≡ None → words_of (bytes_of words ++ option_to_list high) ≡ words
 words_of_body words high fits none = rw (none, append-nil (bytes_of words)) (words_again words fits)
 

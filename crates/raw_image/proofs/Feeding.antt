@@ -1,4 +1,4 @@
--- What a reader that was fed some bytes is after more of them, and where the file ends.
+-- What a reader that was fed some bytes is after more bytes, and what it answers where the file ends.
 use Rattle.std.proofs.Common.{◌≡◌, ℕ, ◌+◌, ◌<◌, ◌≤◌, true, false, ltb, List, [], ◌∷◌, ◌++◌, length, take, drop, refl, sym, ap, subst, ◌∙◌, append_assoc, arith, Result, Ok, Err, length-append, length-drop}
 use Rattle.std.specs.List.{flat_map}
 use Rattle.std.proofs.lemmas.Bool.{lt-ltb, le-ltb}
@@ -26,7 +26,7 @@ or_no_memory_then BadMagic P Q f p = f p
 or_no_memory_then (BadField offset) P Q f p = f p
 or_no_memory_then (Trailing offset) P Q f p = f p
 
--- a header with something wrong is so however the file goes on
+-- if something is wrong with a header, it is wrong with every file that begins with this header
 pub wrong_header : (header rest : List ℕ) (e : ImageError) → length header ≡ 14 → header_of header ≡ Err e → IsWrong (header ++ rest) e
 unfolding image_of
 wrong_header header rest e len wrong more =
@@ -45,7 +45,7 @@ begins header h len tells =
 length_going : (bytes body : List ℕ) → 14 ≤ length bytes → drop 14 bytes ≡ body → length bytes ≡ 14 + length body
 length_going bytes body long rest = omega (arith, length-drop 14 bytes, ap length rest)
 
--- more bytes, but not too many
+-- more bytes, but not more than the header tells of
 pub goes_on : (bytes body piece : List ℕ) (h : Header) → IsFed bytes (Going h body) → 14 + length (body ++ piece) ≤ whole_length h → IsFed (bytes ++ piece) (Going h (body ++ piece))
 goes_on bytes body piece h (long, tells, rest, within) more =
     let len = length_going bytes body long rest in
@@ -58,7 +58,7 @@ going_on bytes body piece now h g fed same more within =
     let fits : 14 + length (body ++ piece) ≤ whole_length h = omega (arith, within, ap length more, ap whole_length same) in
     rw (same, more) (goes_on bytes body piece h fed fits)
 
--- too many bytes are so however the file goes on
+-- too many bytes: this stays wrong however the file goes on
 pub too_long : (bytes body piece : List ℕ) (h : Header) → IsFed bytes (Going h body) → whole_length h < 14 + length (body ++ piece) → IsWrong (bytes ++ piece) (Trailing (whole_length h))
 unfolding image_of
 too_long bytes body piece h (enough, tells, rest, within) many more =
@@ -111,9 +111,9 @@ pub ends_failed : (bytes : List ℕ) (e : ImageError) → IsFed bytes (Failed e)
 ends_failed bytes e =
     or_no_memory_then e (IsWrong bytes e) (image_of bytes ≡ Err e) (λ wrong. ap image_of (sym (append-nil bytes)) ∙ wrong [])
 
--- ---- a header that is whole now
+-- ---- a header that becomes whole with this piece
 
--- the front, and then the piece, are the header, and then the rest of the piece
+-- the front and the whole piece are the header and then the rest of the piece
 front_piece : (bytes front piece header : List ℕ) (missing : ℕ) → IsFed bytes (Begun front) → header ≡ front ++ take missing piece → bytes ++ piece ≡ header ++ drop missing piece
 front_piece bytes front piece header missing fed filled =
     ap (λ (bs : List ℕ). bs ++ piece) fed.0 ∙ ap (λ (bs : List ℕ). front ++ bs) (sym (take-append-drop missing piece)) ∙ sym (append_assoc front (take missing piece) (drop missing piece))

@@ -21,7 +21,7 @@ done h = Ok h
 
 -- ---- what is read
 
--- the value of a step that did not fail
+-- the value of a step that didn't fail
 pub bind_ok : {A B : Type 0} (r : Result A ImageError) (f : A → Result B ImageError) (y : B) → (r >>= f) ≡ Ok y → (x : A) × (r ≡ Ok x) × (f x ≡ Ok y)
 bind_ok (Ok x) f y e = (x, refl, e)
 bind_ok (Err d) f y e = absurd cc
@@ -30,7 +30,7 @@ given_ok : {A : Type 0} (o : Option A) (e : ImageError) (x : A) → ok_or o e �
 given_ok None e x same = absurd cc
 given_ok (Some y) e x same = cc
 
--- the value of a choice that is there
+-- the value of a choice that has one
 chosen : {A : Type 0} (b : Bool) (x y : A) (rest : Option A) → cond b (Some x) rest ≡ Some y → ((b ≡ true) × (x ≡ y)) ⊎ ((b ≡ false) × (rest ≡ Some y))
 chosen true x y rest e = inl (refl, cc)
 chosen false x y rest e = inr (refl, e)
@@ -54,7 +54,7 @@ protection_is byte p e =
       | inr rest ↦ (let on = only_chosen (eqb byte 1) true p rest.1 in eqb-true byte 1 on.0 ∙ ap flag on.1)
     ]
 
--- version 1 tells no rate but 500 kbit/s
+-- version 1 can tell no other rate than 500 kbit/s
 abbrev pub CanTell : Version → Rate → Type 0
 CanTell First rate = rate ≡ R500
 CanTell Second rate = Unit {0}
@@ -77,7 +77,7 @@ version_is bytes v e =
           subst (λ (w : Version). bytes ≡ magic w ++ drop 8 bytes) second.1 ((starts_is Decides-eqb bytes (magic Second) (starts_with eqb bytes (magic Second)) refl).0 second.0))
     ]
 
--- the steps of reading a header, each with those after it
+-- the steps of reading a header, each together with the steps after it
 abbrev words_then : List ℕ → Bool → ℕ → ℕ → Rate → Result Header ImageError
 words_then bytes p c h r =
     field 12 (within 64 16384 (256 * get_or bytes 12 0 + get_or bytes 13 0)) >>= λ w. Ok (record { protected = p; cylinders = c; heads = h; rate = r; words_per_track = w })
@@ -100,7 +100,7 @@ pub record IsHeader (h : Header) : Type 0 where
   pub heads : (1 ≤ h.heads) × (h.heads ≤ 2)
   pub words_per_track : (64 ≤ h.words_per_track) × (h.words_per_track ≤ 16384)
 
--- the bytes are the header of this version that tells this
+-- the bytes are a header of this version, and tell this header's fields
 pub record IsHeaderOf (v : Version) (bytes : List ℕ) (h : Header) : Type 0 where
   pub spelled : bytes ≡ header_bytes v (disk_of h [])
   pub tells : CanTell v h.rate

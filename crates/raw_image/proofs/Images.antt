@@ -1,4 +1,4 @@
--- What is read is spelled so, and what is spelled so is read.
+-- A medium that is read from bytes is spelled by them, and a medium that bytes spell is read from them.
 use Rattle.std.proofs.Common.{◌≡◌, ℕ, zero, suc, ◌+◌, ◌*◌, ◌/◌, ◌≤◌, Bool, true, false, cond, ltb, List, [], ◌∷◌, ◌++◌, length, take, drop, refl, sym, ap, subst, ◌∙◌, arith, Result, Ok, Err, inl, inr, length-append, length-drop}
 use Rattle.std.specs.Prelude.{IfOk}
 use Rattle.std.proofs.Math.ListN.{drop_of_length-le}
@@ -78,7 +78,7 @@ image_found bytes d fits e =
     sym (take-append-drop 14 bytes) ∙ ap (λ (bs : List ℕ). bs ++ rest) found.1.spelled ∙ ap (λ (bs : List ℕ). header_bytes v (disk_of h []) ++ bs) (sym body) in
     subst (λ (x : Disk). Spells bytes x) (same_ok (disk_of h (words_of rest)) d g.1) (spells_by v (disk_of h (words_of rest)) bytes valid found.1.tells whole)
 
--- all of a medium but its words
+-- the fields of a medium without its words
 abbrev header_from : Disk → Header
 header_from d = record { protected = d.protected; cylinders = d.cylinders; heads = d.heads; rate = d.rate; words_per_track = d.words_per_track }
 

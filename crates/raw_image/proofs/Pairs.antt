@@ -29,7 +29,7 @@ pub length-bytes_of : (words : List ℕ) → length (bytes_of words) ≡ 2 * len
 length-bytes_of [] = refl
 length-bytes_of (w ∷ ws) = omega (arith, length-bytes_of ws)
 
--- bytes are those of their words, and the odd one at the end
+-- bytes are the bytes of their words, and then the odd byte at the end, if there is one
 pub bytes_again : (bytes : List ℕ) → IsBytes bytes → bytes_of (words_of bytes) ++ drop (length bytes / 2 * 2) bytes ≡ bytes
 bytes_again [] fits = refl
 bytes_again (high ∷ []) fits = refl
@@ -42,7 +42,7 @@ bytes_again (high ∷ low ∷ rest) fits =
     let again = bytes_again rest (λ k. fits (suc (suc k))) in
     rw (top, bottom, more) (ap (λ (bs : List ℕ). high ∷ low ∷ bs) again)
 
--- words are those of their bytes
+-- words are the words of their bytes
 pub words_again : (words : List ℕ) → IsWords words → words_of (bytes_of words) ≡ words
 words_again [] fits = refl
 words_again (w ∷ ws) fits =
@@ -51,7 +51,7 @@ words_again (w ∷ ws) fits =
     let again = words_again ws (λ k. fits (suc k)) in
     rw (word, again) refl
 
--- what a piece adds where no half of a word is left
+-- what a piece adds if no half of a word is left
 pub piece_after_none : (r : Result (Option ℕ) NoMemory) (old new piece : List ℕ) → IsBytes piece
     → OnOk r (new ≡ old ++ words_of piece) → IfOk r (λ left. option_to_list left ≡ drop (length piece / 2 * 2) piece)
     → IfOk r (λ left. bytes_of new ++ option_to_list left ≡ (bytes_of old ++ []) ++ piece)
@@ -64,7 +64,7 @@ head_fits piece rest x fits parts =
     let whole : IsBytes (x ∷ rest) = subst IsBytes parts fits in
     (whole 0, λ k. whole (suc k))
 
--- what a piece adds after a half of a word
+-- what a piece adds after the first half of a word
 pub piece_after_some : (r : Result (Option ℕ) NoMemory) (old middle new : List ℕ) (first second word : ℕ) (piece rest : List ℕ)
     → first < 256 → IsBytes piece → piece ≡ second ∷ rest → word ≡ from_be_bytes w16 (first ∷ second ∷ []) → middle ≡ old ++ word ∷ []
     → OnOk r (new ≡ middle ++ words_of rest) → IfOk r (λ left. option_to_list left ≡ drop (length rest / 2 * 2) rest)

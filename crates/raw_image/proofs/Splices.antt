@@ -1,4 +1,4 @@
--- Words written over a part of one track, seen by each track.
+-- Words written over a part of one track, and what each track then is.
 use Rattle.std.proofs.Common.{◌≡◌, ℕ, ◌+◌, ◌-◌, ◌*◌, ◌^◌, ◌<◌, ◌≤◌, ◌++◌, List, length, take, drop, get_or, refl, sym, subst, ap, ◌∙◌, arith, inl, inr}
 use Rattle.std.proofs.lemmas.Bool.{cases_lt}
 use Rattle.std.proofs.lemmas.List.{ext_get_or, get_or_append_left, get_or-append-add, get_or-take, get_or-drop, length-append, length-take, length-drop, drop-drop}
@@ -46,7 +46,7 @@ module _ (list : List ℕ) (at : ℕ) (words : List ℕ) (fits : at + length wor
       ∙ get_or-drop (at + length words) list i 0
       ∙ ap (λ j. get_or list j 0) back
 
-  -- all are words of 16 bits where those of both lists are
+  -- all items are words of 16 bits if the items of both lists are
   pub with_items_fits : ((k : ℕ) → get_or list k 0 < 2 ^ 16) → ((k : ℕ) → get_or words k 0 < 2 ^ 16) → (k : ℕ) → get_or (with_items list at words) k 0 < 2 ^ 16
   with_items_fits old new k =
       let Fits : ℕ → Type 0 = λ w. w < 2 ^ 16 in
@@ -71,7 +71,7 @@ same_part xs ys from w lengths same =
     let below : k < w = omega (arith, length-take w (drop from xs)) in
     element from w k xs below ∙ same (from + k) (omega arith) (omega arith) ∙ sym (element from w k ys below))
 
--- what is replaced lies in one part of a list
+-- what is replaced lies within one part of the list
 module _ (list : List ℕ) (from w start : ℕ) (words : List ℕ) (within : start + length words ≤ w) (inside : from + w ≤ length list) where
   part_long : length (take w (drop from list)) ≡ w
   part_long = omega (arith, length-take w (drop from list), length-drop from list)

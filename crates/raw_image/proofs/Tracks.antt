@@ -1,4 +1,4 @@
--- A write into one track, seen by each track.
+-- A word written into one track, and what each track then is.
 use Rattle.std.proofs.Common.{◌≡◌, ℕ, ◌+◌, ◌-◌, ◌*◌, ◌<◌, ◌≤◌, List, take, drop, ap, ◌∙◌, arith, ◌⊎◌, inl, inr}
 use Rattle.std.proofs.Math.ListN.{set}
 use Rattle.std.proofs.Math.Nat.{mul-le-mul_left}
@@ -7,13 +7,13 @@ use Rattle.std.proofs.lemmas.List.{drop-set-add, drop-set-lt, take-set-le}
 use Rattle.std.proofs.lemmas.Nat.{mul-add-lt}
 use Rattle.raw_image.specs.Disk.{Disk, HasTrack, track_start, track_of, with_word}
 
--- a track that lies before another ends before it, at any number of words per track
+-- a track that begins before another one ends before it begins, at any number of words per track
 pub rows_apart : (r s w : ℕ) → r < s → r * w + w ≤ s * w
 rows_apart r s w lt =
     let more : r + 1 ≤ s = omega arith in
     omega (arith, mul-le-mul_left w more)
 
--- the number of a track among all is of this track alone
+-- a track of a lower cylinder has a lower number among all tracks
 row_below : (b c g h heads : ℕ) → g < heads → b < c → b * heads + g < c * heads + h
 row_below b c g h heads g_in lt = omega (arith, mul-add-lt b heads g c lt g_in)
 

@@ -11,7 +11,7 @@ pub record Disk : Type 0 where
   pub words_per_track : ℕ
   pub words : List ℕ
 
--- the ranges of a medium, and as many words of 16 bits as its tracks have
+-- the ranges of a medium's fields; it has as many words, of 16 bits each, as all its tracks together
 pub record IsDisk (d : Disk) : Type 0 where
   pub cylinders : (1 ≤ d.cylinders) × (d.cylinders ≤ 80)
   pub heads : (1 ≤ d.heads) × (d.heads ≤ 2)
@@ -23,11 +23,11 @@ pub record IsDisk (d : Disk) : Type 0 where
 abbrev pub track_start : Disk → ℕ → ℕ → ℕ
 track_start d c h = (c * d.heads + h) * d.words_per_track
 
--- the words of the track of a cylinder and a head
+-- the words of the track of this cylinder and head
 abbrev pub track_of : Disk → ℕ → ℕ → List ℕ
 track_of d c h = take d.words_per_track (drop (track_start d c h) d.words)
 
--- the medium has such a track
+-- the medium has the track of this cylinder and head
 abbrev pub HasTrack : Disk → ℕ → ℕ → Type 0
 HasTrack d c h = (c < d.cylinders) × (h < d.heads)
 
@@ -50,7 +50,7 @@ with_word d c h place word = record d { words = slice_set d.words (track_start d
 abbrev pub tabbed : Bool → Disk → Disk
 tabbed on d = record d { protected = on }
 
--- `after` is the disk with these words as its track of a cylinder and head, and otherwise as it was
+-- `after` is the disk with these words as the track of this cylinder and head, and is otherwise unchanged
 pub record IsWithTrack (d : Disk) (c h : ℕ) (track : List ℕ) (after : Disk) : Type 0 where
   pub valid : IsDisk after
   pub protected : after.protected ≡ d.protected

@@ -21,27 +21,27 @@ pub record Header : Type 0 where
 abbrev pub word_count : Header → ℕ
 word_count h = h.cylinders * h.heads * h.words_per_track
 
--- what a file of each version begins with
+-- the bytes that a file of each version begins with
 abbrev pub magic : Version → List ℕ
 magic First = codes "RTIMAGE1"
 magic Second = codes "RTIMAGE2"
 
--- the version that a file is of
+-- the version of a file, by its first bytes
 abbrev pub version_of : List ℕ → Option Version
 version_of bytes =
     if starts_with nat_eq bytes (magic First) then Some First
     else (if starts_with nat_eq bytes (magic Second) then Some Second else None)
 
--- the flags: bit 0 is the protection, and no other is set
+-- the protection that the byte of flags tells: bit 0 is the protection, and all other bits are 0
 abbrev pub protection_of : ℕ → Option Bool
 protection_of flags = if flags == 0 then Some false else (if flags == 1 then Some true else None)
 
--- the rate, which version 1 doesn't tell
+-- the rate that a byte tells; version 1 has no other rate than 500 kbit/s
 abbrev pub rate_of : Version → ℕ → Option Rate
 rate_of First byte = if byte == 0 then Some R500 else None
 rate_of Second byte = if byte == 0 then Some R500 else (if byte == 2 then Some R250 else None)
 
--- a number of this range
+-- the number, if it is in this range
 abbrev pub within : ℕ → ℕ → ℕ → Option ℕ
 within least most n = if nat_le least n && nat_le n most then Some n else None
 
@@ -50,11 +50,11 @@ abbrev pub ◌>>=◌ : {A B : Type 0} → Result A ImageError → (A → Result 
 (Ok x) >>= f = f x
 (Err e) >>= f = Err e
 
--- the field at an offset, with the value that its bytes tell, if they tell any
+-- the field at an offset: its value, or the error that its bytes tell none
 abbrev pub field : {A : Type 0} → ℕ → Option A → Result A ImageError
 field offset value = ok_or value (BadField offset)
 
--- what a header tells, or the first field with a value that it can't have
+-- what a header tells, or the error for its first field that has no valid value
 unfoldable pub header_of : List ℕ → Result Header ImageError
 header_of bytes = do
   version ← ok_or (version_of bytes) BadMagic

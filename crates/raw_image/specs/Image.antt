@@ -34,7 +34,7 @@ spelling version d = header_bytes version d ++ bytes_of d.words
 abbrev pub file_of : Disk → List ℕ
 file_of d = spelling Second d
 
--- the bytes are the file of this medium: of version 2, or of version 1, where no rate but 500 kbit/s can be told
+-- the bytes are the file of this medium, in version 2, or in version 1 if its rate is 500 kbit/s
 abbrev pub Spells : List ℕ → Disk → Type 0
 Spells bytes d = IsDisk d × ((bytes ≡ spelling Second d) ⊎ ((d.rate ≡ R500) × (bytes ≡ spelling First d)))
 
@@ -60,13 +60,13 @@ body_of bytes h =
     else (if nat_lt (whole_length h) (length bytes) then Err (Trailing (whole_length h))
     else Ok (disk_of h (words_of (drop 14 bytes))))
 
--- the medium that bytes spell, or the first thing that is wrong with them
+-- the medium that bytes spell, or the first thing that is wrong with the bytes
 unfoldable pub image_of : List ℕ → Result Disk ImageError
 image_of bytes =
     if nat_lt (length bytes) 14 then Err (TooShort 14 (length bytes))
     else (header_of (take 14 bytes) >>= body_of bytes)
 
--- the fact holds, unless it was memory that couldn't be had
+-- the fact holds, unless the error is that memory ran out
 abbrev pub OrNoMemory : ImageError → Type 0 → Type 0
 OrNoMemory NoMemory P = Unit {0}
 OrNoMemory (TooShort need have) P = P

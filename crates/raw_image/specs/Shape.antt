@@ -1,10 +1,10 @@
--- The shape of a medium as its header.
+-- The shape of a medium, seen as its header.
 use Rattle.std.specs.Prelude.{◌≡◌, Result, Ok, Err}
 use Rattle.raw_image.specs.declared.error.ImageError.{ImageError}
 use Rattle.raw_image.specs.declared.shape.Shape.{Shape}
 use Rattle.raw_image.specs.Header.{Header}
 
--- the header that tells this shape
+-- the header that tells of this shape
 abbrev pub header_view : Shape → Header
 header_view s = record {
   protected = s.protected;

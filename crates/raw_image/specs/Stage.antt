@@ -1,4 +1,4 @@
--- The stages of a reader as its progress.
+-- The stages of a reader, seen as its progress.
 use Rattle.std.specs.Prelude.{◌≡◌, ℕ, ◌+◌, ◌<◌, List, ◌++◌, length, option_to_list, Result, Ok, Err}
 use Rattle.raw_image.specs.declared.error.ImageError.{ImageError}
 use Rattle.raw_image.specs.declared.error.ImageError.TheVariants.{TooShort, Trailing}
@@ -22,18 +22,18 @@ progress_of (stage.Begun front) = Begun front.bytes.items
 progress_of (stage.Going body) = Going (header_view body.shape) (body_bytes body)
 progress_of (stage.Failed e) = Failed e
 
--- how far a reader has come that answered this
+-- how far a reader has come that gave this answer
 abbrev pub after : Result Stage ImageError → Progress
 after (Ok s) = progress_of s
 after (Err e) = Failed e
 
--- more bytes come than the header tells of
+-- with this piece there are more bytes than the header tells of
 abbrev pub IsTooLong : Body → List ℕ → ImageError → Type 0
 IsTooLong b piece e =
     let whole = whole_length (header_view b.shape) in
     (e ≡ Trailing whole) × (whole < 14 + length (body_bytes b ++ piece))
 
--- what is answered where the file ends here: the medium, if all its words are there
+-- the answer if the file ends here: the medium if all its words are there, and otherwise how many bytes are missing
 abbrev pub Finishes : Header → List ℕ → Result Disk ImageError → Type 0
 Finishes h body (Ok d) = (14 + length body ≡ whole_length h) × (d ≡ disk_of h (words_of body))
 Finishes h body (Err e) = (14 + length body < whole_length h) × (e ≡ TooShort (whole_length h) (14 + length body))

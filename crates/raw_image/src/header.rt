@@ -10,7 +10,7 @@ use flop_base::Rate;
 /// How many bytes a header has.
 pub(crate) const HEADER: usize = 14;
 
-/// The versions of the format. The first tells no rate but 500 kbit/s.
+/// The versions of the format. The first one can tell no other rate than 500 kbit/s.
 #[derive(Clone, Copy)]
 pub(crate) enum Version {
     First,
@@ -49,7 +49,7 @@ fn rate_of(version: Version, byte: u8) -> Option<Rate>
     }
 }
 
-/// A count from 1 on.
+/// A count, from 1 to `most`.
 fn count_of(byte: u8, most: u8) -> Option<u8>
     ensures { result ≡ within 1 most byte }
 {

@@ -1,7 +1,8 @@
 //! Media and the image files that keep them.
 //!
-//! A medium is what a diskette holds: for each cylinder and head a track of 16-bit words, whose bits are the flux
-//! cells as they pass under the head, the highest first. An image file is a header of 14 bytes and all the words.
+//! A medium is what a diskette holds. For each cylinder and head it has a track of 16-bit words. Their bits are the
+//! flux cells as they pass under the head, the highest bit first. An image file is a header of 14 bytes and then all
+//! the words.
 #![tactic(auto)]
 
 mod error;

@@ -31,7 +31,7 @@ impl Medium {
     ghost use Rattle.raw_image.specs.Image.{disk_of};
     ghost use Rattle.raw_image.specs.Shape.{header_view};
 
-    /// An unprotected medium at 500 kbit/s with so many words a track, all 0000.
+    /// An unprotected medium at 500 kbit/s, with this many words per track, all 0000.
     pub fn blank(alloc: Global, cylinders: u8, heads: u8, words: u16) -> Result<Medium, NoMemory>
         requires some_cylinders { 1 ≤ cylinders }
         requires most_cylinders { cylinders ≤ 80 }
@@ -44,7 +44,7 @@ impl Medium {
         Medium::blank_at(alloc, cylinders, heads, words, Rate::R500)
     }
 
-    /// An unprotected medium with so many words a track, all 0000.
+    /// An unprotected medium with this many words per track, all 0000.
     pub fn blank_at(
         alloc: Global,
         cylinders: u8,
@@ -94,14 +94,14 @@ impl Medium {
         self.words.as_slice()
     }
 
-    /// The write-protect notch is covered.
+    /// Whether the medium is write-protected, that is, whether its notch is covered.
     pub fn protected(&self) -> bool
         ensures { result ≡ self.now.protected }
     {
         self.shape.protected
     }
 
-    /// Protects the medium, or lets it be written: its tab is moved.
+    /// Sets whether the medium is write-protected, as moving its tab does.
     pub fn set_protected(&mut self, on: bool)
         ensures becomes { self.new ≡ tabbed on self.old }
         ensures words { self.new.words_per_track ≡ self.old.words_per_track }
@@ -110,7 +110,7 @@ impl Medium {
         self.shape.protected = on;
     }
 
-    /// How many cylinders it has, 1 to 80. They are numbered from 0.
+    /// How many cylinders the medium has, 1 to 80. They are numbered from 0.
     pub fn cylinders(&self) -> u8
         ensures value { result ≡ self.now.cylinders }
         ensures valid { IsDisk self.now }
@@ -118,7 +118,7 @@ impl Medium {
         self.shape.cylinders
     }
 
-    /// How many heads it has, 1 or 2. They are numbered from 0.
+    /// How many heads the medium has, 1 or 2. They are numbered from 0.
     pub fn heads(&self) -> u8
         ensures value { result ≡ self.now.heads }
         ensures valid { IsDisk self.now }
@@ -134,7 +134,7 @@ impl Medium {
         self.shape.words_per_track
     }
 
-    /// The data rate of all its tracks.
+    /// The data rate of all tracks of the medium.
     pub fn rate(&self) -> Rate
         ensures { result ≡ self.now.rate }
     {
@@ -150,8 +150,8 @@ impl Medium {
         (c as usize * self.shape.heads as usize + h as usize) * self.shape.words_per_track as usize
     }
 
-    /// The words of the track of a cylinder and a head, both from 0, if the medium has it. The first word is behind the
-    /// index.
+    /// The words of the track of a cylinder and a head, both counted from 0, if the medium has this track. The first
+    /// word is the one after the index.
     pub fn track(&self, c: u8, h: u8) -> Option<&[u16]>
         ensures found { IsSome result ↔ HasTrack self.now c h }
         ensures track { IfSome result (λ track. track.now ≡ track_of self.now c h) }
@@ -165,7 +165,7 @@ impl Medium {
         Some(&self.words[start..start + self.shape.words_per_track as usize])
     }
 
-    /// Replaces one word of a track, which is counted from the index on.
+    /// Replaces one word of a track. `place` counts words from the index on.
     pub fn set_word(&mut self, c: u8, h: u8, place: u16, word: u16)
         requires cylinder { c < self.old.cylinders }
         requires head { h < self.old.heads }
@@ -180,7 +180,7 @@ impl Medium {
         self.words[start + place as usize] = word;
     }
 
-    /// Replaces the words of a track from word `start` on, which is counted from the index on.
+    /// Replaces the words of a track from word `start` on. `start` counts words from the index on.
     pub fn set_words(&mut self, c: u8, h: u8, start: u16, words: &[u16])
         requires track { HasTrack self.old c h }
         requires within { start + length words.now ≤ self.old.words_per_track }

@@ -11,7 +11,7 @@ use std::alloc::Global;
 use std::marker::Model;
 use std::mem;
 
-/// Reads an image file that comes in pieces. It keeps the words, and no byte of the file but the first ones of an
+/// Reads an image file that comes in pieces. The reader keeps the words. Of the file's bytes it keeps only those of an
 /// unfinished header and the first half of an unfinished word.
 #[derive(Drop)]
 pub struct ImageReader {
@@ -35,7 +35,7 @@ impl ImageReader {
     ghost use Rattle.raw_image.specs.Progress.{IsFed, Feeds, IsSound, Begun, Failed};
     ghost use Rattle.raw_image.specs.declared.error.ImageError.{ImageError};
 
-    /// A reader that has no byte yet.
+    /// A reader that was fed no byte yet.
     pub fn new(alloc: Global) -> ImageReader
         ensures begun { result ≡ Begun [] }
         ensures fed { IsFed [] result }
@@ -48,13 +48,13 @@ impl ImageReader {
         }
     }
 
-    /// Takes the next piece of the file, of any length. After an error this call and `finish` answer the same error for
-    /// ever.
+    /// Takes the next piece of the file, of any length. After an error, this call and `finish` always answer the same
+    /// error.
     pub fn feed(&mut self, piece: &[u8]) -> Result<(), ImageError>
         ensures fed { Feeds piece.now self.old self.new }
         ensures ok { OnOk result (IsSound self.new) }
         ensures err { IfErr result (λ e. self.new ≡ Failed e) }
-        // However the file goes on, this is what is wrong with it.
+        // This is what is wrong with the file, however it goes on.
         ensures wrong { IfErr result (λ e. (bytes more : List ℕ) → IsFed bytes self.old
             → Reads (image_of ((bytes ++ piece.now) ++ more)) (Err e)) }
         ensures again { (e : ImageError) → self.old ≡ Failed e → result ≡ Err e }
@@ -72,7 +72,7 @@ impl ImageReader {
         }
     }
 
-    /// The medium that all the pieces together spell. That the file is too short shows only here.
+    /// The medium that all the pieces together spell. Only this call reports that the file is too short.
     pub fn finish(self) -> Result<Medium, ImageError>
         ensures read { (bytes : List ℕ) → IsFed bytes self → Reads (image_of bytes) result }
         ensures valid { IfOk result IsDisk }
@@ -84,11 +84,11 @@ impl ImageReader {
 
 /// The medium that an image file holds, of version 1 or 2.
 pub fn read_image(alloc: Global, bytes: &[u8]) -> Result<Medium, ImageError>
-    // What is read is spelled so.
+    // A medium that is read is the one that the bytes spell.
     ensures found { IfOk result (Spells bytes.now) }
-    // What is spelled so is read, unless memory runs out.
+    // A medium that the bytes spell is read, unless memory runs out.
     ensures only { (disk : Disk) → Spells bytes.now disk → Reads (Ok disk) result }
-    // What is wrong with all other bytes.
+    // The answer for all other bytes is what is wrong with them.
     ensures exact { Reads (image_of bytes.now) result }
 {
     let mut reader = ImageReader::new(alloc);

@@ -12,7 +12,7 @@ use std::alloc::Global;
 pub(crate) enum Stage {
     Begun(HeaderBytes),
     Going(Body),
-    /// Something is wrong, and stays so.
+    /// Something is wrong with the file, and stays so.
     Failed(ImageError),
 }
 
@@ -28,7 +28,7 @@ pub(crate) struct HeaderBytes {
 pub(crate) struct Body {
     pub shape: Shape,
     pub words: Vec<u16>,
-    /// The first half of the word after these.
+    /// The first half of the word that comes next, if it is there.
     pub high: Option<u8>,
     ghost within: { 2 * length words.items + length (option_to_list high)
         ≤ 2 * (shape.cylinders * shape.heads * shape.words_per_track) },

@@ -4,7 +4,7 @@ ghost use Rattle.raw_image.specs.Words.{words_of, bytes_of};
 
 use flop_base::NoMemory;
 
-/// Adds the words that bytes spell, and answers the byte that is left over of an odd number.
+/// Adds the words that bytes spell. If the number of bytes is odd, the last one is left over and is answered.
 fn push_pairs(words: &mut Vec<u16>, bytes: &[u8]) -> Result<Option<u8>, NoMemory>
     ensures words { OnOk result (words.new.items ≡ words.old.items ++ words_of bytes.now) }
     ensures left { IfOk result (λ left. option_to_list left
@@ -17,8 +17,8 @@ fn push_pairs(words: &mut Vec<u16>, bytes: &[u8]) -> Result<Option<u8>, NoMemory
     Ok(rest.first().copied())
 }
 
-/// Adds the words that a piece goes on to spell after `high`, a first half of a word.
-/// Answers the first half of the word that the next piece goes on with.
+/// Adds the words that `high`, a first half of a word, and then the piece spell. Answers the first half of a word that
+/// is left over, if there is one. The next piece goes on with it.
 pub(crate) fn push_piece(
     words: &mut Vec<u16>,
     high: Option<u8>,

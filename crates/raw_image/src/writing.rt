@@ -31,7 +31,7 @@ fn push_header(bytes: &mut Vec<u8>, shape: Shape) -> Result<(), NoMemory>
 /// The image file of a medium, in version 2.
 pub fn write_image(alloc: Global, medium: &Medium) -> Result<Vec<u8>, NoMemory>
     ensures spelled { IfOk result (λ bytes. bytes.items ≡ file_of medium.now) }
-    // Reading it gives the medium.
+    // Reading the file gives the medium again.
     ensures again { IfOk result (λ bytes. image_of bytes.items ≡ Ok medium.now) }
 {
     let shape = medium.shape();

@@ -12,7 +12,7 @@ Left {A = A} fits spelled values list here rest =
 abbrev pub Next : List ℕ → ℕ → List ℕ → Type 0
 Next here byte after = (b : ℕ) (r : List ℕ) → here ≡ b ∷ r → (byte ≡ b) × (after ≡ r)
 
--- behind a 1 there is a value
+-- after a 1 there is a value
 pub next_value : {A : Type 0} (fits : A → Type 0) (spelled : A → List ℕ → List ℕ) (values list longer : List A) (read : A)
     (here behind after rest : List ℕ) (byte : ℕ)
     → Left fits spelled values list here rest → Next here byte behind → byte ≡ 1 → Gives fits spelled behind read after
@@ -24,7 +24,7 @@ next_value fits spelled values list longer read here behind after rest byte (x �
     let it = gives x (spelled_list spelled xs rest) f.0 (next 1 _ h).1 in
     (xs, f.1, (rw (more, it.0, e) grind (arith, common_steps)), it.1)
 
--- behind any other byte there is none
+-- after any other byte there is none
 pub no_value : {A : Type 0} (fits : A → Type 0) (spelled : A → List ℕ → List ℕ) (values list : List A)
     (here behind rest : List ℕ) (byte : ℕ)
     → Left fits spelled values list here rest → Next here byte behind → (byte ≡ 1 → ⊥) → (list ≡ values) × (behind ≡ rest)
@@ -32,7 +32,7 @@ unfolding spelled_list
 no_value fits spelled values list here behind rest byte ([], f, e, h) next isnt = (rw e grind (arith, common_steps), (next 0 rest h).1)
 no_value fits spelled values list here behind rest byte (x ∷ xs, f, e, h) next isnt = absurd (isnt (next 1 _ h).0)
 
--- four values, one behind the other
+-- four values, one after the other
 pub four_values : {A : Type 0} (fits : A → Type 0) (spelled : A → List ℕ → List ℕ) (values : List A)
     (here behind1 behind2 behind3 behind4 rest : List ℕ) (read1 read2 read3 read4 : A)
     → length values ≡ 4 → EachFits fits values → here ≡ spelled_each spelled values rest
@@ -52,7 +52,7 @@ four_values fits spelled (_ ∷ _ ∷ []) _ _ _ _ _ _ _ _ _ _ four _ _ _ _ _ _ =
 four_values fits spelled (_ ∷ _ ∷ _ ∷ []) _ _ _ _ _ _ _ _ _ _ four _ _ _ _ _ _ = absurd (omega (arith, four))
 four_values fits spelled (_ ∷ _ ∷ _ ∷ _ ∷ _ ∷ more) _ _ _ _ _ _ _ _ _ _ four _ _ _ _ _ _ = absurd (omega (arith, four))
 
--- where each value of a type fits, so does each of a list
+-- if each value of a type fits, so does each value of a list
 pub each_fits : {A : Type 0} (fits : A → Type 0) → ((value : A) → fits value) → (values : List A) → EachFits fits values
 each_fits fits all [] = tt
 each_fits fits all (value ∷ values) = (all value, each_fits fits all values)

@@ -2,15 +2,15 @@
 use Rattle.std.specs.Prelude.{◌≡◌, ℕ, List, [], ◌++◌, ◌∷◌, length, Option, Some, None, IfSome, Bool, true, false, ⊤, ◌/◌, ◌%◌}
 use Rattle.flop_base.specs.declared.key.Chrn.{Chrn}
 
--- with what was written and `rest` behind it there is `all`, where memory didn't run out
+-- what was written, with `rest` after it, is `all`, unless memory ran out
 abbrev pub Awaits : Option (List ℕ) → List ℕ → List ℕ → Type 0
 Awaits written all rest = IfSome written (λ bytes. bytes ++ rest ≡ all)
 
--- from `old` to `new` these bytes were written: `bytes` puts them before a rest
+-- these bytes were written between `old` and `new`; `bytes` puts them before a rest
 abbrev pub Adds : (List ℕ → List ℕ) → Option (List ℕ) → Option (List ℕ) → Type 0
 Adds bytes old new = (all rest : List ℕ) → Awaits old all (bytes rest) → Awaits new all rest
 
--- where the bytes that are left begin with those of a value, it is the one that is read, and the rest is left
+-- if the bytes that are left begin with those of a value, that value is read, and the rest is left
 abbrev pub Gives : {A : Type 0} → (A → Type 0) → (A → List ℕ → List ℕ) → List ℕ → A → List ℕ → Type 0
 Gives {A = A} fits spelled old result new =
     (value : A) (rest : List ℕ) → fits value → old ≡ spelled value rest → (result ≡ value) × (new ≡ rest)
@@ -39,7 +39,7 @@ flag_byte false = 0
 unfoldable pub spelled_flag : Bool → List ℕ → List ℕ
 spelled_flag flag rest = flag_byte flag ∷ rest
 
--- a value that may be missing: 1 before it, else 0
+-- a value that may be missing: 1 and then the value, or 0 if it is missing
 unfoldable pub spelled_option : {A : Type 0} → (A → List ℕ → List ℕ) → Option A → List ℕ → List ℕ
 spelled_option spelled None rest = 0 ∷ rest
 spelled_option spelled (Some value) rest = 1 ∷ spelled value rest
@@ -48,17 +48,17 @@ spelled_option spelled (Some value) rest = 1 ∷ spelled value rest
 unfoldable pub spelled_bytes : List ℕ → List ℕ → List ℕ
 spelled_bytes bytes rest = spelled_count (length bytes) (bytes ++ rest)
 
--- a list of values: 1 before each, and 0 behind the last
+-- a list of values: 1 before each, and 0 after the last
 unfoldable pub spelled_list : {A : Type 0} → (A → List ℕ → List ℕ) → List A → List ℕ → List ℕ
 spelled_list spelled [] rest = 0 ∷ rest
 spelled_list spelled (value ∷ values) rest = 1 ∷ spelled value (spelled_list spelled values rest)
 
--- values one behind the other, whose number is known
+-- values one after the other, whose number is known
 unfoldable pub spelled_each : {A : Type 0} → (A → List ℕ → List ℕ) → List A → List ℕ → List ℕ
 spelled_each spelled [] rest = rest
 spelled_each spelled (value ∷ values) rest = spelled value (spelled_each spelled values rest)
 
--- each value of a list is so
+-- each value of a list fits
 abbrev pub EachFits : {A : Type 0} → (A → Type 0) → List A → Type 0
 EachFits fits [] = ⊤
 EachFits fits (value ∷ values) = fits value × EachFits fits values

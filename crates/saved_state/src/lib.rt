@@ -1,7 +1,7 @@
 //! States as bytes: what is saved, and how it is read back.
 //!
-//! A value is written field after field, each in a fixed order, and read back in the same order. Reading never fails by
-//! itself: bytes that no value has give some value, and `restore` refuses it, since saving it gives other bytes.
+//! A value is written field after field in a fixed order, and read back in the same order. Reading never refuses bytes:
+//! bytes that no value has give some value. `restore_state` refuses that value, since saving it gives other bytes.
 #![tactic(auto)]
 
 mod lists;

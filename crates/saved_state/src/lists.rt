@@ -52,7 +52,7 @@ pub fn load_list<T: Saved + Drop>(alloc: Global, from: &mut Source<'_>) -> Resul
     Ok(list)
 }
 
-/// Writes four values, one behind the other.
+/// Writes four values, one after the other.
 #[tactic(auto, unfolding(crate::specs::Saved::spelled_each))]
 pub fn save_four<T: Saved>(values: &[T; 4], to: &mut Sink)
     ensures fits { EachFits T.Fits values.now }
@@ -63,7 +63,7 @@ pub fn save_four<T: Saved>(values: &[T; 4], to: &mut Sink)
     }
 }
 
-/// Reads four values, one behind the other.
+/// Reads four values, one after the other.
 #[tactic(auto, unfolding(crate::specs::Saved::spelled_each))]
 pub fn load_four<T: Saved>(from: &mut Source<'_>) -> [T; 4]
     ensures gives { Gives (λ values. (length values ≡ 4) × EachFits T.Fits values) (spelled_each T.spelled) from.old result from.new }

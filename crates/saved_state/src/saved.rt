@@ -9,10 +9,10 @@ use std::alloc::Global;
 
 /// A value that owns no memory.
 pub trait Saved {
-    /// The bytes of a value, and `rest` behind them.
+    /// The bytes of a value, with the given rest after them.
     ghost spelled: { Self → List ℕ → List ℕ };
 
-    /// What is so of each value that code holds.
+    /// What holds of each value in code.
     ghost Fits: { Self → Type 0 };
 
     /// Writes the bytes.
@@ -20,7 +20,7 @@ pub trait Saved {
         ensures fits { Fits self.now }
         ensures adds { Adds (spelled self.now) to.old to.new };
 
-    /// Reads the value that comes next. Bytes that no value has give any.
+    /// Reads the value that comes next. Bytes that no value has are read as any value.
     fn load(from: &mut Source<'_>) -> Self
         ensures gives { Gives Fits spelled from.old result from.new }
         ensures shorter { length from.new ≤ length from.old };
@@ -28,18 +28,18 @@ pub trait Saved {
 
 /// A value that owns memory.
 pub trait SavedWhole {
-    /// The bytes of a value, and `rest` behind them.
+    /// The bytes of a value, with the given rest after them.
     ghost spelled: { Self → List ℕ → List ℕ };
 
-    /// What is so of each value that code holds.
+    /// What holds of each value in code.
     ghost Fits: { Self → Type 0 };
 
-    /// Writes the bytes. What they take besides is allocated here.
+    /// Writes the bytes. Memory that writing needs besides is taken from `alloc`.
     fn save(&self, alloc: Global, to: &mut Sink)
         ensures fits { Fits self.now }
         ensures adds { Adds (spelled self.now) to.old to.new };
 
-    /// Reads the value that comes next. Bytes that no value has give any.
+    /// Reads the value that comes next. Bytes that no value has are read as any value.
     fn load(alloc: Global, from: &mut Source<'_>) -> Result<Self, NoMemory>
         ensures gives { IfOk result (λ value. Gives Fits spelled from.old value from.new) };
 }

@@ -6,7 +6,7 @@ use flop_base::NoMemory;
 use std::alloc::Global;
 use std::marker::Model;
 
-/// The bytes of a saved state so far, or nothing where memory ran out.
+/// The bytes of a saved state so far, or nothing if memory ran out.
 #[derive(Drop)]
 pub struct Sink {
     bytes: Vec<u8>,

@@ -25,7 +25,7 @@ impl<'a> Source<'a> {
         Source { left: bytes }
     }
 
-    /// The next byte; 00 behind the last.
+    /// The next byte, or 00 if none is left.
     pub fn byte(&mut self) -> u8
         ensures gives { (byte : ℕ) (rest : List ℕ) → self.old ≡ byte ∷ rest → (result ≡ byte) × (self.new ≡ rest) }
         ensures shorter { length self.new ≤ length self.old }
@@ -40,7 +40,7 @@ impl<'a> Source<'a> {
         }
     }
 
-    /// The next bytes, so many; where fewer are left, these.
+    /// The next `count` bytes, or all that are left if those are fewer.
     pub fn part(&mut self, count: usize) -> &'a [u8]
         ensures gives { (bytes rest : List ℕ) → length bytes ≡ count → self.old ≡ bytes ++ rest
             → (result.now ≡ bytes) × (self.new ≡ rest) }

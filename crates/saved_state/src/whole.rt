@@ -15,7 +15,7 @@ pub enum RestoreError {
     /// The bytes are those of no state.
     #[error("no saved state")]
     NoState,
-    /// Memory couldn't be had. This says nothing of the bytes.
+    /// Memory couldn't be allocated. This says nothing of the bytes.
     #[error("no memory")]
     NoMemory,
 }
@@ -38,7 +38,7 @@ pub fn save_state<T: SavedWhole>(alloc: Global, state: &T) -> Result<Vec<u8>, No
     sink.finish()
 }
 
-/// The state whose bytes these are, all of them.
+/// The state that has exactly these bytes.
 pub fn restore_state<T: SavedWhole + Drop>(alloc: Global, bytes: &[u8]) -> Result<T, RestoreError>
     // What is restored has these bytes.
     ensures found { IfOk result (λ state. T.Fits state × (bytes.now ≡ T.spelled state [])) }

@@ -1,4 +1,4 @@
--- What a change makes of a disk.
+-- What the disk is after a change.
 use Rattle.std.proofs.Common.{◌≡◌, ℕ, ◌+◌, ◌≤◌, Bool, List, length, take, sym, ap, subst, ◌∙◌, arith, inr}
 use Rattle.std.proofs.lemmas.List.{length-take}
 use Rattle.flop_base.specs.declared.key.Chrn.{Chrn}
@@ -65,7 +65,7 @@ module _ (written : Written) (p : ℕ) (track : List ℕ) (address : IsAddressAt
         (look_is q (Found deleted place) other seen) same content_is;
   }
 
--- a sector of a track of the disk is on its map
+-- a sector of a track of the disk is on the disk's map
 pub entry_from : (written : Written) (p : ℕ) (disk : Disk) → HasTrack disk written.key.c written.key.h → HasWritten written p (track_of disk written.key.c written.key.h) → IsOnMap disk (entry_of written p)
 entry_from written p disk has is = record {
   track = has;
@@ -87,7 +87,7 @@ module _ (written : Written) (disk : Disk) (change : Change) (after : Disk) (is 
   abbrev row : List ℕ
   row = cut_of track change.place change.words (window_of written)
 
-  -- the other tracks stay, and what a disk is besides
+  -- the other tracks stay, and so do the disk's shape, rate and protection
   pub change_keeps_tracks : KeepsTracks disk change.cylinder written.key.h after
   change_keeps_tracks = with_track_keeps disk after change.cylinder written.key.h row is.cut
 
@@ -117,7 +117,7 @@ module _ (written : Written) (disk : Disk) (change : Change) (after : Disk) (is 
       change_keeps_keys =
           subst (KeepsOtherKeys track written.key) (sym is.cut.has) (other_keys track written.key row row_keeps.regular row_places)
 
-    -- what was written whole is there, and nothing else under its key
+    -- if the whole window was written, what was written is there, and nothing else under its key
     module _ (whole : IsWholeChange written change) where
       row_found : LookAt row change.place written.key.n (Found written.deleted (window_place change.place + 256))
       row_found =
@@ -186,7 +186,7 @@ module _ (written : Written) (disk : Disk) (change : Change) (after : Disk) (is 
           );
         }
 
-      -- what was written whole is there, and on the map
+      -- if the whole window was written, what was written is there, and is on the map
       module _ (whole : IsWholeChange written change) where
         pub disk_is_written : HasWritten written change.place (track_of after written.key.c written.key.h)
         disk_is_written =

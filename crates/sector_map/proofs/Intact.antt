@@ -1,4 +1,4 @@
--- The check over a data field, from its mark byte on.
+-- The CRC of a data field, computed from its mark byte on.
 use Rattle.std.proofs.Common.{◌≡◌, ℕ, ◌+◌, ◌*◌, Bool, List, ◌∷◌, ◌↔◌, IsTrue, refl, subst, sym, ap, ◌∙◌, arith}
 use Rattle.track_model.specs.Bytes.{byte_at, bytes_at}
 use Rattle.track_model.specs.Marks.{TouchesNoZero}

@@ -1,4 +1,4 @@
--- Two changes as one, and changes of no words.
+-- Two changes joined into one, and changes of no words.
 use Rattle.std.proofs.Common.{◌≡◌, ℕ, ◌+◌, ◌≤◌, List, ◌++◌, length, take, drop, max, sym, ap, subst, ◌∙◌, arith, inl, inr}
 use Rattle.std.proofs.lemmas.List.{take-append-drop}
 use Rattle.raw_image.specs.Disk.{Disk, IsDisk, HasTrack, track_of, IsWithTrack}
@@ -24,7 +24,7 @@ none_cut track words p k none =
     ∙ ap (λ s. take (window_word p) track ++ drop s track) (omega arith)
     ∙ take-append-drop (window_word p) track
 
--- a disk comes from itself by a change of no words
+-- a change of no words leads from a disk to the same disk
 pub change_of_none : (written : Written) (disk : Disk) (change : Change) → IsDisk disk → HasTrack disk change.cylinder written.key.h → IsAddressAt (track_of disk change.cylinder written.key.h) change.place written.key → window_word change.place ≤ disk.words_per_track → change.words ≡ 0 → IsChange written disk change disk
 change_of_none written disk change valid has address inside none = record {
   track = has;
@@ -34,7 +34,7 @@ change_of_none written disk change valid has address inside none = record {
       (none_cut (track_of disk change.cylinder written.key.h) (window_of written) change.place change.words none);
 }
 
--- on a regular track the place is inside
+-- on a regular track, the place of such a change is inside the track
 pub change_of_none_regular : (written : Written) (disk : Disk) (change : Change) (c h : ℕ) → IsDisk disk → HasTrack disk change.cylinder written.key.h → IsRegular (track_of disk change.cylinder written.key.h) c h → IsAddressAt (track_of disk change.cylinder written.key.h) change.place written.key → change.words ≡ 0 → IsChange written disk change disk
 change_of_none_regular written disk change c h valid has regular address none =
     let inside = window_inside (track_of disk change.cylinder written.key.h) c h change.place written.key regular address in
@@ -57,7 +57,7 @@ most_cuttable track words p j k one two =
     let second = two.inside in
     record { most = omega arith; inside = omega (arith, length-cut track p j words one) }
 
--- a change and a later one at the same address field are one from the first disk: the longer stands
+-- a change and a later one at the same address field are one change of the first disk: the longer of the two stands
 pub changes_join : (written : Written) (disk : Disk) (one : Change) (middle : Disk) (two : Change) (after : Disk) → IsChange written disk one middle → IsChange written middle two after → two.cylinder ≡ one.cylinder → two.place ≡ one.place → IsChange written disk (joined one two) after
 changes_join written disk one middle two after first second same_cylinder same_place =
     let h = written.key.h in
@@ -76,13 +76,13 @@ changes_join written disk one middle two after first second same_cylinder same_p
           (with_later disk middle after one.cylinder h row _ first.cut cut);
     }
 
--- where the first is safe, so are the two
+-- if the first change is safe, so is the joined one
 pub joined_safe : (written : Written) (disk : Disk) (one : Change) (middle : Disk) (two : Change) (after : Disk) → IsChange written middle two after → IsSafeChange written disk one → IsSafeChange written disk (joined one two)
 joined_safe written disk one middle two after second (inl tidy) = inl tidy
 joined_safe written disk one middle two after second (inr whole) = let few = second.cuttable.most in inr (omega arith)
 
 module _ (written : Written) (disk : Disk) (one : Change) (middle : Disk) (two : Change) (after : Disk) (first : IsChange written disk one middle) (second : IsChange written middle two after) (fits : FitsKey written) (safe : IsSafeChange written disk one) where
-  -- on a regular track a later change is at the same address field, since the key has one
+  -- on a regular track a later change is at the same address field, since one address field alone has the key
   module _ (c h : ℕ) (regular : IsRegular (track_of disk one.cylinder written.key.h) c h) (same : two.cylinder ≡ one.cylinder) where
     pub same_place_again : two.place ≡ one.place
     same_place_again =
@@ -93,7 +93,7 @@ module _ (written : Written) (disk : Disk) (one : Change) (middle : Disk) (two :
     pub join_on_track : IsChange written disk (joined one two) after
     join_on_track = changes_join written disk one middle two after first second same same_place_again
 
-  -- and on a regular disk also on the same cylinder
+  -- on a regular disk a later change is also on the same cylinder
   module _ (regular : IsRegularDisk disk) where
     pub same_cylinder_again : two.cylinder ≡ one.cylinder
     same_cylinder_again =

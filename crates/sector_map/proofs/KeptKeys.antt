@@ -14,7 +14,7 @@ use Rattle.sector_map.specs.Disks.{LookOn, Entry, IsOnMap}
 use Rattle.sector_map.specs.Met.{HasLook, AllFound}
 use Rattle.sector_map.specs.KeptDisks.{KeepsOtherKeys}
 
--- the address fields of a track, and what is behind them, by their places
+-- `after` has the address fields of the track at the same places, and behind them the data of all keys but one
 pub record KeepsPlaces (track : List ℕ) (key : Chrn) (after : List ℕ) : Type 0 where
   pub marks : HasAddressMark track ↔ HasAddressMark after
   pub addresses : (p : ℕ) (any : Chrn) → IsAddressAt track p any ↔ IsAddressAt after p any
@@ -23,7 +23,7 @@ pub record KeepsPlaces (track : List ℕ) (key : Chrn) (after : List ℕ) : Type
   pub contents : (p : ℕ) (other : Chrn) (deleted : Bool) (place : ℕ) → other ≢ key → IsAddressAt track p other
       → LookAt track p other.n (Found deleted place) → content_at track place other.n ≡ content_at after place other.n
 
--- a write behind the key's address field keeps them
+-- a write behind the key's address field keeps the places
 pub places_kept : (track after : List ℕ) (p : ℕ) (key : Chrn) → IsAddressAt track p key → KeepsOthers track after p → KeepsPlaces track key after
 places_kept track after p key here keeps =
     let apart : (q : ℕ) (other : Chrn) → other ≢ key → IsAddressAt track q other → q ≢ p =

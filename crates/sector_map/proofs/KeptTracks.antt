@@ -1,4 +1,4 @@
--- A disk and one of its tracks replaced.
+-- A disk after one of its tracks was replaced.
 use Rattle.std.proofs.Common.{◌≡◌, ◌↔◌, ℕ, ◌<◌, List, Option, Some, length, refl, sym, subst, ◌∙◌, inl, inr}
 use Rattle.std.proofs.lemmas.Bool.{cases_eq}
 use Rattle.flop_base.specs.declared.key.Chrn.{Chrn}
@@ -21,7 +21,7 @@ module _ (disk after : Disk) (c h : ℕ) (words : List ℕ) (laid : IsWithTrack 
   pub had_before : (b g : ℕ) → HasTrack after b g → HasTrack disk b g
   had_before b g has = (subst (λ n. b < n) laid.cylinders has.0, subst (λ n. g < n) laid.heads has.1)
 
-  -- a fact of each track
+  -- if a fact holds of the new track, and of each track before, it holds of each track after
   pub each_track : (P : ℕ → ℕ → List ℕ → Type 0) → P c h words → ((b g : ℕ) → HasTrack disk b g → P b g (track_of disk b g)) → (b g : ℕ) → HasTrack disk b g → P b g (track_of after b g)
   each_track P here others b g had =
       elim (cases_eq b c) [
@@ -79,7 +79,7 @@ pub length-alike : (disk after : Disk) (b g : ℕ) → IsDisk disk → AreAlike 
 length-alike disk after b g valid alike has =
     length-track_of after b g alike.valid ((alike_tracks disk after b g alike).0 has) ∙ alike.words_per_track ∙ sym (length-track_of disk b g valid has)
 
--- where a track was met, one is met on such a disk
+-- if a command met a track of the disk, it meets one of such a disk
 pub still_meets : (medium : Option Disk) (rate : Rate) (c h : ℕ) (disk after : Disk) (now : Option Disk) → MeetsTrack medium rate c h disk → AreAlike disk after → now ≡ Some after → MeetsTrack now rate c h after
 still_meets medium rate c h disk after now meets alike is = record {
   is_in = is;
@@ -89,7 +89,7 @@ still_meets medium rate c h disk after now meets alike is = record {
 
 -- ---- a track replaced
 
--- the track that was there
+-- a track replaced by itself
 pub with_itself : (disk : Disk) (c h : ℕ) (words : List ℕ) → IsDisk disk → words ≡ track_of disk c h → IsWithTrack disk c h words disk
 with_itself disk c h words valid is = record {
   valid = valid;
@@ -124,7 +124,7 @@ keeps_both disk middle after c h first second = record {
   others = λ b g had other. second.others b g ((alike_tracks disk middle b g first.alike).0 had) other ∙ first.others b g had other;
 }
 
--- ---- what is on the other tracks
+-- ---- what the other tracks have
 
 module _ (disk : Disk) (c h : ℕ) (after : Disk) (keeps : KeepsTracks disk c h after) where
   pub elsewhere_looked : (key : Chrn) (look : Look) → (key.c ≡ c → key.h ≡ h → ⊥) → LookOn disk key look ↔ LookOn after key look
@@ -156,7 +156,7 @@ module _ (disk : Disk) (c h : ℕ) (after : Disk) (keeps : KeepsTracks disk c h 
         on_map after disk entry had (sym (keeps.others entry.cylinder entry.head had other)) on,
   )
 
-  -- a regular disk stays so where that track is regular
+  -- a regular disk stays regular if the new track is regular
   pub stays_regular : IsRegularDisk disk → IsRegular (track_of after c h) c h → IsRegularDisk after
   stays_regular regular here b g has =
       let had = (alike_tracks disk after b g keeps.alike).1 has in

@@ -1,4 +1,4 @@
--- What a laying makes of a disk, and the keys of a format.
+-- What the disk is after a laying, and the keys of a format.
 use Rattle.std.proofs.Common.{◌≡◌, ◌↔◌, ℕ, false, ◌+◌, ◌-◌, ◌<◌, ◌≤◌, List, ◌++◌, length, take, drop, max, get_or, All, sym, ap, subst, ◌∙◌, arith}
 use Rattle.std.proofs.lemmas.List.{length-append, length-take, length-replicate, drop_all, take_all, append-nil}
 use Rattle.std.proofs.lemmas.List.FromFn.{length-map-range_with_len, get_or-map-range_with_len}
@@ -29,7 +29,7 @@ pub track_key_at : (sectors c h i : ℕ) (d : Chrn) → i < sectors → get_or (
 unfolding track_keys
 track_key_at sectors c h i d within = get_or-map-range_with_len (key_of c h) 1 sectors i (1 + i) d within (omega arith)
 
--- what holds of each record from 1 on holds of each key, and the other way round
+-- what holds of the key of each record from 1 on holds of all keys of the track, and the other way round
 pub all_track_keys : (sectors c h : ℕ) (P : Chrn → Type 0) → ((r : ℕ) → 1 ≤ r → r ≤ sectors → P (key_of c h r)) → All P (track_keys sectors c h)
 all_track_keys sectors c h P each i d below =
     let within : i < sectors = omega (arith, length-track_keys sectors c h) in
@@ -45,7 +45,7 @@ each_track_key sectors c h P all r least most =
 pub length-format_keys : (format : Format) → length (format_keys format) ≡ sectors_at format.rate
 length-format_keys format = length-track_keys (sectors_at format.rate) format.c format.h
 
--- the sectors fit where as many of 512 bytes as the rate has fit
+-- the sectors fit if the rate's number of sectors of 512 bytes fits
 pub format_fits : (format : Format) (words : ℕ) → Fits (format_keys format) standard_code format.gap3 words ↔ laid_words (sectors_at format.rate) standard_code format.gap3 ≤ words
 format_fits format words =
     let same = length-format_keys format in
@@ -67,7 +67,7 @@ length-formatted format words = length-lay (format_keys format) standard_code fo
 
 -- ---- a laying
 
--- the other tracks stay, and what a disk is besides
+-- the other tracks stay, and so do the disk's shape, rate and protection
 pub laying_keeps_tracks : (format : Format) (disk : Disk) (laying : Laying) (after : Disk) → IsLaying format disk laying after → KeepsTracks disk laying.cylinder format.h after
 laying_keeps_tracks format disk laying after is = with_track_keeps disk after laying.cylinder format.h _ is.laid
 
@@ -86,7 +86,7 @@ laid_whole format disk laying after valid is whole =
     ∙ all_laid (track_of disk laying.cylinder format.h) (formatted format disk.words_per_track) laying.words
     (whole ∙ sym (length-formatted format disk.words_per_track)) (whole ∙ sym (length-track_of disk laying.cylinder format.h valid is.track))
 
--- a disk can be formatted so where a disk like it can
+-- a disk can be formatted in this way if, and only if, a disk like it can
 pub can_format_alike : (format : Format) (disk after : Disk) → AreAlike disk after → CanFormat format disk ↔ CanFormat format after
 can_format_alike format disk after alike = (
   λ can. record {
@@ -104,7 +104,7 @@ can_format_alike format disk after alike = (
 laid_twice : (track words : List ℕ) (j k : ℕ) → length words ≡ length track → j ≤ length words → k ≤ length words → with_items (with_items track 0 (take j words)) 0 (take k words) ≡ with_items track 0 (take (max j k) words)
 laid_twice track words j k long few more = longer_cut track 0 words j k few more (omega arith)
 
--- a laying and a later one of the same format on the same cylinder are one from the first disk: the longer stands
+-- a laying and a later one of the same format on the same cylinder are one laying of the first disk: the longer stands
 pub layings_join : (format : Format) (disk : Disk) (one : Laying) (middle : Disk) (two : Laying) (after : Disk) → IsDisk disk → IsLaying format disk one middle → IsLaying format middle two after → two.cylinder ≡ one.cylinder → IsLaying format disk (joined_laying one two) after
 layings_join format disk one middle two after valid first second same =
     let h = format.h in

@@ -1,4 +1,4 @@
--- The laws on windows, for whichever key the address field has.
+-- The laws on windows, for any key that the address field has.
 use Rattle.std.proofs.Common.{◌≡◌, ℕ, ◌+◌, ◌^◌, ◌<◌, ◌≤◌, ◌⊎◌, Bool, List, length, get_or, max, subst}
 use Rattle.flop_base.specs.declared.key.Chrn.{Chrn}
 use Rattle.track_model.specs.declared.Look.TheVariants.{Found, BadCrc}

@@ -1,4 +1,4 @@
--- Lists of failing keys, one after the other.
+-- Lists of failing keys, joined one after the other.
 use Rattle.std.proofs.Common.{◌≡◌, ℕ, zero, suc, ◌+◌, ◌-◌, ◌≤◌, List, [], ◌∷◌, ◌++◌, map, take, sym, ap, subst, ◌∙◌, append_assoc, refl, arith}
 use Rattle.std.specs.List.{range_with_len, flat_map}
 use Rattle.std.proofs.lemmas.List.{append-nil, flat_map_more}
@@ -21,7 +21,7 @@ failing-append disk (key ∷ keys) more failed others (look, rest, found, is, ta
   failing-append disk keys more rest others tail b,
 )
 
--- some pairs were added, those of the keys that aren't found
+-- pairs were added to a list: one for each of these keys that isn't found
 pub record HasAdded (disk : Disk) (keys : List Chrn) (start items : List (Chrn × Look)) : Type 0 where
   pub more : List (Chrn × Look)
   pub items_are : items ≡ start ++ more
@@ -44,7 +44,7 @@ added_more disk keys others all start items after more so_far failing e f = reco
 pub one_failing : (disk : Disk) (key : Chrn) (look : Look) → LookOn disk key look → AreFailing disk (key ∷ []) (unless_found key look)
 one_failing disk key look found = (look, [], found, sym (append-nil (unless_found key look)), refl)
 
--- ---- the keys of one number more
+-- ---- the keys of one more number
 
 range_suc : (a n : ℕ) → range_with_len a (suc n) ≡ range_with_len a n ++ (a + n) ∷ []
 range_suc a zero = let e : a ≡ a + 0 = omega arith in ap (λ k. k ∷ []) e
@@ -103,12 +103,12 @@ added_all disk keys all items e added =
     let Of : List Chrn → Type 0 = λ ks. AreFailing disk ks added.more in
     subst With (sym added.items_are) (subst Of e added.failing)
 
--- the first keys of a track are those of one with fewer
+-- the first keys of a longer track are the keys of a shorter one
 pub take-track_keys : (sectors more c h : ℕ) → sectors ≤ more → take sectors (track_keys more c h) ≡ track_keys sectors c h
 unfolding track_keys
 take-track_keys sectors more c h few = take-map-range_with_len (key_of c h) 1 more sectors few
 
--- one key more
+-- the keys of one more record
 pub track_keys-next : (i c h : ℕ) → track_keys (i + 1) c h ≡ track_keys i c h ++ key_of c h (i + 1) ∷ []
 unfolding track_keys
 track_keys-next i c h = map-range_with_len_more (key_of c h) 1 i (i + 1) (omega arith)

@@ -1,4 +1,4 @@
--- The list of address fields, one place more.
+-- The list of address fields, extended by one place.
 use Rattle.std.proofs.Common.{◌≡◌, ℕ, ◌+◌, ◌<◌, List, [], ◌∷◌, ◌++◌, All, Contains, subst, sym, ap, ◌∙◌, arith, inl, inr}
 use Rattle.std.specs.List.{AllPairs}
 use Rattle.std.proofs.lemmas.Bool.{cases_lt}
@@ -9,7 +9,7 @@ use Rattle.track_model.specs.declared.Field.{Field}
 use Rattle.track_model.specs.Fields.{IsAddressAt}
 use Rattle.track_model.proofs.Unique.{one_key}
 
--- the address fields below a place
+-- the list has exactly the address fields that begin below a place
 pub record AreAddressesBelow (track : List ℕ) (limit : ℕ) (fields : List Field) : Type 0 where
   pub each : All (λ field. IsAddressAt track field.place field.key) fields
   pub below : All (λ field. field.place < limit) fields

@@ -49,7 +49,7 @@ pub length-unrecorded : (n : ℕ) → length (unrecorded n) ≡ n
 unfolding unrecorded
 length-unrecorded n = length-replicate n 0
 
--- without an address mark there is no field and nothing Clear
+-- a track without an address mark has no address field and nothing Clear
 pub nothing_from : (track : List ℕ) → (HasAddressMark track → ⊥) → HasNothing track
 nothing_from track none = record {
   marks = none;
@@ -72,7 +72,7 @@ module _ (disk : Disk) (rate : Rate) (c h : ℕ) where
       (and_from (nat_lt c disk.cylinders) (nat_lt h disk.heads) (lt-ltb c disk.cylinders has.0) (lt-ltb h disk.heads has.1))
       (same_rates disk.rate rate same))
 
-  -- either the disk has the track at this rate, or nothing is recorded
+  -- what is met is either the track of the disk, at this rate, or a track on which nothing is recorded
   pub by_met : (P : List ℕ → Type 0) → (HasTrack disk c h → disk.rate ≡ rate → P (track_of disk c h)) → ((HasTrack disk c h → disk.rate ≡ rate → ⊥) → P (unrecorded disk.words_per_track)) → P (met_on disk rate c h)
   by_met P there other =
       cond_both (nat_lt c disk.cylinders && nat_lt h disk.heads && same_rate disk.rate rate) (track_of disk c h) (unrecorded disk.words_per_track) P
@@ -89,7 +89,7 @@ module _ (disk : Disk) (rate : Rate) (c h : ℕ) where
   on_nothing not =
       by_met HasNothing (λ has same. absurd (not has same)) (λ none. nothing_unrecorded disk.words_per_track)
 
-  -- what is met has as many words as the disk says
+  -- what is met has as many words as the disk's tracks
   pub length-met_on : IsDisk disk → length (met_on disk rate c h) ≡ disk.words_per_track
   length-met_on valid =
       by_met (λ track. length track ≡ disk.words_per_track)
@@ -106,19 +106,19 @@ nothing_in medium rate c h none =
     let Nothing : Option Disk → Type 0 = λ m. HasNothing (met_in m rate c h) in
     subst Nothing (sym none) (nothing_unrecorded 64)
 
--- where the disk has no such track, or another rate
+-- if the disk has no such track, or has another rate, nothing is recorded there
 pub nothing_there : (medium : Option Disk) (rate : Rate) (c h : ℕ) (disk : Disk) → medium ≡ Some disk → (HasTrack disk c h → disk.rate ≡ rate → ⊥) → HasNothing (met_in medium rate c h)
 nothing_there medium rate c h disk is not =
     subst HasNothing (sym (in_is_on medium rate c h disk is)) (on_nothing disk rate c h not)
 
--- where it has the track at this rate
+-- if the disk has the track at this rate, a command meets this track
 pub met_track : (medium : Option Disk) (rate : Rate) (c h : ℕ) (disk : Disk) → MeetsTrack medium rate c h disk → met_in medium rate c h ≡ track_of disk c h
 met_track medium rate c h disk meets = in_is_on medium rate c h disk meets.is_in ∙ on_there disk rate c h meets.has meets.same_rate
 
 pub length-met_track : (medium : Option Disk) (rate : Rate) (c h : ℕ) (disk : Disk) → IsDisk disk → MeetsTrack medium rate c h disk → length (met_in medium rate c h) ≡ disk.words_per_track
 length-met_track medium rate c h disk valid meets = ap length (met_track medium rate c h disk meets) ∙ length-track_of disk c h valid meets.has
 
--- one of these is so
+-- one of these two cases holds
 pub met_cases : (medium : Option Disk) (rate : Rate) (c h : ℕ) → ((disk : Disk) × MeetsTrack medium rate c h disk) ⊎ HasNothing (met_in medium rate c h)
 met_cases None rate c h = inr (nothing_unrecorded 64)
 met_cases (Some disk) rate c h =
@@ -126,7 +126,7 @@ met_cases (Some disk) rate c h =
     (λ has same. inl (disk, record { is_in = refl; has = has; same_rate = same }))
     (λ none. inr (nothing_unrecorded disk.words_per_track))
 
--- so an address mark that is met is one of a track
+-- an address mark that is met is therefore one of a track of a disk
 pub met_from_mark : (medium : Option Disk) (rate : Rate) (c h : ℕ) → HasAddressMark (met_in medium rate c h) → (disk : Disk) × MeetsTrack medium rate c h disk
 met_from_mark medium rate c h mark =
     elim (met_cases medium rate c h) [
@@ -134,7 +134,7 @@ met_from_mark medium rate c h mark =
       | inr nothing ↦ absurd (nothing.marks mark)
     ]
 
--- and there is one such disk
+-- only one disk is met
 pub one_met : (medium : Option Disk) (rate : Rate) (c h : ℕ) (a b : Disk) → medium ≡ Some a → MeetsTrack medium rate c h b → b ≡ a
 one_met medium rate c h a b is meets = same_some b a (sym meets.is_in ∙ is)
   where

@@ -1,4 +1,4 @@
--- One byte's cells pushed onto words.
+-- The cells of one byte, pushed onto words.
 use Rattle.std.proofs.Common.{◌≡◌, ℕ, ◌+◌, ◌/◌, ◌%◌, ◌^◌, ◌<◌, ◌≤◌, Bool, true, false, List, [], ◌∷◌, ◌++◌, length, get_or, take, sym, ap, ◌∙◌, append_assoc, arith}
 use Rattle.std.proofs.Math.ListN.{set}
 use Rattle.std.specs.Int.{w16, to_be_bytes}
@@ -9,7 +9,7 @@ use Rattle.track_model.specs.Bytes.{last_bit, legal}
 use Rattle.track_model.specs.Writing.{check_bytes}
 use Rattle.track_model.proofs.Legals.{legal-cons, legal-nil}
 
--- words that a byte goes on from, and then the rest
+-- words that one byte was pushed onto, and the bytes that follow
 pub pushed : (words more : List ℕ) (last : Bool) (byte cells : ℕ) (rest : List ℕ) → more ≡ words ++ cells ∷ [] → cells ∷ [] ≡ legal last (byte ∷ []) → more ++ legal (last_bit byte) rest ≡ words ++ legal last (byte ∷ rest)
 pushed words more last byte cells rest e f =
     ap (λ ws. ws ++ legal (last_bit byte) rest) e
@@ -25,12 +25,12 @@ pushed_all words more bytes last after h =
     ∙ h
     ∙ ap (λ row. words ++ legal last row) (append-nil bytes)
 
--- a mark byte, a content and a check, one after the other
+-- a mark byte, a content and a CRC, pushed one after the other
 pub pushed_field : (start marked filled whole : List ℕ) (first second third : Bool) (mark : ℕ) (content row : List ℕ) → ((rest : List ℕ) → marked ++ legal first rest ≡ start ++ legal true (mark ∷ rest)) → ((rest : List ℕ) → filled ++ legal second rest ≡ marked ++ legal first (content ++ rest)) → ((rest : List ℕ) → whole ++ legal third rest ≡ filled ++ legal second (row ++ rest)) → whole ≡ start ++ legal true ((mark ∷ content) ++ row)
 pushed_field start marked filled whole first second third mark content row a b c =
     pushed_all filled whole row second third (c []) ∙ b row ∙ a (content ++ row)
 
--- a check of sixteen bits as it is written
+-- a CRC of sixteen bits as its bytes are written
 pub check_row : (row : List ℕ) (check : ℕ) → check < 2 ^ 16 → row ≡ to_be_bytes w16 check → row ≡ check_bytes check
 check_row row check fits e =
     let high : check / 256 % 256 ≡ check / 256 = omega arith in
@@ -39,13 +39,13 @@ check_row row check fits e =
 pub check_ends : (row : List ℕ) (check : ℕ) → check < 2 ^ 16 → row ≡ to_be_bytes w16 check → get_or row 0 0 ∷ get_or row 1 0 ∷ [] ≡ check_bytes check
 check_ends row check fits e = ap (λ r. get_or r 0 0 ∷ get_or r 1 0 ∷ []) (check_row row check fits e)
 
--- one word more of a list is filled
+-- one more word of a list was filled
 pub filled_more : (words : List ℕ) (start i word : ℕ) → start + i < length words → take (start + (i + 1)) (set words (start + i) word) ≡ take (start + i) words ++ word ∷ []
 filled_more words start i word h =
     let next : start + (i + 1) ≡ start + i + 1 = omega arith in
     ap (λ n. take n (set words (start + i) word)) next ∙ take_more_set words (start + i) word h
 
--- sync, from the first word on, and then the marks
+-- the sync from the first word on, and then the marks, were filled in
 pub begun : (filled words bytes marks : List ℕ) (after : Bool) → 12 ≤ length filled → length marks ≡ 3 → take 12 filled ++ legal after [] ≡ take 0 words ++ legal false (bytes ++ []) → take 15 (put_mid 12 3 filled marks) ≡ legal false bytes ++ marks
 begun filled words bytes marks after long three h =
     take-put_mid 12 3 filled marks 15 (omega arith) long ∙ ap (λ row. row ++ marks) (pushed_all [] (take 12 filled) bytes false after h)

@@ -17,13 +17,13 @@ use Rattle.track_separator.specs.Turns.{SWaitFed, SReadFed}
 use Rattle.track_separator.specs.Lifts.{look_of}
 use Rattle.track_separator.proofs.Lawful.{first_words, byte_stays, field_stays, no_data_stays, unfinished_is_no_data, reads_within}
 
--- some bytes of the data field at q have passed, and stand in the content
+-- some bytes of the data field at q have passed, and the content has them
 pub record IsCopied (words : List ℕ) (p q size passed : ℕ) (separator : Separator) (i : ℕ) (deleted : Bool) (taken : ℕ) (content : List ℕ) : Type 0 where
   pub reads : SReads separator (take i words) p q deleted size passed
   pub count : taken ≡ min passed size
   pub bytes : (k : ℕ) → k < taken → get_or content k 0 ≡ byte_at words (q + 64 + 16 * k)
 
--- the turn goes on, and a data mark is awaited or a field is read
+-- the revolution goes on, and either a data mark is awaited or a data field is being read
 pub record IsReadingOn (words : List ℕ) (p size : ℕ) (separator : Separator) (i : ℕ) (deleted : Bool) (taken : ℕ) (content : List ℕ) : Type 0 where
   pub inside : i < length words
   pub sized : length content ≡ size
@@ -39,7 +39,7 @@ module _ (words : List ℕ) (p size : ℕ) (old new : Separator) (i : ℕ) (dele
   waited : SWaits old (take i words) p size → SWaitFed index (take (i + 1) words) p size new seen
   waited h = subst (λ fed. SWaitFed index fed p size new seen) now_is (waits (take i words) p size h)
 
-  -- what this word gave, whatever was awaited
+  -- what the separator gave for this word, in either of the two states
   given : (SWaitFed index (take (i + 1) words) p size new seen × (taken ≡ 0)) ⊎ ((q : ℕ) × (passed : ℕ) × SReadFed index (take (i + 1) words) p q deleted size passed new seen × (taken ≡ min passed size) × ((k : ℕ) → k < taken → get_or content k 0 ≡ byte_at words (q + 64 + 16 * k)))
   given = of_state was.state
     where
@@ -65,7 +65,7 @@ given_of words p size old new i deleted taken content index word seen word_is en
       what = given words p size old new i deleted taken content index word seen word_is ends goes_on was waits reads;
     }
 
--- ---- nothing that is told
+-- ---- a word after which nothing is reported
 
 quiet : (words : List ℕ) (p size : ℕ) (new : Separator) (i : ℕ) (deleted : Bool) (taken : ℕ) (content : List ℕ) (index : Bool) → IsGiven words p size new i deleted taken content index Nothing → IsReadingOn words p size new (i + 1) deleted taken content
 quiet words p size new i deleted taken content true now = absurd (elim now.what [ inl h ↦ h.0 | inr h ↦ h.2 ])
@@ -229,7 +229,7 @@ pub reading_none : (words : List ℕ) (p n size : ℕ) (new : Separator) (i : �
 reading_none words p n size new i deleted taken content index seen is sized now =
     none_given words p n size new i deleted taken content index sized (subst (IsGiven words p size new i deleted taken content index) is now)
 
--- what stands after a branch, by what it changed
+-- the state is the same after a branch if what the branch may change is the same
 pub changed : (words : List ℕ) (p size : ℕ) (separator : Separator) (i : ℕ) (d e : Bool) (t u : ℕ) (a b : List ℕ) → e ≡ d → u ≡ t → b ≡ a → IsReadingOn words p size separator i d t a → IsReadingOn words p size separator i e u b
 changed words p size separator i d e t u a b same count content h =
     let One : Bool → Type 0 = λ m. IsReadingOn words p size separator i m t a in

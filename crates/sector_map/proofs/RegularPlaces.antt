@@ -1,4 +1,4 @@
--- A track is regular where each of its places is.
+-- A track is regular if each of its places is.
 use Rattle.std.proofs.Common.{◌≡◌, ◌↔◌, ℕ, ◌+◌, ◌-◌, ◌*◌, ◌/◌, ◌%◌, ◌<◌, ◌≤◌, Bool, false, IsTrue, List, length, min, refl, sym, ap, subst, ◌∙◌, lit<, arith, inl, inr}
 use Rattle.std.proofs.lemmas.Bool.{cases_lt, cases_order, false≢true}
 use Rattle.std.proofs.lemmas.List.{get_or_past}
@@ -17,7 +17,7 @@ use Rattle.sector_map.specs.Places.{HasNoRun, IsFieldRegular, IsPlaceRegular}
 cell_beyond : (track : List ℕ) (q : ℕ) → 16 * length track ≤ q → cell track q ≡ 0
 cell_beyond track q h = ap (λ w. bit_at w (15 - q % 16)) (get_or_past track (q / 16) 0 (omega arith)) ∙ bit_at-zero (15 - q % 16)
 
--- a mark A1 ends by a cell 1, so it stands inside the track
+-- a mark A1 ends with a cell 1, so the mark lies inside the track
 pub mark_inside : (track : List ℕ) (q : ℕ) → cells_at track q ≡ 0x4489 → q + 16 ≤ 16 * length track
 mark_inside track q mark =
     elim (cases_lt (16 * length track) (q + 16)) [
@@ -101,7 +101,7 @@ module _ (track : List ℕ) (c h : ℕ) where
         | inr m ↦ let e : q ≡ p = omega arith in subst (IsPlaceRegular track c h) e here
       ]
 
-  -- a place by its address field, and without one
+  -- whether a place is regular, if it has an address field of a key, and if it has none
   pub place_by_field : (p : ℕ) (key : Chrn) (b : Bool) → HasNoRunWithin track p → IsAddressAt track p key → (IsTrue b ↔ IsFieldRegular track c h p key) → IsTrue b ↔ IsPlaceRegular track c h p
   place_by_field p key b plain here regular = (
     λ t. record {

@@ -1,4 +1,4 @@
--- The tracks of a disk, and what is known of a regular one.
+-- The tracks of a disk, and facts about regular ones.
 use Rattle.std.proofs.Common.{◌≡◌, ℕ, ◌+◌, ◌*◌, ◌<◌, ◌≤◌, List, length, drop, arith}
 use Rattle.std.proofs.lemmas.List.{length-take, length-drop}
 use Rattle.std.proofs.lemmas.Nat.{mul-add-lt}
@@ -13,7 +13,7 @@ use Rattle.sector_map.specs.Disks.{IsRegularDisk}
 use Rattle.sector_map.specs.Met.{IsClearAddress}
 use Rattle.sector_map.proofs.Writable.{IsWritable}
 
--- a track of a disk has as many words as the disk says
+-- a track of a disk has the disk's number of words
 pub length-track_of : (disk : Disk) (c h : ℕ) → IsDisk disk → HasTrack disk c h → length (track_of disk c h) ≡ disk.words_per_track
 length-track_of disk c h valid has =
     let w = disk.words_per_track in
@@ -43,7 +43,7 @@ clear_address track c h p key regular address = record {
 pub window_inside : (track : List ℕ) (c h p : ℕ) (key : Chrn) → IsRegular track c h → IsAddressAt track p key → window_word p + window_words key.n ≤ length track
 window_inside track c h p key regular address = let inside = regular.spans.inside p key address in omega arith
 
--- so its keys can be written
+-- the keys of a regular track can be written
 pub regular_writable : (track : List ℕ) (c h p : ℕ) (key : Chrn) → IsRegular track c h → IsAddressAt track p key → IsWritable track key
 regular_writable track c h p key regular address = record {
   marked = λ none. none p (clear_address track c h p key regular address).clear;
@@ -57,7 +57,7 @@ pub window_in_disk : (disk : Disk) (c h p : ℕ) (key : Chrn) → IsDisk disk �
 window_in_disk disk c h p key valid regular has address =
     omega (arith, length-track_of disk c h valid has, window_inside (track_of disk c h) c h p key (regular c h has) address)
 
--- a key of a regular disk names its cylinder and head, and has one address field
+-- a key on a regular disk names the cylinder and the head that it is on
 pub key_cylinder : (disk : Disk) (c h p : ℕ) (key : Chrn) → IsRegularDisk disk → HasTrack disk c h → IsAddressAt (track_of disk c h) p key → (key.c ≡ c) × (key.h ≡ h)
 key_cylinder disk c h p key regular has address =
     ((regular c h has).keys.cylinder p key address, (regular c h has).keys.head p key address)

@@ -1,4 +1,4 @@
--- Writes of one thing, one after the other.
+-- Several writes of the same content, one after the other.
 use Rattle.std.proofs.Common.{◌≡◌, ℕ, ◌⊎◌, max, sym, subst, inl, inr}
 use Rattle.raw_image.specs.Disk.{Disk, IsDisk, track_of}
 use Rattle.track_model.specs.Fields.{IsAddressAt}
@@ -14,7 +14,7 @@ use Rattle.sector_map.proofs.KeptKeys.{other_keys_same}
 use Rattle.sector_map.proofs.Changed.{change_keeps_tracks, change_keeps_address, change_keeps_keys, change_keeps_sectors, change_cylinder, change_is_written}
 use Rattle.sector_map.proofs.Joined.{joined_safe, join_on_track}
 
--- a disk keeps its own sectors
+-- a disk keeps its own sectors, compared with itself
 sectors_itself : (written : Written) (disk : Disk) → IsRegularDisk disk → KeepsSectors disk written.key disk
 sectors_itself written disk regular = record {
   regular = regular;
@@ -42,7 +42,7 @@ module _ (written : Written) (place : ℕ) (disk after : Disk) where
   rewritten_keeps_keys c h regular fits (inr (words, is, safe)) =
       change_keeps_keys written disk (change_at written.key.c place words) after is c h regular fits safe
 
-  -- and of a regular disk
+  -- the other sectors of a regular disk stay
   pub rewritten_keeps_sectors : IsRegularDisk disk → FitsKey written → IsSameOrChanged written place disk after → KeepsSectors disk written.key after
   rewritten_keeps_sectors regular fits (inl same) = subst (KeepsSectors disk written.key) (sym same) (sectors_itself written disk regular)
   rewritten_keeps_sectors regular fits (inr (words, is, safe)) =
@@ -54,7 +54,7 @@ same_change written disk change c p after e f is =
     subst (λ q. IsChange written disk (change_at c q change.words) after) f
     (subst (λ b. IsChange written disk (change_at b change.place change.words) after) e (record { track = is.track; address = is.address; cuttable = is.cuttable; cut = is.cut }))
 
--- one more write on the key's cylinder: a regular track of the first disk has one address field of the key
+-- one more write on the key's cylinder: a regular track of the first disk has only one address field of the key
 pub rewritten_more : (written : Written) (place : ℕ) (disk middle : Disk) (change : Change) (after : Disk) (c h : ℕ)
     → IsRegular (track_of disk written.key.c written.key.h) c h → IsAddressAt (track_of disk written.key.c written.key.h) place written.key → FitsKey written
     → IsTidy (track_of disk written.key.c written.key.h) place written.deleted written.content ⊎ IsWholeChange written change
@@ -74,7 +74,7 @@ rewritten_more written place disk middle change after c h regular here fits safe
       joined_safe written disk one middle change after is before,
     )
 
--- on a regular disk each is on that cylinder
+-- on a regular disk each change is on the key's cylinder
 pub rewritten_cylinder : (written : Written) (place : ℕ) (disk middle : Disk) (change : Change) (after : Disk)
     → IsRegularDisk disk → FitsKey written → IsSameOrChanged written place disk middle → IsChange written middle change after
     → change.cylinder ≡ written.key.c
@@ -82,7 +82,7 @@ rewritten_cylinder written place disk middle change after regular fits so_far is
     let still = (rewritten_keeps_sectors written place disk middle regular fits so_far).regular in
     sym (change_cylinder written middle change after is still)
 
--- a whole window is there after it, and nothing else under its key
+-- after a write of the whole window, what was written is there, and nothing else under its key
 pub rewritten_whole : (written : Written) (place : ℕ) (disk middle : Disk) (change : Change) (after : Disk) (c h : ℕ)
     → IsRegular (track_of disk written.key.c written.key.h) c h → IsAddressAt (track_of disk written.key.c written.key.h) place written.key → FitsKey written
     → IsSameOrChanged written place disk middle → change.cylinder ≡ written.key.c → IsChange written middle change after

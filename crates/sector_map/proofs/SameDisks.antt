@@ -1,4 +1,4 @@
--- Disks of one shape with the same tracks are the same.
+-- Two disks of one shape that have the same tracks are the same.
 use Rattle.std.proofs.Common.{◌≡◌, ℕ, ◌+◌, ◌*◌, ◌/◌, ◌%◌, ◌<◌, Bool, List, length, drop, get_or, sym, ap, subst, ◌∙◌, arith}
 use Rattle.std.proofs.lemmas.List.{get_or-take, get_or-drop, ext_get_or}
 use Rattle.std.proofs.lemmas.Nat.{div-add-mod', div_below, mod_below}
@@ -6,12 +6,12 @@ use Rattle.flop_base.specs.declared.answers.Rate.{Rate}
 use Rattle.raw_image.specs.Disk.{Disk, IsDisk, HasTrack, track_of, track_start}
 use Rattle.sector_map.specs.KeptDisks.{KeepsTracks}
 
--- a word of a track among all words
+-- a word of a track, found among all words
 word_of_track : (disk : Disk) (c h i : ℕ) → i < disk.words_per_track → get_or (track_of disk c h) i 0 ≡ get_or disk.words (track_start disk c h + i) 0
 word_of_track disk c h i within =
     get_or-take disk.words_per_track (drop (track_start disk c h) disk.words) i 0 within ∙ get_or-drop (track_start disk c h) disk.words i 0
 
--- where a word is
+-- the track and the place of one of all words
 record IsAt (disk : Disk) (k : ℕ) : Type 0 where
   pub c : ℕ
   pub h : ℕ
@@ -39,7 +39,7 @@ place_of disk k valid below =
       is = sym (div-add-mod' k w) ∙ ap (λ r. r * w + k % w) rows;
     }
 
--- the start of a track is one of the shape
+-- a track begins at the same place on disks of the same shape
 same_start : (a b : Disk) (c h : ℕ) → b.heads ≡ a.heads → b.words_per_track ≡ a.words_per_track → track_start b c h ≡ track_start a c h
 same_start a b c h e f = ap (λ n. (c * n + h) * b.words_per_track) e ∙ ap (λ n. (c * a.heads + h) * n) f
 

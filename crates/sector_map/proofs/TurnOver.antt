@@ -1,4 +1,4 @@
--- The look at the first address field of a key is the look for the key.
+-- The look at the first address field of a key is the look for this key.
 use Rattle.std.proofs.Common.{ℕ, ◌+◌, List}
 use Rattle.flop_base.specs.declared.key.Chrn.{Chrn}
 use Rattle.track_model.specs.Looks.{IsFirstAddress}

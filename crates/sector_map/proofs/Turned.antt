@@ -1,4 +1,4 @@
--- A hunt over a turn, word by word.
+-- A hunt over a revolution, word by word.
 use Rattle.std.proofs.Common.{◌≡◌, ℕ, ◌+◌, ◌*◌, ◌<◌, ◌≤◌, Bool, true, false, MatchBool, List, length, take, get_or, sym, ap, subst, ◌∙◌, arith, inl, inr}
 use Rattle.flop_base.specs.declared.key.Chrn.{Chrn}
 use Rattle.track_model.specs.Marks.{IsAddressMark}
@@ -16,7 +16,7 @@ use Rattle.track_separator.specs.Turns.{SBegins}
 use Rattle.track_separator.proofs.Lawful.{mark_stays, mark_stood, address_stays, address_stood, no_run_stood, first_words, runs_apart}
 use Rattle.sector_map.specs.Turned.{IsPassed}
 
--- so many words were fed, and no address field of the key came
+-- this many words were fed, and no address field of the key has ended in them
 pub record IsHuntingFor (words : List ℕ) (key : Chrn) (separator : Separator) (i : ℕ) (has_mark : Bool) : Type 0 where
   pub follows : i < length words → SFollows separator (take i words)
   pub none : (p : ℕ) → p + 160 ≤ 16 * i → IsAddressAt words p key → ⊥
@@ -38,7 +38,7 @@ module _ (words : List ℕ) (key : Chrn) (old new : Separator) (i : ℕ) (had_ma
   all_given : GivesAll (take (i + 1) words) seen
   all_given = subst (λ fed. GivesAll fed seen) now_is (gives (take i words) before)
 
-  -- an address field of the key that ends in this word is the event
+  -- if an address field of the key ends in this word, it is the event that the separator reports
   address_given : (p : ℕ) → 16 * i < p + 160 → p + 160 ≤ 16 * (i + 1) → IsAddressAt words p key → seen ≡ Address key
   address_given p low high address =
       let count = size in
@@ -88,7 +88,7 @@ module _ (words : List ℕ) (key : Chrn) (old new : Separator) (i : ℕ) (had_ma
           mark = subst (λ m. MatchBool m (HasAddressMark words) ((p : ℕ) → p + 64 ≤ 16 * (i + 1) → IsAddressMark words p → ⊥)) (sym is) (here.0, mark_stays (take (i + 1) words) words part here.0 mark);
         }
 
-  -- the first field of the key
+  -- this address field is the first one of the key
   first_of : (p : ℕ) → EndsInLast (take (i + 1) words) (p + 160) → IsAddressAt (take (i + 1) words) p key → IsFirstAddress words key p
   first_of p ends address =
       let count = size in

@@ -1,4 +1,4 @@
--- Words of the proofs: disks that are the same or changed at one key.
+-- Terms of the proofs: disks that are unchanged, or changed at one key.
 use Rattle.std.proofs.Common.{◌≡◌, ℕ, ◌+◌, ◌^◌, ◌<◌, ◌≤◌, List, length, slice_index, ◌⊎◌}
 use Rattle.flop_base.specs.declared.key.Chrn.{Chrn}
 use Rattle.raw_image.specs.Disk.{Disk}
@@ -8,20 +8,21 @@ use Rattle.sector_map.specs.Met.{HasNoClearMark, HasClearAddress}
 use Rattle.sector_map.specs.Changes.{Written, IsChange}
 use Rattle.sector_map.specs.ChangedDisks.{change_at, IsSafeChange}
 
--- what is written is a content for its key: bytes, as many as the size code says
+-- what is written is a content for its key: it consists of bytes, as many as the size code says
 pub record FitsKey (written : Written) : Type 0 where
   pub size : length written.content ≡ content_size written.key.n
   pub bytes : (k : ℕ) → slice_index written.content k < 2 ^ 8
 
--- after any number of writes behind the address field at `place`, on the key's cylinder: the disk is as it was, or as one
--- safe change there makes it
+-- The disk after any number of writes behind the address field at `place`, on the key's cylinder. The disk is as it
+-- was, or one safe change at this place leads to it.
 abbrev pub IsSameOrChanged : Written → ℕ → Disk → Disk → Type 0
 IsSameOrChanged written place disk after =
     (after ≡ disk)
     ⊎ ((words : ℕ) × IsChange written disk (change_at written.key.c place words) after
     × IsSafeChange written disk (change_at written.key.c place words))
 
--- a key can be written on a track: one address field has it, which is Clear, and whose window is inside the track
+-- A key can be written on a track. Only one address field has this key, it is Clear, and its window is inside the
+-- track.
 pub record IsWritable (track : List ℕ) (key : Chrn) : Type 0 where
   pub marked : HasNoClearMark track → ⊥
   pub clear : HasClearAddress track key

@@ -1,4 +1,4 @@
--- Changes of a disk: whole and safe ones, several as one, and what is there after them.
+-- Changes of a disk: whole and safe ones, several joined into one, and what the disk has after them.
 use Rattle.std.specs.Prelude.{◌≡◌, ℕ, ◌+◌, ◌^◌, ◌<◌, ◌≤◌, Bool, List, length, max, ◌⊎◌}
 use Rattle.flop_base.specs.declared.key.Chrn.{Chrn}
 use Rattle.raw_image.specs.Disk.{Disk, track_of}
@@ -12,15 +12,15 @@ use Rattle.sector_map.specs.Disks.{Entry}
 use Rattle.sector_map.specs.Met.{HasClearAddress, HasLook, AllFound}
 use Rattle.sector_map.specs.Changes.{Change, Written, window_of}
 
--- a content with its mark under a key
+-- this content, with this mark, written under this key
 abbrev pub written_under : Chrn → Bool → List ℕ → Written
 written_under key deleted content = record { key = key; deleted = deleted; content = content }
 
--- a change of this cylinder, place and count of words
+-- a change on this cylinder, at this place, with this count of words
 abbrev pub change_at : ℕ → ℕ → ℕ → Change
 change_at cylinder place words = record { cylinder = cylinder; place = place; words = words }
 
--- the entry of what was written, at the address field at `place`
+-- the map's entry for what was written, with its address field at `place`
 abbrev pub entry_of : Written → ℕ → Entry
 entry_of written place = record {
   cylinder = written.key.c;
@@ -31,17 +31,17 @@ entry_of written place = record {
   content = written.content;
 }
 
--- the whole window stands
+-- the whole window was written
 abbrev pub IsWholeChange : Written → Change → Type 0
 IsWholeChange written change = change.words ≡ length (window_of written)
 
--- the track is Tidy there, so that a write may stop anywhere, or the whole window stands
+-- a change is safe if the track is Tidy there, so that a write may stop anywhere, or if the whole window was written
 abbrev pub IsSafeChange : Written → Disk → Change → Type 0
 IsSafeChange written disk change =
     IsTidy (track_of disk change.cylinder written.key.h) change.place written.deleted written.content
     ⊎ IsWholeChange written change
 
--- a change and a later one at the same address field, as one: the longer stands
+-- a change and a later one at the same address field, joined into one: the longer of the two stands
 abbrev pub joined : Change → Change → Change
 joined one two = record {
   cylinder = one.cylinder;
@@ -49,7 +49,7 @@ joined one two = record {
   words = max one.words two.words;
 }
 
--- the track has what was written, behind the address field at `place`, and nothing else under that key
+-- the track has what was written, behind the address field at `place`, and it has nothing else under that key
 pub record HasWritten (written : Written) (place : ℕ) (track : List ℕ) : Type 0 where
   pub address : IsAddressAt track place written.key
   pub look : LookAt track place written.key.n (Found written.deleted (window_place place + 256))

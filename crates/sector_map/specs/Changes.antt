@@ -1,4 +1,4 @@
--- What a write makes of a disk.
+-- What a write does to a disk.
 use Rattle.std.specs.Prelude.{ℕ, Bool, List}
 use Rattle.flop_base.specs.declared.key.Chrn.{Chrn}
 use Rattle.raw_image.specs.Disk.{Disk, HasTrack, track_of, IsWithTrack}
@@ -6,23 +6,25 @@ use Rattle.track_model.specs.Fields.{IsAddressAt}
 use Rattle.track_model.specs.Writing.{window}
 use Rattle.track_model.specs.Windows.{cut_of, IsCuttable}
 
--- a write behind an address field: on which cylinder, where the address field is, and how many words of the window stand
+-- A write behind an address field: its cylinder, the place of the address field, and how many words of the window were
+-- written.
 pub record Change : Type 0 where
   pub cylinder : ℕ
   pub place : ℕ
   pub words : ℕ
 
--- what is written under a key
+-- what is written, and under which key
 pub record Written : Type 0 where
   pub key : Chrn
   pub deleted : Bool
   pub content : List ℕ
 
--- the words of its window
+-- the words of the window that is written
 abbrev pub window_of : Written → List ℕ
 window_of written = window written.deleted written.content
 
--- the disk `after` comes from a change: a track of the key's head with a cut of the window at an address field of the key
+-- The disk `after` comes from a change of the disk. On a track with the key's head, behind an address field of the key,
+-- the first words of the window were written.
 pub record IsChange (written : Written) (disk : Disk) (change : Change) (after : Disk) : Type 0 where
   pub track : HasTrack disk change.cylinder written.key.h
   pub address : IsAddressAt (track_of disk change.cylinder written.key.h) change.place written.key

@@ -8,7 +8,7 @@ use Rattle.track_model.specs.Fields.{IsAddressAt, content_at}
 use Rattle.track_model.specs.Looks.{LookAt, LookFor}
 use Rattle.track_model.specs.Regular.{IsRegular}
 
--- the look for a key on the track of its cylinder and head; NoMark where the medium has no such track
+-- the answer of the look for a key, on the track of its cylinder and head; NoMark if the disk has no such track
 pub record LookOn (disk : Disk) (key : Chrn) (look : Look) : Type 0 where
   pub there : HasTrack disk key.c key.h → LookFor (track_of disk key.c key.h) key look
   pub absent : (HasTrack disk key.c key.h → ⊥) → look ≡ NoMark
@@ -17,7 +17,7 @@ pub record LookOn (disk : Disk) (key : Chrn) (look : Look) : Type 0 where
 abbrev pub IsRegularDisk : Disk → Type 0
 IsRegularDisk disk = (c h : ℕ) → HasTrack disk c h → IsRegular (track_of disk c h) c h
 
--- an entry of the map of all sectors: where its address field is, its key, its mark and its content
+-- an entry of the map of all sectors: the place of its address field, its key, its mark and its content
 pub record Entry : Type 0 where
   pub cylinder : ℕ
   pub head : ℕ
@@ -26,7 +26,7 @@ pub record Entry : Type 0 where
   pub deleted : Bool
   pub content : List ℕ
 
--- Map: a track of the disk has this sector
+-- Map: the disk has this sector on this track
 pub record IsOnMap (disk : Disk) (entry : Entry) : Type 0 where
   pub track : HasTrack disk entry.cylinder entry.head
   pub address : IsAddressAt (track_of disk entry.cylinder entry.head) entry.place entry.key

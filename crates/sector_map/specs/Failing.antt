@@ -6,7 +6,7 @@ use Rattle.track_model.specs.declared.Look.{Look}
 use Rattle.track_model.specs.declared.Look.TheVariants.{Found, NoMark, NoSector, NoData, BadCrc}
 use Rattle.sector_map.specs.Disks.{LookOn}
 
--- a key with its look, where that isn't Found
+-- a key with the answer of its look, unless the answer is Found
 abbrev pub unless_found : Chrn → Look → List (Chrn × Look)
 unless_found key (Found deleted place) = []
 unless_found key NoMark = (key, NoMark) ∷ []
@@ -14,7 +14,7 @@ unless_found key NoSector = (key, NoSector) ∷ []
 unless_found key NoData = (key, NoData) ∷ []
 unless_found key BadCrc = (key, BadCrc) ∷ []
 
--- those of the keys that aren't found, each with its look, in their order
+-- the keys that aren't found, each with the answer of its look, in the order of the keys
 abbrev pub AreFailing : Disk → List Chrn → List (Chrn × Look) → Type 0
 AreFailing disk [] failed = failed ≡ []
 AreFailing disk (key ∷ keys) failed =

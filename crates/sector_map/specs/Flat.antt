@@ -7,18 +7,18 @@ use Rattle.raw_image.specs.declared.error.ImageError.TheVariants.{TooShort, Trai
 abbrev pub IsDensity : ℕ → Type 0
 IsDensity sectors = (sectors ≡ 9) ⊎ (sectors ≡ 18)
 
--- a file with so many sectors on each track has this one
+-- a file with this many sectors on each track has this sector
 pub record IsSector (sectors c h r : ℕ) : Type 0 where
   pub cylinder : c < 80
   pub head : h < 2
   pub from_first : 1 ≤ r
   pub to_last : r ≤ sectors
 
--- the bytes of such a file
+-- the length in bytes of a file with this many sectors on each track
 abbrev pub flat_length : ℕ → ℕ
 flat_length sectors = 80 * 2 * sectors * 512
 
--- the sectors on each track of a file of so many bytes, or what is wrong with it
+-- the sectors on each track of a file with this many bytes, or what is wrong with the file
 abbrev pub sectors_told : ℕ → Result ℕ ImageError
 sectors_told have =
     if have == 737280 then Ok 9

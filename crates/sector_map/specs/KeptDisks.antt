@@ -1,4 +1,4 @@
--- What a change or a laying keeps of a disk.
+-- What stays on a disk when it is changed or laid.
 use Rattle.std.specs.Prelude.{◌≡◌, ◌≢◌, ◌↔◌, ℕ, Bool, List}
 use Rattle.flop_base.specs.declared.key.Chrn.{Chrn}
 use Rattle.raw_image.specs.Disk.{Disk, IsDisk, HasTrack, track_of}
@@ -10,7 +10,7 @@ use Rattle.track_model.specs.Regular.{IsRegular}
 use Rattle.sector_map.specs.Disks.{LookOn, IsRegularDisk, Entry, IsOnMap}
 use Rattle.sector_map.specs.Met.{HasLook, AllFound}
 
--- `after` is a disk with the protection, the shape and the rate of this one
+-- `after` is a disk with the same protection, shape and rate as this disk
 pub record AreAlike (disk after : Disk) : Type 0 where
   pub valid : IsDisk after
   pub protected : after.protected ≡ disk.protected
@@ -19,12 +19,13 @@ pub record AreAlike (disk after : Disk) : Type 0 where
   pub rate : after.rate ≡ disk.rate
   pub words_per_track : after.words_per_track ≡ disk.words_per_track
 
--- the disk `after` is like the disk, and each track is as it was but that of this cylinder and head
+-- The disk `after` is like the disk. All tracks are as they were, except the one of this cylinder and head.
 pub record KeepsTracks (disk : Disk) (c h : ℕ) (after : Disk) : Type 0 where
   pub alike : AreAlike disk after
   pub others : (b g : ℕ) → HasTrack disk b g → (b ≡ c → g ≡ h → ⊥) → track_of after b g ≡ track_of disk b g
 
--- the track `after` is regular where the track is, and has its address fields and the data of all keys but one
+-- The track `after` is regular if the track is. It has the track's address fields, and the data of all keys but this
+-- one.
 pub record KeepsOtherKeys (track : List ℕ) (key : Chrn) (after : List ℕ) : Type 0 where
   pub regular : (c h : ℕ) → IsRegular track c h → IsRegular after c h
   pub marks : HasAddressMark track ↔ HasAddressMark after
@@ -34,7 +35,7 @@ pub record KeepsOtherKeys (track : List ℕ) (key : Chrn) (after : List ℕ) : T
   pub sectors : (other : Chrn) (deleted : Bool) (content : List ℕ) → other ≢ key
       → IsSector track other deleted content ↔ IsSector after other deleted content
 
--- the disk `after` is regular, and has the address fields of the disk and the data of all keys but this one
+-- The disk `after` is regular. It has the disk's address fields, and the data of all keys but this one.
 pub record KeepsSectors (disk : Disk) (key : Chrn) (after : Disk) : Type 0 where
   pub regular : IsRegularDisk after
   pub tracks : (c h : ℕ) → HasTrack disk c h → KeepsOtherKeys (track_of disk c h) key (track_of after c h)

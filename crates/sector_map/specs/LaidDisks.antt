@@ -1,4 +1,4 @@
--- Layings of a disk, several as one.
+-- Layings of a disk, and several joined into one.
 use Rattle.std.specs.Prelude.{ℕ, max}
 use Rattle.flop_base.specs.declared.answers.Rate.{Rate}
 use Rattle.sector_map.specs.Layings.{Format, Laying}
@@ -7,10 +7,10 @@ use Rattle.sector_map.specs.Layings.{Format, Laying}
 abbrev pub format_at : ℕ → ℕ → Rate → ℕ → ℕ → Format
 format_at c h rate gap3 fill = record { c = c; h = h; rate = rate; gap3 = gap3; fill = fill }
 
--- a laying of this cylinder and count of words
+-- a laying on this cylinder with this count of words
 abbrev pub laying_at : ℕ → ℕ → Laying
 laying_at cylinder words = record { cylinder = cylinder; words = words }
 
--- a laying and a later one on the same cylinder, as one: the longer stands
+-- a laying and a later one on the same cylinder, joined into one: the longer of the two stands
 abbrev pub joined_laying : Laying → Laying → Laying
 joined_laying one two = record { cylinder = one.cylinder; words = max one.words two.words }

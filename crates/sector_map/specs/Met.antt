@@ -1,4 +1,4 @@
--- What a command meets on a track of a disk, and what is said of it.
+-- What a command meets on a track of a disk, and terms for it.
 use Rattle.std.specs.Prelude.{ℕ, ◌&&◌, Bool, true, false, List, replicate, nat_lt, Option, if◌then◌else◌}
 use Rattle.std.specs.Option.{option_map_or}
 use Rattle.flop_base.specs.declared.key.Chrn.{Chrn}
@@ -11,7 +11,7 @@ use Rattle.track_model.specs.Fields.{IsAddressAt}
 use Rattle.track_model.specs.Looks.{LookAt}
 use Rattle.track_model.specs.Sectors.{IsClear}
 
--- words 0000: nothing is recorded
+-- a track of words 0000, on which nothing is recorded
 unfoldable pub unrecorded : ℕ → List ℕ
 unrecorded words = replicate words 0
 
@@ -21,13 +21,13 @@ same_rate R500 R500 = true
 same_rate R250 R250 = true
 same_rate _ _ = false
 
--- what a command at this rate meets of a track: nothing is recorded where the disk has no such track, or another rate
+-- What a command at this rate meets on a track. Nothing is recorded if the disk has no such track, or has another rate.
 abbrev pub met_on : Disk → Rate → ℕ → ℕ → List ℕ
 met_on disk rate c h =
     if nat_lt c disk.cylinders && nat_lt h disk.heads && same_rate disk.rate rate
     then track_of disk c h else unrecorded disk.words_per_track
 
--- nor where no medium is in
+-- What a command meets in a drive. If no medium is in, nothing is recorded.
 abbrev pub met_in : Option Disk → Rate → ℕ → ℕ → List ℕ
 met_in medium rate c h = option_map_or (λ disk. met_on disk rate c h) medium (unrecorded 64)
 

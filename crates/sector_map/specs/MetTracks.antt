@@ -1,4 +1,4 @@
--- Where a command meets a track of a disk, and where nothing is recorded.
+-- When a command meets a track of a disk, and when nothing is recorded.
 use Rattle.std.specs.Prelude.{◌≡◌, ℕ, List, Option, Some}
 use Rattle.flop_base.specs.declared.key.Chrn.{Chrn}
 use Rattle.flop_base.specs.declared.answers.Rate.{Rate}
@@ -8,7 +8,7 @@ use Rattle.track_model.specs.Fields.{IsAddressAt}
 use Rattle.track_model.specs.Looks.{HasAddressMark}
 use Rattle.sector_map.specs.Met.{HasNoClearMark, HasClearAddress, HasLook}
 
--- a command at this rate meets a track of this disk: the disk is in, and has the track at this rate
+-- A command at this rate meets a track of this disk: the disk is in the drive, and has the track, at this rate.
 pub record MeetsTrack (medium : Option Disk) (rate : Rate) (c h : ℕ) (disk : Disk) : Type 0 where
   pub is_in : medium ≡ Some disk
   pub has : HasTrack disk c h

@@ -17,6 +17,6 @@ track_keys sectors c h = map (key_of c h) (range_with_len 1 sectors)
 unfoldable pub cylinder_keys : ℕ → ℕ → ℕ → List Chrn
 cylinder_keys sectors heads c = flat_map (track_keys sectors c) (range_with_len 0 heads)
 
--- the standard keys of a medium: cylinders below its cylinders, heads below its heads, records by its rate
+-- The standard keys of a medium: those of its cylinders and heads, with the records that its rate has.
 unfoldable pub standard_keys : Disk → List Chrn
 standard_keys disk = flat_map (cylinder_keys (sectors_at disk.rate) disk.heads) (range_with_len 0 disk.cylinders)

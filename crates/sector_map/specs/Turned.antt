@@ -1,4 +1,4 @@
--- What a turn under a separator gives.
+-- What a revolution gives when it is fed to a separator.
 use Rattle.std.specs.Prelude.{◌≡◌, ℕ, ◌+◌, ◌<◌, ◌≤◌, MatchBool, List, length, take}
 use Rattle.flop_base.specs.declared.key.Chrn.{Chrn}
 use Rattle.track_model.specs.declared.Look.TheVariants.{Found, NoMark, NoSector, NoData, BadCrc}
@@ -20,7 +20,7 @@ pub record IsPassed (words : List ℕ) (key : Chrn) (separator : Separator) (cou
   pub inside : count < length words → SAddressed separator (take count words) p
   pub late : count ≡ length words → SBegins separator
 
--- how a hunt over a turn ended
+-- how a hunt over a revolution ended
 abbrev pub IsHuntOver : List ℕ → Chrn → Separator → HuntEnd → Type 0
 IsHuntOver words key separator (Passed count) = (p : ℕ) × IsPassed words key separator count p
 IsHuntOver words key separator (Missed has_mark) =
@@ -38,7 +38,7 @@ IsReadOver words p n content turned.BadCrc = LookAt words p n BadCrc
 IsReadOver words p n content turned.NoData = LookAt words p n NoData
 IsReadOver words p n content _ = ⊥
 
--- what was read of the turn is the look for the key
+-- what was read in the revolution is the answer of the look for the key
 abbrev pub IsTurnRead : List ℕ → Chrn → List ℕ → TurnRead → Type 0
 IsTurnRead words key content (turned.Found deleted) =
     (place : ℕ) × LookFor words key (Found deleted place) × (content ≡ content_at words place key.n)

@@ -1,4 +1,4 @@
-// Bytes of a track at any cell, and their check.
+// Bytes of a track that begin at any cell, and their CRC.
 ghost use Rattle.std.specs.Prelude.{◌≡◌, ◌+◌, ◌*◌, ◌↔◌, IsTrue};
 ghost use Rattle.track_model.specs.Cells.{IsTrackSized, IsInside};
 ghost use Rattle.track_model.specs.Bytes.{byte_at, bytes_at};
@@ -15,7 +15,7 @@ pub(crate) fn byte_at_cell(words: &[u16], p: usize) -> u8
     decode_word(cells16(words, p))
 }
 
-/// Byte `i`, from 0, of the content that begins at cell `place`. Its cells may begin at any phase.
+/// Byte `i`, counted from 0, of the content that begins at cell `place`. The cells may begin at any phase.
 pub fn content_byte(words: &[u16], place: usize, i: usize) -> u8
     requires sized { IsTrackSized words.now }
     requires inside { IsInside words.now (place + 16 * i) 16 }
@@ -24,7 +24,7 @@ pub fn content_byte(words: &[u16], place: usize, i: usize) -> u8
     byte_at_cell(words, place + 16 * i)
 }
 
-/// The check over the three A1 and the `count` bytes from cell `p` on.
+/// The CRC over the three A1 and the `count` bytes from cell `p` on.
 fn check_over(words: &[u16], p: usize, count: usize) -> u16
     requires sized { IsTrackSized words.now }
     requires inside { IsInside words.now p (16 * count) }
@@ -37,7 +37,7 @@ fn check_over(words: &[u16], p: usize, count: usize) -> u16
     check
 }
 
-/// Whether the `count` bytes from cell `p` on are followed by their check, high byte first.
+/// Whether the `count` bytes from cell `p` on are followed by their CRC, high byte first.
 pub(crate) fn is_checked(words: &[u16], p: usize, count: usize) -> bool
     requires sized { IsTrackSized words.now }
     requires inside { IsInside words.now p (16 * count + 32) }

@@ -9,7 +9,7 @@ use crate::{Look, find_sector, is_regular};
 use flop_base::Chrn;
 use raw_image::Medium;
 
-/// The look for the key on the track of its cylinder and head, `NoMark` where the medium has no such track.
+/// The look for the key on the track of its cylinder and head. The answer is `NoMark` if the medium has no such track.
 pub fn look(medium: &Medium, key: Chrn) -> Look
     requires { IsSizeCode key.n }
     ensures { LookOn medium.now key result }
@@ -20,7 +20,7 @@ pub fn look(medium: &Medium, key: Chrn) -> Look
     }
 }
 
-/// Whether a track is regular for its cylinder and head, if the medium has it.
+/// Whether a track is regular for its cylinder and head. A track that the medium doesn't have counts as regular.
 fn is_regular_track(medium: &Medium, c: u8, h: u8) -> bool
     ensures { IsTrue result ↔ (HasTrack medium.now c h → IsRegular (track_of medium.now c h) c h) }
 {

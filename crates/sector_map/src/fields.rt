@@ -10,7 +10,7 @@ use flop_base::{Chrn, NoMemory};
 use std::alloc::Global;
 use track_model::Field;
 
-/// The cells of an address field, from its marks to its check.
+/// The cells of an address field, from its marks to its CRC.
 pub(crate) const ADDRESS_CELLS: usize = 160;
 
 /// The key of the intact address field at cell `p`.

@@ -1,5 +1,5 @@
-//! Flat files: the sectors of a diskette and nothing else, by cylinder, then head, then record, 512 bytes each. A file has 80
-//! cylinders of 2 heads, and its tracks 9 sectors (720 KB) or 18 (1.44 MB).
+//! Flat files: the sectors of a diskette and nothing else, by cylinder, then head, then record, 512 bytes each. A file
+//! has 80 cylinders of 2 heads, and each track has 9 sectors (720 KB) or 18 (1.44 MB).
 ghost use Rattle.std.specs.Prelude.{◌≡◌, ◌+◌, ◌<◌, ◌≤◌, ◌↔◌, length, IfOk};
 ghost use Rattle.sector_map.specs.Flat.{IsDensity, IsSector, flat_length, sector_place, sectors_told};
 
@@ -28,7 +28,7 @@ pub fn place(sectors: u8, c: u8, h: u8, r: u8) -> usize
     (track * usize::from(sectors) + usize::from(r) - 1) * SECTOR_BYTES
 }
 
-/// The sectors on each track of a flat file, 9 or 18, which its length tells. Any other length is an error.
+/// The sectors on each track of a flat file, 9 or 18, by the file's length. Any other length is an error.
 pub fn check(bytes: &[u8]) -> Result<u8, ImageError>
     ensures told { result ≡ sectors_told (length bytes.now) }
     ensures ok { IfOk result (λ sectors. IsDensity sectors

@@ -1,4 +1,4 @@
-// What a write or a format leaves as it was, of tracks and of media. The bodies are empty.
+// What a write or a format leaves as it was, on tracks and on media. The bodies are empty.
 mod changes;
 mod windows;
 

@@ -1,7 +1,8 @@
-//! What stands on a track and on a medium: the fields of a raw track (address fields, data marks and the content behind them), the
-//! sectors of a medium, one of them written over, and where sectors stand in a flat file.
+//! What is on a track and on a medium. This crate finds the fields of a raw track: address fields, data marks and the
+//! content behind them. It also finds the sectors of a medium, writes one of them over, and says where sectors are in a
+//! flat file.
 //!
-//! A track is a list of words of sixteen cells, from the index on. A field may begin at any cell, and none crosses the
+//! A track is a list of words of sixteen cells, from the index on. A field may begin at any cell. No field crosses the
 //! index (IBM System 34 format). Words 0000 hold no recording, and no field touches one.
 #![tactic(auto)]
 

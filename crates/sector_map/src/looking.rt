@@ -39,8 +39,8 @@ fn first_data_mark(words: &[u16], place: usize) -> Option<DataMark>
     None
 }
 
-/// The first data mark of the address field at cell `place`, less than 960 cells behind its end: whether it marks its
-/// data as deleted, and the first cell of the content behind it.
+/// The first data mark of the address field at cell `place`, less than 960 cells behind the field's end. The answer
+/// says whether the mark marks its data as deleted, and the first cell of the content behind the mark.
 pub fn data_at(words: &[u16], place: usize) -> Option<(bool, usize)>
     requires sized { IsTrackSized words.now }
     requires address { IsAddress words.now place }
@@ -92,9 +92,9 @@ pub fn look_at(words: &[u16], place: usize, n: u8) -> Look
 /// Why a track has no intact address field of a key.
 #[derive(Clone, Copy, Debug, PartialEq, Eq)]
 pub enum Absent {
-    /// It has no address mark.
+    /// The track has no address mark.
     NoMark,
-    /// It has address marks, and none begins an intact address field of the key.
+    /// The track has address marks, but none begins an intact address field of the key.
     NoSector,
 }
 

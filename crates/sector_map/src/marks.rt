@@ -6,7 +6,7 @@ ghost use Rattle.track_model.specs.Marks.{IsRun, TouchesNoZero, IsAddressMark, I
 use crate::bytes::byte_at_cell;
 use track_model::cells16;
 
-/// A1 with a lost clock, as no byte is recorded.
+/// The byte A1 with one clock cell lost. No byte of data is recorded as these cells.
 pub(crate) const MARK: u16 = 0x4489;
 
 /// The cells of a run.

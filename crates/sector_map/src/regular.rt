@@ -14,14 +14,14 @@ use track_model::cells16;
 /// How far behind the end of an address field its window begins, at the next word boundary.
 const WINDOW_DISTANCE: usize = 352;
 
-/// The words of a window besides its content: sync, marks, mark byte and check.
+/// The words of a window besides its content: sync, marks, mark byte and CRC.
 const WINDOW_WORDS: usize = 18;
 
 /// The words of a span behind the address field, besides the content.
 const SPAN_WORDS: usize = 67;
 
-/// The word, from 0, at which the window of the address field at cell `place` begins: the first boundary 22 bytes or
-/// more behind the field (IBM System 34, gap 2).
+/// The word, counted from 0, at which the window of the address field at cell `place` begins. This is the first word
+/// boundary 22 bytes or more behind the field (IBM System 34, gap 2).
 pub fn window_word(place: usize) -> usize
     requires { place ≤ 262144 }
     ensures { result ≡ window_word place }
@@ -29,7 +29,7 @@ pub fn window_word(place: usize) -> usize
     (place + ADDRESS_CELLS + WINDOW_DISTANCE + 15) / 16
 }
 
-/// Whether no run begins from cell `from` on, below cell `to`.
+/// Whether no run begins at cell `from` or after it, and before cell `to`.
 fn has_no_run(words: &[u16], from: usize, to: usize) -> bool
     requires sized { IsTrackSized words.now }
     ensures { IsTrue result ↔ HasNoRun words.now from to }
@@ -42,7 +42,7 @@ fn has_no_run(words: &[u16], from: usize, to: usize) -> bool
     true
 }
 
-/// Whether no mark A1 stands from cell `from` on, below cell `to`.
+/// Whether no mark A1 begins at cell `from` or after it, and before cell `to`.
 fn has_no_mark(words: &[u16], from: usize, to: usize) -> bool
     requires sized { IsTrackSized words.now }
     requires inside { to + 15 ≤ 16 * length words.now }
@@ -66,7 +66,7 @@ fn span_cells(n: u8) -> usize
     ADDRESS_CELLS + 16 * (SPAN_WORDS + sector_size(n))
 }
 
-/// Whether each address field behind the one at cell `place` has another key, and begins behind its span.
+/// Whether each address field behind the one at cell `place` has another key, and begins behind the span of this one.
 fn stands_alone(words: &[u16], place: usize, key: Chrn) -> bool
     requires sized { IsTrackSized words.now }
     requires coded { IsSizeCode key.n }
@@ -84,7 +84,7 @@ fn stands_alone(words: &[u16], place: usize, key: Chrn) -> bool
     true
 }
 
-/// Whether the address field at cell `place` has what a regular track asks of it.
+/// Whether the address field at cell `place` has what a regular track requires of it.
 fn is_field_regular(words: &[u16], c: u8, h: u8, place: usize, key: Chrn) -> bool
     requires sized { IsTrackSized words.now }
     requires address { IsAddressAt words.now place key }
@@ -103,7 +103,7 @@ fn is_field_regular(words: &[u16], c: u8, h: u8, place: usize, key: Chrn) -> boo
         && stands_alone(words, place, key)
 }
 
-/// Whether cell `place` has what a regular track asks of it.
+/// Whether cell `place` has what a regular track requires of it.
 fn is_place_regular(words: &[u16], c: u8, h: u8, place: usize) -> bool
     requires sized { IsTrackSized words.now }
     requires inside { IsInside words.now place 64 }
@@ -121,9 +121,10 @@ fn is_place_regular(words: &[u16], c: u8, h: u8, place: usize) -> bool
     }
 }
 
-/// Whether the track is regular for cylinder `c` and head `h`: no run begins within an address field; the address fields
-/// have distinct keys of this cylinder and head, with size codes from 1 to 6; and each has room for its sector, apart
-/// from the others, with no mark before its window nor right behind it. A track of words 0000 is regular.
+/// Whether the track is regular for cylinder `c` and head `h`. On a regular track no run begins within an address
+/// field. The address fields have distinct keys of this cylinder and head, with size codes from 1 to 6. Each has room
+/// for its sector, apart from the others. No mark stands in front of its window, nor right behind it. A track of words
+/// 0000 is regular.
 pub fn is_regular(words: &[u16], c: u8, h: u8) -> bool
     requires { IsTrackSized words.now }
     ensures { IsTrue result ↔ IsRegular words.now c h }

@@ -13,8 +13,8 @@ use flop_base::{Chrn, NoMemory};
 use raw_image::Medium;
 use std::alloc::Global;
 
-/// The keys of a track in a standard format of 512 bytes a sector, by record: all 18 at 500 kbit/s, the first 9 at
-/// 250 kbit/s.
+/// The keys of a track in a standard format of 512 bytes per sector, by record. At 500 kbit/s all 18 are used, at 250
+/// kbit/s the first 9.
 pub fn keys_of_track(c: u8, h: u8) -> [Chrn; 18]
     ensures { (sectors : ℕ) → sectors ≤ 18 → take sectors result ≡ track_keys sectors c h }
 {
@@ -30,7 +30,7 @@ pub fn keys_of_track(c: u8, h: u8) -> [Chrn; 18]
     keys
 }
 
-/// Adds the key with its look, unless it was found.
+/// Adds the key with the answer of its look, unless the key was found.
 fn push_unless_found(failed: &mut Vec<(Chrn, Look)>, key: Chrn, look: Look) -> Result<(), NoMemory>
     ensures { OnOk result (failed.new.items ≡ failed.old.items ++ unless_found key look) }
 {
@@ -82,8 +82,8 @@ fn push_cylinder(
     Ok(())
 }
 
-/// The keys of the standard format of the medium's rate whose look isn't `Found`, each with its look, by cylinder,
-/// head and record: 18 sectors of 512 bytes a track at 500 kbit/s, 9 at 250 kbit/s.
+/// The keys of the standard format of the medium's rate whose look isn't `Found`, each with its look, by cylinder, head
+/// and record. The format has sectors of 512 bytes, 18 per track at 500 kbit/s and 9 at 250 kbit/s.
 pub fn failing(alloc: Global, medium: &Medium) -> Result<Vec<(Chrn, Look)>, NoMemory>
     ensures { IfOk result (λ failed. AreFailing medium.now (standard_keys medium.now) failed.items) }
 {

@@ -1,4 +1,4 @@
-// A turn under a separator, from the index to the index.
+// A revolution, from the index to the index, that is fed to a separator.
 ghost use Rattle.std.specs.Prelude.{◌≡◌, ◌↔◌, IsTrue, ◌<◌, ℕ, [], length, take};
 ghost use Rattle.flop_base.specs.declared.key.Chrn.{Chrn};
 ghost use Rattle.track_model.specs.Fields.{IsSizeCode, content_size};
@@ -10,31 +10,31 @@ ghost use Rattle.sector_map.specs.Turned.{IsHuntOver, IsPassedWithin, IsReadOver
 use flop_base::Chrn;
 use track_separator::{Seen, Separator};
 
-/// What a turn under a separator gives of a sector.
+/// What a revolution that is fed to a separator gives of a sector.
 #[derive(Clone, Copy, Debug, PartialEq, Eq)]
 pub enum TurnRead {
     /// An intact data field. `deleted` says that its mark is F8.
     Found { deleted: bool },
-    /// The turn has no address mark.
+    /// The revolution has no address mark.
     NoMark,
-    /// The turn has address marks, but no intact address field of the key.
+    /// The revolution has address marks, but no intact address field of the key.
     NoSector,
-    /// The address field has no data field inside the turn.
+    /// The address field has no data field inside the revolution.
     NoData,
-    /// The data field is there, and its check fails or cells of it weren't recorded.
+    /// The data field is there, but its CRC is wrong, or some of its cells weren't recorded.
     BadCrc,
 }
 
-/// How a hunt over a turn ended.
+/// How a hunt over a revolution ended.
 #[derive(Clone, Copy)]
 enum HuntEnd {
-    /// The address field of the key ends in the last of so many words.
+    /// The address field of the key ends in the last of this many words.
     Passed { words: usize },
-    /// There is none.
+    /// The revolution has no address field of the key.
     Missed { has_mark: bool },
 }
 
-/// Whether two keys are one.
+/// Whether two keys are the same.
 fn is_key(found: Chrn, key: Chrn) -> bool
     ensures { IsTrue result ↔ (found ≡ key) }
 {
@@ -61,7 +61,7 @@ fn hunt_for(separator: &mut Separator, words: &[u16], key: Chrn) -> HuntEnd
     HuntEnd::Missed { has_mark }
 }
 
-/// Reads the data field that was asked for, from word `from` on.
+/// Reads the data field that the separator was asked for, from word `from` on.
 fn read_behind(
     separator: &mut Separator,
     words: &[u16],
@@ -97,8 +97,8 @@ fn read_behind(
     TurnRead::NoData
 }
 
-/// Feeds a whole turn, from the index on, to a separator and reads the first sector of the key into `content`. That
-/// counts only after `Found`.
+/// Feeds a whole revolution, from the index on, to a separator, and reads the first sector of the key into `content`.
+/// The content counts only after the answer `Found`.
 pub fn read_turn(words: &[u16], key: Chrn, content: &mut [u8]) -> TurnRead
     requires coded { IsSizeCode key.n }
     requires sized { length content.old ≡ content_size key.n }

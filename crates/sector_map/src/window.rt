@@ -5,7 +5,8 @@ ghost use Rattle.track_model.specs.Windows.{window_word, cut_of};
 
 use crate::window_word;
 
-/// Replaces the first `cut` words of the window of the address field at cell `place`, as a write that stops there does.
+/// Replaces the first `cut` words of the window of the address field at cell `place`. A write that stops there does the
+/// same.
 pub fn place_window(words: &mut [u16], place: usize, window: &[u16], cut: usize)
     requires sized { IsTrackSized words.old }
     requires most { cut ≤ length window.now }

@@ -12,7 +12,8 @@ use track_model::{crc_step, encode_byte, field_crc, mark_crc};
 /// The three marks A1 in a row.
 const MARKS: [u16; 3] = [0x4489; 3];
 
-/// Fills the words from `start` on with the cells of the bytes after a bit `last`, and gives the last bit.
+/// Fills the words from `start` on with the cells of the bytes. `last` is the bit in front of them. Answers the last
+/// bit.
 fn fill_bytes(words: &mut [u16], start: usize, last: bool, bytes: &[u8]) -> bool
     requires { start + length bytes.now ≤ length words.old }
     ensures { (rest : List ℕ) → take (start + length bytes.now) words.new ++ legal result rest
@@ -26,7 +27,7 @@ fn fill_bytes(words: &mut [u16], start: usize, last: bool, bytes: &[u8]) -> bool
     after
 }
 
-/// The first words are sync and marks: twelve bytes 00 after a bit 0, and the three marks A1.
+/// Fills the first words with sync and marks: twelve bytes 00 after a bit 0, and the three marks A1.
 fn begin_field(words: &mut [u16])
     requires { 15 ≤ length words.old }
     ensures { take 15 words.new ≡ sync_and_marks }
@@ -35,7 +36,7 @@ fn begin_field(words: &mut [u16])
     words[12..15].copy_from_slice(&MARKS);
 }
 
-/// Fills 22 words with those of an address field, from its sync to its check.
+/// Fills 22 words with an address field, from its sync to its CRC.
 fn fill_address_words(words: &mut [u16], key: Chrn)
     requires { length words.old ≡ 22 }
     ensures { words.new ≡ address_field key }
@@ -46,7 +47,7 @@ fn fill_address_words(words: &mut [u16], key: Chrn)
     fill_bytes(words, 15, true, &field);
 }
 
-/// The 22 words of an address field, from its sync to its check (IBM System 34), as recorded after a bit 0.
+/// The 22 words of an address field, from its sync to its CRC (IBM System 34), as recorded after a bit 0.
 pub fn address_words(alloc: Global, key: Chrn) -> Result<Vec<u16>, NoMemory>
     ensures { IfOk result (λ words. words.items ≡ address_field key) }
 {
@@ -55,7 +56,7 @@ pub fn address_words(alloc: Global, key: Chrn) -> Result<Vec<u16>, NoMemory>
     Ok(words)
 }
 
-/// The check over the three A1, the mark byte and the content.
+/// The CRC over the three A1, the mark byte and the content.
 fn data_check(mark: u8, content: &[u8]) -> u16
     ensures { result ≡ crc (after_marks (mark ∷ content.now)) }
 {
@@ -66,8 +67,8 @@ fn data_check(mark: u8, content: &[u8]) -> u16
     check
 }
 
-/// Fills words with those that are written over a data field: sync, marks, the mark byte FB, or F8 where the data is
-/// deleted, the content and its check, 18 words and one for each byte of the content.
+/// Fills words with those that are written over a data field: sync, marks, mark byte, content and CRC. The mark byte is
+/// FB, or F8 if the data is deleted. There are 18 words, and one more for each byte of the content.
 pub fn fill_field_words(words: &mut [u16], deleted: bool, content: &[u8])
     requires { length words.old ≡ 18 + length content.now }
     ensures { words.new ≡ window deleted content.now }

@@ -102,7 +102,7 @@ asked_same (Byte byte ∷ rest) h = refl
 asked_same (Key byte ∷ rest) h = absurd (h (byte, refl))
 asked_same (Mark cells ∷ rest) h = refl
 
--- ---- the next symbols, 4E behind the last
+-- ---- the next symbols, with 4E behind the last
 
 filled_enough : (left : List Symbol) (m a b : ℕ) → m ≤ a → m ≤ b → take m (left ++ gap a) ≡ take m (left ++ gap b)
 filled_enough left zero a b h l = refl

@@ -1,4 +1,4 @@
--- A regular formatted track is Aligned, so what is Laid is Tidy for each write.
+-- A regular formatted track is Aligned. So a Laid track is Tidy for each write.
 use Rattle.std.proofs.Common.{◌≡◌, ◌↔◌, ℕ, suc, ◌+◌, ◌*◌, ◌%◌, ◌<◌, ◌≤◌, Bool, false, List, eqb, length, get_or, sym, ap, subst, ◌∙◌, refl, arith}
 use Rattle.std.proofs.lemmas.List.{get_or_default}
 use Rattle.flop_base.specs.declared.key.Chrn.{Chrn}
@@ -31,7 +31,7 @@ module _ (n gap3 fill : ℕ) (keys : List Chrn) (d : Chrn) (words : ℕ) (fits :
   abbrev from : ℕ → ℕ
   from i = 146 + i * sector_words (content_size n) gap3
 
-  -- behind the word of a byte stands its last bit
+  -- after the word of a byte, the last bit is that of the byte
   byte_bit : (j byte : ℕ) → j < words → get_or (cells n gap3 fill keys d words fits) j filler ≡ Byte byte → bit_behind false it (suc j) ≡ last_bit byte
   unfolding bit_behind
   byte_bit j byte h is =
@@ -93,7 +93,7 @@ laid_tidy track p deleted content laid field = aligned_tidy unstopped track p fi
 pub laid_spaced : (track : List ℕ) → IsLaid track → IsSpaced track
 laid_spaced track laid = (laid_aligned track laid).spaced
 
--- it has the address fields of its layout
+-- a Laid track has the address fields of its layout
 pub laid_addresses : (track : List ℕ) (laid : IsLaid track) (q : ℕ) (key : Chrn) → IsAddressAt laid.formatted q key ↔ IsAddressAt track q key
 laid_addresses track laid q key =
     let it = laid.lay in
@@ -106,7 +106,7 @@ lay_regular track keys n gap3 fill words regular =
     subst (λ it. IsRegular it c h) (sym regular.is)
     (read_regular keys n gap3 fill words regular.fits regular.coded regular.bytes regular.asked regular.wide c h regular.room regular.distinct regular.together.2)
 
--- and is regular
+-- a Laid track is regular
 pub laid_regular : (track : List ℕ) → IsLaid track → (c h : ℕ) × IsRegular track c h
 laid_regular track laid =
     let it = laid.lay in
@@ -118,9 +118,9 @@ laid_regular track laid =
       comes_regular laid.formatted laid.writes track c h (lay_aligned laid.formatted it.0 it.1 it.2 it.3 it.4 regular) laid.written (lay_regular laid.formatted it.0 it.1 it.2 it.3 it.4 regular),
     )
 
--- ---- what is Torn
+-- ---- Torn tracks
 
--- what is Laid is
+-- a Laid track is Torn
 pub laid_torn : (track : List ℕ) → IsLaid track → IsTorn track
 laid_torn track laid =
     let it = laid.lay in

@@ -78,14 +78,14 @@ module _ (symbols : List Symbol) (behind : ℕ) where
       let left = place - (17 + length symbols) in
       in_tail place (suc (suc left)) (omega arith) ∙ gap_is behind left
 
-  -- behind all symbols the check is whole
+  -- after all symbols the CRC so far is the whole CRC
   pub check_is : (place check : ℕ) → check < 2 ^ 16 → 15 + length symbols ≤ place → GoesOn place check symbols → check ≡ check_of
   check_is place check fits low goes =
       let bytes = map symbol_byte symbols in
       let all : length bytes ≤ place - 15 = omega (arith, length-map symbols symbol_byte) in
       sym (crc_from_none check fits) ∙ sym (ap (crc_from check) (drop_all (place - 15) bytes all)) ∙ goes (omega arith)
 
-  -- the check goes on over one symbol
+  -- the CRC goes on over one symbol
   pub check_steps : (place check result : ℕ) → 15 ≤ place → place < 15 + length symbols → ((rest : List ℕ) → crc_from check (symbol_byte (get_or field place filler) ∷ rest) ≡ crc_from result rest) → GoesOn place check symbols → GoesOn (place + 1) result symbols
   check_steps place check result low high steps goes = λ l.
       let bytes = map symbol_byte symbols in
@@ -99,7 +99,7 @@ module _ (symbols : List Symbol) (behind : ℕ) where
       ∙ ap (crc_from check) (sym (drop_more bytes (place - 15) 0 within))
       ∙ goes low
 
-  -- and stays behind them
+  -- after all symbols the CRC stays as it is
   pub check_stays : (place check : ℕ) → 15 + length symbols ≤ place → GoesOn place check symbols → GoesOn (place + 1) check symbols
   check_stays place check low goes = λ l.
       let bytes = map symbol_byte symbols in

@@ -23,7 +23,7 @@ symbol_bytes : (size fill : ℕ) → map symbol_byte (replicate size (Byte fill)
 symbol_bytes zero fill = refl
 symbol_bytes (suc size) fill = ap (λ xs. fill ∷ xs) (symbol_bytes size fill)
 
--- two bytes of a check
+-- the two bytes of a CRC
 check_again : (check : ℕ) → 256 * (check / 256) + check % 256 ≡ check
 check_again check = omega arith
 
@@ -180,7 +180,7 @@ module _ (n gap3 fill : ℕ) (keys : List Chrn) (d : Chrn) (words : ℕ) (fits :
   pub first_byte : (i : ℕ) → i < length keys → byte_at laid (data_place i + 48) ≡ 0xFB
   first_byte i h = data_byte_is i 0 (data_place i + 48) (Byte 0xFB) h (omega arith) (omega arith) refl (lit< tt)
 
-  -- behind its check stands a gap
+  -- behind the CRC of the data field stands a gap
   pub gap_byte : (i : ℕ) → i < length keys → 1 ≤ gap3 → byte_at laid (16 * (begin i + 62 + content_size n)) ≡ 0x4E
   gap_byte i h wide =
       let content = data_content (content_size n) fill in

@@ -33,12 +33,12 @@ length-lay keys n gap3 fill words =
     omega (arith, length-recorded false (take words (symbols ++ gap words)), length-take words (symbols ++ gap words), length-append symbols (gap words), length-replicate words (Byte 0x4E))
 
 module _ (keys : List Chrn) (n gap3 fill words : ℕ) (fits : Fits keys n gap3 words) where
-  -- it is Plain
+  -- a formatted track is Plain
   pub read_plain : IsPlain (lay keys n gap3 fill words)
   unfolding lay
   read_plain = plain n gap3 fill keys no_key words fits
 
-  -- it has exactly the asked sectors, each at its place, with the fill
+  -- it has exactly the requested sectors, each at its place, with the fill byte
   pub read_fields : IsSizeCode n → fill < 256 → All (λ key. IsKey key) keys → HasLaidFields (lay keys n gap3 fill words) keys n gap3 fill
   unfolding lay
   read_fields coded fit bytes = record {
@@ -49,13 +49,13 @@ module _ (keys : List Chrn) (n gap3 fill words : ℕ) (fits : Fits keys n gap3 w
     filled = λ i h. content_is n gap3 fill keys no_key words fits i h fit;
   }
 
-  -- with room at its end the sectors keep their distance
+  -- if there is room at its end, the sectors keep their distance
   pub read_spaced : IsSizeCode n → All (λ key. IsKey key) keys → All (λ key. key.n ≡ n) keys → 16 ≤ gap3 → HasEndRoom (length keys) n gap3 words → IsSpaced (lay keys n gap3 fill words)
   unfolding lay
   read_spaced coded bytes asked wide room =
       spaced n gap3 fill keys no_key words fits (λ i h. bytes i no_key h) coded (λ i h. asked i no_key h) wide room
 
-  -- and with distinct keys of one cylinder and head it is regular
+  -- if the keys are also distinct, and of one cylinder and head, the track is regular
   pub read_regular : IsSizeCode n → All (λ key. IsKey key) keys → All (λ key. key.n ≡ n) keys → 16 ≤ gap3 → (c h : ℕ) → HasEndRoom (length keys) n gap3 words → AllPairs (λ a b. a ≢ b) keys → All (λ key. (key.c ≡ c) × (key.h ≡ h)) keys → IsRegular (lay keys n gap3 fill words) c h
   unfolding lay
   read_regular coded bytes asked wide c h room distinct one =
@@ -88,7 +88,7 @@ module _ (keys : List Chrn) (n gap3 fill words : ℕ) (fits : Fits keys n gap3 w
       let address = (read_fields coded fit bytes).each i d h in
       (sector_place n gap3 i, plain_clear track (sector_place n gap3 i) read_plain address.mark, address)
 
-  -- the look at each of its address fields finds the fill
+  -- the look at each address field of a key finds the fill byte
   pub read_filled : IsSizeCode n → fill < 256 → All (λ key. IsKey key) keys → (key : Chrn) → key.n ≡ n → AllFilled track key fill
   read_filled coded fit bytes key sized p address =
       let fields = read_fields coded fit bytes in
@@ -103,7 +103,7 @@ module _ (keys : List Chrn) (n gap3 fill words : ℕ) (fits : Fits keys n gap3 w
   unfolding lay
   read_lone coded p mark = lone n gap3 fill keys no_key words fits p (content_size_least n coded.0) mark
 
-  -- so nothing but the fill is under a key
+  -- so nothing but the fill byte is under a key
   pub read_holds : IsSizeCode n → fill < 256 → All (λ key. IsKey key) keys → (key : Chrn) → key.n ≡ n → HoldsFill track key fill
   read_holds coded fit bytes key sized deleted content (p, q, address, mark, whole) =
       let (place, found, is) = read_filled coded fit bytes key sized p address in

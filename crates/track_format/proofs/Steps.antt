@@ -25,7 +25,7 @@ module _ (part more left : List Symbol) (given : ℕ) (within : given < length p
   pub not_empty : left ≡ [] → ⊥
   not_empty e = let f = sym whole ∙ e in cc f
 
--- behind the last word of a part
+-- after the last word of a part
 pub behind_is : (part more left : List Symbol) (given : ℕ) → length part ≤ given → left ≡ drop given part ++ more → left ≡ more
 behind_is part more left given h e = e ∙ ap (λ xs. xs ++ more) (drop_all given part h)
 
@@ -221,7 +221,7 @@ only_asked Data sectors size gap3 fill place check left other within h =
     not_asked (field_symbols (data_content size fill) gap3) _ left place short h.left_is (no_keys-data size gap3 fill place)
 only_asked End sectors size gap3 fill place check left other within h = end_not_asked left h
 
--- the next part, behind the last word of one
+-- the next part, after the last word of one
 pub next_sector : (sectors size gap3 fill place check : ℕ) (keys : List Chrn) (left : List Symbol) → length keys ≡ sectors → 0 < sectors → left ≡ sectors_symbols size gap3 fill keys → IsInAddress (sectors - 1) size gap3 fill 0 check left
 next_sector sectors size gap3 fill place check [] left count some e = absurd (omega arith)
 next_sector sectors size gap3 fill place check (key ∷ keys) left count some e = record {
@@ -265,7 +265,7 @@ at_end Address sectors size gap3 fill place check left is h = absurd (cc is)
 at_end Data sectors size gap3 fill place check left is h = absurd (cc is)
 at_end End sectors size gap3 fill place check left is h = h
 
--- ---- the symbol that the code takes, and the check behind it
+-- ---- the symbol that the code takes, and the CRC after it
 
 -- what a call for a symbol of a field says
 abbrev pub IsFieldSymbol : Symbol → ℕ → ℕ → Symbol → ℕ → Type 0
@@ -275,7 +275,7 @@ IsFieldSymbol result place count inner check =
     → GoesOn place check symbols
     → result ≡ get_or (field_symbols symbols behind) place filler
 
--- and what a call for the check behind it says
+-- what a call for the CRC after a symbol says
 abbrev pub IsCheckBehind : ℕ → ℕ → ℕ → Symbol → ℕ → Type 0
 IsCheckBehind result place count symbol check =
     (symbols : List Symbol) (behind : ℕ) → length symbols ≡ count

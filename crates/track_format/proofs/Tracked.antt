@@ -70,7 +70,7 @@ module _ (size gap3 fill : ℕ) (keys : List Chrn) (d : Chrn) (words : ℕ) (fit
         | inr past ↦ get_or_past all_symbols k filler (omega (arith, length-all))
       ]
 
-  -- a sector before the end of all
+  -- a sector ends before the end of them all
   pub sector_ends : (i : ℕ) → i < length keys → i * sector_words size gap3 + sector_words size gap3 ≤ length keys * sector_words size gap3
   sector_ends i h =
       let more : suc i ≤ length keys = omega arith in

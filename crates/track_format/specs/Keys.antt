@@ -1,4 +1,4 @@
--- The bytes of keys, as a format asks for them.
+-- The bytes of keys, in the order in which a format asks for them.
 use Rattle.std.specs.Prelude.{ℕ, List, [], ◌∷◌}
 use Rattle.flop_base.specs.declared.key.Chrn.{Chrn}
 use Rattle.track_model.specs.declared.symbol.Symbol.{Symbol}

@@ -10,13 +10,13 @@ use Rattle.track_model.specs.Sectors.{IsClear, IsUnder}
 abbrev pub HasClearField : List ℕ → Chrn → Type 0
 HasClearField track key = (p : ℕ) × IsClear track p × IsAddressAt track p key
 
--- the look at each address field of the key finds data that isn't deleted, all of it the fill
+-- the look at each address field of the key finds data that isn't deleted, and all of the data are the fill byte
 abbrev pub AllFilled : List ℕ → Chrn → ℕ → Type 0
 AllFilled track key fill =
     (p : ℕ) → IsAddressAt track p key
     → (place : ℕ) × LookAt track p key.n (Found false place) × (content_at track place key.n ≡ replicate (content_size key.n) fill)
 
--- whatever stands whole behind an address field of the key isn't deleted, and is the fill
+-- whatever stands whole behind an address field of the key isn't deleted, and all of it is the fill byte
 abbrev pub HoldsFill : List ℕ → Chrn → ℕ → Type 0
 HoldsFill track key fill =
     (deleted : Bool) (content : List ℕ) → IsUnder track key deleted content

@@ -12,7 +12,7 @@ spelled_part Address rest = 1 ∷ rest
 spelled_part Data rest = 2 ∷ rest
 spelled_part End rest = 3 ∷ rest
 
--- a layout: what it lays, and where it is
+-- a layout: what it lays out, and how far it is
 unfoldable pub spelled_stream : FormatStream → List ℕ → List ℕ
 spelled_stream stream rest =
     spelled_word stream.size (spelled_byte stream.gap3 (spelled_byte stream.fill (spelled_count stream.sectors

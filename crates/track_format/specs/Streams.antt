@@ -10,7 +10,7 @@ use Rattle.track_format.specs.declared.stream.Part.{Part}
 use Rattle.track_format.specs.declared.stream.Part.TheVariants.{Start, Address, Data, End}
 use Rattle.track_format.specs.declared.stream.FormatStream.{FormatStream}
 
--- from its first byte on, the check of a field goes on over the bytes that are left
+-- from the first byte of a field on, the CRC so far goes on over the bytes that are left, and comes to the field's CRC
 abbrev pub GoesOn : ℕ → ℕ → List Symbol → Type 0
 GoesOn place check symbols =
     15 ≤ place → crc_from check (drop (place - 15) (map symbol_byte symbols)) ≡ crc (after_marks (map symbol_byte symbols))
@@ -50,21 +50,21 @@ IsInPart Address sectors size gap3 fill given check left = IsInAddress sectors s
 IsInPart Data sectors size gap3 fill given check left = IsInData sectors size gap3 fill given check left
 IsInPart End sectors size gap3 fill given check left = left ≡ []
 
--- how many words a part has; gap 4b is given word by word
+-- how many words a part has; gap 4b is given one word at a time, so it counts as one word
 abbrev pub words_of_part : Part → ℕ → ℕ → ℕ
 words_of_part Start size gap3 = 146
 words_of_part Address size gap3 = 44
 words_of_part Data size gap3 = 18 + size + gap3
 words_of_part End size gap3 = 1
 
--- after a bit `last` the stream gives the words of these symbols, whose key bytes are those that it will be handed, and
--- then 4E for ever
+-- after a bit `last`, the stream gives the words of these symbols, and then 4E for ever; their key bytes are those that
+-- the stream will be handed
 pub record Gives (stream : FormatStream) (last : Bool) (left : List Symbol) : Type 0 where
   pub bit : stream.last ≡ last
   pub within : stream.place < words_of_part stream.part stream.size stream.gap3
   pub part : IsInPart stream.part stream.sectors stream.size stream.gap3 stream.fill stream.place stream.check left
 
--- the next symbols, so many, with bytes 4E behind the last of those that are left
+-- the next symbols, so many of them; bytes 4E stand behind the last of those that are left
 abbrev pub filled : ℕ → List Symbol → List Symbol
 filled count left = take count (left ++ gap count)
 
@@ -72,6 +72,6 @@ filled count left = take count (left ++ gap count)
 abbrev pub AsksKey : List Symbol → Type 0
 AsksKey left = (key : ℕ) × (next_symbol left ≡ Key key)
 
--- where the next symbol is a byte of a key, it is this
+-- if the next symbol is a byte of a key, it is this byte
 abbrev pub KeyIs : List Symbol → ℕ → Type 0
 KeyIs left byte = (key : ℕ) → next_symbol left ≡ Key key → byte ≡ key

@@ -18,7 +18,7 @@ const LEAST_GAP: u8 = 16;
 /// The words that gap 3 and gap 4b must have together.
 const LEAST_END: usize = 27;
 
-/// Whether so many sectors of size code `n` fit on a track of `words` words.
+/// Whether `sectors` sectors of size code `n` fit on a track of `words` words.
 pub(crate) fn fits(sectors: usize, n: u8, gap3: u8, words: usize) -> bool
     requires at_least { 1 ≤ n }
     requires at_most { n ≤ 6 }
@@ -28,7 +28,7 @@ pub(crate) fn fits(sectors: usize, n: u8, gap3: u8, words: usize) -> bool
     START_WORDS <= words && sectors <= (words - START_WORDS) / sector
 }
 
-/// Whether so many sectors fit, and a data field that is written over has room behind the last of them.
+/// Whether `sectors` sectors fit, and there is room behind the last of them for a write over its data field.
 fn suits(n: u8, sectors: u8, words: usize, gap3: u8) -> bool
     requires at_least { 1 ≤ n }
     requires at_most { n ≤ 6 }
@@ -44,8 +44,9 @@ fn suits(n: u8, sectors: u8, words: usize, gap3: u8) -> bool
     gap + (words - laid) >= LEAST_END
 }
 
-/// The largest gap 3, in bytes, with which a track of so many sectors of size code `n` can be formatted, so that each
-/// can be written over: from 16 to the standard one of the rate. Nothing where no such gap leaves room.
+/// The largest gap 3, in bytes, with which a track of `sectors` sectors of size code `n` can be formatted, and each
+/// sector can then be written over. It is at least 16, and at most the standard gap of the rate. The result is `None`
+/// if no such gap leaves room.
 pub fn choose_gap(n: u8, sectors: u8, rate: Rate) -> Option<u8>
     requires at_least { 1 ≤ n }
     requires at_most { n ≤ 6 }

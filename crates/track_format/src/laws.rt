@@ -1,4 +1,4 @@
-// What is read on a formatted track, and what a torn write leaves of one.
+// What a read finds on a formatted track, and what a torn write leaves of one.
 ghost use Rattle.std.specs.Prelude.{◌≡◌, ◌≢◌, ◌≤◌, ◌↔◌, ℕ, length, All, AllPairs, Contains};
 ghost use Rattle.flop_base.specs.declared.key.Chrn.{Chrn};
 ghost use Rattle.track_model.specs.Marks.{IsAddressMark};
@@ -14,9 +14,9 @@ ghost use Rattle.track_format.specs.Reads.{HasClearField, AllFilled, HoldsFill};
 
 use flop_base::Chrn;
 
-/// A formatted track has exactly the asked sectors, each at its place and whole. Where its end has room for a write
-/// over the last data field, the sectors keep their distance, and where the keys are distinct too and of one cylinder
-/// and head, the track is regular.
+/// A formatted track has exactly the requested sectors, each at its place and whole. If its end has room for a write
+/// over the last data field, the sectors keep their distance. If the keys are also distinct, and of one cylinder and
+/// head, the track is regular.
 pub fn lay_reads(_keys: &[Chrn], _n: u8, _gap3: u8, _fill: u8, _words: usize)
     requires at_least { 1 ≤ _n }
     requires at_most { _n ≤ 6 }
@@ -33,9 +33,9 @@ pub fn lay_reads(_keys: &[Chrn], _n: u8, _gap3: u8, _fill: u8, _words: usize)
         → IsRegular (lay _keys.now _n _gap3 _fill _words) c h }
 {}
 
-/// On a formatted track each asked key has a Clear address field, and no other key has any. The look at each address field
-/// of a key of the asked size finds data that isn't deleted, all of it the fill, and no other data mark is near, so nothing
-/// else is under the key.
+/// On a formatted track each requested key has a Clear address field, and no other key has one. The look at each
+/// address field of a key of the requested size finds data that isn't deleted, and all of the data are the fill byte.
+/// No other data mark is near, so nothing else is under the key.
 pub fn laid_keys_are_found(_keys: &[Chrn], _n: u8, _gap3: u8, _fill: u8, _words: usize)
     requires at_least { 1 ≤ _n }
     requires at_most { _n ≤ 6 }
@@ -50,8 +50,8 @@ pub fn laid_keys_are_found(_keys: &[Chrn], _n: u8, _gap3: u8, _fill: u8, _words:
     ensures holds { (key : Chrn) → key.n ≡ _n → HoldsFill (lay _keys.now _n _gap3 _fill _words) key _fill }
 {}
 
-/// On a Laid track, a regular formatted track or what comes from one by whole windows, no write at the place of an
-/// address field brings up an address mark, however short it stops.
+/// A Laid track is a regular formatted track, or comes from one by writes of whole windows. On such a track, no write
+/// at the place of an address field brings up an address mark, however early the write stops.
 #[tactic(auto, using(crate::proofs::Laid::laid_tidy))]
 pub fn laid_is_tidy(_words: &[u16], _place: usize, _deleted: bool, _content: &[u8])
     requires laid { IsLaid _words.now }
@@ -59,8 +59,8 @@ pub fn laid_is_tidy(_words: &[u16], _place: usize, _deleted: bool, _content: &[u
     ensures { IsTidy _words.now _place _deleted _content.now }
 {}
 
-/// A Laid track keeps the distances of its sectors and is regular, for the cylinder and head of its keys. Its address
-/// fields are those of the formatted track that it comes from.
+/// A Laid track keeps the distances of its sectors, and it is regular for the cylinder and head of its keys. Its
+/// address fields are those of the formatted track that it comes from.
 pub fn laid_is_regular(_words: &[u16])
     requires { IsLaid _words.now }
     ensures spaced { IsSpaced _words.now }
@@ -69,8 +69,9 @@ pub fn laid_is_regular(_words: &[u16])
         → IsAddressAt laid.formatted q key ↔ IsAddressAt _words.now q key }
 {}
 
-/// On a Torn track, what comes from a regular formatted track by writes that may stop anywhere, but none short of one before
-/// it at its place that stopped, no write brings up an address mark, however short it stops.
+/// A Torn track comes from a regular formatted track by writes that may stop anywhere. One case is excluded: a write
+/// that stops earlier than the last write before it at its place did, if that one was interrupted. On a Torn track, no
+/// write brings up an address mark, however early the write stops.
 #[tactic(auto, using(crate::proofs::Laid::torn_tidy))]
 pub fn torn_is_tidy(_words: &[u16], _place: usize, _deleted: bool, _content: &[u8])
     requires torn { IsTorn _words.now }
@@ -85,7 +86,7 @@ pub fn laid_is_torn(_words: &[u16])
     ensures { IsTorn _words.now }
 {}
 
-/// A Torn track is regular, with the address fields of the formatted track that it comes from.
+/// A Torn track is regular, and its address fields are those of the formatted track that it comes from.
 pub fn torn_is_regular(_words: &[u16])
     requires { IsTorn _words.now }
     ensures spaced { IsSpaced _words.now }

@@ -15,13 +15,13 @@ use crate::symbols::{
 use flop_base::sector_size;
 use track_model::Symbol;
 
-/// The words of an address field and gap 2.
+/// The words of an address field with gap 2.
 const ADDRESS_WORDS: usize = 44;
 
 /// The words of a data field without its content and gap 3.
 const DATA_WORDS: usize = 18;
 
-/// The bytes of an address field before its check: its mark byte and the key.
+/// The bytes of an address field before its CRC: its mark byte and the key.
 const ADDRESS_BYTES: usize = 5;
 
 /// The parts of a track.
@@ -39,25 +39,25 @@ enum Part {
 
 /// The words of a formatted track one by one, and then the word of 4E for ever.
 ///
-/// The keys of the address fields are handed in byte by byte, where they are asked for.
+/// The keys of the address fields are handed in byte by byte, when they are asked for.
 #[derive(Clone, Copy)]
 pub struct FormatStream {
     size: u16,
     gap3: u8,
     fill: u8,
-    // the sectors that are not begun
+    // the sectors that haven't begun
     sectors: usize,
     part: Part,
-    // the words of the part that were given
+    // how many words of the part were given
     place: usize,
-    // the check of the field so far
+    // the CRC of the field so far
     check: u16,
     last: bool,
 }
 
 impl FormatStream {
-    /// The track of so many sectors of size code `n` (IBM System 34), whose content is `fill` bytes, with `gap3` bytes
-    /// behind each.
+    /// The track of `sectors` sectors of size code `n` (IBM System 34). Their content is `fill` bytes, with `gap3`
+    /// bytes 4E behind each sector.
     pub fn new(n: u8, sectors: u8, gap3: u8, fill: u8) -> FormatStream
         requires at_least { 1 ≤ n }
         requires at_most { n ≤ 6 }
@@ -67,7 +67,7 @@ impl FormatStream {
         FormatStream::of_sectors(n, usize::from(sectors), gap3, fill)
     }
 
-    /// The same for any number of sectors.
+    /// The track of `sectors` sectors as with `new`, for any number of sectors.
     pub(crate) fn of_sectors(n: u8, sectors: usize, gap3: u8, fill: u8) -> FormatStream
         requires at_least { 1 ≤ n }
         requires at_most { n ≤ 6 }
@@ -86,7 +86,7 @@ impl FormatStream {
         }
     }
 
-    /// Whether the next word is a byte of the key of an address field, which `next` is to be handed.
+    /// Whether the next word is a byte of the key of an address field. `next` has to be handed that byte.
     pub fn needs_byte(&self) -> bool
         ensures { (last : Bool) (left : List Symbol) → Gives self.now last left
             → IsTrue result ↔ AsksKey left }
@@ -105,7 +105,7 @@ impl FormatStream {
         matches!(self.part, Part::End)
     }
 
-    /// The next word. Where `needs_byte` says so, `byte` is the byte that it records; elsewhere it isn't used.
+    /// The next word. If `needs_byte` says that a byte is needed, the word records `byte`; otherwise `byte` isn't used.
     pub fn next(&mut self, byte: u8) -> u16
         ensures { (last : Bool) (left : List Symbol) → Gives self.old last left → KeyIs left byte
             → (result ≡ word_after last (next_symbol left))
@@ -143,7 +143,7 @@ impl FormatStream {
         }
     }
 
-    // The check behind the next symbol.
+    // The CRC after the next symbol.
     fn next_check(&self, symbol: Symbol) -> u16
         ensures { (last : Bool) (left : List Symbol) → Gives self.now last left
             → symbol ≡ next_symbol left
@@ -170,7 +170,7 @@ impl FormatStream {
         }
     }
 
-    // Goes on to the next word, and behind the last word of a part to the next part.
+    // Goes on to the next word, and after the last word of a part to the next part.
     fn advance(&mut self)
         ensures { (left : List Symbol)
             → self.old.place < words_of_part self.old.part self.old.size self.old.gap3

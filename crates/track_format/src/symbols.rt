@@ -70,8 +70,8 @@ fn byte_of(symbol: Symbol) -> u8
     }
 }
 
-/// What stands at a place of a field of `count` symbols: `inner` is the one at that place, if any, and `check` is so
-/// far the check over those before.
+/// What stands at a place of a field of `count` symbols. `inner` is the symbol at that place, if the place is one of
+/// these symbols. `check` is the CRC so far, over the symbols before the place.
 pub(crate) fn field_symbol(place: usize, count: usize, inner: Symbol, check: u16) -> Symbol
     requires { count < 2 ^ 32 }
     ensures { (symbols : List Symbol) (behind : ℕ) → length symbols ≡ count
@@ -96,7 +96,7 @@ pub(crate) fn field_symbol(place: usize, count: usize, inner: Symbol, check: u16
     }
 }
 
-/// The check of a field of `count` symbols behind a place.
+/// The CRC so far of a field of `count` symbols, after the symbol at a place.
 pub(crate) fn check_behind(place: usize, count: usize, symbol: Symbol, check: u16) -> u16
     requires { count < 2 ^ 32 }
     ensures { (symbols : List Symbol) (behind : ℕ) → length symbols ≡ count

@@ -17,7 +17,7 @@ pub enum LayoutError {
     /// The sectors and what stands before them are longer than the track.
     #[error("the sectors don't fit on the track")]
     DoesNotFit,
-    /// Memory couldn't be had.
+    /// There wasn't enough memory.
     #[error("no memory")]
     NoMemory,
 }
@@ -38,8 +38,8 @@ impl<T: Drop> From<AllocFailed<T>> for LayoutError {
     }
 }
 
-/// Fills the words of a track with those of a formatted one (IBM System 34), from the index on, with a sector of size code
-/// `n` and `gap3` bytes 4E for each key. What is longer than the track is left out.
+/// Fills the words of a track with those of a formatted one (IBM System 34), from the index on. The formatted track has
+/// a sector of size code `n` and `gap3` bytes 4E for each key. What doesn't fit on the track is left out.
 pub fn fill_layout(words: &mut [u16], keys: &[Chrn], n: u8, gap3: u8, fill: u8)
     requires at_least { 1 ≤ n }
     requires at_most { n ≤ 6 }
@@ -57,8 +57,8 @@ pub fn fill_layout(words: &mut [u16], keys: &[Chrn], n: u8, gap3: u8, fill: u8)
     }
 }
 
-/// The `words` words of a formatted track (IBM System 34), from the index on, with a sector of size code `n` and `gap3`
-/// bytes 4E for each key.
+/// The `words` words of a formatted track (IBM System 34), from the index on. The track has a sector of size code `n`
+/// and `gap3` bytes 4E for each key.
 pub fn layout(
     alloc: Global,
     keys: &[Chrn],
@@ -80,7 +80,7 @@ pub fn layout(
     Ok(track)
 }
 
-/// Byte `i` of the keys one after the other, 0 behind the last.
+/// Byte `i` of the keys, which stand one after the other; 0 after the last byte.
 fn key_byte(keys: &[Chrn], i: usize) -> u8
     ensures { result ≡ slice_index (flat_map key_bytes keys.now) i }
 {

@@ -1,4 +1,5 @@
--- Tracks on which each data field stands word by word where its window does: no cut of a window brings up an address mark.
+-- Tracks on which each data field stands word by word where its window does: no cut of a window makes a new address
+-- mark.
 use Rattle.std.proofs.Common.{◌≡◌, ◌≢◌, ℕ, ◌+◌, ◌-◌, ◌*◌, ◌<◌, ◌≤◌, Bool, true, false, List, [], ◌∷◌, ◌++◌, length, get_or, take, refl, sym, ap, subst, ◌∙◌, ◌⊎◌, arith, inl, inr}
 use Rattle.std.proofs.lemmas.Bool.{cases_eq, cases_lt, cases_order}
 use Rattle.std.proofs.lemmas.List.{length-take}
@@ -49,7 +50,7 @@ no_address_byte true e = omega (arith, e)
 
 -- ---- the words of a window
 
--- marks are three of them
+-- a mark in these words is one of three words
 window_mark : (deleted : Bool) (content : List ℕ) (j : ℕ) → j < length (window deleted content) → get_or (window deleted content) j 0 ≡ 0x4489 → (12 ≤ j) × (j ≤ 14)
 window_mark deleted content j h e =
     let words = window deleted content in
@@ -60,7 +61,7 @@ window_mark deleted content j h e =
     let high = found.1 in
     (omega arith, omega arith)
 
--- and behind them stands the byte of a data field
+-- behind these three words stands the byte of a data field
 window_byte : (deleted : Bool) (content track : List ℕ) (i : ℕ) → get_or track i 0 ≡ get_or (window deleted content) 15 0 → byte_at track (16 * i) ≡ data_byte deleted
 window_byte deleted content track i same =
     let words = window deleted content in
@@ -190,7 +191,7 @@ module _ (stops : ℕ → ℕ) (track : List ℕ) (p : ℕ) (key : Chrn) (delete
               ]
         ]
 
-  -- so each write is Tidy
+  -- each write is Tidy
   pub aligned_tidy : IsTidy track p deleted content
   aligned_tidy k q cuttable mark = old_mark k cuttable.most cuttable.inside q mark
 
@@ -200,7 +201,7 @@ module _ (stops : ℕ → ℕ) (track : List ℕ) (p : ℕ) (key : Chrn) (delete
   pub room : here + length words ≤ length track
   room = let inside = aligned.spaced.spans.inside p key field.address in omega (arith, long)
 
-  -- ---- what a write leaves that goes at least as far as the one before it there
+  -- ---- what a write leaves if it goes at least as far as the one before it at the same place
 
   module _ (k : ℕ) (most : k ≤ length words) (over : stops p ≤ k) (later : ℕ → ℕ) (others : (q : ℕ) → q ≢ p → later q ≡ stops q) (own : (later p ≡ k) ⊎ ((k ≡ length words) × (later p ≡ 0))) where
     abbrev left : List ℕ
@@ -295,7 +296,7 @@ module _ (track : List ℕ) (p : ℕ) (key : Chrn) (deleted : Bool) (content : L
   pub whole_keeps : KeepsOthers track (cut_of track p (length (window deleted content)) (window deleted content)) p
   whole_keeps = cut_keeps unstopped track p key deleted content aligned field (length (window deleted content)) all
 
-  -- a whole window leaves a track where no write stopped one
+  -- if no write stopped on a track, this also holds after a whole window
   pub whole_aligned : IsAligned unstopped (cut_of track p (length (window deleted content)) (window deleted content))
   whole_aligned =
       cut_aligned unstopped track p key deleted content aligned field (length (window deleted content)) all (omega arith) unstopped (λ q h. refl) (inr (refl, refl))

@@ -14,7 +14,7 @@ unfolding bits
 length-bits zero x = refl
 length-bits (suc n) x = ap suc (length-bits n x)
 
--- a number's low bits are those of what is below them
+-- the low bits of a number don't depend on what stands above them
 pub bits_low : (k n a r : ℕ) → k ≤ n → bits k (a * 2 ^ n + r) ≡ bits k r
 unfolding bits
 bits_low zero n a r h = refl

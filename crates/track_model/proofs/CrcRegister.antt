@@ -80,7 +80,7 @@ zeros_invert (suc n) (b ∷ row) = ap (λ r. b ∷ r) (zeros_invert n row)
 
 -- ---- the register
 
--- the polynomial behind its first one
+-- the polynomial without its first bit, a 1
 abbrev pub low : List Bool
 low = bits 16 0x1021
 
@@ -118,7 +118,7 @@ unfolding after
 after-append [] b register = refl
 after-append (bit ∷ a) b register = after-append a b (shifted register bit)
 
--- where a step finds a one
+-- a step that finds a 1
 one_step : (row tail : List Bool) → length row ≡ 15 → invert low (invert row tail) ≡ invert (invert low (row ++ false ∷ [])) tail
 one_step row tail e =
     let long : length low ≡ length (row ++ false ∷ []) = omega (arith, length-low, length-append row (false ∷ [])) in

@@ -79,11 +79,11 @@ no_more : (register : List Bool) → number_in (after register (row_of [])) ≡ 
 unfolding row_of after
 no_more register = refl
 
--- with no bytes behind it a CRC stays
+-- a CRC that is followed by no bytes stays the same
 pub crc_from_none : (check : ℕ) → check < 2 ^ 16 → crc_from check [] ≡ check
 crc_from_none check h = crc_from-after check [] ∙ no_more (bits 16 check) ∙ number_in-bits_below 16 check h
 
--- the CRC of bytes is all that what follows them depends on
+-- bytes affect what follows them by their CRC alone
 pub crc_from-append : (preset : ℕ) (bytes rest : List ℕ) → crc_from preset (bytes ++ rest) ≡ crc_from (crc_from preset bytes) rest
 crc_from-append preset bytes rest =
     let register = after (bits 16 preset) (row_of bytes) in
@@ -95,7 +95,7 @@ crc_from-append preset bytes rest =
     ∙ sym (ap (λ r. number_in (after r (row_of rest))) back)
     ∙ sym (crc_from-after (crc_from preset bytes) rest)
 
--- bytes that follow two or more go on from their CRC
+-- the CRC of two or more bytes and of more after them goes on from the CRC of the first
 pub crc-append : (bytes rest : List ℕ) → 2 ≤ length bytes → crc (bytes ++ rest) ≡ crc_from (crc bytes) rest
 crc-append bytes rest h =
     let long : 2 ≤ length (bytes ++ rest) = omega (arith, length-append bytes rest) in
@@ -153,7 +153,7 @@ module _ (check byte : ℕ) where
       ∙ invert-append (bits 8 (check / 2 ^ 8)) (bits 8 check) (bits 8 byte) zeros same
       ∙ ap (λ r. r ++ invert (bits 8 check) zeros) (invert-bits 8 (check / 2 ^ 8) byte)
 
-  -- what meets leaves the table's entry, as if the lower eight bits were not there
+  -- the bits that meet leave the table's entry, as if the lower eight bits were not there
   after_byte : after (bits 16 check) (bits 8 byte) ≡ invert (after zeros (bits 8 index)) (invert (bits 8 check) zeros)
   after_byte =
       sym (divided-zeros (bits 8 byte) (bits 16 check) (length-bits 16 check))
@@ -179,7 +179,7 @@ module _ (check byte : ℕ) where
       ∙ ap number_in byte_step
       ∙ number_in-bits_below 16 (bit_xor entry moved) fits
 
--- the CRC after one more byte, by what each index alone leaves
+-- the CRC after one more byte, computed from what each index alone leaves
 pub crc_from-cons : (check byte : ℕ) (rest : List ℕ) → crc_from check (byte ∷ rest) ≡ crc_from (bit_xor (check * 2 ^ 8 % 2 ^ 16) (crc_from 0 (bit_xor (check / 2 ^ 8) byte ∷ []))) rest
 unfolding index moved
 crc_from-cons check byte rest =

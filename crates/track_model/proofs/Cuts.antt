@@ -106,7 +106,7 @@ module _ (track : List ℕ) (p : ℕ) (key : Chrn) (words : List ℕ) (k : ℕ) 
             ]
       ]
 
-  -- behind a whole window it begins behind it
+  -- if the whole window was put in, the address mark begins behind the window
   whole_mark_place : k ≡ length words → (m : ℕ) → IsAddressMark (cut_of track p k words) m → p + 160 ≤ m → window_end p key.n ≤ m
   whole_mark_place all m mark low =
       let long = over.long in

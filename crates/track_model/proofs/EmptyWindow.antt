@@ -18,7 +18,7 @@ one_gap : legal false (0x4E ∷ []) ≡ 0x9254 ∷ []
 unfolding legal number
 one_gap = refl
 
--- 9254 is 4E after a 0, and ends by a 0
+-- 9254 is 4E after a 0, and ends with a 0
 gaps_are : (count : ℕ) → legal false (replicate count 0x4E) ≡ replicate count 0x9254
 gaps_are zero = legal-nil false
 gaps_are (suc count) =

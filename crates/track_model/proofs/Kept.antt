@@ -36,7 +36,7 @@ damaged_all deleted content =
     let check = bit_xor (crc (after_marks (data_byte deleted ∷ content))) 1 in
     omega (arith, length-marked (data_byte deleted ∷ (content ++ check_bytes check)), length-append content (check_bytes check))
 
--- where no address mark came up
+-- what holds if no new address mark came up
 kept : (track : List ℕ) (p : ℕ) (key : Chrn) (words : List ℕ) (k : ℕ) → IsSpaced track → IsAddressAt track p key → IsOverlay words key.n → k ≤ length words → ((m : ℕ) → IsAddressMark (cut_of track p k words) m → IsAddressMark track m) → KeepsOthers track (cut_of track p k words) p
 kept track p key words k spaced here over most old = record {
   spaced = kept_spaced track p key words k spaced here over most old;

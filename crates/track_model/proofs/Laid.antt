@@ -13,14 +13,15 @@ pub lay_laid : (track : List ℕ) (keys : List Chrn) (n gap3 fill words : ℕ) �
 lay_laid track keys n gap3 fill words regular =
     record { formatted = track; lay = (keys, n, gap3, fill, words, regular); writes = []; written = refl }
 
--- one write more behind the others
+-- one more write after the others
 comes_more : (track : List ℕ) (writes : List FieldWrite) (after : List ℕ) (p : ℕ) (deleted : Bool) (content : List ℕ) → ComesBy track writes after → HasFieldFor after p content → ComesBy track (writes ++ record { place = p; deleted = deleted; content = content } ∷ []) (with_window after p deleted content)
 comes_more track [] after p deleted content same field =
     subst (λ it. HasFieldFor it p content × (with_window after p deleted content ≡ with_window it p deleted content)) same (field, refl)
 comes_more track (write ∷ writes) after p deleted content (first, rest) field =
     (first, comes_more (with_window track write.place write.deleted write.content) writes after p deleted content rest field)
 
--- a Laid track with a whole window at the place of an address field, whose size its content has, is Laid
+-- a Laid track with a whole window at the place of an address field is Laid, if the content has the size that the field
+-- names
 pub written_laid : (track : List ℕ) (p : ℕ) (deleted : Bool) (content : List ℕ) → IsLaid track → HasFieldFor track p content → IsLaid (with_window track p deleted content)
 written_laid track p deleted content laid field = record {
   formatted = laid.formatted;
@@ -29,7 +30,7 @@ written_laid track p deleted content laid field = record {
   written = comes_more laid.formatted laid.writes track p deleted content laid.written field;
 }
 
--- what comes from an Aligned track is Aligned
+-- what comes from an Aligned track by such writes is Aligned
 pub comes_aligned : (track : List ℕ) (writes : List FieldWrite) (after : List ℕ) → IsAligned unstopped track → ComesBy track writes after → IsAligned unstopped after
 comes_aligned track [] after aligned same = subst (IsAligned unstopped) (sym same) aligned
 comes_aligned track (write ∷ writes) after aligned (field, rest) =
@@ -46,7 +47,7 @@ comes_addresses track (write ∷ writes) after aligned (field, rest) q key =
     let more = comes_addresses (with_window track write.place write.deleted write.content) writes after (whole_aligned track write.place field.0 write.deleted write.content aligned field.1) rest q key in
     (λ a. more.0 (here.0 a), λ a. here.1 (more.1 a))
 
--- and is regular where the track is
+-- and it is regular if the track is
 pub comes_regular : (track : List ℕ) (writes : List FieldWrite) (after : List ℕ) (c h : ℕ) → IsAligned unstopped track → ComesBy track writes after → IsRegular track c h → IsRegular after c h
 comes_regular track [] after c h aligned same regular = subst (λ it. IsRegular it c h) (sym same) regular
 comes_regular track (write ∷ writes) after c h aligned (field, rest) regular =

@@ -76,7 +76,8 @@ no_gap last bytes c odd inside before after =
     let shifted = bit_before-suc last bytes (i + 1) i refl in
     omega (arith, first, second, between, shifted)
 
--- the mark A1 lacks a clock: between the cells 9 and 11 from an even place, and between the cells 2 and 4 from an odd one
+-- the mark A1 lacks a clock. It is between the cells 9 and 11 from an even place, and between the cells 2 and 4 from an
+-- odd one
 pub no_mark : (last : Bool) (bytes : List ℕ) (p : ℕ) → p + 16 ≤ 16 * length bytes → cells_at (legal last bytes) p ≡ 0x4489 → ⊥
 no_mark last bytes p inside e =
     let track = legal last bytes in
@@ -163,7 +164,7 @@ legal_cell-back last byte rest c d h =
           legal_cell-data last (byte ∷ rest) c i place ∙ bit ∙ sym (legal_cell-data (last_bit byte) rest d m behind)
     ]
 
--- the words of bytes are that of the first, and those of the rest after its last bit
+-- the words of bytes are the word of the first byte, and those of the rest after its last bit
 pub legal-cons : (last : Bool) (byte : ℕ) (rest : List ℕ) → legal last (byte ∷ rest) ≡ legal last (byte ∷ []) ++ legal (last_bit byte) rest
 legal-cons last byte rest =
     let one = length-legal last (byte ∷ []) in
@@ -206,7 +207,7 @@ byte_at-legal last bytes p k e h fits =
     ∙ ap (λ w. bit_at (get_or bytes w 0) (7 - (8 * k + i) % 8)) word
     ∙ ap (λ j. bit_at (get_or bytes k 0) (7 - j)) place)
 
--- the last bit of bytes, or the bit before them where there are none
+-- the last bit of bytes, or the bit before them if there are none
 unfoldable pub last_of : Bool → List ℕ → Bool
 last_of last [] = last
 last_of last (byte ∷ rest) = last_of (last_bit byte) rest

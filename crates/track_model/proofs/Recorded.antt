@@ -42,7 +42,8 @@ AreWords Seam first track = (k : ℕ) → k < length track → IsWord Seam first
 abbrev pub Nowhere : ℕ → Type 0
 Nowhere k = ⊥
 
--- of three words one after the other some word is no seam, or the third has another second bit than a run needs there
+-- of three words one after the other, one is no seam, or the second bit of the third isn't the one that a run needs
+-- there
 abbrev pub AreSparse : (ℕ → Type 0) → List ℕ → Type 0
 AreSparse Seam track = (k : ℕ) → Seam k → Seam (k + 1) → Seam (k + 2) → cell track (16 * (k + 2) + 3) ≡ 0 → ⊥
 
@@ -131,7 +132,7 @@ behind_zero first track e (suc j) place later before =
     let bit = sym (cell_in track (e - 1) j 15 low (lit< tt) ∙ bit_at_lowest (get_or track j 0)) ∙ before in
     ne_eqb (get_or track j 0 % 2) 1 (λ z. omega (arith, bit, z))
 
--- so a lost clock tells the mark that it stands in, or is the first cell of a seam
+-- a lost clock determines the mark that it stands in, or it is the first cell of a seam
 pub lost_mark : (Seam : ℕ → Type 0) (first : Bool) (track : List ℕ) (e k c : ℕ) → AreWords Seam first track → k < length track → e ≡ 16 * k + c → c < 16 → IsLost track e → ((c ≡ 10) × (get_or track k 0 ≡ 0x4489)) ⊎ (((c ≡ 8) × (get_or track k 0 ≡ 0x5224)) ⊎ ((c ≡ 0) × Seam k))
 lost_mark Seam first track e k c words within place small lost =
     elim (words k within) [
@@ -438,7 +439,7 @@ byte_word_no_mark last byte e =
     let fits : get_or (legal last bytes) 0 0 < 2 ^ 16 = omega (arith, e) in
     no_mark last bytes 0 (lit≤ tt) (cells_at-word (legal last bytes) 0 0 refl fits ∙ e)
 
--- and no zero word: a bit and its clock, or the clock behind it, hold a 1
+-- and it is no zero word: a bit and its clock, or the clock behind it, hold a 1
 byte_word_some : (last : Bool) (byte : ℕ) → byte_word last byte ≡ 0 → ⊥
 byte_word_some last byte e =
     let bytes = byte ∷ [] in

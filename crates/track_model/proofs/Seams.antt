@@ -1,4 +1,5 @@
--- Aligned tracks: where they have seams, and that no run has its lost clocks there, also behind one write more that stopped.
+-- Aligned tracks and where they have seams. No run has its lost clocks in seams, not even after one more write that
+-- stopped.
 use Rattle.std.proofs.Common.{◌≡◌, ℕ, ◌+◌, ◌*◌, ◌<◌, ◌≤◌, Bool, false, List, refl, sym, ap, subst, ◌∙◌, ◌⊎◌, lit<, arith, inl, inr}
 use Rattle.std.proofs.lemmas.Bool.{cases_lt, cases_order}
 use Rattle.std.specs.Int.{bit_at}
@@ -20,14 +21,14 @@ pub record IsAlignedAt (track : List ℕ) (start : ℕ) : Type 0 where
   pub deleted : Bool
   pub byte : byte_at track (16 * (start + 15)) ≡ data_byte deleted
 
--- word k is the first behind the window of an address field, or behind what a write left there that stopped
+-- word k is the first behind the window of an address field, or the first behind what a write left there that stopped
 pub record IsSeam (stops : ℕ → ℕ) (track : List ℕ) (k : ℕ) : Type 0 where
   pub place : ℕ
   pub key : Chrn
   pub address : IsAddressAt track place key
   pub word : (k ≡ window_word place + window_words key.n) ⊎ (k ≡ window_word place + stops place)
 
--- Aligned: a Spaced track of recorded words with these seams alone, and a byte 4E behind each window
+-- Aligned: a Spaced track of recorded words that has only these seams, and a byte 4E behind each window
 pub record IsAligned (stops : ℕ → ℕ) (track : List ℕ) : Type 0 where
   pub spaced : IsSpaced track
   pub words : AreWords (IsSeam stops track) false track
@@ -39,7 +40,7 @@ pub record IsAligned (stops : ℕ → ℕ) (track : List ℕ) : Type 0 where
 abbrev pub unstopped : ℕ → ℕ
 unstopped p = 0
 
--- ---- of three places one after the other, among three, the last is the greatest
+-- ---- if each of three rising offsets is one of three numbers, the last offset is the greatest of these numbers
 
 abbrev IsOneOf : ℕ → ℕ → ℕ → ℕ → Type 0
 IsOneOf all stop k offset = (offset ≡ all) ⊎ ((offset ≡ stop) ⊎ (offset ≡ k))
@@ -129,7 +130,7 @@ module _ (stops : ℕ → ℕ) (track : List ℕ) (aligned : IsAligned stops tra
     in_window i (inr e) =
         record { place = p; key = key; address = address; offset = k; word = e; small = most; one = inr (inr refl) }
 
-    -- where three words one after the other are such, the third is the first behind a window, and a byte 4E
+    -- if three words one after the other are such, the third is the first behind a window, and a byte 4E
     pub sparse : (after : List ℕ)
         → ((q : ℕ) (other : Chrn) → IsAddressAt track q other → byte_at after (16 * (window_word q + window_words other.n)) ≡ 0x4E)
         → AreSparse (λ i. IsSeam stops track i ⊎ (i ≡ window_word p + k)) after

@@ -1,4 +1,4 @@
--- What a look that found says of sectors, and what Lone and Plain give.
+-- What a successful look says of sectors, and what follows from Lone and Plain.
 use Rattle.std.proofs.Common.{◌≡◌, ℕ, ◌+◌, ◌*◌, ◌≤◌, Bool, List, length, refl, subst, sym, arith}
 use Rattle.flop_base.specs.declared.key.Chrn.{Chrn}
 use Rattle.track_model.specs.declared.Look.TheVariants.{Found}
@@ -7,7 +7,7 @@ use Rattle.track_model.specs.Fields.{IsDataMark, IsSizeCode, data_cells, content
 use Rattle.track_model.specs.Looks.{LookAt, LookFor}
 use Rattle.track_model.specs.Sectors.{IsSector, IsUnder, IsLone, IsPlain, IsClear}
 
--- the content that was found, and its check, are inside the track
+-- the content that was found, and its CRC, are inside the track
 pub found_inside : (track : List ℕ) (key : Chrn) (deleted : Bool) (place : ℕ) → LookFor track key (Found deleted place) → place + 16 * (content_size key.n + 2) ≤ 16 * length track
 found_inside track key deleted place look =
     let found = look.2 in

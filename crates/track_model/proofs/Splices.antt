@@ -77,7 +77,7 @@ module _ (track : List ℕ) (start : ℕ) (words : List ℕ) (fits : start + len
       number_ext (λ j. cell (with_items track start words) (q + (2 * j + 1))) (λ j. cell words (i + (2 * j + 1))) 8
       (λ j l. cell_of (q + (2 * j + 1)) (i + (2 * j + 1)) (omega arith) (omega arith))
 
--- two cuts of the same words at one place are one, the longer
+-- two cuts of the same words at one place are together one cut, the longer
 module _ (track : List ℕ) (start : ℕ) (words : List ℕ) (j k : ℕ) (less : j ≤ length words) (most : k ≤ length words) (fits : start + max j k ≤ length track) where
   long_j : length (take j words) ≡ j
   long_j = omega (arith, length-take j words)

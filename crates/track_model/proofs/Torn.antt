@@ -1,4 +1,4 @@
--- What is Torn: each write leaves an Aligned track, with the same address fields.
+-- Torn tracks: each write leaves an Aligned track, with the same address fields.
 use Rattle.std.proofs.Common.{◌≡◌, ◌≢◌, ◌↔◌, ℕ, ◌≤◌, cond, eqb, List, [], ◌∷◌, ◌++◌, length, sym, ap, subst, ◌∙◌, ◌⊎◌, refl, arith, inl, inr}
 use Rattle.std.proofs.lemmas.Bool.{cases_eq, eq-eqb, ne_eqb, cond-true, cond-false}
 use Rattle.flop_base.specs.declared.key.Chrn.{Chrn}
@@ -48,7 +48,7 @@ module _ (stops : ℕ → ℕ) (write : TornWrite) where
     write_regular =
         (cut_keeps stops track write.place is.field.0 write.deleted write.content aligned is.field.1 write.count is.cuttable.most).regular
 
--- what comes from an Aligned track is Aligned
+-- what comes from an Aligned track by such writes is Aligned
 pub torn_aligned : (stops : ℕ → ℕ) (track : List ℕ) (writes : List TornWrite) (after : List ℕ) → IsAligned stops track
     → ComesTorn stops track writes after → (later : ℕ → ℕ) × IsAligned later after
 torn_aligned stops track [] after aligned same = (stops, subst (IsAligned stops) (sym same) aligned)
@@ -65,7 +65,7 @@ torn_addresses stops track (write ∷ writes) after aligned (is, rest) q key =
     let more = torn_addresses (stops_after stops write) (with_torn track write) writes after (write_aligned stops write track aligned is) rest q key in
     (λ a. more.0 (here.0 a), λ a. here.1 (more.1 a))
 
--- and is regular where the track is
+-- and it is regular if the track is
 pub torn_regular : (stops : ℕ → ℕ) (track : List ℕ) (writes : List TornWrite) (after : List ℕ) (c h : ℕ) → IsAligned stops track
     → ComesTorn stops track writes after → IsRegular track c h → IsRegular after c h
 torn_regular stops track [] after c h aligned same regular = subst (λ it. IsRegular it c h) (sym same) regular
@@ -73,7 +73,7 @@ torn_regular stops track (write ∷ writes) after c h aligned (is, rest) regular
     torn_regular (stops_after stops write) (with_torn track write) writes after c h (write_aligned stops write track aligned is) rest
     (write_regular stops write track aligned is c h regular)
 
--- one write more behind the others
+-- one more write after the others
 pub torn_more : (stops : ℕ → ℕ) (track : List ℕ) (writes : List TornWrite) (after : List ℕ) (write : TornWrite)
     → ComesTorn stops track writes after → IsOver (stops_of stops writes) after write → ComesTorn stops track (writes ++ write ∷ []) (with_torn after write)
 torn_more stops track [] after write same over =

@@ -1,4 +1,4 @@
--- What is found on a track is one.
+-- What is found on a track is unique.
 use Rattle.std.proofs.Common.{◌≡◌, ℕ, ◌+◌, Bool, true, false, List, refl, sym, ap, subst, ◌∙◌, arith, inl, inr}
 use Rattle.std.proofs.lemmas.Bool.{cases_order}
 use Rattle.flop_base.specs.declared.key.Chrn.{Chrn}
@@ -12,7 +12,7 @@ use Rattle.track_model.specs.Looks.{IsFirstDataMark, IsIntact, LookAt, IsFirstAd
 made : ℕ → ℕ → ℕ → ℕ → Chrn
 made c h r n = record { c = c; h = h; r = r; n = n }
 
--- the key of an address field is one
+-- an address field has only one key
 pub one_key : (track : List ℕ) (p : ℕ) (a b : Chrn) → IsAddressAt track p a → IsAddressAt track p b → a ≡ b
 unfolding made
 one_key track p a b x y =
@@ -45,7 +45,7 @@ one_deleted track p q r a b x y e =
 same_found : (a b : Bool) (u v : ℕ) → a ≡ b → u ≡ v → Found a u ≡ Found b v
 same_found a b u v e f = ap (λ d. Found d u) e ∙ ap (λ k. Found b k) f
 
--- the look at an address field is one
+-- the look at an address field has only one answer
 pub one_look_at : (track : List ℕ) (p n : ℕ) (a b : Look) → LookAt track p n a → LookAt track p n b → a ≡ b
 one_look_at track p n (Found a u) (Found b v) x y =
     let e = one_first track p x.0 y.0 a b x.1.first y.1.first in
@@ -84,7 +84,7 @@ first_looks track key a b x y =
     let e = one_address track key x.0 y.0 x.1 y.1 in
     one_look_at track y.0 key.n a b (subst (λ p. LookAt track p key.n a) e x.2) y.2
 
--- the look for a key is one
+-- the look for a key has only one answer
 pub one_look_for : (track : List ℕ) (key : Chrn) (a b : Look) → LookFor track key a → LookFor track key b → a ≡ b
 one_look_for track key (Found a u) (Found b v) x y = first_looks track key (Found a u) (Found b v) x y
 one_look_for track key (Found a u) NoMark x y = absurd (y (x.0, x.1.address.mark))

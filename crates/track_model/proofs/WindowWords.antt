@@ -1,4 +1,5 @@
--- The words of a window are recorded words, and a track with a cut of it has recorded words but for a seam behind the cut.
+-- The words of a window are recorded words. A track with a cut of a window has recorded words, apart from a seam behind
+-- the cut.
 use Rattle.std.proofs.Common.{◌≡◌, ℕ, zero, suc, ◌+◌, ◌-◌, ◌%◌, ◌<◌, ◌≤◌, Bool, true, false, eqb, List, [], ◌∷◌, ◌++◌, length, get_or, take, replicate, refl, sym, ap, subst, ◌∙◌, ◌⊎◌, append_assoc, arith, inl, inr}
 use Rattle.std.proofs.lemmas.Bool.{cases_lt, cases_eq}
 use Rattle.std.proofs.lemmas.List.{append-nil, length-take, get_or-take}
@@ -9,7 +10,7 @@ use Rattle.track_model.proofs.Recorded.{byte_word, bit_behind, IsWord, AreWords,
 use Rattle.track_model.proofs.Splices.{length-with_items, with_items_before, with_items_at, with_items_behind}
 use Rattle.track_model.proofs.WindowMarks.{marked}
 
--- a recorded word stays one where the bit before it stays, or where it becomes a seam
+-- a recorded word stays one if the bit before it stays, or if the word becomes a seam
 pub moved_word : (Seam Other : ℕ → Type 0) (first start : Bool) (track after : List ℕ) (i j : ℕ) → get_or after j 0 ≡ get_or track i 0 → (bit_behind first track i ≡ bit_behind start after j) ⊎ Other j → (Seam i → Other j) → IsWord Seam first track i → IsWord Other start after j
 moved_word Seam Other first start track after i j same bit seam (inl e) = inl (same ∙ e)
 moved_word Seam Other first start track after i j same bit seam (inr (inl e)) = inr (inl (same ∙ e))

@@ -1,4 +1,4 @@
--- The check of a field: the rest that its bits leave when they are divided by x^16 + x^12 + x^5 + 1.
+-- The CRC of a field: the remainder of its bits when they are divided by x^16 + x^12 + x^5 + 1.
 use Rattle.std.specs.Prelude.{ℕ, zero, suc, ◌+◌, ◌-◌, ◌^◌, ◌==◌, Bool, true, false, not, if◌then◌else◌, List, [], ◌∷◌, ◌++◌, length, drop, replicate}
 use Rattle.std.specs.Int.{bit_at}
 use Rattle.std.specs.List.{flat_map}
@@ -17,7 +17,7 @@ number_in (bit ∷ row) = (if bit then 2 ^ length row else 0) + number_in row
 unfoldable pub row_of : List ℕ → List Bool
 row_of bytes = flat_map (bits 8) bytes
 
--- a row with its first bits inverted where the pattern has a 1
+-- a row whose first bits are inverted where the pattern has a 1
 unfoldable pub invert : List Bool → List Bool → List Bool
 invert [] row = row
 invert (flip ∷ pattern) [] = []
@@ -27,25 +27,26 @@ invert (flip ∷ pattern) (bit ∷ row) = (if flip then not bit else bit) ∷ in
 abbrev pub polynomial : List Bool
 polynomial = bits 17 0x11021
 
--- one step of the division: where the first bit is 1, bits 1, 5, 12 and 17 are inverted; then the first bit is dropped
+-- one step of the division: if the first bit is 1, bits 1, 5, 12 and 17 are inverted; then the first bit is dropped
 unfoldable pub reduced : List Bool → List Bool
 reduced [] = []
 reduced (false ∷ row) = row
 reduced (true ∷ row) = drop 1 (invert polynomial (true ∷ row))
 
--- so many steps of the division
+-- `count` steps of the division
 unfoldable pub divided : ℕ → List Bool → List Bool
 divided zero row = row
 divided (suc count) row = divided count (reduced row)
 
--- steps while more than sixteen bits are left, and the number in those sixteen
+-- the row is divided while more than sixteen bits are left; the remainder is the number in the last sixteen
 unfoldable pub remainder : List Bool → ℕ
 remainder row = number_in (divided (length row - 16) row)
 
--- the CRC of bytes: their bits with the first sixteen inverted, sixteen zeros appended, divided
+-- the CRC of bytes: the first sixteen of their bits are inverted, sixteen zeros are appended, and the row is divided
 unfoldable pub crc : List ℕ → ℕ
 crc bytes = remainder (invert (replicate 16 true) (row_of bytes) ++ replicate 16 false)
 
--- the CRC with a preset in place of FFFF; with a CRC as the preset, that of the bytes it is of and then these
+-- the CRC with a preset in place of FFFF. If the preset is itself the CRC of some bytes, this is the CRC of those bytes
+-- followed by these
 unfoldable pub crc_from : ℕ → List ℕ → ℕ
 crc_from preset bytes = remainder (invert (bits 16 preset) (row_of bytes ++ replicate 16 false))

@@ -1,4 +1,4 @@
--- Fields: a mark, bytes, and their check.
+-- Fields: a mark, bytes, and their CRC.
 use Rattle.std.specs.Prelude.{◌≡◌, ℕ, ◌+◌, ◌*◌, ◌^◌, ◌<◌, ◌≤◌, Bool, List, [], ◌∷◌, AllPairs, All, Contains}
 use Rattle.flop_base.specs.declared.key.Chrn.{Chrn}
 use Rattle.track_model.specs.declared.Field.{Field}
@@ -6,19 +6,19 @@ use Rattle.track_model.specs.Bytes.{byte_at, bytes_at}
 use Rattle.track_model.specs.Crc.{crc}
 use Rattle.track_model.specs.Marks.{IsSound, IsAddressMark, IsDataRun}
 
--- the two bytes at p are the check of these bytes, high byte first
+-- the two bytes at p are the CRC of these bytes, high byte first
 abbrev pub HasCheck : List ℕ → ℕ → List ℕ → Type 0
 HasCheck track p bytes = 256 * byte_at track p + byte_at track (p + 16) ≡ crc bytes
 
--- the three marks A1, which each check begins with
+-- the bytes after the three marks A1, with which each CRC begins
 abbrev pub after_marks : List ℕ → List ℕ
 after_marks bytes = 0xA1 ∷ 0xA1 ∷ 0xA1 ∷ bytes
 
--- the bytes of an address field that its check is over
+-- the bytes of an address field from which its CRC is computed
 abbrev pub address_bytes : Chrn → List ℕ
 address_bytes key = after_marks (0xFE ∷ key.c ∷ key.h ∷ key.r ∷ key.n ∷ [])
 
--- an intact address field of the key at p: mark, cylinder, head, record, size code, check
+-- an intact address field of the key at p: mark, cylinder, head, record, size code, CRC
 pub record IsAddressAt (track : List ℕ) (p : ℕ) (key : Chrn) : Type 0 where
   pub mark : IsAddressMark track p
   pub cylinder : byte_at track (p + 64) ≡ key.c
@@ -52,7 +52,7 @@ IsSizeCode n = (1 ≤ n) × (n ≤ 6)
 abbrev pub content_size : ℕ → ℕ
 content_size n = 128 * 2 ^ n
 
--- the cells of a data field: marks, mark byte, content and check
+-- how many cells a data field has: marks, mark byte, content and CRC
 abbrev pub data_cells : ℕ → ℕ
 data_cells n = 64 + 16 * (content_size n + 2)
 

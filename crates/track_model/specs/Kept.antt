@@ -7,7 +7,8 @@ use Rattle.track_model.specs.Fields.{IsAddressAt, content_at}
 use Rattle.track_model.specs.Looks.{LookAt}
 use Rattle.track_model.specs.Regular.{IsSpaced, IsRegular}
 
--- a write behind the address field at p kept all fields' addresses, each other field's data, and the sectors' distances
+-- a write behind the address field at p kept all address fields, the data of each other field, and the distances of the
+-- sectors
 pub record KeepsOthers (track after : List ℕ) (p : ℕ) : Type 0 where
   pub spaced : IsSpaced after
   pub regular : (c h : ℕ) → IsRegular track c h → IsRegular after c h

@@ -11,7 +11,7 @@ use Rattle.track_model.specs.LaidFields.{IsKey, HasEndRoom}
 abbrev pub HaveOneHead : List Chrn → Type 0
 HaveOneHead keys = (c h : ℕ) × All (λ key. (key.c ≡ c) × (key.h ≡ h)) keys
 
--- a formatted track under all conditions under which it is regular
+-- a formatted track that satisfies all conditions for being regular
 pub record IsRegularLay (track : List ℕ) (keys : List Chrn) (n gap3 fill words : ℕ) : Type 0 where
   pub is : track ≡ lay keys n gap3 fill words
   pub fits : Fits keys n gap3 words
@@ -37,7 +37,8 @@ pub record FieldWrite : Type 0 where
 abbrev pub with_window : List ℕ → ℕ → Bool → List ℕ → List ℕ
 with_window track p deleted content = cut_of track p (length (window deleted content)) (window deleted content)
 
--- `after` comes from the track by these writes one after the other, each at an address field, whose size its content has
+-- `after` comes from the track by these writes, one after the other. Each is at an address field, and its content has
+-- the size that this field names
 abbrev pub ComesBy : List ℕ → List FieldWrite → List ℕ → Type 0
 ComesBy track [] after = after ≡ track
 ComesBy track (write ∷ rest) after =

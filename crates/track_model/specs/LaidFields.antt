@@ -21,7 +21,7 @@ pub record HasLaidFields (track : List ℕ) (keys : List Chrn) (n gap3 fill : �
   pub found : (i : ℕ) → i < length keys → LookAt track (sector_place n gap3 i) n (Found false (content_place n gap3 i))
   pub filled : (i : ℕ) → i < length keys → content_at track (content_place n gap3 i) n ≡ replicate (content_size n) fill
 
--- the four bytes of a key are bytes
+-- the four numbers of a key are bytes
 pub record IsKey (key : Chrn) : Type 0 where
   pub cylinder : key.c < 256
   pub head : key.h < 256

@@ -26,7 +26,7 @@ unfoldable pub recorded : Bool → List Symbol → List ℕ
 recorded last [] = []
 recorded last (symbol ∷ rest) = word_after last symbol ∷ recorded (symbol_bit symbol) rest
 
--- so many bytes 4E
+-- `count` bytes 4E
 abbrev pub gap : ℕ → List Symbol
 gap count = replicate count (Byte 0x4E)
 
@@ -44,11 +44,11 @@ symbol_byte (Byte byte) = byte
 symbol_byte (Key byte) = byte
 symbol_byte (Mark cells) = byte_at (cells ∷ []) 0
 
--- the check of a field of these symbols
+-- the CRC of a field of these symbols
 abbrev pub check_symbols : List Symbol → List Symbol
 check_symbols symbols = map (λ byte. Byte byte) (check_bytes (crc (after_marks (map symbol_byte symbols))))
 
--- a field: sync, three marks A1, these symbols, their check, and a gap behind it
+-- a field: sync, three marks A1, these symbols and their CRC, with a gap behind it
 unfoldable pub field_symbols : List Symbol → ℕ → List Symbol
 field_symbols symbols count = sync ++ (marks 0x4489 ++ (symbols ++ (check_symbols symbols ++ gap count)))
 
@@ -60,7 +60,7 @@ before_sectors = gap 80 ++ (sync ++ (marks 0x5224 ++ (Byte 0xFC ∷ gap 50)))
 abbrev pub address_content : Chrn → List Symbol
 address_content key = Byte 0xFE ∷ Key key.c ∷ Key key.h ∷ Key key.r ∷ Key key.n ∷ []
 
--- what a data field of so many bytes `fill` holds
+-- what a data field of `size` bytes `fill` holds
 abbrev pub data_content : ℕ → ℕ → List Symbol
 data_content size fill = Byte 0xFB ∷ replicate size (Byte fill)
 
@@ -76,18 +76,18 @@ sectors_symbols size gap3 fill keys = flat_map (sector_symbols size gap3 fill) k
 abbrev pub track_symbols : List Chrn → ℕ → ℕ → ℕ → List Symbol
 track_symbols keys n gap3 fill = before_sectors ++ sectors_symbols (content_size n) gap3 fill keys
 
--- the formatted track of so many words: gap 4b goes up to the index, and a layout that is too long is cut there
+-- the formatted track of `words` words: gap 4b goes up to the index, and a layout that is too long is cut there
 unfoldable pub lay : List Chrn → ℕ → ℕ → ℕ → ℕ → List ℕ
 lay keys n gap3 fill words = recorded false (take words (track_symbols keys n gap3 fill ++ gap words))
 
--- how many words so many sectors and what stands before them take
+-- how many words are taken by this many sectors and what stands before them
 abbrev pub laid_words : ℕ → ℕ → ℕ → ℕ
 laid_words sectors n gap3 = 146 + sectors * (62 + content_size n + gap3)
 
--- the sectors, and what stands before them, fit on a track of so many words
+-- the sectors, and what stands before them, fit on a track of `words` words
 abbrev pub Fits : List Chrn → ℕ → ℕ → ℕ → Type 0
 Fits keys n gap3 words = laid_words (length keys) n gap3 ≤ words
 
--- the next symbol, 4E where all were recorded
+-- the next symbol, or 4E if all were recorded
 abbrev pub next_symbol : List Symbol → Symbol
 next_symbol symbols = slice_index_or symbols 0 (Byte 0x4E)

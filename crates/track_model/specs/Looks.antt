@@ -22,7 +22,8 @@ pub record HasDataField (track : List ℕ) (p n q : ℕ) (deleted : Bool) : Type
 abbrev pub IsIntact : List ℕ → ℕ → ℕ → Type 0
 IsIntact track q n = IsWhole track q n (content_at track (q + 64) n)
 
--- the look at the address field at p, for sectors of size code n; the last two answers are those of a search for a key alone
+-- the answer of a look at the address field at p, for sectors of size code n. Only a search for a key has the last two
+-- answers
 abbrev pub LookAt : List ℕ → ℕ → ℕ → Look → Type 0
 LookAt track p n (Found deleted place) =
     (q : ℕ) × HasDataField track p n q deleted × (place ≡ q + 64) × IsIntact track q n

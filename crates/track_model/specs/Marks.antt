@@ -12,7 +12,8 @@ pub record IsSound (track : List ℕ) (p count : ℕ) : Type 0 where
   pub inside : IsInside track p count
   pub no_zero : TouchesNoZero track p count
 
--- a run at p: three marks one after the other; 4489 is the byte A1 without one of its clock cells. Any cell may be p
+-- a run at p: three marks one after the other. A mark is 4489, the byte A1 without one of its clock cells. Any cell may
+-- be p
 pub record IsRun (track : List ℕ) (p : ℕ) : Type 0 where
   pub first : cells_at track p ≡ 0x4489
   pub second : cells_at track (p + 16) ≡ 0x4489

@@ -1,4 +1,4 @@
--- Tracks on which each data field can be written over by itself.
+-- Tracks on which each data field can be overwritten without the others.
 use Rattle.std.specs.Prelude.{◌≡◌, ℕ, ◌+◌, ◌*◌, ◌<◌, ◌≤◌, List}
 use Rattle.flop_base.specs.declared.key.Chrn.{Chrn}
 use Rattle.track_model.specs.Cells.{cells_at, IsInside}
@@ -6,7 +6,7 @@ use Rattle.track_model.specs.Fields.{IsAddressAt, IsSizeCode, content_size}
 use Rattle.track_model.specs.Sectors.{IsPlain}
 use Rattle.track_model.specs.Windows.{window_place, window_end}
 
--- the cells of a sector's span, from its address field past all that its window and its data can reach
+-- how many cells a sector's span has. It goes from the address field past all that the window and the data can reach
 abbrev pub span_cells : ℕ → ℕ
 span_cells n = 160 + 16 * (67 + content_size n)
 
@@ -39,7 +39,7 @@ HasCleanEnds track =
     (p q : ℕ) (key : Chrn) → IsAddressAt track p key → window_end p key.n ≤ q → q < window_end p key.n + 48
     → cells_at track q ≡ 0x4489 → ⊥
 
--- Spaced: the sectors of the track keep their distance
+-- Spaced: the sectors of the track stand far enough apart
 pub record IsSpaced (track : List ℕ) : Type 0 where
   pub plain : IsPlain track
   pub coded : HasSizes track
@@ -47,7 +47,7 @@ pub record IsSpaced (track : List ℕ) : Type 0 where
   pub gaps : HasCleanGaps track
   pub ends : HasCleanEnds track
 
--- Regular: the sectors keep their distance, and each has a key of its own, of this cylinder and head
+-- Regular: the sectors stand far enough apart, and each has a key of its own, of this cylinder and head
 pub record IsRegular (track : List ℕ) (c h : ℕ) : Type 0 where
   pub plain : IsPlain track
   pub keys : HasKeys track c h

@@ -26,11 +26,11 @@ IsLone track p =
 abbrev pub HasNoRunWithin : List ℕ → ℕ → Type 0
 HasNoRunWithin track p = (q : ℕ) → p + 48 ≤ q → q < p + 160 → IsRun track q → ⊥
 
--- a track is Plain where no run begins within an address field
+-- a track is Plain if no run begins within an address field
 abbrev pub IsPlain : List ℕ → Type 0
 IsPlain track = (p : ℕ) → IsAddressMark track p → HasNoRunWithin track p
 
--- an address mark at p is Clear where no run begins within its field, and it begins within no other's
+-- an address mark at p is Clear if no run begins within its field, and the mark begins within no other field
 pub record IsClear (track : List ℕ) (p : ℕ) : Type 0 where
   pub mark : IsAddressMark track p
   pub inner : HasNoRunWithin track p

@@ -14,11 +14,11 @@ pub fn encode_byte(last: bool, byte: u8) -> u16
     ensures { result ∷ [] ≡ legal last (byte ∷ []) }
 {
     let cells = CELLS[byte as usize];
-    // only the first clock depends on the bit before
+    // Only the first clock depends on the bit before.
     if last { cells & 0x7FFF } else { cells }
 }
 
-/// The byte whose cells are `word`. Clock cells aren't looked at.
+/// The byte whose cells are `word`. Clock cells are ignored.
 pub fn decode_word(word: u16) -> u8
     ensures { result ≡ byte_at (word ∷ []) 0 }
 {

@@ -1,4 +1,4 @@
-// The check of a field: a CRC with the polynomial x^16 + x^12 + x^5 + 1 and the preset FFFF (IBM System 34 format).
+// The CRC of a field, with the polynomial x^16 + x^12 + x^5 + 1 and the preset FFFF (IBM System 34 format).
 ghost use Rattle.std.specs.Prelude.{◌≡◌, ◌≤◌, ℕ, List, [], ◌∷◌, ◌++◌, length};
 ghost use Rattle.track_model.specs.Crc.{crc, crc_from};
 
@@ -8,7 +8,7 @@ const PRESET: u16 = 0xFFFF;
 /// The CRC of the three A1 bytes that begin a field (IBM System 34: x^16 + x^12 + x^5 + 1, preset to FFFF).
 pub const MARKS_CRC: u16 = 0xCDB4;
 
-// What each byte leaves of a CRC of 0.
+// The CRC that each byte leaves after a CRC of 0.
 static TABLE: [u16; 256] = [
     0x0000, 0x1021, 0x2042, 0x3063, 0x4084, 0x50A5, 0x60C6, 0x70E7, 0x8108, 0x9129, 0xA14A, 0xB16B,
     0xC18C, 0xD1AD, 0xE1CE, 0xF1EF, 0x1231, 0x0210, 0x3273, 0x2252, 0x52B5, 0x4294, 0x72F7, 0x62D6,
@@ -44,7 +44,7 @@ pub fn crc_step(check: u16, byte: u8) -> u16
     (check << 8) ^ TABLE[index as usize]
 }
 
-/// The CRC of the three A1 bytes and the byte that says which field they begin, to go on from by `crc_step`.
+/// The CRC of the three A1 bytes and the byte that says which field they begin. `crc_step` goes on from it.
 pub fn mark_crc(mark: u8) -> u16
     ensures is_crc { result ≡ crc (0xA1 ∷ 0xA1 ∷ 0xA1 ∷ mark ∷ []) }
     ensures goes_on { (rest : List ℕ) →

@@ -1,4 +1,5 @@
-// What is found on a track is one, and what it says of sectors; the cells of bytes hold no mark. The bodies are empty.
+// What is found on a track is unique, and says something of its sectors. The cells of bytes hold no mark. The bodies
+// are empty.
 ghost use Rattle.std.specs.Prelude.{◌≡◌, ◌≢◌, ◌+◌, ◌*◌, ◌≤◌, length};
 ghost use Rattle.track_model.specs.Bytes.{legal};
 ghost use Rattle.track_model.specs.Cells.{cells_at, IsInside};
@@ -13,7 +14,7 @@ ghost use Rattle.track_model.specs.Sectors.{IsClear, IsPlain, IsSector, IsUnder}
 use crate::Look;
 use flop_base::Chrn;
 
-/// The address field at a place has one key.
+/// The address field at a place has only one key.
 #[tactic(auto, using(crate::proofs::Unique::one_key))]
 pub fn key_is_one(_words: &[u16], _place: usize, _key: Chrn, _other: Chrn)
     requires has_key { IsAddressAt _words.now _place _key }
@@ -21,7 +22,7 @@ pub fn key_is_one(_words: &[u16], _place: usize, _key: Chrn, _other: Chrn)
     ensures { _key ≡ _other }
 {}
 
-/// The look at an address field has one answer.
+/// The look at an address field has only one answer.
 #[tactic(auto, using(crate::proofs::Unique::one_look_at))]
 pub fn look_at_is_one(_words: &[u16], _place: usize, _n: u8, _look: Look, _other: Look)
     requires is_look { LookAt _words.now _place _n _look }
@@ -29,7 +30,7 @@ pub fn look_at_is_one(_words: &[u16], _place: usize, _n: u8, _look: Look, _other
     ensures { _look ≡ _other }
 {}
 
-/// The look for a key has one answer.
+/// The look for a key has only one answer.
 #[tactic(auto, using(crate::proofs::Unique::one_look_for))]
 pub fn look_is_one(_words: &[u16], _key: Chrn, _look: Look, _other: Look)
     requires is_look { LookFor _words.now _key _look }
@@ -37,7 +38,7 @@ pub fn look_is_one(_words: &[u16], _key: Chrn, _look: Look, _other: Look)
     ensures { _look ≡ _other }
 {}
 
-/// What the look for a key finds is a sector of that key, and its content and check are inside the track.
+/// What the look for a key finds is a sector of that key, and its content and CRC are inside the track.
 #[tactic(auto, using(crate::proofs::Sectored::found_inside, crate::proofs::Sectored::found_sector))]
 pub fn found_is_sector(_words: &[u16], _key: Chrn, _deleted: bool, _place: usize)
     requires { LookFor _words.now _key (Look.Found _deleted _place) }
@@ -45,7 +46,7 @@ pub fn found_is_sector(_words: &[u16], _key: Chrn, _deleted: bool, _place: usize
     ensures inside { IsInside _words.now _place (16 * (content_size _key.n + 2)) }
 {}
 
-/// A sector is under its key, by its first data mark.
+/// A sector is under its key: its first data mark is one of the data marks.
 #[tactic(auto, using(crate::proofs::Sectored::sector_under))]
 pub fn sector_is_under(_words: &[u16], _key: Chrn, _deleted: bool, _content: &[u8])
     requires { IsSector _words.now _key _deleted _content.now }
@@ -67,7 +68,8 @@ pub fn lay_is_laid(_words: &[u16], _keys: &[Chrn], _n: u8, _gap3: u8, _fill: u8,
     ensures { IsLaid _words.now }
 {}
 
-/// A Laid track stays Laid where a whole window is put at the place of an address field, whose size its content has.
+/// A Laid track stays Laid after a whole window is written at the place of an address field. The content has the size
+/// that the field names.
 #[tactic(auto, using(crate::proofs::Laid::written_laid))]
 pub fn written_is_laid(_words: &[u16], _place: usize, _deleted: bool, _content: &[u8])
     requires laid { IsLaid _words.now }
@@ -75,7 +77,7 @@ pub fn written_is_laid(_words: &[u16], _place: usize, _deleted: bool, _content: 
     ensures { IsLaid (with_window _words.now _place _deleted _content.now) }
 {}
 
-/// A Torn track stays Torn behind a write that isn't short of the last one at its place, where that one stopped.
+/// A Torn track stays Torn after a write that goes at least as far as the last one at its place, if that one stopped.
 #[tactic(auto, using(crate::proofs::Torn::write_torn))]
 pub fn written_is_torn(_words: &[u16])
     ensures { (torn : IsTorn _words.now) (write : TornWrite)

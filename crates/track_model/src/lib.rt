@@ -1,5 +1,5 @@
-//! What a raw track holds: the definitions that the crates of fields, formats and drives share, with the two types in
-//! which answers about a track are given; bytes as the cells of an MFM track, and back, and the check of a field.
+//! What a raw track holds: the definitions that the crates of fields, formats and drives share. Two types give the
+//! answers about a track. Functions turn bytes into the cells of an MFM track and back, and compute the CRC of a field.
 #![tactic(auto)]
 
 mod cells;
@@ -24,7 +24,7 @@ pub enum Look {
     NoSector,
     /// The address field has no data field inside the track.
     NoData,
-    /// The data field is there, and its check fails or cells of it weren't recorded.
+    /// The data field is there, but its CRC is wrong or cells of it weren't recorded.
     BadCrc,
 }
 

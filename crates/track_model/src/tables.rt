@@ -26,7 +26,7 @@ pub(crate) static CELLS: [u16; 256] = [
     0x5552, 0x5551, 0x5554, 0x5555,
 ];
 
-/// The four data cells of each eight cells.
+/// The four data cells of each row of eight cells.
 pub(crate) static DATA_CELLS: [u8; 256] = [
     0, 1, 0, 1, 2, 3, 2, 3, 0, 1, 0, 1, 2, 3, 2, 3, 4, 5, 4, 5, 6, 7, 6, 7, 4, 5, 4, 5, 6, 7, 6, 7,
     0, 1, 0, 1, 2, 3, 2, 3, 0, 1, 0, 1, 2, 3, 2, 3, 4, 5, 4, 5, 6, 7, 6, 7, 4, 5, 4, 5, 6, 7, 6, 7,

@@ -1,4 +1,4 @@
--- The end of a turn while a data field is asked for.
+-- The end of a revolution while a data field is asked for.
 use Rattle.std.proofs.Common.{ℕ, ◌+◌, ◌<◌, ◌≤◌, Bool, false, List, arith}
 use Rattle.track_model.specs.Fields.{IsDataMark}
 use Rattle.track_model.proofs.Unique.{one_first}
@@ -11,7 +11,7 @@ use Rattle.track_separator.specs.Waits.{IsWaiting, WaitsIn, ReadsIn, IsUnfinishe
 use Rattle.track_separator.specs.Turns.{SWaitCut, SReadCut, WantsIn}
 use Rattle.track_separator.proofs.Started.{hunts_not_wants}
 
--- right behind an address field no data mark has come
+-- right after an address field, no data mark has come
 pub right_behind : (fed : List ℕ) (cells back p : ℕ) → back < 16 → IsAddressed fed cells back p → IsWaiting fed cells back p back false
 right_behind fed cells back p small address =
     let here = address.place in
@@ -74,7 +74,7 @@ reads_want fed cells back p q deleted size taken Addressed h = absurd h
 reads_want fed cells back p q deleted size taken TurnEnded h = absurd h
 reads_want fed cells back p q deleted size taken (Waiting asked since marked) h = absurd h
 
--- where nothing is asked for any more, the event stays
+-- if nothing is asked for any more after the word, the event stays as it is at the end of the revolution
 pub waits_over : (fed : List ℕ) (p size cells back : ℕ) (stage : Stage) (seen : Seen) → (WantsIn stage → ⊥) → WaitSeenIn fed p size cells back stage seen → SWaitCut fed p size seen
 waits_over fed p size cells back stage Nothing over h = over (waits_want fed cells back p size stage h)
 waits_over fed p size cells back stage (Mode deleted) over h = over (reads_want fed cells back p h.0 deleted size 0 stage h.1)

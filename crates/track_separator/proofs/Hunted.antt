@@ -1,4 +1,4 @@
--- A word while address marks are hunted for.
+-- A word while the separator hunts for address marks.
 use Rattle.std.proofs.Common.{◌≡◌, ◌≢◌, ℕ, zero, suc, ◌+◌, ◌-◌, ◌*◌, ◌/◌, ◌<◌, ◌≤◌, List, length, get_or, refl, sym, ap, ◌∙◌, arith, inl, inr}
 use Rattle.std.proofs.lemmas.Bool.{cases_lt, cases_order}
 use Rattle.flop_base.specs.declared.key.Chrn.{Chrn}
@@ -139,7 +139,7 @@ module _ (fed : List ℕ) (word : ℕ) (whole : List ℕ) (more : IsMore fed wor
   pub back_alike : AreAlike whole fed (16 * length fed)
   back_alike = alike_back fed whole (16 * length fed) more.alike
 
-  -- what may become an address field was read before
+  -- what may become an address field was followed before the word too, with one byte less
   was_followed : (p m own : ℕ) → IsFollowed whole p (suc m) own → IsFollowed fed p m own
   was_followed p m own now =
       let size = more.size in
@@ -155,7 +155,7 @@ module _ (fed : List ℕ) (word : ℕ) (whole : List ℕ) (more : IsMore fed wor
         last = λ k low run. now.last k low (alike_run fed whole (16 * length fed) more.alike k (run_ends fed k run) run);
       }
 
-  -- what ends in the last word has all of it recorded
+  -- what was all recorded and ends in the last word has no word 0000 from its beginning on
   pub zero_free : (p count : ℕ) → 0 < count → EndsInLast whole (p + count) → TouchesNoZero whole p count → HasNoZeroFrom whole p
   zero_free p count some ends none q low high zero_word =
       let inside = ends.inside in
@@ -167,7 +167,7 @@ module _ (fed : List ℕ) (word : ℕ) (whole : List ℕ) (more : IsMore fed wor
             none (p + count - 1) (omega arith) (omega arith) (ap (λ k. get_or whole k 0) (sym word_is) ∙ zero_word)
       ]
 
-  -- an address mark that ends in the word was one behind its run
+  -- if an address mark ends in the word, its run was followed before the word
   pub mark_followed : (p : ℕ) → EndsInLast whole (p + 64) → IsAddressMark whole p → IsFollowed fed p 0 (16 * length whole - p - 64)
   mark_followed p ends mark =
       let size = more.size in
@@ -184,7 +184,7 @@ module _ (fed : List ℕ) (word : ℕ) (whole : List ℕ) (more : IsMore fed wor
         last = λ k low other. let end = run_ends fed k other in runs_apart fed p k run other low (omega arith);
       }
 
-  -- so was an address field in which no run begins
+  -- if an address field in which no run begins ends in the word, it was followed before the word, with six bytes
   pub address_followed : (p : ℕ) (key : Chrn) → EndsInLast whole (p + 160) → IsAddressAt whole p key → HasNoRunWithin whole p → IsFollowed fed p 6 (16 * length whole - p - 160)
   address_followed p key ends address clean =
       let size = more.size in
@@ -214,7 +214,7 @@ module _ (fed : List ℕ) (word : ℕ) (whole : List ℕ) (more : IsMore fed wor
     pub full_here : FollowsIn fed cells back stage → IsFull whole after 0
     full_here was = full_next fed word whole more cells after 0 next was.full
 
-    -- a run that ends in the word shows
+    -- a run that ends in the word shows in the register
     shows : FollowsIn fed cells back stage → (p own : ℕ) → IsFollowed whole p 0 own → HasRunBits after own
     shows was p own now =
         let place = now.place in
@@ -234,7 +234,7 @@ module _ (fed : List ℕ) (word : ℕ) (whole : List ℕ) (more : IsMore fed wor
           let place = at.place in
           (tail_here hunts, (f.0, record { place = omega arith; few = omega arith; run = at.run; no_zero = at.no_zero; mark = λ h. absurd (omega arith); full = at.full }))
 
-      -- it is the one that is followed
+      -- that run is the one that is followed
       same_run : HuntsIn fed cells back stage → (p bytes own : ℕ) → IsFollowed whole p bytes own → (0 ≡ bytes) × (b ≡ own)
       same_run hunts p bytes own now =
           let f = found hunts in
@@ -275,10 +275,10 @@ module _ (fed : List ℕ) (word : ℕ) (whole : List ℕ) (more : IsMore fed wor
             absurd (clean f.0 (omega arith) (omega arith) at.run);
       }
 
-    -- ---- none does
+    -- ---- no run ends in the word
 
     module _ (none : (b : ℕ) → b < 16 → HasRunBits after b → ⊥) where
-      -- what is followed was followed before
+      -- what is followed after the word was followed before it
       pub before : FollowsIn fed cells back stage → (p bytes own : ℕ) → IsFollowed whole p bytes own → (m : ℕ) × (bytes ≡ suc m) × IsFollowed fed p m own
       before was p zero own now = absurd (none own now.small (shows was p own now))
       before was p (suc m) own now = (m, refl, was_followed p m own now)

@@ -127,7 +127,7 @@ hunted_none cells back word after old next none idle = record {
 not_reading : (m : ℕ) → Hunting ≡ Reading m → ⊥
 not_reading m e = cc
 
--- a run of marks is hunted for still
+-- the separator still hunts for a run of marks
 pub hunted_on : (cells back word after : ℕ) (old : Stage) → old ≡ Hunting → IsNext cells word after → ((b : ℕ) → b < 16 → HasRunBits after b → ⊥) → IsHuntedIn cells back old word after back old Nothing
 hunted_on cells back word after old is next none =
     let Here : Stage → Type 0 = λ s. IsHuntedIn cells back s word after back s Nothing in

@@ -1,5 +1,5 @@
--- What a proof about words fed to a separator stands on: laws on lists of words, where `fed` is the first part of `whole`,
--- and what the relations between a separator and the words fed say of places in them.
+-- What a proof about words fed to a separator stands on. There are laws on lists of words, where `fed` is the first
+-- part of `whole`. And there is what the relations between a separator and the words fed say of places in them.
 use Rattle.std.proofs.Common.{◌≡◌, ◌⊎◌, ℕ, ◌+◌, ◌*◌, ◌<◌, ◌≤◌, Bool, true, false, IsTrue, List, length, take, refl, sym, subst, arith, inl, inr}
 use Rattle.std.proofs.lemmas.Bool.{cases_lt, false≢true}
 use Rattle.std.proofs.lemmas.List.{length-take-le, get_or-take}
@@ -24,9 +24,9 @@ pub use Rattle.track_separator.proofs.Shared.{AreAlike, alike_back, alike_within
 pub use Rattle.track_separator.proofs.Next.{IsMore, more_of}
 pub use Rattle.track_separator.proofs.Runs.{runs_apart, run_ends, IsHigh, high_byte, address_high, no_run_after}
 
--- ---- parts of a turn
+-- ---- parts of a revolution
 
--- the words before a word more are a part
+-- the words before the last one are a part
 pub part_with_word : (fed : List ℕ) (word : ℕ) → IsPart fed (with_word fed word)
 part_with_word fed word =
     let more = more_of fed word in
@@ -37,17 +37,17 @@ part_with_word fed word =
 pub length-with_word : (fed : List ℕ) (word : ℕ) → length (with_word fed word) ≡ length fed + 1
 length-with_word fed word = (more_of fed word).size
 
--- a turn is a part of itself
+-- a revolution is a part of itself
 pub whole_part : (whole : List ℕ) → IsPart whole whole
 whole_part whole = record { longer = omega arith; same = λ k h. refl }
 
--- the first words of a turn are a part
+-- the first words of a revolution are a part
 pub first_words : (k : ℕ) (whole : List ℕ) → k ≤ length whole → IsPart (take k whole) whole
 first_words k whole h =
     let size : length (take k whole) ≡ k = length-take-le k whole h in
     record { longer = omega arith; same = λ i l. sym (get_or-take k whole i 0 (omega arith)) }
 
--- ---- what stood in a part stands in the whole of it, and what the whole has stood in the part that reaches so far
+-- ---- what stands in a part stands in the whole; what stands in the whole stands in each part that reaches to its end
 
 module _ (fed whole : List ℕ) (part : IsPart fed whole) where
   -- they have the same cells, up to the end of the part
@@ -72,7 +72,7 @@ module _ (fed whole : List ℕ) (part : IsPart fed whole) where
   pub run_stays : (p : ℕ) → IsRun fed p → IsRun whole p
   run_stays p run = alike_run fed whole (16 * length fed) part_alike p (run_ends fed p run) run
 
-  -- and one of the whole that the part reaches
+  -- a run of the whole, if the part reaches to its end
   pub run_stood : (p : ℕ) → p + 48 ≤ 16 * length fed → IsRun whole p → IsRun fed p
   run_stood = alike_run whole fed (16 * length fed) whole_alike
 
@@ -80,7 +80,7 @@ module _ (fed whole : List ℕ) (part : IsPart fed whole) where
   pub mark_stays : (p : ℕ) → IsAddressMark fed p → IsAddressMark whole p
   mark_stays p mark = alike_address_mark fed whole (16 * length fed) part_alike p mark.sound.inside mark
 
-  -- and one of the whole that the part reaches
+  -- an address mark of the whole, if the part reaches to its end
   pub mark_stood : (p : ℕ) → p + 64 ≤ 16 * length fed → IsAddressMark whole p → IsAddressMark fed p
   mark_stood p inside mark = alike_address_mark whole fed (16 * length fed) whole_alike p inside mark
 
@@ -88,11 +88,11 @@ module _ (fed whole : List ℕ) (part : IsPart fed whole) where
   pub address_stays : (p : ℕ) (key : Chrn) → IsAddressAt fed p key → IsAddressAt whole p key
   address_stays p key address = alike_address_at fed whole (16 * length fed) part_alike p key address.sound.inside address
 
-  -- and one of the whole that the part reaches
+  -- an intact address field of the whole, if the part reaches to its end
   pub address_stood : (p : ℕ) (key : Chrn) → p + 160 ≤ 16 * length fed → IsAddressAt whole p key → IsAddressAt fed p key
   address_stood p key inside address = alike_address_at whole fed (16 * length fed) whole_alike p key inside address
 
-  -- of whatever key
+  -- an address field of whatever key
   pub some_address_stays : (p : ℕ) → IsAddress fed p → IsAddress whole p
   some_address_stays p (key, address) = (key, address_stays p key address)
 
@@ -104,7 +104,7 @@ module _ (fed whole : List ℕ) (part : IsPart fed whole) where
   pub data_mark_stays : (p q : ℕ) (deleted : Bool) → IsDataMark fed p q deleted → IsDataMark whole p q deleted
   data_mark_stays p q deleted mark = alike_data_mark fed whole (16 * length fed) part_alike p q deleted mark.run.sound.inside mark
 
-  -- and one of the whole that the part reaches
+  -- a data mark of the whole, if the part reaches to its end
   pub data_mark_stood : (p q : ℕ) (deleted : Bool) → q + 64 ≤ 16 * length fed → IsDataMark whole p q deleted → IsDataMark fed p q deleted
   data_mark_stood p q deleted inside mark = alike_data_mark whole fed (16 * length fed) whole_alike p q deleted inside mark
 
@@ -123,7 +123,7 @@ module _ (fed whole : List ℕ) (part : IsPart fed whole) where
       subst (λ content. IsWhole whole q n content) (alike_bytes_at fed whole (16 * length fed) part_alike (q + 64) (content_size n) (omega arith))
       (alike_whole fed whole (16 * length fed) part_alike q n (content_at fed (q + 64) n) inside intact)
 
-  -- and one of the whole that the part reaches
+  -- an intact data field of the whole, if the part reaches to its end
   pub intact_stood : (q n : ℕ) → q + (64 + 16 * (content_size n + 2)) ≤ 16 * length fed → IsIntact whole q n → IsIntact fed q n
   intact_stood q n inside intact =
       subst (λ content. IsWhole fed q n content) (alike_bytes_at whole fed (16 * length fed) whole_alike (q + 64) (content_size n) (omega arith))
@@ -144,20 +144,20 @@ module _ (fed whole : List ℕ) (part : IsPart fed whole) where
       not_false : IsTrue false → ⊥
       not_false e = false≢true e
 
-  -- where no data mark can come any more, there is none
+  -- if no data mark can come any more, there is none
   pub no_data_stays : (p n : ℕ) → HasNoDataMark fed p → LookAt whole p n NoData
   no_data_stays p n over q deleted field =
       let far = over.far in
       let near = field.first.mark.near in
       over.none q deleted (data_mark_stood p q deleted (omega arith) field.first.mark)
 
--- a data field that the index ends in
+-- a data field that the index cuts off is none
 pub unfinished_is_no_data : (whole : List ℕ) (p n size : ℕ) → size ≡ content_size n → IsUnfinished whole p size → LookAt whole p n NoData
 unfinished_is_no_data whole p n size sized over q deleted field =
     let inside = field.inside in
     over q deleted (record { first = field.first; inside = omega arith })
 
--- right behind an address field the turn is over
+-- if the revolution is over right after an address field, the field has no data
 pub late_is_no_data : (whole : List ℕ) (p n : ℕ) → EndsInLast whole (p + 160) → LookAt whole p n NoData
 late_is_no_data whole p n ends q deleted field =
     let last = ends.last in
@@ -165,7 +165,7 @@ late_is_no_data whole p n ends q deleted field =
     let inside = field.first.mark.run.sound.inside in
     omega arith
 
--- ---- with a word more, what is new ends in it
+-- ---- with one word more, what is new ends in that word
 
 module _ (fed : List ℕ) (word : ℕ) where
   -- an end that lies behind the words before lies in the new word
@@ -198,20 +198,20 @@ module _ (fed : List ℕ) (word : ℕ) where
 
 -- ---- a separator and the words fed
 
--- one that has hunted since these words began hunts
+-- a separator that has hunted since these words began hunts
 pub follows_hunts : (separator : Separator) (fed : List ℕ) → SFollows separator fed → SHunts separator fed
 follows_hunts separator fed follows = follows.hunts
 
 module _ (separator : Separator) (fed : List ℕ) (p size : ℕ) (waits : SWaits separator fed p size) where
-  -- while a data mark is awaited, the address field has passed
+  -- while the separator waits for a data mark, the address field has passed
   pub waits_behind : p + 160 ≤ 16 * length fed
   waits_behind = (waits_at fed separator.cells separator.back p size separator.stage waits).0
 
-  -- with at most 1,022 cells behind it
+  -- at most 1,022 cells stand behind the address field
   pub waits_early : 16 * length fed ≤ p + 160 + 1022
   waits_early = (waits_at fed separator.cells separator.back p size separator.stage waits).1
 
-  -- and there was no data mark
+  -- no data mark has come so far
   pub waits_mark : (q : ℕ) (deleted : Bool) → IsDataMark fed p q deleted → ⊥
   waits_mark = (waits_at fed separator.cells separator.back p size separator.stage waits).2
 
@@ -228,6 +228,6 @@ module _ (separator : Separator) (fed : List ℕ) (p q : ℕ) (deleted : Bool) (
   pub reads_within : q + 64 + 16 * taken ≤ 16 * length fed
   reads_within = let ends = reads_ends in ends.inside
 
-  -- at most the content and the first byte of its check were taken
+  -- at most the content and the first byte of its CRC were taken
   pub reads_most : taken ≤ size + 1
   reads_most = (reads_at fed separator.cells separator.back p q deleted size taken separator.stage separator.few reads).1

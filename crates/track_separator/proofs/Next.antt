@@ -31,7 +31,7 @@ more_of fed word =
     }
 
 module _ (fed : List ℕ) (word : ℕ) (whole : List ℕ) (more : IsMore fed word whole) where
-  -- the words of the turn so far
+  -- the words of the revolution so far
   same_word : (q : ℕ) → q < 16 * length fed → get_or fed (q / 16) 0 ≡ get_or whole (q / 16) 0
   same_word q h = more.alike.words (q / 16) (omega arith)
 
@@ -57,7 +57,7 @@ module _ (fed : List ℕ) (word : ℕ) (whole : List ℕ) (more : IsMore fed wor
   pub no_zero_down : (s : ℕ) → HasNoZeroFrom whole s → HasNoZeroFrom fed s
   no_zero_down s none q low high zero_word = let size = more.size in none q low (omega arith) (sym (same_word q high) ∙ zero_word)
 
-  -- a stretch into the last word, which is recorded
+  -- if there is no word 0000 from a cell on, the last word isn't 0000
   pub last_some : (s : ℕ) → s < 16 * length whole → HasNoZeroFrom whole s → word ≢ 0
   last_some s low none e =
       let size = more.size in
@@ -78,7 +78,7 @@ module _ (fed : List ℕ) (word : ℕ) (whole : List ℕ) (more : IsMore fed wor
             shifted.last (16 * length whole - 1 - q) (omega arith) ∙ ap (bit_at word) bit ∙ sym (last_cell q h (omega arith))
       ]
 
-  -- where only the last word counts
+  -- the register keeps the cells of the last word
   pub keeps_last : (cells after s : ℕ) → IsShifted cells word after → 16 * length fed ≤ s → KeepsFrom whole after s
   keeps_last cells after s shifted low_end q low high =
       let size = more.size in
@@ -155,7 +155,7 @@ module _ (fed : List ℕ) (word : ℕ) (whole : List ℕ) (more : IsMore fed wor
 
 -- ---- what the register shows
 
--- the byte behind which so many cells stand
+-- the byte that has so many cells behind it
 pub byte_kept : (fed : List ℕ) (cells s r b : ℕ) → KeepsFrom fed cells s → s ≤ r → r + 16 + b ≡ 16 * length fed → register_byte cells b ≡ byte_at fed r
 byte_kept fed cells s r b kept low place =
     number_ext (λ i. bit_at cells (b + (14 - 2 * i))) (λ i. cell fed (r + (2 * i + 1))) 8

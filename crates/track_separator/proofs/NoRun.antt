@@ -8,7 +8,7 @@ use Rattle.track_separator.specs.Past.{HuntsPast, EndsNoRun, BringsNoRun}
 use Rattle.track_separator.proofs.HuntedWord.{hunted_on}
 use Rattle.track_separator.proofs.Saved.{same_separator}
 
--- none yet
+-- no words bring no run
 pub brings_none : (cells : ℕ) → BringsNoRun [] cells cells
 unfolding BringsNoRun
 brings_none cells = refl
@@ -24,7 +24,7 @@ brings_more words i cells mid after inside so_far next fits none =
     let Here : List ℕ → Type 0 = λ taken. BringsNoRun taken cells after in
     subst Here (sym (take_more words i 0 inside)) (brings_behind (take i words) (get_or words i 0) cells mid after so_far next fits none)
 
--- a separator that hunts takes them, and sees nothing
+-- a separator that hunts takes such words, and sees nothing
 pub hunts_by : (words : List ℕ) (old new : Separator) → old.stage ≡ Hunting → new.back ≡ old.back → new.stage ≡ old.stage → BringsNoRun words old.cells new.cells → HuntsPast words old new
 unfolding BringsNoRun HuntsPast
 hunts_by [] old new is back stage same =
@@ -33,7 +33,7 @@ hunts_by (word ∷ rest) old new is back stage (m, by, low, clear, on) =
     let mid : Separator = record { cells = m; back = old.back; stage = old.stage; few = old.few; small = old.small; early = old.early } in
     (mid, hunted_on old.cells old.back word m old.stage is by clear, hunts_by rest mid new is back stage on)
 
--- so it does where the register is told to be the one that they bring
+-- a separator that hunts takes such words, if its register is known to be the one that they bring
 pub hunts_told : (words : List ℕ) (old new : Separator) → old.stage ≡ Hunting → new.back ≡ old.back → new.stage ≡ old.stage → (after : ℕ) × BringsNoRun words old.cells after → ((after : ℕ) → BringsNoRun words old.cells after → new.cells ≡ after) → HuntsPast words old new
 hunts_told words old new is back stage (after, brings) told =
     hunts_by words old new is back stage (subst (BringsNoRun words old.cells) (sym (told after brings)) brings)

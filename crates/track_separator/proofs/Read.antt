@@ -16,7 +16,7 @@ use Rattle.track_separator.proofs.Shared.{alike_bytes_at, alike_no_zero, alike_d
 use Rattle.track_separator.proofs.Next.{IsMore, no_zero_up, last_some, keeps_next, byte_kept}
 use Rattle.track_separator.proofs.Hunted.{back_alike}
 
--- what ends in the last word has all of it recorded
+-- what was all recorded and ends in the last word has no word 0000 from its beginning on
 zeros_to_end : (fed : List ℕ) (p count : ℕ) → 0 < count → EndsInLast fed (p + count) → TouchesNoZero fed p count → HasNoZeroFrom fed p
 zeros_to_end fed p count some ends none q low high zero_word =
     let inside = ends.inside in

@@ -25,7 +25,7 @@ brings_before (first ∷ rest) word cells after (mid, by, low, clear, on) =
     let before = brings_before rest word mid after on in
     (before.0, (mid, by, low, clear, before.1), before.2)
 
--- the cells of these words from `first` on are in both registers, and where that is the first of all, the cells before them too
+-- both registers have the cells of these words from `first` on; if `first` is 0, they also agree in the cells before it
 pub AreAlikeSince : ℕ → ℕ → ℕ → ℕ → Type 0
 AreAlikeSince first place kept register = (i : ℕ) → i < 128 → (first ≢ 0 → i + 16 * first < 16 * place) → bit_at kept i ≡ bit_at register i
 
@@ -65,7 +65,7 @@ remade_more words cells first place kept after inside remade next register bring
     let before = brings_before (take place words) (get_or words place 0) cells register whole in
     alike_next first place kept before.0 (get_or words place 0) after register (remade before.0 before.1) next before.2
 
--- at the end it is the register
+-- at the end `kept` is the register
 pub remade_is : (words : List ℕ) (cells count place kept : ℕ) → cells < 2 ^ 128 → kept < 2 ^ 128 → place ≡ count → IsRemade words cells (count - 8) place kept → (register : ℕ) → BringsNoRun (take count words) cells register → kept ≡ register
 unfolding IsRemade AreAlikeSince
 remade_is words cells count place kept fits low is remade register brings =

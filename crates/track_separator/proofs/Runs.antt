@@ -53,12 +53,12 @@ run_cell track p m run h =
           ]
     ]
 
--- a cell in which a run and one so many cells on differ, be it of the run itself or of the byte behind it
+-- a cell in which a run and a run `d` cells further on differ: one of the first run, or of the byte behind that run
 witness : ℕ → ℕ
 witness d =
     get_or (0 ∷ 1 ∷ 3 ∷ 4 ∷ 8 ∷ 5 ∷ 7 ∷ 17 ∷ 8 ∷ 10 ∷ 11 ∷ 15 ∷ 12 ∷ 14 ∷ 17 ∷ 15 ∷ 51 ∷ 17 ∷ 19 ∷ 20 ∷ 24 ∷ 21 ∷ 23 ∷ 33 ∷ 24 ∷ 26 ∷ 27 ∷ 31 ∷ 28 ∷ 30 ∷ 33 ∷ 31 ∷ 51 ∷ 33 ∷ 35 ∷ 36 ∷ 40 ∷ 37 ∷ 39 ∷ 49 ∷ 40 ∷ 42 ∷ 43 ∷ 47 ∷ 44 ∷ 46 ∷ 49 ∷ 47 ∷ []) d 0
 
--- the cells of a run, and ones behind it
+-- the cells of a run, and cells 1 behind it
 abbrev known : ℕ → ℕ
 known i = bit_at 0x448944894489F (51 - i)
 
@@ -113,7 +113,7 @@ known_run i h =
     let index : 51 - i - 4 ≡ 47 - i = omega arith in
     bit_at_cat_high 0x448944894489 4 15 (51 - i) (lit< tt) (omega arith) ∙ ap (bit_at 0x448944894489) index
 
--- where the cell that tells them apart is known, the second run isn't there
+-- if the cell that tells the two runs apart is known, the second run isn't there
 not_both : (track : List ℕ) (p d : ℕ) → (d ≡ 0 → ⊥) → d < 48 → cell track (p + witness d) ≡ known (witness d) → IsRun track (p + d) → ⊥
 not_both track p d some h here run =
     let place : p + d + (witness d - d) ≡ p + witness d = omega (arith, behind d h) in
@@ -146,7 +146,7 @@ high_byte track q byte e seven six = record {
   next = sym (byte_cell track q 1 (lit< tt)) ∙ ap (λ b. bit_at b 6) e ∙ six;
 }
 
--- no run begins between a run and the end of such a byte behind it
+-- if such a byte stands behind a run, no other run begins inside that run
 pub no_run_after : (track : List ℕ) (p k : ℕ) → IsRun track p → IsHigh track (p + 48) → p < k → k < p + 48 → IsRun track k → ⊥
 no_run_after track p k first high low close second =
     let d = k - p in

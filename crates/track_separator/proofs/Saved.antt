@@ -10,7 +10,7 @@ abbrev separator_of : (cells back : ℕ) (stage : Stage) → back < 16 → size_
 separator_of cells back stage few small early =
     record { cells = cells; back = back; stage = stage; few = few; small = small; early = early }
 
--- it doesn't matter how its limits were seen
+-- the separator is the same, however its limits were proved
 same_limits : (one : Separator) (few : one.back < 16) (small : size_in one.stage ≤ 8192) (early : since_in one.stage < 1023)
     → separator_of one.cells one.back one.stage few small early ≡ one
 same_limits one few small early =

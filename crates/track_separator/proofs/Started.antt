@@ -1,4 +1,4 @@
--- A separator that begins, and one at the end of a turn.
+-- A separator that begins, and one at the end of a revolution.
 use Rattle.std.proofs.Common.{ℕ, ◌*◌, List, [], length, arith}
 use Rattle.track_separator.specs.declared.state.Seen.{Seen}
 use Rattle.track_separator.specs.declared.state.Seen.TheVariants.{Nothing, Mark, Address, Mode, Byte, End, NoData}
@@ -37,7 +37,7 @@ stands_of fed cells back stage (Byte value) h = absurd h
 stands_of fed cells back stage (End good) h = absurd h
 stands_of fed cells back stage NoData h = absurd h
 
--- who hunts asks for nothing
+-- a separator that hunts asks for nothing
 pub hunts_not_wants : (fed : List ℕ) (cells back : ℕ) (stage : Stage) → HuntsIn fed cells back stage → WantsIn stage → ⊥
 hunts_not_wants fed cells back Hunting h w = w
 hunts_not_wants fed cells back (Reading bytes) h w = w

@@ -1,4 +1,4 @@
--- A word that isn't the last of its turn, taken at any stage.
+-- A word that isn't the last of its revolution, taken at any stage.
 use Rattle.std.proofs.Common.{◌≡◌, ℕ, Bool, false, true, List, sym, ◌∙◌}
 use Rattle.std.proofs.lemmas.Bool.{false≢true}
 use Rattle.track_separator.specs.declared.state.Seen.{Seen}

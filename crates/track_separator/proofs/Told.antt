@@ -49,7 +49,7 @@ of_read fed p q deleted size taken cells back stage (Address key) address h = ab
 of_read fed p q deleted size taken cells back stage (Mode other) address h = absurd h
 of_read fed p q deleted size taken cells back stage NoData address h = absurd h
 
--- a word, inside the turn
+-- a word inside the revolution
 pub fed_more : (old new : Separator) (word : ℕ) (seen : Seen) → IsHunted old word new seen → ((fed : List ℕ) (p size : ℕ) → SWaits old fed p size → SWaitSeen (with_word fed word) p size new seen) → ((fed : List ℕ) (p q : ℕ) (deleted : Bool) (size taken : ℕ) → SReads old fed p q deleted size taken → SReadSeen (with_word fed word) p q deleted size taken new seen) → (STurnEnded old → (seen ≡ NoData) × ((fed : List ℕ) → SHunts new fed)) → (fed : List ℕ) → SFed old fed → SFed new (with_word fed word) × IsTold (with_word fed word) seen
 fed_more old new word seen hunted waits reads late fed (inl hunts) =
     (inl (hunted.keeps fed hunts), told_of_hunt (with_word fed word) new.cells new.back new.stage seen (hunted.tells fed hunts))
@@ -78,7 +78,7 @@ asked_late fed cells back new is = let At : Stage → Type 0 = λ stage. FedIn f
 
 -- ---- words that are taken at one stage alone
 
--- a run of marks is hunted for
+-- the separator hunts for a run of marks
 hunts_of : (fed : List ℕ) (cells back : ℕ) (stage : Stage) → BeginsIn stage → FedIn fed cells back stage → HuntsIn fed cells back stage
 hunts_of fed cells back Hunting begins (inl h) = h
 hunts_of fed cells back Hunting begins (inr (inl h)) = absurd h.3

@@ -1,4 +1,4 @@
--- A run of marks ends only behind two words that are alike, and each a turned mark, which has five ones.
+-- A run of marks ends only after two words that are alike. Each of them is a rotated mark, which has five ones.
 use Rattle.std.proofs.Common.{◌≡◌, ℕ, ◌+◌, ◌-◌, ◌*◌, ◌/◌, ◌%◌, ◌^◌, ◌<◌, Bool, true, eqb, List, [], length, get_or, take, bit_and, bit_or, refl, sym, ap, subst, ◌∙◌, lit<, arith, inl, inr}
 use Rattle.std.proofs.lemmas.Bool.{agree_below_at, eqb-true, cases_eq}
 use Rattle.std.specs.Int.{bit_at}
@@ -10,7 +10,7 @@ use Rattle.track_separator.specs.Past.{EndsNoRun, BringsNoRun}
 use Rattle.track_separator.proofs.Bits.{bit_at-mod, bit_at-div, run_bit, shifted_is, next_blank}
 use Rattle.track_separator.proofs.NoRun.{brings_none, brings_more}
 
--- the sixteen cells of the register behind which so many stand
+-- the sixteen cells of the register that have so many cells behind them
 part : ℕ → ℕ → ℕ
 part cells behind = cells / 2 ^ behind % 2 ^ 16
 
@@ -34,7 +34,7 @@ last_is cells = let whole : cells / 2 ^ 0 ≡ cells = omega arith in and_mask ce
 
 -- ---- the words of a run
 
--- a mark, turned as a run has it behind which so many cells stand
+-- a mark, rotated as in a run that has `back` cells behind it
 turned : ℕ → ℕ
 turned back = part 0x448944894489 (16 - back)
 
@@ -108,11 +108,11 @@ module _ (cells word after : ℕ) (shifted : IsShifted cells word after) where
       let bit : 32 + i - 16 ≡ 16 + i = omega arith in
       shifted.before (32 + i) (omega arith) (omega arith) ∙ ap (bit_at cells) bit ∙ sym (part_bit cells 16 i l))
 
--- the last two words aren't both the same turned mark
+-- the last two words aren't both the same rotated mark
 NoTwins : ℕ → Type 0
 NoTwins cells = part cells 16 ≡ part cells 0 → count_ones (part cells 0) ≡ 5 → ⊥
 
--- the last word is that one, if it may be a turned mark
+-- the last word is `word`, if it may be a rotated mark
 Shows : ℕ → ℕ → Type 0
 Shows word cells = count_ones (part cells 0) ≡ 5 → part cells 0 ≡ word
 
@@ -167,7 +167,7 @@ next_of cells word fits =
 
 -- ---- words that are scanned
 
--- these words brought no run, nor does the next, and `before` is the last
+-- these words brought no run, the next word brings none either, and `before` is the last of these words
 pub record IsScanned (words : List ℕ) (cells before : ℕ) : Type 0 where
   register : ℕ
   brings : BringsNoRun words cells register
@@ -199,11 +199,11 @@ module _ (words : List ℕ) (i cells before : ℕ) (inside : i < length words) (
   unfolding word
   more = brings_more words i cells scanned.register next.0 inside scanned.brings next.2 next.1 (no_run_next scanned.register word next.0 next.2 scanned.apart)
 
-  -- the next word brings none
+  -- the next word brings no run
   pub scan_last : (after : ℕ) × BringsNoRun (take (i + 1) words) cells after
   scan_last = (next.0, more)
 
-  -- nor does the one behind it
+  -- if the next word isn't the second of two equal rotated marks, the word after it brings no run either
   pub scan_more : (last : ℕ) → last ≡ get_or words i 0 → (get_or words i 0 ≡ before → count_ones (get_or words i 0) ≡ 5 → ⊥) → IsScanned (take (i + 1) words) cells last
   unfolding word Shows
   scan_more last is differ = record {

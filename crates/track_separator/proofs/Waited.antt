@@ -1,4 +1,4 @@
--- A word while a data mark is awaited.
+-- A word while the separator waits for a data mark.
 use Rattle.std.proofs.Common.{◌≡◌, ◌≢◌, ℕ, ◌+◌, ◌-◌, ◌*◌, ◌<◌, ◌≤◌, Bool, true, false, List, ◌∷◌, ◌++◌, length, min, refl, sym, ap, ◌∙◌, lit<, leb, arith, inl, inr}
 use Rattle.std.proofs.lemmas.Bool.{cases_lt, cases_order, leb-true, leb-false}
 use Rattle.std.proofs.lemmas.Nat.Bits.{bit_at_ones}
@@ -29,7 +29,7 @@ marked_by fed p back true when_true when_false = when_true refl
 marked_by fed p back false when_true when_false = when_false refl
 
 module _ (fed : List ℕ) (cells p since : ℕ) (next : IsWaitingNext fed cells p since) where
-  -- a run that is pending shows
+  -- a run that is pending shows in the register
   shows : (q own : ℕ) → p + 160 ≤ q → IsPending fed q own → HasRunBits cells own
   shows q own low now =
       let place = now.place in
@@ -73,7 +73,7 @@ module _ (fed : List ℕ) (word : ℕ) (whole : List ℕ) (more : IsMore fed wor
   place_here : p + 160 + (before + 16) ≡ 16 * length whole
   place_here = let size = more.size in let place = was.place in omega arith
 
-  -- a data mark that ends in the word was a run that is pending
+  -- if a data mark ends in the word, its run was pending before
   pending_of : (q : ℕ) (deleted : Bool) → 16 * length fed < q + 64 → IsDataMark whole p q deleted → IsPending fed q (16 * length whole - q - 64)
   pending_of q deleted late mark =
       let size = more.size in
@@ -93,7 +93,7 @@ module _ (fed : List ℕ) (word : ℕ) (whole : List ℕ) (more : IsMore fed wor
   byte_here q low place none =
       byte_kept whole after q (q + 48) back (full_here q low (omega arith) none) (omega arith) (omega arith)
 
-  -- where no mark is told, there is none
+  -- if no mark is reported, there is none
   none_told : (pending : IsMarked fed p back marked) → ((deleted : Bool) → IsMarkIn after back (before + 16) marked deleted → ⊥) → (q : ℕ) (deleted : Bool) → IsDataMark whole p q deleted → ⊥
   none_told pending untold q deleted mark =
       elim (cases_lt (16 * length fed) (q + 64)) [
@@ -128,7 +128,7 @@ module _ (fed : List ℕ) (word : ℕ) (whole : List ℕ) (more : IsMore fed wor
   pending_run true e h = h
   pending_run false e h = absurd (let f : true ≡ false = sym e in cc)
 
-  -- a mark that is told is the first data mark
+  -- a mark that is reported is the first data mark
   pub mode_reads : (deleted : Bool) (size check : ℕ) → IsMarkIn after back (before + 16) marked deleted → ((rest : List ℕ) → crc_from check rest ≡ crc (0xA1 ∷ 0xA1 ∷ 0xA1 ∷ data_byte deleted ∷ rest)) → (q : ℕ) × IsReading whole after back p q deleted size 0 check false
   mode_reads deleted size check told goes_on =
       let lengths = more.size in

@@ -13,7 +13,7 @@ use Rattle.track_separator.specs.declared.state.Separator.{Separator}
 use Rattle.track_separator.specs.Register.{HasNoZeroFrom, HasTail, IsFull}
 use Rattle.track_separator.specs.Parts.{EndsInLast}
 
--- a run began at p, and so many bytes behind it have passed
+-- a run began at p, and `bytes` bytes behind it have passed
 pub record IsAfterRun (fed : List ℕ) (cells p bytes back : ℕ) : Type 0 where
   pub place : p + 48 + 16 * bytes + back ≡ 16 * length fed
   pub few : bytes ≤ 6
@@ -39,7 +39,7 @@ HuntsIn fed cells back _ = ⊥
 abbrev pub SHunts : Separator → List ℕ → Type 0
 SHunts separator fed = HuntsIn fed separator.cells separator.back separator.stage
 
--- so many bytes behind a run at p have passed that may be those of an address field, and no run began since
+-- a run at p has passed, and then `bytes` bytes that may be those of an address field; no run began since
 pub record IsFollowed (fed : List ℕ) (p bytes own : ℕ) : Type 0 where
   pub place : p + 48 + 16 * bytes + own ≡ 16 * length fed
   pub small : own < 16
@@ -49,7 +49,7 @@ pub record IsFollowed (fed : List ℕ) (p bytes own : ℕ) : Type 0 where
   pub mark : 1 ≤ bytes → byte_at fed (p + 48) ≡ 0xFE
   pub last : (k : ℕ) → p < k → IsRun fed k → ⊥
 
--- the separator hunts, and hunted since these words began: it is reading whatever may become an address field
+-- the separator hunts, and has hunted since these words began; whatever may become an address field, it is reading
 pub record FollowsIn (fed : List ℕ) (cells back : ℕ) (stage : Stage) : Type 0 where
   pub hunts : HuntsIn fed cells back stage
   pub full : IsFull fed cells 0
@@ -65,7 +65,7 @@ Stands fed Mark = (p : ℕ) × EndsInLast fed (p + 64) × IsAddressMark fed p
 Stands fed (Address key) = (p : ℕ) × EndsInLast fed (p + 160) × IsAddressAt fed p key
 Stands fed _ = ⊥
 
--- that field is the one at p
+-- the address field that ended in the last word is the one at p
 abbrev pub AddressedIn : List ℕ → ℕ → ℕ → ℕ → Stage → Type 0
 AddressedIn fed cells back p Addressed = IsAddressed fed cells back p
 AddressedIn fed cells back p _ = ⊥
@@ -73,7 +73,7 @@ AddressedIn fed cells back p _ = ⊥
 abbrev pub SAddressed : Separator → List ℕ → ℕ → Type 0
 SAddressed separator fed p = AddressedIn fed separator.cells separator.back p separator.stage
 
--- and behind an Address, the field that it is of
+-- what an event of the hunt stands for; for an Address, also that the separator stands at the end of its field
 abbrev pub HuntSeenIn : List ℕ → ℕ → ℕ → Stage → Seen → Type 0
 HuntSeenIn fed cells back stage Nothing = Unit {0}
 HuntSeenIn fed cells back stage Mark = (p : ℕ) × EndsInLast fed (p + 64) × IsAddressMark fed p
@@ -84,7 +84,7 @@ HuntSeenIn fed cells back stage _ = ⊥
 abbrev pub SHuntSeen : List ℕ → Separator → Seen → Type 0
 SHuntSeen fed separator seen = HuntSeenIn fed separator.cells separator.back separator.stage seen
 
--- each address mark, and each intact address field in which no run begins, that ends in the last word is the event
+-- an address mark that ends in the last word is the event, and so is an intact address field in which no run begins
 pub record GivesAll (fed : List ℕ) (seen : Seen) : Type 0 where
   pub mark : (p : ℕ) → EndsInLast fed (p + 64) → IsAddressMark fed p → seen ≡ Mark
   pub address : (p : ℕ) (key : Chrn) → EndsInLast fed (p + 160) → IsAddressAt fed p key → HasNoRunWithin fed p → seen ≡ Address key
@@ -102,7 +102,7 @@ pub record IsAtByte (fed : List ℕ) (cells p bytes back : ℕ) : Type 0 where
   pub full : IsFull fed cells p
   pub tail : HasTail fed cells
 
--- what was made of it
+-- what the separator made of that byte
 pub record IsByteTaken (fed : List ℕ) (p bytes back cells after : ℕ) (stage : Stage) (seen : Seen) : Type 0 where
   pub hunts : HuntsIn fed cells after stage
   pub tells : HuntSeenIn fed cells after stage seen

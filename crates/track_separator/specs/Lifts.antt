@@ -1,4 +1,4 @@
--- What an event says of a whole turn.
+-- What an event says of a whole revolution.
 use Rattle.std.specs.Prelude.{ℕ, Bool, true, false}
 use Rattle.track_model.specs.declared.Look.{Look}
 use Rattle.track_model.specs.declared.Look.TheVariants.{Found, BadCrc}

@@ -5,7 +5,7 @@ use Rattle.track_separator.specs.declared.state.Separator.{Separator}
 use Rattle.track_separator.specs.Register.{IsNext, HasRunBits}
 use Rattle.track_separator.specs.Turns.{IsHunted}
 
--- nothing was seen in any of these words, all inside the turn
+-- nothing was seen in any of these words, all inside the revolution
 unfoldable pub HuntsPast : List ℕ → Separator → Separator → Type 0
 HuntsPast [] old new = new ≡ old
 HuntsPast (word ∷ rest) old new = (mid : Separator) × IsHunted old word mid Nothing × HuntsPast rest mid new
@@ -14,7 +14,7 @@ HuntsPast (word ∷ rest) old new = (mid : Separator) × IsHunted old word mid N
 abbrev pub EndsNoRun : ℕ → Type 0
 EndsNoRun cells = (back : ℕ) → back < 16 → HasRunBits cells back → ⊥
 
--- the register comes to be that one by these words, and no run of marks ends in any of them
+-- these words bring the register to `after`, and no run of marks ends in any of them
 unfoldable pub BringsNoRun : List ℕ → ℕ → ℕ → Type 0
 BringsNoRun [] cells after = after ≡ cells
 BringsNoRun (word ∷ rest) cells after = (mid : ℕ) × IsNext cells word mid × (mid < 2 ^ 128) × EndsNoRun mid × BringsNoRun rest mid after

@@ -33,29 +33,29 @@ IsFull fed cells from = (s : ℕ) → from ≤ s → 16 * length fed ≤ s + 128
 abbrev pub IsBlank : ℕ → Type 0
 IsBlank cells = (i : ℕ) → i < 128 → bit_at cells i ≡ 1
 
--- the register with a word behind it
+-- the register after a word was shifted in
 pub record IsShifted (cells word after : ℕ) : Type 0 where
   pub last : (i : ℕ) → i < 16 → bit_at after i ≡ bit_at word i
   pub before : (i : ℕ) → 16 ≤ i → i < 128 → bit_at after i ≡ bit_at cells (i - 16)
 
--- after a word: a word 0000 leaves nothing
+-- the register after a word; a word 0000 leaves nothing in it
 pub record IsNext (cells word after : ℕ) : Type 0 where
   pub shifted : word ≢ 0 → IsShifted cells word after
   pub blank : word ≡ 0 → IsBlank after
 
--- a run ends where so many cells are behind it
+-- a run in the register has `back` cells behind it
 abbrev pub HasRunBits : ℕ → ℕ → Type 0
 HasRunBits cells back = cells / 2 ^ back % 2 ^ 48 ≡ 0x448944894489
 
--- the byte that ends where so many cells are behind it
+-- the byte that has `back` cells behind it
 abbrev pub register_byte : ℕ → ℕ → ℕ
 register_byte cells back = number (λ i. bit_at cells (back + (14 - 2 * i))) 8
 
--- the two bytes that end there, as a check
+-- the CRC that has `back` cells behind it: two bytes
 abbrev pub register_check : ℕ → ℕ → ℕ
 register_check cells back = 256 * register_byte cells (back + 16) + register_byte cells back
 
--- the key and the check of an address field that ends there
+-- the key and the CRC of an address field that has `back` cells behind it
 pub record IsKeyIn (cells back : ℕ) (key : Chrn) : Type 0 where
   pub cylinder : register_byte cells (back + 80) ≡ key.c
   pub head : register_byte cells (back + 64) ≡ key.h

@@ -1,4 +1,4 @@
--- What a word gives at any time, also as the last of its turn.
+-- What a word gives at any time, also as the last of its revolution.
 use Rattle.std.specs.Prelude.{◌≡◌, ◌⊎◌, ℕ, ◌+◌, ◌*◌, ◌<◌, Bool, true, false, List, []}
 use Rattle.track_model.specs.Bytes.{byte_at}
 use Rattle.track_model.specs.Fields.{IsAddress}
@@ -12,7 +12,7 @@ use Rattle.track_separator.specs.Parts.{with_word, turn_after}
 use Rattle.track_separator.specs.Hunts.{HuntsIn, SHunts, FollowsIn, SFollows, HuntSeenIn, SHuntSeen, GivesAll, Stands}
 use Rattle.track_separator.specs.Waits.{WaitsIn, SWaits, ReadsIn, SReads, SWaitSeen, SReadSeen, HasEnded, TellsWhole, IsUnfinished}
 
--- a word to a separator that hunts, inside the turn
+-- what a word inside the revolution gives a separator that hunts
 pub record IsHuntedIn (cells back : ℕ) (stage : Stage) (word after behind : ℕ) (next : Stage) (seen : Seen) : Type 0 where
   pub keeps : (fed : List ℕ) → HuntsIn fed cells back stage → HuntsIn (with_word fed word) after behind next
   pub tells : (fed : List ℕ) → HuntsIn fed cells back stage → HuntSeenIn (with_word fed word) after behind next seen
@@ -22,29 +22,29 @@ pub record IsHuntedIn (cells back : ℕ) (stage : Stage) (word after behind : �
 abbrev pub IsHunted : Separator → ℕ → Separator → Seen → Type 0
 IsHunted old word new seen = IsHuntedIn old.cells old.back old.stage word new.cells new.back new.stage seen
 
--- what the last word of the turn gives a separator that waits
+-- what the last word of the revolution gives a separator that waits
 abbrev pub SWaitCut : List ℕ → ℕ → ℕ → Seen → Type 0
 SWaitCut fed p size NoData = IsUnfinished fed p size
 SWaitCut fed p size _ = ⊥
 
--- a word to a separator that waits
+-- what any word gives a separator that waits
 abbrev pub SWaitFed : Bool → List ℕ → ℕ → ℕ → Separator → Seen → Type 0
 SWaitFed false fed p size separator seen = SWaitSeen fed p size separator seen
 SWaitFed true fed p size separator seen = SWaitCut fed p size seen
 
--- what the last word of the turn gives one that reads
+-- what the last word of the revolution gives a separator that reads
 abbrev pub SReadCut : List ℕ → ℕ → ℕ → Bool → ℕ → ℕ → Seen → Type 0
 SReadCut fed p q deleted size taken (End good) =
     (taken ≡ size + 1) × HasEnded fed p q deleted size × TellsWhole fed q size good
 SReadCut fed p q deleted size taken NoData = IsUnfinished fed p size
 SReadCut fed p q deleted size taken _ = ⊥
 
--- a word to one that reads
+-- what any word gives a separator that reads
 abbrev pub SReadFed : Bool → List ℕ → ℕ → ℕ → Bool → ℕ → ℕ → Separator → Seen → Type 0
 SReadFed false fed p q deleted size taken separator seen = SReadSeen fed p q deleted size taken separator seen
 SReadFed true fed p q deleted size taken separator seen = SReadCut fed p q deleted size taken seen
 
--- a data field is asked for behind the end of its turn
+-- a data field was asked for after the end of its revolution
 abbrev pub TurnEndedIn : Stage → Type 0
 TurnEndedIn TurnEnded = Unit {0}
 TurnEndedIn _ = ⊥
@@ -52,7 +52,7 @@ TurnEndedIn _ = ⊥
 abbrev pub STurnEnded : Separator → Type 0
 STurnEnded separator = TurnEndedIn separator.stage
 
--- the separator begins a turn
+-- the separator begins a revolution
 abbrev pub BeginsIn : Stage → Type 0
 BeginsIn Hunting = Unit {0}
 BeginsIn _ = ⊥
@@ -77,8 +77,8 @@ WantsIn _ = ⊥
 
 -- ---- any calls
 
--- the separator hunts, waits for a data field of some address field, reads one, or says that the turn ended in one: what it keeps
--- is of these words
+-- the separator hunts, waits for the data field of an address field, reads one, or reports that the revolution has
+-- ended; what it keeps is of these words
 abbrev pub FedIn : List ℕ → ℕ → ℕ → Stage → Type 0
 FedIn fed cells back stage =
     HuntsIn fed cells back stage
@@ -101,7 +101,7 @@ IsTold fed (End good) =
     (p : ℕ) × (q : ℕ) × (deleted : Bool) × (size : ℕ) × IsAddress fed p × HasEnded fed p q deleted size × TellsWhole fed q size good
 IsTold fed NoData = Unit {0}
 
--- a word to a separator at any stage, also as the last of its turn
+-- what a word gives a separator at any stage, also as the last word of its revolution
 pub record Feeds (index : Bool) (word : ℕ) (old new : Separator) (seen : Seen) : Type 0 where
   pub keeps : (fed : List ℕ) → SHunts old fed → SHunts new (turn_after index fed word)
   pub stands : (fed : List ℕ) → SHunts old fed → Stands (with_word fed word) seen

@@ -27,8 +27,8 @@ abbrev pub IsMarked : List ℕ → ℕ → ℕ → Bool → Type 0
 IsMarked fed p back true = (q : ℕ) × (p + 160 ≤ q) × IsPending fed q back
 IsMarked fed p back false = (q own : ℕ) → p + 160 ≤ q → IsPending fed q own → ⊥
 
--- a data mark of the address field at p is awaited: there was none so far, and one can still come, since one that begins
--- less than 960 cells behind the field is complete at the 1,023rd cell behind it
+-- a data mark of the address field at p is awaited: there was none so far, and one can still come. A mark that begins
+-- less than 960 cells behind the field is complete at the latest at the 1,023rd cell behind it.
 pub record IsWaiting (fed : List ℕ) (cells back p since : ℕ) (marked : Bool) : Type 0 where
   pub place : p + 160 + since ≡ 16 * length fed
   pub early : since ≤ 1022
@@ -71,12 +71,12 @@ abbrev pub SReads : Separator → List ℕ → ℕ → ℕ → Bool → ℕ → 
 SReads separator fed p q deleted size taken =
     ReadsIn fed separator.cells separator.back p q deleted size taken separator.stage
 
--- there is no data mark of the address field at p, however the turn goes on
+-- there is no data mark of the address field at p, however the revolution goes on
 pub record HasNoDataMark (fed : List ℕ) (p : ℕ) : Type 0 where
   pub far : p + 160 + 960 + 63 ≤ 16 * length fed
   pub none : (q : ℕ) (deleted : Bool) → IsDataMark fed p q deleted → ⊥
 
--- the last word has the 1,023rd cell behind the address field at p, where the last data mark that can come would end
+-- the last word has the 1,023rd cell behind the address field at p; the last data mark that can come would end there
 abbrev pub EndsReach : List ℕ → ℕ → Type 0
 EndsReach fed p = EndsInLast fed (p + 160 + 960 + 63)
 
@@ -85,15 +85,15 @@ pub record HasEnded (fed : List ℕ) (p q : ℕ) (deleted : Bool) (size : ℕ) :
   pub first : IsFirstDataMark fed p q deleted
   pub inside : IsInside fed q (64 + 16 * (size + 2))
 
--- whether it is whole
+-- `good` says whether that data field is whole
 abbrev pub TellsWhole : List ℕ → ℕ → ℕ → Bool → Type 0
 TellsWhole fed q size good = (n : ℕ) → size ≡ content_size n → IsTrue good ↔ IsIntact fed q n
 
--- the turn is over, and no data field of `size` bytes of the address field at p is inside it
+-- the revolution is over, and no data field of `size` bytes of the address field at p is inside it
 abbrev pub IsUnfinished : List ℕ → ℕ → ℕ → Type 0
 IsUnfinished fed p size = (q : ℕ) (deleted : Bool) → HasEnded fed p q deleted size → ⊥
 
--- what a word gives a separator that waits, inside the turn
+-- what a word inside the revolution gives a separator that waits
 abbrev pub WaitSeenIn : List ℕ → ℕ → ℕ → ℕ → ℕ → Stage → Seen → Type 0
 WaitSeenIn fed p size cells back stage Nothing = WaitsIn fed cells back p size stage
 WaitSeenIn fed p size cells back stage (Mode deleted) = (q : ℕ) × ReadsIn fed cells back p q deleted size 0 stage
@@ -103,7 +103,7 @@ WaitSeenIn fed p size cells back stage _ = ⊥
 abbrev pub SWaitSeen : List ℕ → ℕ → ℕ → Separator → Seen → Type 0
 SWaitSeen fed p size separator seen = WaitSeenIn fed p size separator.cells separator.back separator.stage seen
 
--- what it gives one that reads
+-- what a word inside the revolution gives a separator that reads
 abbrev pub ReadSeenIn : List ℕ → ℕ → ℕ → Bool → ℕ → ℕ → ℕ → ℕ → Stage → Seen → Type 0
 ReadSeenIn fed p q deleted size taken cells back stage (Byte value) =
     (taken < size) × (value ≡ byte_at fed (q + 64 + 16 * taken)) × ReadsIn fed cells back p q deleted size (taken + 1) stage

@@ -8,7 +8,7 @@ use crate::state::{Seen, Separator, Stage};
 /// The byte of an address mark.
 const ADDRESS_BYTE: u8 = 0xFE;
 
-/// How many bytes of an address field are read before the last of its check.
+/// How many bytes of an address field are read before the last byte of its CRC.
 const BYTES_BEFORE_LAST: u8 = 6;
 
 impl Separator {
@@ -17,7 +17,7 @@ impl Separator {
     ghost use Rattle.track_separator.specs.Parts.{with_word};
     ghost use Rattle.track_separator.specs.Turns.{IsHunted, SBegins, SFed};
 
-    /// Takes one word while a run of marks is hunted for.
+    /// Takes one word while the separator hunts for a run of marks.
     #[inline(always)]
     pub(crate) fn hunt_on(&mut self, word: u16) -> Seen
         requires { self.old.stage ≡ Stage.Hunting }
@@ -31,8 +31,9 @@ impl Separator {
         self.hunt_word(word)
     }
 
-    /// Takes a word, inside the turn, where a run of marks is hunted for and none ends in it; nothing is seen in it then. It tells
-    /// whether it did, as it does with nearly every word of a search.
+    /// Takes a word that isn't the last of the revolution, if the separator hunts for a run of marks and no run ends in
+    /// the word. Nothing is seen in such a word. The result says whether the word was taken; in a search, nearly every
+    /// word is.
     #[inline(always)]
     pub fn pass_by(&mut self, word: u16) -> bool
         ensures passed { result ≡ true → IsHunted self.old word self.new Seen.Nothing }
@@ -53,8 +54,8 @@ impl Separator {
         }
     }
 
-    /// Takes the first of these words, inside the turn, for as long as a run of marks is hunted for and none ends in them, and
-    /// tells how many it took. Nothing is seen in them.
+    /// Takes the first of these words, all inside the revolution, for as long as the separator hunts for a run of marks
+    /// and no run ends in them. The result is how many words it took. Nothing is seen in them.
     #[inline(never)]
     #[tactic(auto, unfolding(crate::specs::Past::HuntsPast))]
     pub fn hunt_many(&mut self, words: &[u16]) -> usize
@@ -73,7 +74,7 @@ impl Separator {
         }
     }
 
-    /// Takes one word while address marks are hunted for. A run that ends in it begins a field anew.
+    /// Takes one word while the separator hunts for address marks. A run that ends in the word begins a new field.
     #[inline(never)]
     pub(crate) fn hunt_word(&mut self, word: u16) -> Seen
         ensures { IsHunted self.old word self.new result }
@@ -93,7 +94,7 @@ impl Separator {
         }
     }
 
-    /// Takes the byte of an address field that has just come into the register, after `bytes` of them.
+    /// Takes the byte of an address field that has just come into the register, after `bytes` bytes of the field.
     fn take_byte(&mut self, bytes: u8) -> Seen
         ensures kept { self.new.cells ≡ self.old.cells }
         ensures taken { (fed : List ℕ) (p : ℕ) → IsAtByte fed self.old.cells p bytes self.old.back

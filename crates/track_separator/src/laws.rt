@@ -1,4 +1,4 @@
-// What stood in a part of a turn stands in the whole of it.
+// What stands in a part of a revolution stands in the whole revolution too.
 ghost use Rattle.std.specs.Prelude.{◌≡◌, ◌≤◌, ◌+◌, ◌*◌, length};
 ghost use Rattle.flop_base.specs.declared.key.Chrn.{Chrn};
 ghost use Rattle.track_model.specs.Marks.{IsAddressMark};
@@ -12,21 +12,21 @@ ghost use Rattle.track_separator.specs.Lifts.{look_of};
 use flop_base::Chrn;
 use track_model::Look;
 
-/// An address mark of a part of the turn is one of the turn.
+/// An address mark of a part of the revolution is one of the revolution.
 pub fn address_mark_stays(_fed: &[u16], _turn: &[u16], _place: usize)
     requires part { IsPart _fed.now _turn.now }
     requires mark { IsAddressMark _fed.now _place }
     ensures { IsAddressMark _turn.now _place }
 {}
 
-/// An address field of a part of the turn is one of the turn.
+/// An address field of a part of the revolution is one of the revolution.
 pub fn address_field_stays(_fed: &[u16], _turn: &[u16], _place: usize, _key: Chrn)
     requires part { IsPart _fed.now _turn.now }
     requires address { IsAddressAt _fed.now _place _key }
     ensures { IsAddressAt _turn.now _place _key }
 {}
 
-/// A clear address field of the turn was one of each part that has all its cells.
+/// A Clear address field of the revolution is one of each part that has all its cells.
 pub fn clear_field_stood(_fed: &[u16], _turn: &[u16], _place: usize, _key: Chrn)
     requires part { IsPart _fed.now _turn.now }
     requires inside { _place + 160 ≤ 16 * length _fed.now }
@@ -36,7 +36,8 @@ pub fn clear_field_stood(_fed: &[u16], _turn: &[u16], _place: usize, _key: Chrn)
     ensures clear { HasNoRunWithin _fed.now _place }
 {}
 
-/// A data field that was over says what a look at its address field finds on the turn.
+/// A data field that is over in a part of the revolution says what the look at its address field finds in the whole
+/// revolution.
 pub fn data_field_stays(
     _fed: &[u16],
     _turn: &[u16],
@@ -55,14 +56,15 @@ pub fn data_field_stays(
     ensures { LookAt _turn.now _place _n (look_of _good _deleted (_mark + 64)) }
 {}
 
-/// Where no data mark could come any more, the turn has none.
+/// If a part of the revolution has no data mark for an address field, and none can come any more, the whole revolution
+/// has none.
 pub fn no_data_mark_stays(_fed: &[u16], _turn: &[u16], _place: usize, _n: u8)
     requires part { IsPart _fed.now _turn.now }
     requires over { HasNoDataMark _fed.now _place }
     ensures { LookAt _turn.now _place _n Look.NoData }
 {}
 
-/// A data field that the index ends in is none of the turn.
+/// A data field that the index cuts off isn't one of the revolution.
 pub fn unfinished_field_is_none(_turn: &[u16], _place: usize, _n: u8, _size: usize)
     requires sized { _size ≡ content_size _n }
     requires over { IsUnfinished _turn.now _place _size }

@@ -1,7 +1,7 @@
-//! The separator: the fields of a turn of the disk, found in its words as they pass under the head.
+//! The separator: it finds the fields of a revolution of the disk in its words, as they pass under the head.
 //!
-//! A turn is the words from an index to the next. Each word has sixteen cells, the first in bit 15, and a field may begin
-//! at any cell (IBM System 34 format). The separator keeps the last 128 cells and a few numbers, and no list.
+//! A revolution is the words from one index to the next. Each word has sixteen cells, the first in bit 15, and a field
+//! may begin at any cell (IBM System 34 format). The separator keeps the last 128 cells and a few numbers, and no list.
 #![tactic(auto)]
 
 mod hunting;

@@ -4,14 +4,15 @@ ghost use Rattle.track_separator.specs.Past.{BringsNoRun};
 
 use crate::register::next_cells;
 
-/// How many ones the cells of a mark A1 have, however they are turned.
+/// How many ones the cells of a mark A1 have, however they are rotated.
 const MARK_ONES: u32 = 5;
 
 /// How many words fill the register.
 const REGISTER_WORDS: usize = 8;
 
-/// Counts the first of these words, for as long as no run of marks ends in them. The two words before the one in which a run
-/// ends lie in it, so they are alike, and each is a mark that is turned: up to the second of such words, each is counted.
+/// Counts the first of these words, for as long as no run of marks ends in them. A run that ends in a word covers the
+/// two words before that word. So those two words are alike, and each is a rotated mark. All words up to the second of
+/// two such words are counted.
 pub(crate) fn count_passing(cells: u128, words: &[u16]) -> usize
     ensures within { result ≤ length words.now }
     ensures past { (after : ℕ) × BringsNoRun (take result words.now) cells after }
@@ -31,7 +32,8 @@ pub(crate) fn count_passing(cells: u128, words: &[u16]) -> usize
     words.len()
 }
 
-/// The register behind so many of these words, in none of which a run of marks ends. The last of them make it anew.
+/// The register after the first `count` of these words, in none of which a run of marks ends. The last of them fill the
+/// register anew.
 pub(crate) fn cells_behind(cells: u128, words: &[u16], count: usize) -> u128
     requires { count ≤ length words.now }
     ensures { (after : ℕ) → BringsNoRun (take count words.now) cells after → result ≡ after }

@@ -5,7 +5,7 @@ use crate::register::{check_before, last_byte, shifted};
 use crate::state::{Seen, Separator, Stage};
 use track_model::crc_step;
 
-/// Whether cells of the field weren't recorded, up to this word.
+/// Whether some cells of the field, up to this word, weren't recorded.
 fn is_touched(before: bool, word: u16) -> bool
     ensures clean { result ≡ false → (before ≡ false) × (word ≢ 0) }
     ensures touched { result ≡ true → before ≡ false → word ≡ 0 }
@@ -13,7 +13,7 @@ fn is_touched(before: bool, word: u16) -> bool
     before || word == 0
 }
 
-/// Whether the field was recorded and has the check that it has to have.
+/// Whether all of the field was recorded, and its stored CRC is the computed one.
 fn is_good(touched: bool, stored: u16, check: u16) -> bool
     ensures { IsTrue result ↔ ((touched ≡ false) × (stored ≡ check)) }
 {
@@ -47,8 +47,8 @@ impl Separator {
         Seen::Byte { value }
     }
 
-    /// Takes a word, inside the turn, where bytes of a content are left, and gives its byte. Else nothing changes, and there is
-    /// none.
+    /// Takes a word that isn't the last of the revolution, if bytes of a content are left, and gives the byte of the
+    /// word. Otherwise nothing changes, and the result is `None`.
     #[inline(always)]
     pub fn next_byte(&mut self, word: u16) -> Option<u8>
         ensures reads { IfSome result (λ value. (fed : List ℕ) (p q : ℕ) (deleted : Bool) (size taken : ℕ)
@@ -95,7 +95,7 @@ impl Separator {
         value
     }
 
-    /// Takes one word of the check, behind all bytes of the content.
+    /// Takes one word of the CRC, after all bytes of the content.
     #[inline(never)]
     fn read_check(&mut self, word: u16, size: u16, taken: u16, check: u16, before: bool) -> Seen
         requires small { size ≤ 8192 }

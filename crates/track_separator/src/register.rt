@@ -7,7 +7,7 @@ ghost use Rattle.track_separator.specs.Register.{IsShifted, IsNext, HasRunBits, 
 use flop_base::Chrn;
 use track_model::{decode_word, field_crc};
 
-/// No cell of which anything is known.
+/// The register when no cell is known.
 pub(crate) const BLANK: u128 = u128::MAX;
 
 /// The cells of three marks A1 in a row.
@@ -16,14 +16,14 @@ const RUN: u64 = 0x4489_4489_4489;
 /// As many ones as a run has cells.
 const RUN_MASK: u64 = 0xFFFF_FFFF_FFFF;
 
-/// The register with a word behind it.
+/// The register after a word was shifted in.
 pub(crate) fn shifted(cells: u128, word: u16) -> u128
     ensures { IsShifted cells word result }
 {
     cells << 16 | u128::from(word)
 }
 
-/// The register after a word, of which a word 0000 leaves nothing.
+/// The register after a word. A word 0000 leaves nothing in the register.
 pub(crate) fn next_cells(cells: u128, word: u16) -> u128
     ensures { IsNext cells word result }
 {
@@ -34,17 +34,18 @@ pub(crate) fn next_cells(cells: u128, word: u16) -> u128
     }
 }
 
-/// Whether the ones of a mark A1 are nowhere in sixteen cells that end in the last word. Then no run ends in it.
+/// Whether no sixteen cells that end in the last word have the ones of a mark A1. If so, no run ends in that word.
 fn has_no_mark_ones(recent: u64) -> bool
     ensures { result ≡ true → (back : ℕ) → back < 16 → HasRunBits recent back → ⊥ }
 {
-    // They stand 3, 4, 3 and 4 cells apart: a pair, another one seven cells further, and the last.
+    // The ones of a mark stand 3, 4, 3 and 4 cells apart: a pair, another pair seven cells further, and the last one.
     let pairs = recent & recent >> 3;
     let fours = pairs & pairs >> 7;
     fours & recent >> 14 & 0xFFFF == 0
 }
 
-/// Whether the last word has none of the cells by which a run ends. Then none ends in it.
+/// Whether the register has none of the ones by which a run would end in the last word. If so, no run ends in that
+/// word.
 pub(crate) fn ends_no_run(cells: u128) -> bool
     ensures { result ≡ true → (back : ℕ) → back < 16 → HasRunBits cells back → ⊥ }
 {
@@ -68,7 +69,7 @@ pub(crate) fn run_end(cells: u128) -> Option<u16>
     None
 }
 
-/// The byte that ends where `back` cells are behind it.
+/// The byte that has `back` cells behind it.
 pub(crate) fn byte_before(cells: u128, back: u16) -> u8
     requires { back ≤ 112 }
     ensures { result ≡ register_byte cells back }
@@ -76,7 +77,7 @@ pub(crate) fn byte_before(cells: u128, back: u16) -> u8
     decode_word((cells >> back & 0xFFFF) as u16)
 }
 
-/// The byte that ends in the last word.
+/// The byte that has `back` cells behind it, and so ends in the last word.
 pub(crate) fn last_byte(cells: u128, back: u16) -> u8
     requires { back < 16 }
     ensures { result ≡ register_byte cells back }
@@ -85,7 +86,7 @@ pub(crate) fn last_byte(cells: u128, back: u16) -> u8
     decode_word((recent >> back & 0xFFFF) as u16)
 }
 
-/// The two bytes that end there, as a check.
+/// The CRC that has `back` cells behind it: two bytes.
 pub(crate) fn check_before(cells: u128, back: u16) -> u16
     requires { back ≤ 96 }
     ensures { result ≡ register_check cells back }
@@ -93,7 +94,8 @@ pub(crate) fn check_before(cells: u128, back: u16) -> u16
     u16::from(byte_before(cells, back + 16)) << 8 | u16::from(byte_before(cells, back))
 }
 
-/// Whether that byte is the one of a data field, and whether it says that the field is deleted.
+/// Whether the byte that has `back` cells behind it is that of a data mark. If it is, the result says whether the field
+/// is deleted.
 pub(crate) fn data_mark_before(cells: u128, back: u16) -> Option<bool>
     requires { back ≤ 112 }
     ensures { MatchOption result ((deleted : Bool) → register_byte cells back ≡ data_byte deleted → ⊥)
@@ -106,7 +108,7 @@ pub(crate) fn data_mark_before(cells: u128, back: u16) -> Option<bool>
     }
 }
 
-/// The key of an address field that ends there, where its check is right.
+/// The key of an address field that has `back` cells behind it, if its CRC is right.
 pub(crate) fn key_before(cells: u128, back: u16) -> Option<Chrn>
     requires { back < 16 }
     ensures { MatchOption result ((key : Chrn) → IsKeyIn cells back key → ⊥)

@@ -83,7 +83,7 @@ impl Saved for Stage {
     }
 }
 
-/// A place behind the last cell; 0 for any other.
+/// The number `back` if it is below 16; 0 for any other number.
 fn limited_place(back: u16) -> u16
     ensures few { result < 16 }
     ensures same { back < 16 → result ≡ back }
@@ -91,7 +91,7 @@ fn limited_place(back: u16) -> u16
     if back < 16 { back } else { 0 }
 }
 
-/// A stage in its limits; any other begins anew.
+/// The stage if it is within its limits; for any other stage, the one that begins anew.
 fn limited(stage: Stage) -> Stage
     ensures size { size_in result ≤ 8192 }
     ensures since { since_in result < 1023 }

@@ -10,7 +10,7 @@ impl Separator {
     ghost use Rattle.track_separator.specs.Turns.{IsHunted, STurnEnded, SBegins, WantsIn, SFed, Feeds};
     ghost use Rattle.track_separator.specs.Parts.{with_word};
 
-    /// A separator that hunts for address marks, at the beginning of a turn.
+    /// A separator that hunts for address marks, at the beginning of a revolution.
     pub fn new() -> Separator
         ensures begins { SBegins result }
         ensures hunts { (fed : List ℕ) → SHunts result fed }
@@ -24,7 +24,7 @@ impl Separator {
         }
     }
 
-    /// Takes one word of the turn. `index` says that the turn ends after it.
+    /// Takes one word of the revolution. `index` says that the revolution ends after it.
     #[inline(always)]
     pub fn feed(&mut self, word: u16, index: bool) -> Seen
         ensures { Feeds index word self.old self.new result }
@@ -35,8 +35,8 @@ impl Separator {
         self.feed_any(word, index)
     }
 
-    /// Whether a run of marks is hunted for, or the next word is a byte of a content. So it is for nearly every word, and
-    /// `feed` has a short way for it.
+    /// Whether the separator hunts for a run of marks, or the next word is a byte of a content. One of the two is the
+    /// case for nearly every word, and `feed` has a short way for them.
     #[inline(always)]
     fn is_usual(&self) -> bool {
         match self.stage {
@@ -60,7 +60,7 @@ impl Separator {
         if wanted { Seen::NoData } else { seen }
     }
 
-    /// Asks for the data field of `size` bytes behind the address field that was just given.
+    /// Asks for the data field of `size` bytes behind the address field that was just reported.
     pub fn want(&mut self, size: usize)
         requires { size ≤ 8192 }
         ensures waits { (fed : List ℕ) (p : ℕ) → SAddressed self.old fed p → SWaits self.new fed p size }
@@ -87,7 +87,7 @@ impl Separator {
         *self = Separator::new();
     }
 
-    /// Takes one word, wherever the turn ends.
+    /// Takes one word, without regard to where the revolution ends.
     #[inline(always)]
     fn take(&mut self, word: u16) -> Seen
         ensures hunts { IsHunted self.old word self.new result }

@@ -4,10 +4,10 @@ ghost use Rattle.track_separator.specs.Stages.{size_in, since_in};
 
 use flop_base::Chrn;
 
-/// What is complete by the end of a word.
+/// What has become complete by the end of a word.
 #[derive(Clone, Copy, Debug, PartialEq, Eq)]
 pub enum Seen {
-    /// Nothing that is told.
+    /// Nothing that is reported.
     Nothing,
     /// An address mark.
     Mark,
@@ -15,9 +15,9 @@ pub enum Seen {
     Address { key: Chrn },
     /// The data mark of the field that was asked for.
     Mode { deleted: bool },
-    /// The next byte of its content.
+    /// The next byte of the content of that field.
     Byte { value: u8 },
-    /// Its check. `good` says that the check is right and that all its cells were recorded.
+    /// The CRC of that field. `good` says that the CRC is right and that all cells of the field were recorded.
     End { good: bool },
     /// There is no data field, or not all of it.
     NoData,
@@ -28,21 +28,22 @@ pub enum Seen {
 pub(crate) enum Stage {
     /// A run of marks.
     Hunting,
-    /// The bytes of an address field, after so many of them and the run before them.
+    /// The bytes of an address field, after its run and `bytes` of its bytes.
     Reading {
         bytes: u8,
     },
-    /// What is done about the address field that ended in the last word.
+    /// What the caller does about the address field that ended in the last word.
     Addressed,
-    /// The word after the index, where a data field was asked for and the turn is over.
+    /// The word after the index. A data field was asked for, and the revolution is over.
     TurnEnded,
-    /// A data mark: `since` cells passed since the address field, and the run before the mark ended in the last word or not.
+    /// A data mark, when `since` cells have passed since the address field. `marked` says whether the run before the
+    /// mark ended in the last word.
     Waiting {
         size: u16,
         since: u16,
         marked: bool,
     },
-    /// The bytes of a data field behind its mark, after `taken` of them. `check` is that of the content so far, and
+    /// The bytes of a data field behind its mark, after `taken` of them. `check` is the CRC of the field so far, and
     /// `touched` says that cells of the field weren't recorded.
     Content {
         size: u16,
@@ -52,11 +53,11 @@ pub(crate) enum Stage {
     },
 }
 
-/// Finds the fields of a turn, word by word.
+/// Finds the fields of a revolution, word by word.
 #[derive(Clone, Copy)]
 pub struct Separator {
-    /// The last 128 cells, the last in bit 0. Cells before the first word of the turn, and all up to a word 0000, are ones,
-    /// since a run begins with a 0.
+    /// The last 128 cells, the last in bit 0. Cells before the first word of the revolution are ones, and so are all
+    /// cells up to a word 0000, since a run begins with a 0.
     pub(crate) cells: u128,
     /// How many cells stand behind the run or the byte that ended last.
     pub(crate) back: u16,

@@ -9,7 +9,7 @@ use track_model::mark_crc;
 /// The cells of a run.
 const RUN_CELLS: u16 = 48;
 
-/// A data mark that begins this far behind the end of its address field, or farther, is none of it.
+/// A data mark that begins this many cells or more behind the end of an address field doesn't belong to it.
 const REACH: u16 = 960;
 
 /// The cells of a run and the byte behind it.
@@ -26,7 +26,7 @@ impl Separator {
     ghost use Rattle.track_separator.specs.Parts.{with_word};
     ghost use Rattle.track_separator.specs.Waits.{IsMarked, IsWaiting, IsWaitingNext, IsMarkIn, WaitSeenIn};
 
-    /// Takes one word while a data mark is awaited, `before` cells behind the end of the address field.
+    /// Takes one word while the separator waits for a data mark, `before` cells behind the end of the address field.
     #[inline(never)]
     pub(crate) fn wait_word(&mut self, word: u16, size: u16, before: u16, marked: bool) -> Seen
         requires small { size ≤ 8192 }
@@ -48,7 +48,8 @@ impl Separator {
         self.wait_on(size, since)
     }
 
-    /// The data mark that is complete now, where a run before it was seen and it begins near enough to its address field.
+    /// The data mark that is complete now. The run before it has to be seen already, and it has to begin near enough to
+    /// its address field.
     fn mark_in(&self, since: u16, marked: bool) -> Option<bool>
         requires { since < 1039 }
         ensures { MatchOption result ((deleted : Bool) → IsMarkIn self.now.cells self.now.back since marked deleted → ⊥)
@@ -60,7 +61,7 @@ impl Separator {
         data_mark_before(self.cells, self.back)
     }
 
-    /// Goes on to wait, `since` cells behind the end of the address field, where a data mark can still come.
+    /// Goes on to wait, `since` cells behind the end of the address field, if a data mark can still come.
     fn wait_on(&mut self, size: u16, since: u16) -> Seen
         requires small { size ≤ 8192 }
         requires early { since < 1039 }
@@ -80,7 +81,8 @@ impl Separator {
         Seen::Nothing
     }
 
-    /// Whether a run that begins behind the address field ends in the last word, and where.
+    /// Whether a run that begins behind the address field ends in the last word. If one does, `back` is set to its
+    /// place.
     fn see_run(&mut self, since: u16) -> bool
         ensures kept { self.new.cells ≡ self.old.cells }
         ensures marked { (fed : List ℕ) (p : ℕ) → IsWaitingNext fed self.old.cells p since

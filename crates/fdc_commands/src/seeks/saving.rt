@@ -7,7 +7,7 @@ use super::Seeks;
 use crate::Seek;
 use saved_state::{Saved, Sink, Source, load_four, save_four};
 
-/// A seek of one of the four drives with the pulses of one; none for any other.
+/// The seek, if its drive is one of four and its number of pulses is one that a seek may give; or else none.
 fn limited(seek: Option<Seek>) -> Option<Seek>
     ensures drive { ForSome result (λ seek. seek.drive < 4) }
     ensures motion { ForSome result (λ seek. IsMotion seek.motion) }

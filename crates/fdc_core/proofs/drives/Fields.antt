@@ -28,7 +28,7 @@ heard_sound track start seen p count heard sound =
       inside = omega arith;
     }
 
--- heard whole, each stretch is
+-- where the words were heard whole, each stretch of them is on the track
 pub whole_shifted : (track : List ℕ) (start : ℕ) (seen : List ℕ) (p count : ℕ) → IsHeardWhole track start seen → start + length seen ≤ length track → p + count ≤ 16 * length seen
     → AreShifted seen track p (p + 16 * start) count
 whole_shifted track start seen p count heard room inside = record {
@@ -39,7 +39,7 @@ whole_shifted track start seen p count heard room inside = record {
   inside = omega arith;
 }
 
--- and back
+-- where the words were heard whole, each stretch of the track that passed is in them
 pub whole_back : (track : List ℕ) (start : ℕ) (seen : List ℕ) (p count : ℕ) → IsHeardWhole track start seen → start + length seen ≤ length track → p + count ≤ 16 * length seen
     → AreShifted track seen (p + 16 * start) p count
 whole_back track start seen p count heard room inside = record {
@@ -151,7 +151,7 @@ module _ (track : List ℕ) (start : ℕ) (seen : List ℕ) (heard : IsHeardWhol
         inside = omega arith;
       })
 
--- ---- with one data mark
+-- ---- ---- with one data mark
 
 -- where the track has no other data mark, the first is the one that was heard
 pub lone_found : (track : List ℕ) (p n q : ℕ) (deleted : Bool) → IsSizeCode n → IsLone track p → IsDataMark track p q deleted → IsIntact track q n
@@ -170,9 +170,9 @@ lone_found track p n q deleted coded lone mark whole = (
   whole,
 )
 
--- ---- a whole turn
+-- ---- ---- a whole revolution
 
--- heard whole from index to index, the words are the track
+-- if the words from index to index were heard whole, they are the track
 pub turn_is : (track turn : List ℕ) → IsHeardWhole track 0 turn → length turn ≡ length track → turn ≡ track
 turn_is track turn heard same =
     ext_get_or 0 turn track same (λ i below. let at : 0 + i ≡ i = omega arith in heard.each i below ∙ ap (λ k. get_or track k 0) at)

@@ -1,4 +1,4 @@
--- What passed behind words 0000.
+-- What passed after words 0000.
 use Rattle.std.proofs.Common.{◌≡◌, inl, inr, ℕ, ◌+◌, ◌≤◌, Bool, true, false, List, [], ◌∷◌, ◌++◌, length, replicate, refl, sym, ◌∙◌, ap, arith, length-append}
 use Rattle.std.proofs.lemmas.List.{append_assoc, append-nil, replicate-append-replicate, length-replicate}
 use Rattle.fdc_stages.specs.History.{IsAmong, IsTurnIn, Past, heard, words_in, wrote}
@@ -34,7 +34,7 @@ time_led lead late Stopped =
     let steps : late.steps + lead + 1 ≡ late.steps + 1 + lead = omega arith in
     ap (λ n. record (led lead late) { steps = n }) steps
 
--- behind none
+-- after no words 0000
 turn_none : (turns : List (List ℕ)) (words : List ℕ) → turn_led 0 turns words ≡ words
 turn_none [] words = refl
 turn_none (turn ∷ turns) words = refl
@@ -68,9 +68,9 @@ longer_led lead late is =
 pub still_unheard : (late : Past) → IsUnheard late → IsUnheard (passed_by late)
 still_unheard late is = ap passed_by is
 
--- ---- its turns
+-- ---- ---- its revolutions
 
--- a turn, with the turns before it
+-- a revolution, with the revolutions before it
 pub record IsTurnLed (lead : ℕ) (late : Past) (words : List ℕ) : Type 0 where
   pub earlier : List (List ℕ)
   pub turn : List ℕ
@@ -92,7 +92,7 @@ turn_of_led lead late words among = elim among [
   | inr before ↦ let (earlier, turn, is_among, is) = among_led lead late.turns words before in record { earlier = earlier; turn = turn; among = inr is_among; words_are = is }
 ]
 
--- ---- how many
+-- ---- ---- how many words
 
 pub length_front : (lead : ℕ) (words : List ℕ) → length (replicate lead 0 ++ words) ≡ lead + length words
 length_front lead words =

@@ -1,4 +1,4 @@
--- Fields that were heard behind words 0000.
+-- Fields that were heard after words 0000.
 use Rattle.std.proofs.Common.{◌≡◌, inl, inr, ℕ, ◌+◌, ◌-◌, ◌*◌, ◌/◌, ◌<◌, ◌≤◌, Bool, List, [], ◌∷◌, ◌++◌, length, replicate, slice_index, refl, sym, ◌∙◌, ap, subst, arith}
 use Rattle.std.proofs.Math.ListN.{get_or-append}
 use Rattle.std.proofs.lemmas.Bool.{cases_lt}
@@ -16,7 +16,7 @@ use Rattle.fdc_core.proofs.drives.Fields.{whole_back, data_mark_on, data_mark_ba
 use Rattle.fdc_core.proofs.drives.Shifted.{shifted_address_at, shifted_bytes_at}
 use Rattle.fdc_core.proofs.drives.Late.{length_front, turn_of_led}
 
--- ---- words behind others
+-- ---- ---- words after others
 
 module _ (track : List ℕ) (start : ℕ) (seen : List ℕ) (heard : IsHeardWhole track start seen) (room : start + length seen ≤ length track) where
   pub address_back : (p : ℕ) (key : Chrn) → p + 160 ≤ 16 * length seen → IsAddressAt track (p + 16 * start) key → IsAddressAt seen p key
@@ -60,7 +60,7 @@ front_whole lead words = record {
       sym (get_or-append_right (replicate lead 0) words lead (lead + i) 0 (length-replicate lead 0) (omega arith) ∙ ap (slice_index words) back);
 }
 
--- what is sound begins behind them
+-- a stretch without a word 0000 begins after those words
 sound_behind : (lead : ℕ) (words : List ℕ) (p count : ℕ) → 1 ≤ count → IsSound (replicate lead 0 ++ words) p count → 16 * lead ≤ p
 sound_behind lead words p count some sound = elim (cases_lt p (16 * lead)) [
   | inl before ↦
@@ -73,7 +73,7 @@ sound_behind lead words p count some sound = elim (cases_lt p (16 * lead)) [
 
 -- ---- what a command found
 
--- the sector stands in a turn without the words 0000
+-- the sector stands in a revolution without the words 0000
 found_front : (lead : ℕ) (late : Past) (key : Chrn) (given : List ℕ) (deleted : Bool) (earlier : List (List ℕ)) (turn : List ℕ) (p q : ℕ)
     → IsTurnIn late.turns late.seen turn
     → IsAddressAt (turn_led lead earlier turn) p key → LookAt (turn_led lead earlier turn) p key.n (Found deleted (q + 64))
@@ -122,7 +122,7 @@ found_late lead late key given deleted (counted, (words, p, q, found)) =
           (λ all. found.content all ∙ ap (λ w. content_at w (q + 64) key.n) is.words_are),
     )
 
--- and so does an address field
+-- an address field stands in a revolution without the words 0000 too
 pub record IsInTurn (words turn : List ℕ) (p : ℕ) (key : Chrn) : Type 0 where
   pub place : ℕ
   pub ahead : ℕ

@@ -12,13 +12,13 @@ use Rattle.fdc_core.proofs.drives.Fields.{address_heard, bad_on, none_on}
 use Rattle.fdc_core.proofs.drives.Turns.{turn_heard}
 
 module _ (track : List ℕ) (from : ℕ) (past : Past) (key : Chrn) (heard : IsHeardFrom track from past.turns past.seen) (whole : IsWholeFrom track from past.turns past.seen) where
-  -- a field whose check failed
+  -- a field whose CRC is wrong
   pub bad_met : FindsBadCheck past key → HasLook track key BadCrc
   bad_met (turn, p, has, look) =
       let (start, turned, turned_whole) = turn_heard track from past.turns past.seen turn heard has.among in
       (p + 16 * start, address_heard track start turn turned p key has.address, bad_on track start turn (turned_whole whole) turned.inside p key.n look)
 
-  -- an address field behind which there is none: its turn is over, or goes on as the track does
+  -- an address field that no data field follows: its revolution is over, or goes on as the track does
   pub no_field_met : FindsNoField past key → HasLook track key NoData
   no_field_met (inl (turn, p, over, address, look)) =
       let heard_over : AreHeard track from (turn ∷ over.earlier) = subst (AreHeard track from) over.last heard.over in

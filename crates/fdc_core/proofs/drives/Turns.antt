@@ -1,4 +1,4 @@
--- Turns that were heard.
+-- Revolutions that were heard.
 use Rattle.std.proofs.Common.{◌≡◌, inl, inr, ℕ, List, [], ◌∷◌, sym, subst, arith}
 use Rattle.fdc_stages.specs.History.{IsAmong, IsTurnIn, Past}
 use Rattle.fdc_stages.specs.Searches.{IsBetween}
@@ -20,7 +20,7 @@ turn_heard track from turns seen turn heard among = elim among [
   | inr earlier ↦ let (start, is, is_whole) = among_heard track from turns turn heard.over earlier in (start, is, λ whole. is_whole whole.over)
 ]
 
--- between two indexes, heard whole, it is the track
+-- if the words between two indexes were heard whole, they are the track
 pub between_is : (track : List ℕ) (from : ℕ) (past : Past) (between : List ℕ) → IsHeardFrom track from past.turns past.seen → IsWholeFrom track from past.turns past.seen → IsBetween past between
     → between ≡ track
 between_is track from past between heard whole is =

@@ -20,7 +20,7 @@ use Rattle.fdc_core.proofs.drives.WritingWords.{by_index, close_put, closes_same
 
 -- ---- the track
 
--- the count of faults stays where the drive is just as it was but for what a word time changes
+-- where the drive changed only as a word time changes it, its count of faults stays
 same_falls : (drive after : DriveState) → after ≡ let_pass drive → drive.faults ≤ after.faults
 same_falls drive after is = let same : after.faults ≡ drive.faults = ap (λ s. s.faults) is in omega arith
 

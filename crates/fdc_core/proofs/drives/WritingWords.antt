@@ -84,7 +84,7 @@ pub falls_written : (old new : DriveState) (head word : ℕ) → Writes head wor
 falls_written old new head word (inl wrote) = wrote.never_falls
 falls_written old new head word (inr (can, becomes, rose)) = becomes.never_falls
 
--- behind a word that isn't the track's last
+-- after a word that isn't the track's last
 pub over_written : (now : Disk) (c place : ℕ) (old new : DriveState) (head word : ℕ) → old.medium ≡ Some now → IsOver c place old → (place + 1 == now.words_per_track) ≡ false → Writes head word old new
     → IsOver c (place + 1) new
 over_written now c place old new head word medium over inner writes =
@@ -114,7 +114,7 @@ hears_on outset turns seen before after falls was = record {
   whole = λ calm. was.whole (let no_more = calm.0 in let below = calm.1 in (omega arith, omega arith));
 }
 
--- the words of a turn and a part are few
+-- the words of a revolution and a part of one are few
 pub few_words : (track : List ℕ) (from : ℕ) (turns : List (List ℕ)) (seen : List ℕ) → AreHeard track from turns → length turns ≤ 1 → words_in turns seen ≤ length track + length seen
 few_words track from [] seen over few = omega arith
 few_words track from (turn ∷ []) seen (heard, end, others) few = let room = heard.inside in omega arith

@@ -11,7 +11,7 @@ abbrev pub FollowsMotor : ℕ → Fdc → DriveState → DriveState → Type 0
 FollowsMotor bay controller before after =
     (on : Bool) × (IsTrue on ↔ IsBitSet (dor_of controller) (4 + bay)) × (after ≡ with_motor on before)
 
--- where DOR was written the motor follows it; else the drive is as it was
+-- where DOR was written the motor follows it, otherwise the drive is as it was
 abbrev pub FollowsDor : Bool → ℕ → Fdc → DriveState → DriveState → Type 0
 FollowsDor true bay controller before after = FollowsMotor bay controller before after
 FollowsDor false bay controller before after = after ≡ before
@@ -22,6 +22,6 @@ pub record FollowsWrite (port value bay : ℕ) (controller : Fdc) (before after 
   pub motor : FollowsDor (port == 0x3F2) bay controller before between
   pub gate : Closes (resets port value) between after
 
--- DOR is written, or the controller is reset: another write leaves the drives
+-- DOR is written, or the controller is reset. Any other write leaves the drives as they are
 abbrev pub sets_lines : ℕ → ℕ → Bool
 sets_lines port value = port == 0x3F2 || resets port value

@@ -20,13 +20,13 @@ pub record Outset : Type 0 where
   pub from : ℕ
   pub faults : ℕ
 
--- the track that passes under the head: nothing is recorded where the disk has no such track, or another rate
+-- the track that passes under the head. Nothing is recorded where the disk has no such track, or has another rate
 abbrev pub track_heard : Outset → List ℕ
 track_heard outset =
     if nat_lt outset.cylinder outset.disk.cylinders && nat_lt outset.head outset.disk.heads && rate_fits outset.rate outset.disk.rate
     then track_of outset.disk outset.cylinder outset.head else unrecorded outset.disk.words_per_track
 
--- it is one of the medium, recorded at that rate
+-- the track that passes is one of the medium, recorded at the controller's rate
 pub record IsRecorded (outset : Outset) : Type 0 where
   pub has : HasTrack outset.disk outset.cylinder outset.head
   pub fits : rate_fits outset.rate outset.disk.rate ≡ true
@@ -45,7 +45,7 @@ pub record IsUnder (outset : Outset) (past : Past) (drive : DriveState) : Type 0
   pub place : drive.place ≡ place_in outset.from past.turns past.seen
   pub inside : drive.place < outset.disk.words_per_track
 
--- the words heard are those of the track, and all of them where the drive had no fault
+-- the words heard are those of the track, and none was lost where the drive had no fault
 pub record IsHearing (outset : Outset) (past : Past) (executes : Bool) (drive : DriveState) : Type 0 where
   pub heard : IsHeardFrom (track_heard outset) outset.from past.turns past.seen
   pub never_falls : outset.faults ≤ drive.faults

@@ -6,7 +6,7 @@ use Rattle.fdc_core.specs.Drives.Hearing.{Outset}
 
 -- ---- what was heard
 
--- the words of a turn; those of the first come behind so many words 0000
+-- the words of a revolution. The words of the first revolution come after so many words 0000
 abbrev pub turn_led : ℕ → List (List ℕ) → List ℕ → List ℕ
 turn_led lead [] words = replicate lead 0 ++ words
 turn_led lead (_ ∷ _) words = words
@@ -15,7 +15,7 @@ abbrev pub turns_led : ℕ → List (List ℕ) → List (List ℕ)
 turns_led lead [] = []
 turns_led lead (turn ∷ turns) = turn_led lead turns turn ∷ turns_led lead turns
 
--- so many words 0000, and then this past
+-- so many words 0000 passed, and then what this history has
 abbrev pub led : ℕ → Past → Past
 led lead late = record late { turns = turns_led lead late.turns; seen = turn_led lead late.turns late.seen; steps = late.steps + lead }
 

@@ -15,7 +15,7 @@ pub record PassesWordTime (selected : ℕ) (old : Fdc) (first second : DriveStat
   pub at_second : selected ≡ 1 → Works old second new second_after × Passes first first_after
   pub at_none : 2 ≤ selected → WorksAlone old new × Passes first first_after × Passes second second_after
 
--- so many word times of the drives, the same one selected, in which neither line of the controller changes
+-- so many word times of the drives, with the same one selected, in which neither line of the controller changes
 unfoldable pub WordTimes : ℕ → ℕ → Fdc → DriveState → DriveState → Fdc → DriveState → DriveState → Type 0
 WordTimes zero selected old first second new first_after second_after = (new ≡ old) × (first_after ≡ first) × (second_after ≡ second)
 WordTimes (suc count) selected old first second new first_after second_after =

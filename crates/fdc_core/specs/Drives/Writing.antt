@@ -8,7 +8,7 @@ use Rattle.fdc_core.specs.Drives.Heard.{place_in, IsHeardFrom, IsWholeFrom}
 use Rattle.fdc_core.specs.Drives.Hearing.{IsCalm, Outset, track_heard}
 use Rattle.fdc_core.specs.Drives.Written.{IsOver, IsPut, IsPutOpen}
 
--- the words heard are those of the track as it was, and all of them where the drive had no fault
+-- the words heard are those of the track as it was, and none was lost where the drive had no fault
 pub record HearsTrack (outset : Outset) (turns : List (List ℕ)) (seen : List ℕ) (faults : ℕ) : Type 0 where
   pub heard : IsHeardFrom (track_heard outset) outset.from turns seen
   pub never_falls : outset.faults ≤ faults
@@ -21,7 +21,7 @@ ArePut outset start words drive = IsPut outset.disk outset.cylinder outset.head 
 abbrev pub ArePutOpen : Outset → ℕ → List ℕ → DriveState → Type 0
 ArePutOpen outset start words drive = IsPutOpen outset.disk outset.cylinder outset.head start words outset.faults drive
 
--- where the words written begin on the track: behind those that were heard
+-- where the words written begin on the track: right after those that were heard
 abbrev pub start_in : Outset → Past → ℕ
 start_in outset past = place_in outset.from past.turns past.seen
 
@@ -29,14 +29,15 @@ start_in outset past = place_in outset.from past.turns past.seen
 abbrev pub IsThere : Outset → Type 0
 IsThere outset = HasTrack outset.disk outset.cylinder outset.head
 
--- nothing was written, or there is no such track, and the medium is as it was; or the words are put
+-- nothing was written, or there is no such track, and the medium is as it was. Otherwise the words are put
 pub record HasMedium (outset : Outset) (start : ℕ) (words : List ℕ) (drive : DriveState) : Type 0 where
   pub quiet : words ≡ [] → drive.medium ≡ Some outset.disk
   pub absent : (IsThere outset → ⊥) → drive.medium ≡ Some outset.disk
   pub put : IsThere outset → 1 ≤ length words → ArePut outset start words drive
 
--- in execution: the drive is at speed behind the words that were heard and written, with the gate open where words were written;
--- each step heard or wrote one, and at most one index has passed; a protected medium ended the first step
+-- in execution: the drive is at speed, at the word after those that were heard and written. The gate is open where
+-- words were written. Each step heard or wrote a word, and at most one index has passed. A protected medium ended the
+-- first step
 pub record IsAtWork (outset : Outset) (start : ℕ) (turns : List (List ℕ)) (heard : ℕ) (words : List ℕ) (steps : ℕ) (drive : DriveState) : Type 0 where
   pub over : IsOver outset.cylinder (start + length words) drive
   pub inside : start + length words < outset.disk.words_per_track
@@ -55,11 +56,11 @@ pub record IsAtDrive (outset : Outset) (past : Past) (executes : Bool) (drive : 
   pub barred : past.barred ≡ true → rate_fits outset.rate outset.disk.rate ≡ false
   pub early : past.steps ≤ 2 * outset.disk.words_per_track
   pub inside : start_in outset past + length past.words ≤ outset.disk.words_per_track
-  -- the index comes behind the last word of the track
+  -- the index comes after the last word of the track
   pub index : past.place ≡ 0 → 1 ≤ length past.words → start_in outset past + length past.words ≡ outset.disk.words_per_track
   pub works : executes ≡ true → IsAtWork outset (start_in outset past) past.turns (words_heard past) past.words past.steps drive
 
--- that of a window: words are written only on a track that is there, and the gate could be opened
+-- the same of a write of a window: words are written only on a track that is there, and the gate could be opened
 pub record IsAtWindow (outset : Outset) (past : Past) (executes : Bool) (drive : DriveState) : Type 0 where
   pub at : IsAtDrive outset past executes drive
   pub there : 1 ≤ length past.words → IsThere outset

@@ -12,13 +12,14 @@ pub record IsOver (c word : ℕ) (drive : DriveState) : Type 0 where
   pub motor : drive.motor ≡ true
   pub speed : 6250 ≤ drive.spin
 
--- the disk is then as it was, but that the first so many of these words stand from word `start` of a track on
+-- the disk is as it was, except that the first so many of these words stand from word `start` of a track on
 pub record Stands (disk : Disk) (c h start : ℕ) (words : List ℕ) (count : ℕ) (now : Disk) : Type 0 where
   pub few : count ≤ length words
   pub inside : start + count ≤ disk.words_per_track
   pub track : IsWithTrack disk c h (with_items (track_of disk c h) start (take count words)) now
 
--- a drive was given these words for the track of a disk: the first of them stand, and all where it had no fault
+-- a drive was given these words for the track of a disk. A first part of them stands, and all of them where the drive
+-- had no fault
 pub record IsPut (disk : Disk) (c h start : ℕ) (words : List ℕ) (faults : ℕ) (drive : DriveState) : Type 0 where
   pub now : Disk
   pub count : ℕ
@@ -26,7 +27,7 @@ pub record IsPut (disk : Disk) (c h start : ℕ) (words : List ℕ) (faults : �
   pub stands : Stands disk c h start words count now
   pub whole : IsCalm faults drive.faults → count ≡ length words
 
--- and its gate is open for the next: where it was cut, there was a fault
+-- the words are put and the gate is open for the next one. Where the gate was cut, there was a fault
 pub record IsPutOpen (disk : Disk) (c h start : ℕ) (words : List ℕ) (faults : ℕ) (drive : DriveState) : Type 0 where
   pub put : IsPut disk c h start words faults drive
   pub gate : drive.gate ≡ true

@@ -1,4 +1,4 @@
-// What the drives do behind a port write.
+// What the drives do after a port write.
 ghost use Rattle.std.specs.Prelude.{◌<◌};
 ghost use Rattle.fdc_core.specs.Times.{Closes};
 ghost use Rattle.fdc_core.specs.Drives.Following.{FollowsDor, FollowsMotor, FollowsWrite};
@@ -7,7 +7,8 @@ use crate::Fdc;
 use drive_model::Drive;
 use fdc_registers::ports::DOR;
 
-/// Both drives follow a write of a port, whichever DOR selects: their motors DOR, and their gates a reset.
+/// Both drives follow a write of a port, whichever DOR selects: their motors follow DOR, and a reset closes their
+/// gates.
 pub fn follow_write<D: Drive>(controller: &Fdc, port: u16, value: u8, first: &mut D, second: &mut D)
     ensures first { FollowsWrite port value 0 controller.now (D.state first.old) (D.state first.new) }
     ensures second { FollowsWrite port value 1 controller.now (D.state second.old) (D.state second.new) }
@@ -16,7 +17,7 @@ pub fn follow_write<D: Drive>(controller: &Fdc, port: u16, value: u8, first: &mu
     follow(controller, port, value, 1, second);
 }
 
-/// The drive in a bay follows a write of a port: its motor DOR, and its gate a reset.
+/// The drive in a bay follows a write of a port: its motor follows DOR, and a reset closes its gate.
 fn follow<D: Drive>(controller: &Fdc, port: u16, value: u8, bay: u8, drive: &mut D)
     requires { bay < 4 }
     ensures { FollowsWrite port value bay controller.now (D.state drive.old) (D.state drive.new) }

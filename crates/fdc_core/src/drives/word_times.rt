@@ -42,14 +42,14 @@ fn work_alone(controller: &mut Fdc)
     controller.step_empty();
 }
 
-/// Whether a try to make word times at once pays, `most` at most. One costs less alone.
+/// Whether it pays to try to make word times at once, at most `most`. A single one costs less alone.
 #[inline(always)]
 pub fn may_leap(controller: &Fdc, most: u32) -> bool {
     most > 1 && controller.may_skim()
 }
 
-/// Word times in a row in which no line of the controller changes, `most` at most; tells how many: where it is 0, the next one
-/// has to be made alone.
+/// Makes word times in a row in which no line of the controller changes, at most `most`. Returns how many. Where it
+/// returns 0, the next one has to be made alone.
 #[inline(never)]
 pub fn pass_word_times<D: Drive>(
     controller: &mut Fdc,
@@ -73,8 +73,8 @@ pub fn pass_word_times<D: Drive>(
     }
 }
 
-/// The controller's device steps with the selected drive, at once, and as many word times of the other drive; tells how many, `most`
-/// at most.
+/// Makes the controller's device steps with the selected drive at once, and as many word times of the other drive.
+/// Returns how many, at most `most`.
 #[tactic(auto, unfolding(drive_model::specs::Ahead::LetsPass))]
 fn skim<D: Drive>(controller: &mut Fdc, drive: &mut D, other: &mut D, most: u32) -> u32
     ensures few { result ≤ most }

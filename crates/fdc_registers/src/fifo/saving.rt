@@ -8,7 +8,7 @@ use flop_base::NoMemory;
 use saved_state::{Saved, SavedWhole, Sink, Source, load_bytes};
 use std::alloc::Global;
 
-/// A threshold in its limits; any other is 1.
+/// The threshold, if it is from 1 to 16, or else 1.
 fn limited(threshold: u8) -> u8
     ensures at_least { 1 ≤ result }
     ensures at_most { result ≤ 16 }
@@ -22,7 +22,7 @@ fn limited(threshold: u8) -> u8
 }
 
 impl Fifo {
-    /// Writes the bytes that it holds, their number first.
+    /// Writes the bytes that the FIFO holds: first their number, then the bytes.
     #[tactic(auto, unfolding(saved_state::specs::Saved::spelled_bytes))]
     fn save_content(&self, to: &mut Sink)
         ensures { Adds (spelled_bytes self.now.bytes) to.old to.new }
@@ -33,7 +33,7 @@ impl Fifo {
         to.part(back);
     }
 
-    /// Holds these bytes behind its own, as many as there is room for.
+    /// Fills an empty FIFO with these bytes, as many as there is room for.
     fn fill(&mut self, bytes: &[u8])
         requires { self.old.bytes ≡ [] }
         ensures { length bytes.now ≤ room_of self.old.on → self.new ≡ record self.old { bytes = bytes.now } }

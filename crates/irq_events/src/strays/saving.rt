@@ -1,4 +1,4 @@
-// Strays as bytes.
+// Spurious interrupts as bytes.
 use super::Strays;
 use crate::queues::save_words_left;
 use flop_base::NoMemory;

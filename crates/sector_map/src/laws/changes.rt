@@ -13,10 +13,10 @@ ghost use Rattle.sector_map.specs.LaidDisks.{format_at, laying_at, joined_laying
 use flop_base::{Chrn, Rate};
 use raw_image::Medium;
 
-/// A law: the first `words` words of a window, written behind an address field of a regular medium, leave it regular and
-/// its other sectors as they were. The premise `safe` is that all words are written, or that no write of this window that
-/// stops short brings up an address mark. All words give the content back, and that alone under the key. A later write of
-/// the same window makes one change of the two.
+/// A law on writing the first `words` words of a window behind an address field of a regular medium. The medium stays
+/// regular, and its other sectors stay as they were. The premise `safe` is that all words are written, or that no write
+/// of this window that stops short brings up an address mark. If all words are written, the content is read back, and
+/// it is all that is found under the key. A later write of the same window and this one together are one change.
 pub fn change_keeps(
     _medium: &Medium,
     _after: &Medium,
@@ -46,8 +46,9 @@ pub fn change_keeps(
         (joined (change_at _cylinder _place _words) change) last }
 {}
 
-/// A law: the first `words` words of a formatted track, put on a medium, leave its other tracks as they were. All words
-/// are the formatted track, and a later format of the same cylinder makes one laying of the two.
+/// A law on writing the first `words` words of a formatted track to a medium. The other tracks of the medium stay as
+/// they were. If all words are written, the track is the formatted track. A later format of the same cylinder and this
+/// one together are one laying.
 pub fn laying_keeps(
     medium: &Medium,
     _after: &Medium,
@@ -69,6 +70,6 @@ pub fn laying_keeps(
         → IsLaying (format_at _c _h _rate _gap3 _fill) medium.now
         (joined_laying (laying_at _cylinder _words) laying) last }
 {
-    // A medium that is read is known to be valid.
+    // Reading the medium makes known that it is valid.
     let _length = medium.words();
 }

@@ -1,4 +1,4 @@
-// What a data field written over, whole or in part, leaves as it was.
+// What stays on a track when a data field is written over, whole or in part.
 ghost use Rattle.std.specs.Prelude.{◌≡◌, ◌+◌, ◌≤◌, ℕ, length, max, ◌⊎◌};
 ghost use Rattle.flop_base.specs.declared.key.Chrn.{Chrn};
 ghost use Rattle.track_model.specs.declared.Look.TheVariants.{Found, BadCrc, NoData};
@@ -11,10 +11,10 @@ ghost use Rattle.track_model.specs.Kept.{KeepsOthers};
 
 use flop_base::Chrn;
 
-/// A law: the first `cut` words of a window, written behind an address field of a track whose sectors keep their
-/// distance, leave the other sectors as they were. The premise on `cut` is that all words are written, or that no write
-/// of this window that stops short brings up an address mark. All words give the content back, and of two writes of
-/// one window the longer stands.
+/// A law on writing the first `cut` words of a window behind an address field, on a track whose sectors keep their
+/// distance. The other sectors stay as they were. The premise on `cut` is that all words are written, or that no write
+/// of this window that stops short brings up an address mark. If all words are written, the content is read back. After
+/// two writes of one window the longer one stands.
 pub fn cut_keeps(_words: &[u16], _place: usize, _deleted: bool, _content: &[u8], _cut: usize)
     requires spaced { IsSpaced _words.now }
     requires field { HasFieldFor _words.now _place _content.now }
@@ -37,7 +37,7 @@ pub fn cut_keeps(_words: &[u16], _place: usize, _deleted: bool, _content: &[u8],
         ≡ cut_of _words.now _place (max k _cut) (window _deleted _content.now) }
 {}
 
-/// The same law for a whole window whose check is wrong by its last bit: its data field is found damaged.
+/// The same law for a whole window whose CRC is wrong in its last bit: its data field is found damaged.
 pub fn damaged_keeps(_words: &[u16], _place: usize, _deleted: bool, _content: &[u8])
     requires spaced { IsSpaced _words.now }
     requires field { HasFieldFor _words.now _place _content.now }
@@ -49,7 +49,7 @@ pub fn damaged_keeps(_words: &[u16], _place: usize, _deleted: bool, _content: &[
         (damaged_window _deleted _content.now)) _place key.n BadCrc }
 {}
 
-/// The same law for words of the byte 4E alone in a window's place: no data field is found.
+/// The same law for words of the byte 4E alone in the place of a window: no data field is found.
 pub fn empty_keeps(_words: &[u16], _place: usize, _key: Chrn)
     requires spaced { IsSpaced _words.now }
     requires address { IsAddressAt _words.now _place _key }

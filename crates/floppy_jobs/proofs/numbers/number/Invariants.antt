@@ -2,7 +2,7 @@ use Rattle.std.proofs.Common.{◌≡◌, ◌≤◌, drop}
 use Rattle.floppy_jobs.proofs.NumberLemmas.{read_on}
 use Rattle.floppy_jobs.proofs.numbers.number.Given as goal
 
--- no greater so far, and the rest decides as the whole does
+-- the number so far isn't too great, and the rest of the word decides as the whole word does
 abbrev pub invariant-loop-byte : goal.invariant-loop-byte
 invariant-loop-byte l = record {
   bounded : l.value ≤ l.greatest;

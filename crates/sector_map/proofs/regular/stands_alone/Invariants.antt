@@ -4,6 +4,6 @@ use Rattle.track_model.specs.Fields.{IsAddressAt}
 use Rattle.sector_map.specs.Places.{IsApart}
 use Rattle.sector_map.proofs.regular.stands_alone.Given as goal
 
--- the address fields passed are apart from this one
+-- the address fields passed so far are apart from this one
 abbrev pub invariant-loop-q : goal.invariant-loop-q
 invariant-loop-q l = (k : ℕ) (other : Chrn) → l.place < k → k < l.q → IsAddressAt l.words k other → IsApart l.place l.key k other

@@ -3,7 +3,7 @@ use Rattle.track_model.specs.Crc.{crc, crc_from}
 use Rattle.track_model.specs.Fields.{after_marks}
 use Rattle.sector_map.proofs.writing.data_check.Given as goal
 
--- the check so far, going on over the bytes that are left, is the whole one
+-- the CRC so far, continued over the bytes that are left, is the CRC of all bytes
 abbrev pub invariant-loop-byte : goal.invariant-loop-byte
 invariant-loop-byte l = record {
   goes_on : crc_from l.check (drop l.byte-index l.content) ≡ crc (after_marks (l.mark ∷ l.content));

@@ -6,7 +6,7 @@ use Rattle.track_format.specs.Keys.{key_bytes, asked_in}
 use Rattle.track_format.specs.Streams.{Gives, filled}
 use Rattle.track_format.proofs.whole.fill_layout.Given as goal
 
--- the words so far and those that the stream gives next are the track
+-- the words so far, and the words that the stream gives next, are together the track
 abbrev pub invariant-loop-i : goal.invariant-loop-i
 invariant-loop-i l =
     (last : Bool) × (left : List Symbol) × Gives l.stream last left
