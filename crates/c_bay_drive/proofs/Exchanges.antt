@@ -14,7 +14,7 @@ use Rattle.c_bay_drive.specs.declared.cable.Pulled.{Pulled}
 abbrev with : Option Disk → DriveState → DriveState
 with medium s = record s { medium = medium }
 
--- ---- a drive is what its state and its planned faults are
+-- ---- a drive is determined by its state and its planned faults
 
 abbrev parts_in : DriveState → Parts
 parts_in s = record {
@@ -46,7 +46,7 @@ same_bay one other inside replaced tracks pulled =
     ∙ ap (λ it. bay_of one.inside one.replaced it other.pulled) tracks
     ∙ ap (λ it. bay_of one.inside one.replaced one.tracks it) pulled
 
--- ---- a drive with a medium is one alone
+-- ---- there is only one drive that is the same with another medium
 
 one_script : (medium : Option Disk) (old a b : ScriptDrive) → ScriptWithMedium medium old a → ScriptWithMedium medium old b → b ≡ a
 one_script medium old a b first second = same_script a b (first.state ∙ sym second.state) (first.script ∙ sym second.script)
@@ -65,7 +65,7 @@ stays_bay drive = record { inside = record { state = refl; script = refl }; repl
 back_script : (medium : Option Disk) (old new : ScriptDrive) → ScriptWithMedium medium old new → ScriptWithMedium (script_state old).medium new old
 back_script medium old new it = record { state = sym (ap (with (script_state old).medium) it.state); script = sym it.script }
 
--- so it is behind another one, once its own is back
+-- a drive that had another medium has its own in again, once that is back
 pub back_bay : (medium : Option Disk) (old new : BayDrive) → BayWithMedium medium old new → BayWithMedium (bay_state old).medium new old
 back_bay medium old new it = record {
   inside = back_script medium old.inside new.inside it.inside;

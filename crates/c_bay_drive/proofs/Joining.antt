@@ -1,4 +1,4 @@
--- Maps of written tracks, joined, and drives that tell of each other's writes.
+-- Joined maps of written tracks, and drives that report each other's writes.
 use Rattle.std.proofs.Common.{◌≡◌, ◌⊎◌, inl, inr, ℕ, ◌<◌, ◌+◌, set, Bool, true, false, ◌||◌, List, [], ◌∷◌, length, get_or, map, min, max, refl, sym, ◌∙◌, ap, arith}
 use Rattle.std.specs.Prelude.{zip}
 use Rattle.std.specs.Int.{bit_at}
@@ -30,7 +30,7 @@ joined_by_bytes one other bits n here there long each =
     ext_get_or 0 bits (joined one other) (omega (arith, length_joined one other))
     (λ k within. each k (omega arith) ∙ sym (at_joined one other k (omega arith) (omega arith)))
 
--- so far, and with a byte more
+-- the bytes so far are joined, and so they are with one more byte
 abbrev IsJoinedTo : (one other bits : List ℕ) → ℕ → Type 0
 IsJoinedTo one other bits at = (k : ℕ) → k < at → get_or bits k 0 ≡ bit_or (get_or one k 0) (get_or other k 0)
 
@@ -54,7 +54,7 @@ joined_more one other bits at left right is_one is_other long within each =
       λ k below. byte_more bits at _ one other (omega arith) byte each k below (cases_eq k at),
     )
 
--- ---- with itself
+-- ---- a map joined with itself
 
 either_same : (it : Bool) → (it || it) ≡ it
 either_same true = refl
@@ -74,7 +74,7 @@ joined_same (byte ∷ tracks) = ap (λ (it : ℕ). it ∷ joined tracks tracks) 
 abbrev telling : Bool → List ℕ → BayDrive → BayDrive
 telling replaced tracks bay = record bay { replaced = replaced; tracks = tracks }
 
--- a drive that tells of the writes of one that tells of the same stays
+-- a drive stays as it is if it joins the writes of a drive that reports the same
 pub writes_same : (from bay : BayDrive) → bay.replaced ≡ from.replaced → bay.tracks ≡ from.tracks → with_writes from bay ≡ bay
 writes_same from bay replaced tracks =
     ap (λ (it : Bool). telling (it || bay.replaced) (joined from.tracks bay.tracks) bay) (sym replaced)

@@ -1,4 +1,5 @@
--- What a drive within does, as it is told by a cable, with another word on whether a word of the medium was replaced.
+-- What a drive within does, as it is seen through a cable, with another answer to whether a word of the medium was
+-- replaced.
 use Rattle.std.proofs.Common.{◌≡◌, ◌≤◌, ℕ, zero, suc, Bool, true, false, List, [], ◌∷◌, Option, Some, None, ap, refl}
 use Rattle.std.specs.Coded.{le_prop}
 use Rattle.flop_base.specs.Counts.{last_count}
@@ -13,7 +14,7 @@ unfolding LetsPass
 told_passes pulled replaced tracks zero old new same = ap (told_by pulled replaced tracks) same
 told_passes pulled replaced tracks (suc count) old new passes = told_passes pulled replaced tracks count (passed (with_gate false old)) new passes
 
--- words that are certain to pass are told by a cable that is in
+-- words that are certain to pass are seen through a cable that is in
 pub told_ahead : (replaced : Bool) (tracks : List ℕ) (head : ℕ) (words : List ℕ) (s : DriveState) → AreAhead head words s
     → AreAhead head words (told_by None replaced tracks s)
 unfolding AreAhead

@@ -5,7 +5,7 @@ use Rattle.drive_model.specs.declared.script.ScriptDrive.{ScriptDrive}
 use Rattle.raw_image.specs.Disk.{Disk}
 use Rattle.c_bay_drive.specs.declared.bay.BayDrive.{BayDrive}
 
--- the drive within: its state and its planned faults are all that there is of it
+-- the drive within, which consists of its state and its planned faults
 pub record ScriptWithMedium (medium : Option Disk) (old new : ScriptDrive) : Type 0 where
   pub state : script_state new ≡ record (script_state old) { medium = medium }
   pub script : script_of new ≡ script_of old

@@ -9,19 +9,21 @@ use crate::cable::Pulled;
 use crate::map::TrackMap;
 use drive_model::{Fault, ScriptDrive};
 
-/// A drive with planned faults that keeps a map of the tracks that were written. While its cable is pulled no pulse reaches its heads, no
-/// word of a track is heard or written, and its change line is down until a medium is put in or taken out.
+/// A drive with planned faults that keeps a map of the tracks that were written. While its cable is pulled, no pulse
+/// reaches its heads, and no word of a track is heard or written. Its change line is then down until a medium is put in
+/// or taken out.
 #[derive(Drop)]
 pub struct BayDrive {
     inside: ScriptDrive,
-    /// A word of the medium was replaced since it was put in, or since that was last forgotten. The drive within forgets it at each write.
+    /// A word of the medium was replaced since the medium was put in, or since this sign was last cleared. The drive
+    /// within clears its own sign at each write.
     replaced: bool,
     tracks: TrackMap,
-    /// None where the cable is in.
+    /// None if the cable is in.
     pulled: Option<Pulled>,
 }
 
-/// Whether one of both is so.
+/// Whether one of the two is true.
 fn either(first: bool, second: bool) -> bool
     ensures { result ≡ (first || second) }
 {
@@ -34,7 +36,8 @@ impl BayDrive {
     ghost use Rattle.c_bay_drive.specs.Joined.{with_writes};
     ghost use Rattle.c_bay_drive.specs.Bays.{bay_state, new_in_bay, drive_within, is_attached, drive_in_bay, faults_in_bay, tracks_in_bay, without_tracks, state_replanned, state_with_cable};
 
-    /// A drive with these faults, attached, with no medium, at cylinder 0, its motor off, its change line set.
+    /// A drive with these faults. It is attached, without a medium, at cylinder 0, with its motor off and its change
+    /// line set.
     pub fn new(faults: Vec<Fault>) -> BayDrive
         ensures state { bay_state result ≡ new_in_bay (told 0 (total_left faults.items)) }
         ensures faults { faults_in_bay result ≡ faults.items }
@@ -47,14 +50,14 @@ impl BayDrive {
         }
     }
 
-    /// Whether its cable is in.
+    /// Whether the drive's cable is in.
     pub fn is_attached(&self) -> bool
         ensures { result ≡ is_attached self.now }
     {
         self.pulled.is_none()
     }
 
-    /// With its cable put in, or pulled. What is so already stays.
+    /// The drive with its cable put in, or pulled. A cable that is so already stays as it is.
     pub fn with_cable(self, on: bool) -> BayDrive
         ensures is { is_attached result ≡ on }
         ensures drive { drive_in_bay result ≡ drive_in_bay self }
@@ -72,7 +75,7 @@ impl BayDrive {
         BayDrive { pulled, ..self }
     }
 
-    /// Plans these faults in place of those that can still come. All else stays, the count of faults too.
+    /// Plans these faults in place of those that can still come. All else stays, and so does the count of faults.
     pub fn replan(&mut self, faults: Vec<Fault>)
         ensures faults { faults_in_bay self.new ≡ faults.items }
         ensures within { drive_within self.new ≡ record (drive_within self.old) {
@@ -83,7 +86,7 @@ impl BayDrive {
         self.inside.replan(faults);
     }
 
-    /// The tracks that were written since this was last asked. They are forgotten; all else stays.
+    /// The tracks that were written since this was last asked. The drive forgets them; all else stays.
     pub fn take_tracks(&mut self) -> TrackMap
         ensures taken { result ≡ tracks_in_bay self.old }
         ensures left { self.new ≡ without_tracks self.old }
@@ -91,8 +94,8 @@ impl BayDrive {
         std::mem::replace(&mut self.tracks, TrackMap::new())
     }
 
-    /// Tells besides what another drive tells of writes: whether a word of the medium was replaced, and which tracks were written. All else
-    /// stays.
+    /// Adds what another drive reports of writes: whether a word of the medium was replaced, and which tracks were
+    /// written. All else stays.
     pub fn join_writes(&mut self, from: &BayDrive)
         ensures { self.new ≡ with_writes from.now self.old }
     {

@@ -6,7 +6,8 @@ mod saving;
 
 pub use saving::load_cable;
 
-/// What is told by a pulled cable: no pulse reaches the heads, and the change line is down until a medium is put in or taken out.
+/// What is seen through a pulled cable: no pulse reaches the heads, and the change line is down until a medium is put
+/// in or taken out.
 #[derive(Clone, Copy)]
 pub struct Pulled {
     pub change: bool,

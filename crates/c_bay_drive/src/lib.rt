@@ -1,5 +1,5 @@
-//! The drive of a bay: one with planned faults that also tells which tracks were written, and that can be detached, as if its cable were
-//! pulled, and attached again.
+//! The drive of a bay. It has planned faults, and it reports which tracks were written. It can be detached, as if its
+//! cable were pulled, and attached again.
 #![tactic(auto)]
 
 mod bay;

@@ -13,7 +13,7 @@ const TRACKS: usize = 160;
 /// The bytes of a map.
 pub const MAP_BYTES: usize = 20;
 
-/// A bit for each track by cylinder, then head: that of track 0 is the lowest of byte 0.
+/// A bit for each track, by cylinder, then head. The bit of track 0 is the lowest of byte 0.
 #[derive(Drop)]
 pub struct TrackMap {
     bits: [u8; MAP_BYTES],
@@ -30,7 +30,7 @@ impl Model for TrackMap {
     ghost invariant = { λ map. IsMap map.bits };
 }
 
-/// The bit of a number below 8.
+/// The bit with a number below 8.
 fn bit_of(place: usize) -> u8
     ensures { result ≡ bit_of_place place }
 {
@@ -58,7 +58,7 @@ impl TrackMap {
         }
     }
 
-    /// The track of a cylinder and a head besides. One that no medium has is left out.
+    /// Adds the track of a cylinder and a head. A track that no medium has is left out.
     pub fn mark(&mut self, c: u8, h: u8)
         ensures { self.new ≡ marked c h self.old }
     {
@@ -69,7 +69,7 @@ impl TrackMap {
         }
     }
 
-    /// The same where `on`.
+    /// Adds the track of a cylinder and a head if `on`.
     pub fn mark_if(&mut self, on: bool, c: u8, h: u8)
         ensures { self.new ≡ marked_if on c h self.old }
     {
@@ -78,7 +78,7 @@ impl TrackMap {
         }
     }
 
-    /// The tracks of another map besides.
+    /// Adds the tracks of another map.
     pub fn join(&mut self, other: &TrackMap)
         ensures { self.new ≡ joined other.now self.old }
     {
@@ -105,7 +105,7 @@ impl TrackMap {
     }
 }
 
-/// The map of these bytes, where they are as many as one has; else of no track.
+/// The map of these bytes, if they are as many as a map has; else the map of no track.
 fn map_of(bytes: &[u8]) -> TrackMap
     ensures { length bytes.now ≡ 20 → result ≡ bytes.now }
 {

@@ -1,4 +1,4 @@
--- What is said of a test for a value.
+-- What a test for a value says.
 use Rattle.std.proofs.Common.{◌≡◌, refl, true}
 use Rattle.std.specs.Prelude.{Option, Some, None}
 use Rattle.std.specs.Option.{is_some}

@@ -1,5 +1,5 @@
-//! What C keeps of a controller, of a machine, of a desk for sectors, of a medium and of a shelf: slots that hold one or none.
-//! A slot owns what it holds by a pointer, for which a box is taken apart and made again.
+//! What C keeps of a controller, of a machine, of a desk for sectors, of a medium and of a shelf: slots that hold one
+//! or none. A slot owns what it holds by a pointer, for which a box is taken apart and made again.
 #![tactic(auto)]
 
 mod controller;
@@ -35,7 +35,7 @@ pub struct MediumTray {
 /// A slot may go to another thread with what it holds.
 fn crosses<T: Send + Drop>(_slot: T) {}
 
-/// Each of them does.
+/// Each slot may go to another thread.
 pub fn slots_cross(
     machine: MachineSlot,
     controller: ControllerSlot,

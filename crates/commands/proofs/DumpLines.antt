@@ -19,18 +19,18 @@ unfoldable pub lines_from : ℕ → List ℕ → ℕ → ℕ → List (List ℕ)
 lines_from address bytes start count =
     map (λ i. dump_line (address + 16 * i) (take 16 (drop (16 * i) bytes))) (range_with_len start count)
 
--- told lines that grew twice grew by both
+-- a report that grew twice grew by the lines of both
 pub grown-twice : (told : Option (List (List ℕ))) (first second : List (List ℕ)) → grown (grown told first) second ≡ grown told (first ++ second)
 grown-twice None first second = refl
 grown-twice (Some told) first second = ap (λ s. Some s) (append_assoc told first second)
 
--- what is put of a line that comes next doesn't depend on those after it
+-- what is put of a line when a part of it is put doesn't depend on the lines after it
 cut-longer : (next rest cut : List (List ℕ)) → IsCutOf next cut → IsCutOf (next ++ rest) cut
 cut-longer next rest [] is = tt
 cut-longer [] rest (first ∷ others) is = absurd is
 cut-longer (line ∷ later) rest (first ∷ others) is = is
 
--- told lines that grew by whole lines and by a part of the next grew by a part of all
+-- a report that grew by whole lines and by a part of the next ones grew by a part of all
 pub part-behind : (told new : Option (List (List ℕ))) (first second rest : List (List ℕ)) → GrowsByPart (grown told first) second new → GrowsByPart told (first ++ (second ++ rest)) new
 part-behind None new first second rest grows = grows
 part-behind (Some told) new first second rest grows = (
@@ -42,7 +42,7 @@ part-behind (Some told) new first second rest grows = (
   grows.5 ∙ ap (λ s. Some s) (append_assoc told first (grows.0 ++ grows.2) ∙ ap (λ s. told ++ s) (sym (append_assoc first grows.0 grows.2))),
 )
 
--- where nothing was put, nothing is a first part
+-- a report to which nothing was put grew by a part of any lines
 pub part-nothing : (told : Option (List (List ℕ))) (lines : List (List ℕ)) → GrowsByPart told lines told
 part-nothing None lines = refl
 part-nothing (Some told) lines = ([], lines, [], refl, tt, ap (λ s. Some s) (sym (append-nil told)))
@@ -59,7 +59,7 @@ part-longer (Some told) new first second grows = (
   grows.5,
 )
 
--- the digits of an address depend on its last twenty bits alone
+-- the digits of an address depend only on its last twenty bits
 pub hex5-wraps : (n m : ℕ) → m ≡ n % 4294967296 → hex5 m ≡ hex5 n
 hex5-wraps n m same =
     let first : m / 65536 % 16 ≡ n / 65536 % 16 = omega arith in
@@ -110,7 +110,7 @@ lines-more : (address : ℕ) (bytes : List ℕ) (i : ℕ) → lines_below addres
 lines-more address bytes i =
     lines_split address bytes i 0 ∙ ap (λ s. lines_below address bytes i ++ dump_line (address + 16 * i) (take 16 (drop (16 * i) bytes)) ∷ s) (lines_none address bytes (i + 1))
 
--- all lines are the dump
+-- all lines together are the dump
 pub lines-all : (address : ℕ) (bytes : List ℕ) → lines_below address bytes ((length bytes + 15) / 16) ≡ dump_lines address bytes
 unfolding lines_below dump_lines
 lines-all address bytes = refl
@@ -144,12 +144,12 @@ line-cut told before now address place i bytes row so_far at is within cut =
     let whole : lines_below address bytes i ++ row_line ∷ lines_from address bytes (i + 1) rest ≡ dump_lines address bytes = sym (lines_split address bytes i rest) ∙ ap (lines_below address bytes) count ∙ lines-all address bytes in
     subst (λ (s : List (List ℕ)). GrowsByPart told s now) whole (part-behind told now (lines_below address bytes i) (row_line ∷ []) (lines_from address bytes (i + 1) rest) there)
 
--- no line grows nothing
+-- no lines leave a report as it is
 pub grown-nothing : (told : Option (List (List ℕ))) → grown told [] ≡ told
 grown-nothing None = refl
 grown-nothing (Some told) = ap (λ s. Some s) (append-nil told)
 
--- a fact holds on an error, whatever the result is
+-- a fact that holds anyway holds on an error
 pub on_err : {P : Type 0} (result : Result (Unit {0}) Status) → P → OnErr result P
 on_err (Ok x) fact = tt
 on_err (Err e) fact = fact

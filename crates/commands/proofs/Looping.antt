@@ -31,7 +31,7 @@ turn_begins first count part begun old whole start rest leads =
     let all : first + count - first ≡ count = omega arith in
     subst (λ k. Leads whole start (each first k part begun rest) old) (sym all) leads
 
--- what is left of it, with its next turn in front
+-- the turns that are left, with the next one in front
 in_front : {Found : Type 0} (first count : ℕ) (part : ℕ → Found → Part Found) (i : ℕ) (found : Found) (rest : Found → Script)
     (whole : Script) (start mid : World) → i < first + count
     → Leads whole start (each i (first + count - i) part found rest) mid
@@ -66,7 +66,7 @@ turns_over first count i part begun found old now at all whole start rest leads 
     subst (λ s. Leads whole start s now) (ap (λ k. each i k part found rest) none ∙ none_left i part found rest)
     (at whole start rest leads)
 
--- ---- With what is in the hand.
+-- ---- With what a command holds.
 
 still : {a b c : Hand} → IsSameHand a b → IsSameHand b c → IsSameHand a c
 still one two = record { session = two.session ∙ one.session; shelf = two.shelf ∙ one.shelf; out = two.out ∙ one.out }
@@ -75,7 +75,7 @@ still one two = record { session = two.session ∙ one.session; shelf = two.shel
 pub amid_begins : {R : Type 0} (hand : R → Hand) (At : World → World → Type 0) (old : R) → At (hand old).world (hand old).world → IsAmid hand At old old
 amid_begins hand At old at = record { at = at; counted = refl; stays = refl; same = record { session = refl; shelf = refl; out = refl } }
 
--- a part of it is gone through
+-- a part of the command is gone through
 pub amid_goes : {R T : Type 0} (hand : R → Hand) (At Then : World → World → Type 0) (Does : World → Result T Status → World → Type 0) (found : T) (old mid new : R)
     → IsAmid hand At old mid → RanPart hand Does mid (Ok found) new → Then (hand old).world (hand new).world → IsAmid hand Then old new
 amid_goes hand At Then Does found old mid new amid ran then = record {
@@ -85,7 +85,7 @@ amid_goes hand At Then Does found old mid new amid ran then = record {
   same = still amid.same ran.same;
 }
 
--- a part of it ends it
+-- a part of the command ends it
 pub amid_ends : {R T Found : Type 0} (hand : R → Hand) (At : World → World → Type 0) (Does : World → Result T Status → World → Type 0)
     (Ends : World → Result Found Status → World → Type 0) (ended : Status) (old mid new : R)
     → IsAmid hand At old mid → RanPart hand Does mid (Err ended) new → Ends (hand old).world (Err ended) (hand new).world → RanPart hand Ends old (Err ended) new
@@ -103,7 +103,7 @@ amid_ends hand At Does Ends ended old mid new amid ran ends =
       same = still amid.same ran.same;
     }
 
--- it comes to its end
+-- the command comes to its end
 pub amid_over : {R Found : Type 0} (hand : R → Hand) (At : World → World → Type 0) (Ends : World → Result Found Status → World → Type 0) (found : Found)
     (old now : R)
     → IsAmid hand At old now → Ends (hand old).world (Ok found) (hand now).world → RanPart hand Ends old (Ok found) now

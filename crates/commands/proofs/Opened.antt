@@ -1,4 +1,4 @@
--- A disk that was put in is there.
+-- A disk that was put in is in the bay.
 use Rattle.std.proofs.Common.{◌≡◌, ℕ, false, List, ap, ◌∙◌, sym, Option, Some, None, unwrap_or}
 use Rattle.std.proofs.lemmas.Bool.{true≢false}
 use Rattle.std.specs.Option.{MatchOption, option_map}
@@ -30,7 +30,7 @@ put_in name answer old new told after fine step =
     (λ does. (does.2.0, ap (λ (s : StationState). (bay_of s 0).medium) does.2.2.exchanged.becomes))
     (λ cause refused. absurd (not_refused answer cause fine refused.answered))
 
--- its shape is that of the bay
+-- the shape of the disk is the shape of the medium in the bay
 pub shape_put : (name : List ℕ) (answer : Reply) (old new : State) (told after : Option Files) → is_refusal answer ≡ false
     → Step (request.Insert 0 name) old told answer new after → shape_in (bay_of new.station 0) ≡ Some (shape_at new 0)
 shape_put name answer old new told after fine step =
@@ -45,7 +45,7 @@ there_is name answer old new told after fine step none =
     let some = shape_put name answer old new told after fine step in
     absurd (cc (some, none))
 
--- and the files stay
+-- the files stay
 pub files_stay : (name : List ℕ) (answer : Reply) (old new : State) (told after : Option Files) → is_refusal answer ≡ false
     → Step (request.Insert 0 name) old told answer new after → after ≡ told
 files_stay name answer old new told after fine step =

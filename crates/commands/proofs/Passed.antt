@@ -26,7 +26,8 @@ use Rattle.commands.specs.Parts.{Part, asks, needs, carries, says, may_starve, s
 use Rattle.commands.proofs.Opened.{shape_put}
 use Rattle.commands.proofs.Reading.{IsAnswered, IsRefused, IsWhole, ok_is_whole, ask_run, ask_answered, need_run, need_taken, refused_is_not_ok, last_run, last_stored}
 
--- what is known of a part that was gone through: by the world before it, its course, what it found, and the world behind it
+-- what is known of a part that was gone through, by four things: the world before it, its course, what it found, and
+-- the world after it
 abbrev pub Known : Type 0 → Type 1
 Known Found = World → List Taken → Found → World → Type 0
 
@@ -41,13 +42,13 @@ pub record Passed {Found : Type 0} (Knows : Known Found) (rest : Found → Scrip
   pub knows : Knows old one found mid
   pub left : RunsScript (rest found) mid two new ended
 
--- whatever follows, a run that ended so went through the part
+-- each run with this status went through the part, whatever follows it
 abbrev pub Passes : {Found : Type 0} → Status → Part Found → Known Found → Type 0
 Passes {Found = Found} ended part Knows =
     (rest : Found → Script) (old : World) (course : List Taken) (new : World)
     → RunsScript (part rest) old course new ended → Passed Knows rest old course new ended
 
--- two parts that were gone through, one behind the other, are one
+-- two parts that were gone through, one after the other, are one part
 abbrev pub joined : {First Found : Type 0} {Before : Known First} {Behind Knows : Known Found} {next : First → Script} {rest : Found → Script}
     {old : World} {course : List Taken} {new : World} {ended : Status}
     → (a : Passed Before next old course new ended) (b : Passed Behind rest a.mid a.two new ended) → Knows old
@@ -62,13 +63,13 @@ joined a b knows = record {
   left = b.left;
 }
 
--- nothing is done before what follows
+-- a part that does nothing was gone through at once
 pub at_once : {Found : Type 0} {Knows : Known Found} {rest : Found → Script} {old : World} {course : List Taken} {new : World} {ended : Status} (found : Found)
     → RunsScript (rest found) old course new ended → Knows old [] found old → Passed Knows rest old course new ended
 at_once {old = old} {course = course} found runs knows =
     record { one = []; two = course; found = found; mid = old; course_is = refl; knows = knows; left = runs }
 
--- so it was, where more is known than is asked
+-- a part that was gone through, where more is known of it than is wanted
 passed_known : {Found : Type 0} (Knows Wanted : Known Found)
     → ((old : World) (course : List Taken) (found : Found) (mid : World) → Knows old course found mid → Wanted old course found mid)
     → (rest : Found → Script) (old : World) (course : List Taken) (new : World) (ended : Status)
@@ -89,7 +90,7 @@ pub known : {Found : Type 0} (ended : Status) (part : Part Found) (Knows Wanted 
 known ended part Knows Wanted more passes rest old course new runs =
     passed_known Knows Wanted more rest old course new ended (passes rest old course new runs)
 
--- the same part in other words
+-- a part that is the same as another in other words
 pub same_part : {Found : Type 0} (ended : Status) (part other : Part Found) (Knows : Known Found)
     → ((rest : Found → Script) → part rest ≡ other rest) → Passes ended other Knows → Passes ended part Knows
 same_part ended part other Knows same passes rest old course new runs =
@@ -97,7 +98,7 @@ same_part ended part other Knows same passes rest old course new runs =
 
 -- ---- Requests.
 
--- a request was answered, what its answer tells was found, and nothing was printed
+-- a request was answered, what its answer says was found, and nothing was printed
 pub record IsAsked {Found : Type 0} (asked : Request) (finds : Reply → State → Found) (old : World) (course : List Taken) (found : Found)
     (mid : World) : Type 0 where
   pub taken : Taken
@@ -108,13 +109,13 @@ pub record IsAsked {Found : Type 0} (asked : Request) (finds : Reply → State �
   pub step : Step asked old.state old.files taken.answer taken.after mid.files
   pub report : mid.report ≡ old.report
 
--- and it wasn't refused
+-- a request was answered, and it wasn't refused
 pub record IsTaken {Found : Type 0} (asked : Request) (finds : Reply → State → Found) (old : World) (course : List Taken) (found : Found)
     (mid : World) : Type 0 where
   pub is : IsAsked asked finds old course found mid
   pub fine : is_refusal is.taken.answer ≡ false
 
--- the part that was
+-- what is known of the part that was the request
 abbrev answer_passed : {Found : Type 0} (asked : Request) (finds : Reply → State → Found) (rest : Found → Script) (old : World) (course : List Taken)
     (new : World) (ended : Status)
     → (run : IsAnswered asked (λ answer after. rest (finds answer after)) old course new ended) → IsAsked asked finds old (run.taken ∷ [])
@@ -148,7 +149,7 @@ needs_passed asked finds rest old course new ended whole fine runs =
       left = run.left;
     }
 
--- so it was in a script that ended well
+-- such a request was answered and not refused, in a script that ended well
 pub needs_passes : {Found : Type 0} (asked : Request) (finds : Reply → State → Found)
     → Passes status.AllOk (λ (rest : Found → Script). needs asked (λ answer after. rest (finds answer after))) (IsTaken asked finds)
 needs_passes asked finds rest old course new runs =
@@ -172,14 +173,14 @@ asks_passes ended whole asked finds rest old course new runs =
 
 -- ---- Requests that were done, and nothing was printed.
 
--- these were, one after the other
+-- these requests were done, one after the other
 pub record Did (requests : List Request) (old : World) (course : List Taken) (new : World) : Type 0 where
   pub run : Run old.state old.files course new.state new.files
   pub all : requests_of course ≡ requests
   pub fine : has_refusal course ≡ false
   pub report : new.report ≡ old.report
 
--- a part asks them
+-- a part asked these requests, and they were done
 abbrev pub Does : {Found : Type 0} → List Request → Known Found
 Does requests old course found mid = Did requests old course mid
 
@@ -239,7 +240,7 @@ did_both first second old mid new one two a b = record {
 pub did_nothing : (now : World) → Did [] now [] now
 did_nothing now = record { run = (refl, refl); all = refl; fine = refl; report = refl }
 
--- ---- One part behind the other.
+-- ---- One part after the other.
 
 pub record Then {First Found : Type 0} (Before : Known First) (Behind : First → Known Found) (old : World) (course : List Taken) (found : Found)
     (new : World) : Type 0 where
@@ -260,14 +261,14 @@ both_pass ended part next Before Behind passes then rest old course new runs =
     joined a b
     (record { one = a.one; two = b.one; first = a.found; mid = a.mid; course_is = refl; before = a.knows; behind = b.knows })
 
--- two parts that asked requests
+-- two parts of which each asked requests, as one
 abbrev pub joined_did : {First Found : Type 0} (first second : List Request) {next : First → Script} {rest : Found → Script}
     {old : World} {course : List Taken} {new : World} {ended : Status}
     → (a : Passed (Does first) next old course new ended) → Passed (Does second) rest a.mid a.two new ended
     → Passed (Does (first ++ second)) rest old course new ended
 joined_did first second {old = old} a b = joined a b (did_both first second old a.mid b.mid a.one b.one a.knows b.knows)
 
--- where each asks requests, both do
+-- where each of two parts asks requests, both ask the requests of both
 pub does_both : {Found : Type 0} (ended : Status) (part : Part (Unit {0})) (next : Part Found) (first second : List Request)
     → Passes ended part (Does first) → Passes ended next (Does second)
     → Passes ended (λ (rest : Found → Script). part (λ none. next rest)) (Does (first ++ second))
@@ -277,7 +278,7 @@ does_both ended part next first second passes then rest old course new runs =
 
 -- ---- A part for each thing of a list.
 
--- what is known of no things, and of one more in front, is known of all
+-- what is known of no things, and of one more thing in front of others, is known of all
 pub through_passes : {Thing Found : Type 0} (ended : Status) (part : Thing → Found → Part Found) (One : Thing → Found → Known Found)
     (All : List Thing → Found → Known Found)
     → ((found : Found) (now : World) → All [] found now [] found now)
@@ -293,7 +294,7 @@ through_passes {Found = Found} ended part One All none more passes (thing ∷ th
     let b = through_passes ended part One All none more passes things a.found rest a.mid a.two new a.left in
     joined a b (more thing things found a.found b.found old a.mid b.mid a.one b.one a.knows b.knows)
 
--- where each asks requests, all do
+-- where the part of each thing asks requests, the parts of all ask the requests of all
 pub through_does : {Thing : Type 0} (ended : Status) (part : Thing → Unit {0} → Part (Unit {0})) (requests : Thing → List Request)
     → ((thing : Thing) → Passes ended (part thing tt) (Does (requests thing)))
     → (things : List Thing) → Passes ended (through part things tt) (Does (flat_map requests things))
@@ -303,13 +304,13 @@ through_does ended part requests passes things =
     (λ thing all begun found last old mid new one two a b. did_both (requests thing) (flat_map requests all) old mid new one two a b)
     (λ thing none. passes thing) things tt
 
--- so do numbers
+-- a part for each of many numbers is one for each thing of their list
 pub each_passes : {Found : Type 0} (ended : Status) (start count : ℕ) (part : ℕ → Found → Part Found) (found : Found) (Knows : Known Found)
     → Passes ended (through part (range_with_len start count) found) Knows → Passes ended (each start count part found) Knows
 unfolding each
 each_passes ended start count part found Knows passes = passes
 
--- what is known of no numbers, and of one more in front, is known of all from one on
+-- what is known of no numbers, and of one more number in front of others, is known of all from the first on
 pub numbers_pass : {Found : Type 0} (ended : Status) (part : ℕ → Found → Part Found) (One : ℕ → Found → Known Found) (All : ℕ → ℕ → Found → Known Found)
     → ((i : ℕ) (found : Found) (now : World) → All i 0 found now [] found now)
     → ((i n : ℕ) (begun found last : Found) (old mid new : World) (one two : List Taken)
@@ -329,7 +330,7 @@ pub each_does : (ended : Status) (start count : ℕ) (part : ℕ → Unit {0} �
 each_does ended start count part requests passes =
     each_passes ended start count part tt _ (through_does ended part requests passes (range_with_len start count))
 
--- and tracks
+-- where the part of each track asks requests, the parts of all tracks ask the requests of all
 pub tracks_do : (ended : Status) (cylinders heads : ℕ) (part : ℕ → ℕ → Unit {0} → Part (Unit {0})) (requests : ℕ → ℕ → List Request)
     → ((c h : ℕ) → Passes ended (part c h tt) (Does (requests c h)))
     → Passes ended (by_track cylinders heads part tt) (Does (flat_map (λ c. flat_map (requests c) (range_with_len 0 heads)) (range_with_len 0 cylinders)))
@@ -401,7 +402,7 @@ pub record Opened (name : List ℕ) (old : World) (course : List Taken) (shape :
   pub did : Did (request.Insert 0 name ∷ []) old course mid
   pub there : shape_in (bay_of mid.state.station 0) ≡ Some shape
 
--- so is one whose request was answered, and not refused
+-- a disk was put in, if the request for it was answered and not refused
 taken_opened : (name : List ℕ) (old : World) (course : List Taken) (shape : Shape) (mid : World)
     → IsTaken (request.Insert 0 name) (λ answer after. shape_at after 0) old course shape mid → Opened name old course shape mid
 taken_opened name old course shape mid it =
@@ -425,7 +426,7 @@ pub opens_passes : (name : List ℕ) → Passes status.AllOk (opens name) (Opene
 opens_passes name rest old course new runs =
     opens_passed name rest old course new status.AllOk ok_is_whole (refused_is_not_ok (request.Insert 0 name) old course new) runs
 
--- a line, put whole
+-- a line was put whole
 pub record Said (line : List ℕ) (old : World) (course : List Taken) (none : Unit {0}) (mid : World) : Type 0 where
   pub nothing : course ≡ []
   pub state : mid.state ≡ old.state
@@ -445,7 +446,7 @@ says_passes ended whole line rest old course new (inl runs) = record {
 }
 says_passes ended whole line rest old course new (inr cut) = absurd (whole.put cut.1.1)
 
--- memory that was there
+-- memory was enough
 pub starve_passes : (ended : Status) → IsWhole ended → Passes ended may_starve (Does [])
 unfolding may_starve
 starve_passes ended whole rest old course new (inl runs) = at_once tt runs (did_nothing old)

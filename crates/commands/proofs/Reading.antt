@@ -31,14 +31,14 @@ pub record IsAnswered (asked : Request) (rest : Reply → State → Script) (old
   pub step : Step asked old.state old.files taken.answer taken.after files
   pub left : RunsScript (rest taken.answer taken.after) (with_report taken.after files old.report) later new ended
 
--- it stopped the run
+-- the request stopped the run
 pub record IsStopped (asked : Request) (old : World) (course : List Taken) (new : World) (ended : Status) : Type 0 where
   pub cause : Stop
   pub nothing : course ≡ []
   pub stops : StopsAt asked old.state old.files cause new.state new.files
   pub prints : Prints (stop_lines cause) (stop_status cause) old.report new.report ended
 
--- it was refused, and that ended the script
+-- the request was refused, and that ended the script
 pub record IsRefused (asked : Request) (old : World) (course : List Taken) (new : World) (ended : Status) : Type 0 where
   pub taken : Taken
   pub cause : Reason
@@ -71,7 +71,8 @@ pub ask_run : (asked : Request) (rest : Reply → State → Script) (old : World
 unfolding asks
 ask_run asked rest old course new ended runs = asked_run asked rest old course new ended runs
 
--- a request that the script can't go on without: it was answered and not refused, or refused, or it stopped the run
+-- a request that the script can't go on without. It was answered and not refused, or it was refused, or it stopped the
+-- run
 pub data NeedRun (asked : Request) (rest : Reply → State → Script) (old : World) (course : List Taken) (new : World) (ended : Status) : Type 0 where
   Done : (done : IsAnswered asked rest old course new ended) → is_refusal done.taken.answer ≡ false → NeedRun asked rest old course new ended
   Refused : IsRefused asked old course new ended → NeedRun asked rest old course new ended
@@ -95,7 +96,7 @@ pub last_stored : (name bytes line : List ℕ) (wanted : Status) (old : World) (
 last_stored name bytes line wanted old [] new ended runs = (refl, runs)
 last_stored name bytes line wanted old (taken ∷ later) new ended runs = absurd runs
 
--- any other answer than a refusal goes on
+-- the script goes on after any other answer than a refusal
 as_done : (asked : Request) (rest : Reply → State → Script) (old : World) (course : List Taken) (new : World) (ended : Status)
     → (run : IsAnswered asked (λ given after. unless_refused asked given (rest given after)) old course new ended)
     → is_refusal run.taken.answer ≡ false → NeedRun asked rest old course new ended
@@ -149,7 +150,7 @@ pub carry_run : (asked : Request) (rest : Unit {0} → Script) (old : World) (co
 unfolding carries
 carry_run asked rest old course new ended runs = need_run asked (λ answer after. rest tt) old course new ended runs
 
--- ---- Of a script that ended well.
+-- ---- A script that ended well.
 
 -- a line that was printed whole, with its status
 pub prints_status : (report : Option (List (List ℕ))) (line : List (List ℕ)) (wanted ended : Status) (after : Option (List (List ℕ))) → (IsPutFault ended → ⊥)
@@ -164,7 +165,7 @@ no_stop_is_ok (stop.Absent name) same = cc same
 no_stop_is_ok stop.FileFault same = cc same
 no_stop_is_ok stop.NoMemory same = cc same
 
--- a script that ended so went on to an end of its own: nothing stopped it, and each line was put whole
+-- a script with this status went on to an end of its own: nothing stopped it, and each line was put whole
 pub record IsWhole (ended : Status) : Type 0 where
   pub put : IsPutFault ended → ⊥
   pub stop : (cause : Stop) → ended ≡ stop_status cause → ⊥
@@ -184,7 +185,7 @@ ask_answered asked rest old course new ended whole (Answered run) = run
 ask_answered asked rest old course new ended whole (Stopped run) = absurd
     (whole.stop run.cause (prints_status _ _ (stop_status run.cause) ended _ whole.put run.prints).1)
 
--- a request that it can't go on without was done, where the answer wasn't a refusal
+-- a request that the script can't go on without was done, if it wasn't refused
 pub need_taken : (asked : Request) (rest : Reply → State → Script) (old : World) (course : List Taken) (new : World) (ended : Status) → IsWhole ended
     → (IsRefused asked old course new ended → ⊥) → NeedRun asked rest old course new ended → IsDone asked rest old course new ended
 need_taken asked rest old course new ended whole fine (Done run done) = record { run = run; fine = done }
@@ -192,7 +193,7 @@ need_taken asked rest old course new ended whole fine (Refused run) = absurd (fi
 need_taken asked rest old course new ended whole fine (Halted run) = absurd
     (whole.stop run.cause (prints_status _ _ (stop_status run.cause) ended _ whole.put run.prints).1)
 
--- so it was where the script ended well
+-- no such request was refused in a script that ended well
 pub refused_is_not_ok : (asked : Request) (old : World) (course : List Taken) (new : World) → IsRefused asked old course new status.AllOk → ⊥
 refused_is_not_ok asked old course new run = let told = prints_status _ _ status.SomeRefused status.AllOk _
     (λ fault. fault) run.prints in let same = told.1 in cc same

@@ -62,14 +62,14 @@ pub asked_on : (whole : Script) (start : World) (asked : Request) (rest : Reply 
 unfolding Leads asks
 asked_on whole start asked rest answer old new step report leads end ended run = leads end ended (answered asked rest answer old new step report end ended run)
 
--- it stopped the run
+-- the request stopped the run
 pub asked_stops : (whole : Script) (start : World) (asked : Request) (rest : Reply → State → Script) (cause : Stop) (old new : World) (ended : Status)
     → StopsAt asked old.state old.files cause new.state new.files → Prints (stop_lines cause) (stop_status cause) old.report new.report ended
     → Leads whole start (asks asked rest) old → IsRunOf whole start new ended
 unfolding Leads asks
 asked_stops whole start asked rest cause old new ended stops prints leads = leads new ended (stopped asked rest cause old new ended stops prints)
 
--- an answer that is no refusal goes on
+-- the script goes on after an answer that is no refusal
 pub goes_on : (asked : Request) (answer : Reply) (later : Script) → is_refusal answer ≡ false → unless_refused asked answer later ≡ later
 goes_on asked reply.Done later fine = refl
 goes_on asked reply.DoneDeleted later fine = refl
@@ -85,7 +85,7 @@ needed_on whole start asked rest answer old new fine step report leads end ended
     leads end ended (answered asked (λ given after. unless_refused asked given (rest given after)) answer old new step report end ended
     (subst (λ (s : Script). IsRunOf s new end ended) (sym (goes_on asked answer (rest answer new.state) fine)) run))
 
--- it was refused, which ended the script
+-- such a request was refused, which ended the script
 pub needed_refused : (whole : Script) (start : World) (asked : Request) (rest : Reply → State → Script) (cause : Reason) (old new : World) (ended : Status)
     → Step asked old.state old.files (reply.Refused cause) new.state new.files
     → Prints (stopped_text asked cause ∷ []) status.SomeRefused old.report new.report ended → Leads whole start (needs asked rest) old
@@ -134,7 +134,7 @@ unfolding Leads says
 said_cut whole start line rest state files before after ended part fault leads =
     leads _ ended (cut_run line (rest tt) state files before after ended part fault)
 
--- whatever came of it
+-- a line was put, whole or in part
 pub said : (line : List ℕ) (state : State) (files : Option Files) (before after : Option (List (List ℕ))) (result : Result (Unit {0}) Status)
     → OnOk result (after ≡ grown before (line ∷ [])) → OnErr result (GrowsByPart before (line ∷ []) after) → IfErr result IsPutFault
     → Goes (says line) (with_report state files before) result (with_report state files after)
@@ -142,7 +142,7 @@ said line state files before after (Ok done) put part fault = λ whole start res
 said line state files before after (Err ended) put part fault = λ whole start rest leads.
     said_cut whole start line rest state files before after ended part fault leads
 
--- so it is, whatever the line is a part of
+-- lines were put, whole or in part, whatever they are a part of
 pub put_whole : (lines : List (List ℕ)) (state : State) (files : Option Files) (before after : Option (List (List ℕ))) (result : Result (Unit {0}) Status)
     → OnOk result (after ≡ grown before lines) → OnErr result (GrowsByPart before lines after) → IfErr result IsPutFault
     → PutsLines lines (with_report state files before) result (with_report state files after)
@@ -158,7 +158,7 @@ unfolding Leads
 ends_here whole start line wanted state files before after ended prints leads =
     leads _ ended (ended_by line wanted (with_report state files before) (with_report state files after) ended refl refl prints)
 
--- so it is, whatever the worlds are
+-- the last line, where the worlds before and after are any
 pub ends_told : (whole : Script) (start : World) (line : List (List ℕ)) (wanted : Status) (old new : World) (ended : Status)
     → IsPrinted (λ before after. Prints line wanted before after ended) old new → Leads whole start (Ends line wanted) old → IsRunOf whole start new ended
 unfolding Leads
@@ -261,6 +261,6 @@ pub with_course : (script : Script) (old new : World) (ended : Status) → IsRun
 unfolding IsRunOf
 with_course script old new ended run = record { course = run.0; does = run.1 }
 
--- what ends a whole script, from its begin on, is a run of it
+-- what ends a whole script from its beginning is a run of the script
 pub finished : (script : Script) (old new : World) (ended : Status) → Finishes script old new ended → Runs (RunsScript script) old new ended
 finished script old new ended ends = with_course script old new ended (ends script old (leads_itself script old))

@@ -4,7 +4,7 @@ use Rattle.flop_base.specs.Shelf.{Files}
 use Rattle.commands.specs.declared.run.Run.{Run}
 use Rattle.commands.specs.Leading.{Hand}
 
--- a run, by what is behind its references
+-- what a run holds: the values of its references, and the names of these
 abbrev pub hand_of : {D S K : Type 0} → (S → Option Files) → (S → ℕ) → (K → Option (List (List ℕ))) → (K → ℕ) → Run D S K → Hand
 hand_of files shelf_count report sink_count run = record {
   world = record { state = run.session.now; files = files run.shelf.now; report = report run.out.now };

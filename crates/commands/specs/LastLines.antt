@@ -1,4 +1,4 @@
--- The last lines of the program that no job has.
+-- The last lines of the program that no batch job has.
 use Rattle.std.specs.Prelude.{ℕ, List, ◌++◌, codes}
 use Rattle.std.specs.Fmt.{decimal}
 use Rattle.floppy_jobs.specs.declared.request.Request.{Request}
@@ -6,11 +6,11 @@ use Rattle.floppy_jobs.specs.Spelling.{spelling}
 use Rattle.sector_model.specs.declared.reply.Reason.{Reason}
 use Rattle.sector_model.specs.Texts.{reason_text, line_end}
 
--- the line where the words are no form of the program
+-- the line where the arguments (words) are no subcommand (form) of the program
 abbrev pub bad_words_text : List ℕ
 bad_words_text = codes "words not understood\n"
 
--- the line where a track can't be had in another form
+-- the line where a track doesn't fit another format
 unfoldable pub unfit_text : ℕ → ℕ → List ℕ
 unfit_text c h = codes "track " ++ (decimal c ++ (codes " " ++ (decimal h ++ codes " unfit\n")))
 

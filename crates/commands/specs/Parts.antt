@@ -1,4 +1,4 @@
--- Parts of scripts: each is given what follows it, by what it found.
+-- Parts of scripts. Each part is given what follows it, as a function of what the part found.
 use Rattle.std.specs.Prelude.{ℕ, List, [], ◌∷◌, unwrap_or}
 use Rattle.std.specs.List.{range_with_len}
 use Rattle.flop_base.specs.declared.answers.Rate.{Rate}
@@ -12,7 +12,7 @@ use Rattle.floppy_session.specs.declared.shape.Shape.{Shape}
 use Rattle.floppy_session.specs.Shapes.{shape_in}
 use Rattle.commands.specs.Scripts.{Script, Says, Asks, MayStarve, unless_refused}
 
--- a part of a script finds a value, by which the rest goes on
+-- a part of a script finds a value, and the rest goes on by that value
 abbrev pub Part : Type 0 → Type 0
 Part Found = (Found → Script) → Script
 
@@ -24,15 +24,15 @@ asks asked rest = Asks asked rest
 unfoldable pub needs : Request → (Reply → State → Script) → Script
 needs asked rest = Asks asked (λ answer after. unless_refused asked answer (rest answer after))
 
--- so it is, and the answer tells nothing more
+-- a request that the script can't go on without, and whose answer says nothing more
 unfoldable pub carries : Request → Part (Unit {0})
 carries asked rest = needs asked (λ answer after. rest tt)
 
--- a line
+-- a line is printed
 unfoldable pub says : List ℕ → Part (Unit {0})
 says line rest = Says line (rest tt)
 
--- what takes memory
+-- a place where memory may run out
 unfoldable pub may_starve : Part (Unit {0})
 may_starve rest = MayStarve (rest tt)
 
@@ -48,7 +48,8 @@ shape_at state bay = unwrap_or (shape_in (bay_of state.station bay)) no_tracks
 unfoldable pub opens : List ℕ → Part Shape
 opens name rest = needs (request.Insert 0 name) (λ answer after. rest (shape_at after 0))
 
--- a bay that was acknowledged gets the rate 250 kbit/s, where that is asked for
+-- the requests that set an acknowledged bay to a rate: none for 500 kbit/s, which it has already, and one for 250
+-- kbit/s
 abbrev pub rate_requests : Rate → ℕ → List Request
 rate_requests R500 bay = []
 rate_requests R250 bay = request.SetRate bay R250 ∷ []

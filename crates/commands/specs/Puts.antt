@@ -1,4 +1,4 @@
--- What a call puts to the sink.
+-- What a call puts to the output (sink).
 use Rattle.std.specs.Prelude.{◌≡◌, ◌≢◌, ℕ, List, Option, Result, IfErr, OnOk, OnErr, IsErrOf}
 use Rattle.flop_base.specs.Sink.{grown, GrowsByPart}
 use Rattle.flop_base.specs.declared.answers.Status.{Status}
@@ -6,7 +6,7 @@ use Rattle.flop_base.specs.declared.answers.Status.TheVariants as status
 use Rattle.sector_model.specs.Plays.{IsPutFault, Prints}
 use Rattle.sector_model.specs.Faults.{Blames}
 
--- what is printed, with the faults that the sink counted
+-- what is printed, and the faults that the output counted
 pub record Printed : Type 0 where
   pub report : Option (List (List ℕ))
   pub faults : ℕ

@@ -1,4 +1,4 @@
--- Scripts: what a command asks, request by request, by the answers so far, and what it prints and stores.
+-- Scripts: what a command asks, request by request, depending on the answers so far, and what it prints and stores.
 use Rattle.std.specs.Prelude.{◌≡◌, ℕ, List, [], ◌∷◌, ◌⊎◌, Option}
 use Rattle.flop_base.specs.Shelf.{Files, stored}
 use Rattle.flop_base.specs.Sink.{grown, GrowsByPart}
@@ -15,8 +15,13 @@ use Rattle.sector_model.specs.Runs.{Taken}
 use Rattle.sector_model.specs.Plays.{World, Prints, IsPutFault}
 use Rattle.commands.specs.LastLines.{stopped_text}
 
--- last lines, with the status; a line, and what follows; a request, and what follows its answer and the state behind it;
--- a file that is stored, and then the last line; where memory may run out, what follows if it doesn't; or a status, with no last line
+-- a script is one of these:
+-- - last lines, with the status
+-- - a line, and what follows
+-- - a request, and what follows, as a function of its answer and of the state after it
+-- - a file that is stored, and then the last line
+-- - a place where memory may run out, and what follows if it doesn't
+-- - a status, with no last line
 pub data Script : Type 0 where
   Ends : List (List ℕ) → Status → Script
   Says : List ℕ → Script → Script
@@ -31,11 +36,11 @@ pub record IsPrinted (Printed : Option (List (List ℕ)) → Option (List (List 
   pub files : new.files ≡ old.files
   pub report : Printed old.report new.report
 
--- a line was put by a part, and that ended the command
+-- a part of a line was put, and that ended the command
 abbrev pub IsCut : List ℕ → World → World → Status → Type 0
 IsCut line old new ended = IsPrinted (λ before after. GrowsByPart before (line ∷ []) after) old new × IsPutFault ended
 
--- what ends a command at a store: a fault of the shelf, or want of memory
+-- what ends a command when it stores a file: a fault of the file store (shelf), or that memory ran out
 abbrev pub IsStoreFault : Status → Type 0
 IsStoreFault status.FileFault = Unit {0}
 IsStoreFault status.NoMemory = Unit {0}

@@ -1,4 +1,4 @@
--- A text that a command is to go by, and that isn't loaded.
+-- A text that a command needs, and that wasn't loaded.
 use Rattle.std.specs.Prelude.{◌≡◌, ℕ, List, [], ◌∷◌, Option}
 use Rattle.flop_base.specs.declared.answers.LoadError.{LoadError}
 use Rattle.flop_base.specs.declared.answers.LoadError.TheVariants as load
@@ -7,7 +7,7 @@ use Rattle.flop_base.specs.declared.answers.Status.TheVariants as status
 use Rattle.sector_model.specs.Texts.{absent_text, bad_line_text}
 use Rattle.sector_model.specs.Plays.{Prints}
 
--- why a text wasn't had, and what was printed of it; one that is too long has a bad line 0
+-- why a text wasn't loaded, and what was printed of this; for a text that is too long, line 0 is bad
 abbrev pub MissesText : LoadError → List ℕ → Option (List (List ℕ)) → Option (List (List ℕ)) → Status → Type 0
 MissesText load.Absent name old new ended = Prints (absent_text name ∷ []) status.Absent old new ended
 MissesText load.TooLong name old new ended = Prints (bad_line_text 0 ∷ []) status.BadJob old new ended

@@ -1,4 +1,4 @@
-// What a command has in its hand.
+// What a command holds.
 ghost use Rattle.std.specs.Prelude.{◌≡◌, ◌<◌, ◌≤◌, false, length, slice_index, List, IfOk, OnOk};
 ghost use Rattle.flop_base.specs.Memory.{user_bytes};
 ghost use Rattle.sector_model.specs.Runs.{Taken};
@@ -17,9 +17,9 @@ use floppy_session::{Int13, Regs, Shape};
 use sector_model::{Reply, Stop};
 use std::alloc::{AllocError, Global};
 
-/// What a command has in its hand: a session, the shelf of its files, and where its report goes.
+/// What a command holds: a session, the store of its files (shelf), and the output for its report (sink).
 pub trait AnyRun {
-    /// What is in the hand.
+    /// What is held, as contracts see it.
     ghost hand: { Self → Hand };
 
     /// The memory that its lines take.
@@ -40,17 +40,19 @@ pub trait AnyRun {
     fn load(&mut self, name: &str, most: usize) -> Result<Vec<u8>, LoadError>
         ensures { HasLoaded hand name.now most self.old result self.new };
 
-    /// The bytes of a text of at most so many. Why it isn't loaded is told, and ends the command.
+    /// The bytes of a text of at most so many. If it isn't loaded, the reason is printed, and the command ends.
     fn load_text(&mut self, name: &str, most: usize) -> Result<Vec<u8>, Status>
         ensures { RanPart hand (LoadsText name.now most) self.old result self.new };
 
-    /// Asks a request, and gives its answer, a refusal too. What stops the run is told, and ends the command.
+    /// Asks a request, and gives its answer, which may be a refusal. If something stops the run, that is printed, and
+    /// the command ends.
     fn ask(&mut self, request: &Request) -> Result<Reply, Status>
         requires { HasTries request.now }
         ensures ran { RanPart hand (Answers (asks request.now)) self.old result self.new }
         ensures asks { AsksOne request.now (hand self.old).world result (hand self.new).world };
 
-    /// Asks a request that the command can't go on without. A refusal is told, and ends the command, as does what stops the run.
+    /// Asks a request that the command can't go on without. If it is refused, or something stops the run, that is
+    /// printed, and the command ends.
     fn need(&mut self, request: &Request) -> Result<Reply, Status>
         requires { HasTries request.now }
         ensures ran { RanPart hand (Answers (needs request.now)) self.old result self.new }
@@ -64,7 +66,7 @@ pub trait AnyRun {
             result front.new course (hand self.new).world.state }
         ensures alone { IsInSession hand self.old self.new };
 
-    /// Puts the lines that tell the answer to a request.
+    /// Puts the lines of the answer to a request.
     fn tell(&mut self, request: &Request, reply: &Reply) -> Result<(), Status>
         ensures { RanPart hand (PutsLines (reply_lines request.now reply.now)) self.old result self.new };
 
@@ -98,7 +100,7 @@ pub trait AnyRun {
     fn end(&mut self) -> Result<(), Status>
         ensures { RanPart hand Leaves self.old result self.new };
 
-    /// Asks a request that the command can't go on without, and whose answer tells nothing more.
+    /// Asks a request that the command can't go on without, and whose answer says nothing more.
     #[tactic(auto, unfolding(crate::specs::Parts::carries))]
     final fn carry(&mut self, request: &Request) -> Result<(), Status>
         requires { HasTries request.now }

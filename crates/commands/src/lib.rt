@@ -1,8 +1,8 @@
 //! What the program's commands have in common: scripts of commands over a session, and the lines of reports.
 //!
-//! A script is what a command asks, prints and stores, part by part; each function on scripts goes through one part. A command is a
-//! function over any run, which has a session, a shelf and a sink in one hand. The lines are those that answer the requests of a job,
-//! and the last line of each way in which a run ends.
+//! A script is what a command asks, prints and stores, part by part; each function on scripts goes through one part. A
+//! command is a function over any run, which holds a session, a file store and an output. The lines are those that
+//! answer the requests of a batch job, and the last line of each way in which a run ends.
 #![tactic(auto)]
 
 mod any_run;

@@ -135,7 +135,7 @@ fn put_dump<K: Sink>(alloc: Global, out: &mut K, address: u32, content: &[u8]) -
     Ok(())
 }
 
-/// Puts the lines that tell the answer to a request.
+/// Puts the lines of the answer to a request.
 #[tactic(auto, unfolding(sector_model::specs::Texts::reply_lines))]
 pub fn put_reply<K: Sink>(
     alloc: Global,
@@ -198,7 +198,7 @@ pub fn bad_line(alloc: Global, line: usize) -> Result<String, AllocError>
     format!(in alloc; "job line {line} not understood\n")
 }
 
-/// The status behind a last line, or why the line couldn't be put.
+/// The status after a last line was put, or the reason why the line couldn't be put.
 pub fn after(put: Result<(), Status>, status: Status) -> Status
     requires { IfErr put IsPutFault }
     ensures exactly { MatchResult put (λ _. result ≡ status) (λ failed. result ≡ failed) }
@@ -210,7 +210,7 @@ pub fn after(put: Result<(), Status>, status: Status) -> Status
     }
 }
 
-/// The status of a run that this stopped.
+/// The status of a run that was stopped by this.
 pub fn stop_status(stop: &Stop) -> Status
     ensures { result ≡ stop_status stop.now }
 {
@@ -280,7 +280,8 @@ fn unfit_line(alloc: Global, c: u8, h: u8) -> Result<String, AllocError>
     format!(in alloc; "track {c} {h} unfit\n")
 }
 
-/// Puts the last line where the track of a cylinder and a head can't be had in another form, and gives the status.
+/// Puts the last line where the track of a cylinder and a head doesn't fit another format, and gives the status.
+/// status.
 pub fn put_last_unfit<K: Sink>(alloc: Global, out: &mut K, c: u8, h: u8) -> Status
     ensures { PutsLast (unfit_text c h ∷ []) Status.SomeRefused (printed_of K.told K.fault_count out.old) (printed_of K.told K.fault_count out.new) result }
 {
@@ -302,7 +303,7 @@ pub fn put_last_line<K: Sink>(
     after(put_line(out, line), status)
 }
 
-/// Puts the last line where the words are no form of the program, and gives the status.
+/// Puts the last line where the arguments (words) are no subcommand (form) of the program, and gives the status.
 pub fn put_last_bad_words<K: Sink>(out: &mut K) -> Status
     ensures { PutsLast (bad_words_text ∷ []) Status.BadWords (printed_of K.told K.fault_count out.old) (printed_of K.told K.fault_count out.new) result }
 {

@@ -11,7 +11,7 @@ use floppy_session::{Int13, Regs, Session, Shape};
 use sector_model::{Reply, Station, Stop};
 use std::alloc::{AllocError, Global};
 
-/// A session, a shelf and a sink in one hand.
+/// A session, a file store (shelf) and an output (sink), held together.
 #[derive(Drop)]
 pub struct Run<'a, 'b, 'c, D: Station, S, K> {
     pub alloc: Global,

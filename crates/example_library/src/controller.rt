@@ -1,5 +1,5 @@
-// Runs the controller at its ports, with a drive that loses a word twice: out of reset, RECALIBRATE, READ ID, and READ ID
-// again. Prints the bytes of its results.
+// Runs the controller at its ports, with a drive that loses a word twice. The controller is taken out of reset, and
+// then gets RECALIBRATE, READ ID, and READ ID again. The bytes of its results are printed.
 use crate::trouble::Trouble;
 use std::alloc::Global;
 use std::io;
@@ -25,8 +25,9 @@ fn disk(alloc: Global) -> Result<Medium, NoMemory> {
     Ok(medium)
 }
 
-/// The controller, still in reset, with the disk in its first drive. That one loses the first of the three A1 before the address
-/// field, twice: behind 80 bytes of gap 4a, 12 of sync, 4 of the index mark, 50 of gap 1 and 12 of sync it is word 158.
+/// The controller, still in reset, with the disk in its first drive. That drive loses the first of the three A1 before
+/// the address field, twice. It is word 158 of the track: before it are 80 bytes of gap 4a, 12 of sync, 4 of the index
+/// mark, 50 of gap 1 and 12 of sync.
 fn adapter(alloc: Global) -> Result<Adapter, NoMemory> {
     let lost = Fault::Dropout {
         c: 0,
@@ -38,7 +39,7 @@ fn adapter(alloc: Global) -> Result<Adapter, NoMemory> {
     let first = ScriptDrive::new(vec![in alloc; lost]?);
     let second = ScriptDrive::new(Vec::new(alloc));
     let mut adapter = DisketteAdapter::new(alloc, first, second)?;
-    // An empty bay takes it.
+    // An empty bay takes the disk.
     let _refused = adapter.insert(0, disk);
     Ok(adapter)
 }
@@ -50,13 +51,13 @@ fn send(adapter: &mut Adapter, bytes: &[u8]) {
     }
 }
 
-/// SENSE INTERRUPT STATUS: ST0, and the cylinder number.
+/// Sends SENSE INTERRUPT STATUS, and reads ST0 and the cylinder number.
 fn sense(adapter: &mut Adapter) -> [u8; 2] {
     send(adapter, &[0x08]);
     [adapter.read(0x3F5), adapter.read(0x3F5)]
 }
 
-/// READ ID, and its seven results.
+/// Sends READ ID, and reads its seven results.
 fn read_id(adapter: &mut Adapter) -> [u8; 7] {
     send(adapter, &[0x4A, 0x00]);
     adapter.run(65_536);
@@ -67,7 +68,7 @@ fn read_id(adapter: &mut Adapter) -> [u8; 7] {
     results
 }
 
-/// What the controller tells.
+/// What the controller reported.
 #[derive(Clone, Copy)]
 struct Told {
     reset: u32,
@@ -77,7 +78,7 @@ struct Told {
     identified: [[u8; 7]; 2],
 }
 
-/// Out of reset, with the motor of drive 0 on, at 500 kbit/s, and through the commands.
+/// Takes the controller out of reset, with the motor of drive 0 on, at 500 kbit/s, and sends the commands.
 fn use_ports(adapter: &mut Adapter) -> Told {
     adapter.write(0x3F2, 0x1C);
     adapter.write(0x3F7, 0x00);
@@ -99,7 +100,8 @@ fn use_ports(adapter: &mut Adapter) -> Told {
     }
 }
 
-/// Makes the controller and runs it. It is large, so that it is there where nothing can go wrong and no line is printed.
+/// Makes the controller and runs it. The controller is large, so it lives only in functions in which nothing can go
+/// wrong and no line is printed.
 fn set_up_and_run(alloc: Global) -> Result<Told, NoMemory> {
     let mut adapter = adapter(alloc)?;
     Ok(use_ports(&mut adapter))
@@ -117,16 +119,18 @@ fn print_told(rt: &impl Print, told: &Told) -> io::Result<()> {
     // INT rises in the first step (docs/FORMATS.md, "Commands").
     let steps = told.reset;
     println!(rt; "reset {steps}")?;
-    // The polling tells of each drive: C0 and its number. A reset has set their cylinder numbers to 0.
+    // The poll has a result of each drive: C0 and the drive's number. A reset has set the cylinder numbers to 0.
     for [st0, cylinder] in told.sensed {
         println!(rt; "sense {st0:02X} {cylinder:02X}")?;
     }
-    // The heads are on cylinder 0, so that no pulse is made, and INT rises in the first step. 20: a seek ended, on drive 0.
+    // The heads are on cylinder 0, so no pulse is given, and INT rises in the first step. 20 says that a seek ended on
+    // drive 0.
     let steps = told.recalibrated;
     let [st0, cylinder] = told.ended;
     println!(rt; "recalibrate {steps}, sense {st0:02X} {cylinder:02X}")?;
-    // Once the disk is up to speed, the only address field passes twice without its mark: 40, and 01 in ST1, no address mark.
-    // Then it passes as it stands: no error in ST0 to ST2, and the key of `disk`.
+    // Once the disk is up to speed, the only address field passes twice without its mark. ST0 is then 40, and ST1 is
+    // 01: no address mark. Then the field passes as it stands, with no error in ST0 to ST2, and with the sector ID of
+    // `disk`.
     let [first, second] = told.identified;
     print_id(rt, &first)?;
     print_id(rt, &second)

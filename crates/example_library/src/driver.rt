@@ -1,4 +1,4 @@
-// Drives a machine whose drive loses a pulse: the read is tried again, and comes out well.
+// Drives a machine whose drive loses a pulse. The read is tried again, and succeeds.
 ghost use Rattle.std.specs.Prelude.{IfOk};
 ghost use Rattle.telwyddus.specs.Machine.Boards.{board, IsEmpty};
 ghost use Rattle.telwyddus.specs.Machine.ScriptDrive.{script_state};
@@ -12,7 +12,8 @@ use telwyddus::machine::{Fault, MachineOf, Pace, ScriptDrive};
 use telwyddus::track::fill_layout;
 use telwyddus::{Chrn, NoMemory};
 
-/// A disk of three cylinders with one head, at 500 kbit/s. Cylinders 0 and 2 have a sector of 256 bytes 5A, record 1.
+/// A disk of three cylinders with one head, at 500 kbit/s. Cylinders 0 and 2 have one sector each: record 1, of 256
+/// bytes 5A.
 fn disk(alloc: Global) -> Result<Medium, NoMemory> {
     let mut medium = Medium::blank(alloc, 3, 1, 500)?;
     let mut track = vec![in alloc; 0; 500]?;
@@ -23,7 +24,7 @@ fn disk(alloc: Global) -> Result<Medium, NoMemory> {
     Ok(medium)
 }
 
-/// The key of the sector on a cylinder.
+/// The sector ID of the sector on a cylinder.
 fn key(c: u8) -> Chrn {
     Chrn {
         c,
@@ -40,7 +41,7 @@ fn drive(faults: Vec<Fault>) -> ScriptDrive
     ScriptDrive::new(faults)
 }
 
-/// A machine that nothing delays, whose drive 0 loses the first pulse inward from cylinder 1.
+/// A machine without delays. Its drive 0 loses the first pulse inward from cylinder 1.
 fn machine(alloc: Global) -> Result<MachineOf<ScriptDrive>, NoMemory>
     ensures { IfOk result (λ machine. IsFreshBoard (board script_state machine)) }
 {
@@ -54,7 +55,8 @@ fn machine(alloc: Global) -> Result<MachineOf<ScriptDrive>, NoMemory>
     Ok(machine)
 }
 
-/// Puts the disk into bay 0, acknowledges it, and reads the sector of cylinder 2 to memory; whether all of it was done.
+/// Puts the disk into bay 0, acknowledges it, and reads the sector of cylinder 2 to memory. Gives whether all of this
+/// was done.
 fn read<S: Station>(station: &mut S, disk: Medium) -> bool
     requires { S.is_ready station.old }
 {
@@ -64,7 +66,7 @@ fn read<S: Station>(station: &mut S, disk: Medium) -> bool
     station.read(0, key(2), 0x10000).is_ok()
 }
 
-/// What came of it.
+/// What came of the read.
 #[derive(Clone, Copy)]
 struct Told {
     done: bool,
@@ -74,7 +76,8 @@ struct Told {
     commands: u64,
 }
 
-/// Reads on this machine, which goes with the station: it is large, so that it is there where no line is printed.
+/// Reads on this machine, which is dropped together with the station. The machine is large, so it lives only in
+/// functions in which no line is printed.
 fn use_machine(alloc: Global, machine: MachineOf<ScriptDrive>, disk: Medium) -> Told
     requires { IsFreshBoard (board script_state machine) }
 {
@@ -88,7 +91,7 @@ fn use_machine(alloc: Global, machine: MachineOf<ScriptDrive>, disk: Medium) -> 
     }
 }
 
-/// Makes disk and machine, and reads.
+/// Makes the disk and the machine, and reads.
 fn set_up_and_run(alloc: Global) -> Result<Told, NoMemory> {
     let disk = disk(alloc)?;
     let machine = machine(alloc)?;
@@ -100,11 +103,12 @@ pub(crate) fn run(rt: &(impl Print + AllocGlobal)) -> Result<(), Trouble> {
     let told = set_up_and_run(rt.alloc())?;
     let done = told.done;
     println!(rt; "read {done}")?;
-    // The fill of `disk`.
+    // The byte that fills the sectors of `disk`.
     let [first, last] = told.bytes;
     println!(rt; "{first:02X} {last:02X}")?;
-    // One pulse is lost: the heads stop on cylinder 1, where nothing is recorded. The acknowledgement steps from cylinder 0
-    // alone, and finds the rate by one READ ID; then there is a READ DATA for each of two attempts, the second from track 0.
+    // One pulse is lost, so the heads stop on cylinder 1, where nothing is recorded. The acknowledgement steps only
+    // from cylinder 0, and finds the rate by one READ ID. Then there is a READ DATA for each of two attempts. The
+    // second attempt begins from track 0.
     let (faults, commands) = (told.faults, told.commands);
     println!(rt; "faults {faults}, data commands {commands}")?;
     Ok(())

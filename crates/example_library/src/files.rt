@@ -4,10 +4,11 @@ use std::alloc::Global;
 use telwyddus::NoMemory;
 use telwyddus::disk::{Medium, flat_file};
 
-/// The sectors of 80 cylinders with two heads, 18 on each track.
+/// The number of sectors: 80 cylinders with two heads, and 18 sectors on each track.
 const SECTORS: u16 = 2880;
 
-/// Adds sector S: the words S, S + 1 up to S + 255, the high byte of each first. No two sectors are the same.
+/// Adds sector S. Its words are S, S + 1 and so on up to S + 255, with the high byte of each first. No two sectors are
+/// the same.
 fn add_sector(bytes: &mut Vec<u8>, sector: u16) -> Result<(), NoMemory> {
     for i in 0..256 {
         let word = sector.wrapping_add(i);
@@ -25,14 +26,14 @@ pub(crate) fn flat_bytes(alloc: Global) -> Result<Vec<u8>, NoMemory> {
     Ok(bytes)
 }
 
-/// Puts these bytes in place of those from a place on.
+/// Puts these bytes in place of those that begin at a place.
 pub(crate) fn replace(bytes: &mut Vec<u8>, place: usize, new: &[u8]) {
     for (old, new) in bytes.iter_mut().skip(place).zip(new) {
         *old = *new;
     }
 }
 
-/// The flat file of this medium has to be this one, byte for byte.
+/// Checks that the flat file of this medium is this one, byte for byte.
 pub(crate) fn must_give(alloc: Global, medium: &Medium, flat: &[u8]) -> Result<(), Trouble> {
     let bytes = flat_file(alloc, medium)?;
     must(bytes.as_slice() == flat)

@@ -14,29 +14,29 @@ const DATA: u16 = 0x3F5;
 
 const CCR: u16 = 0x3F7;
 
-/// Device steps within which each command here ends: a turn of the disk has 12,500.
+/// The number of device steps within which each command here ends. A revolution of the disk has 12,500.
 const MOST_STEPS: u32 = 100_000;
 
-/// The device steps of a second at 500 kbit/s.
+/// The number of device steps in a second at 500 kbit/s.
 const SECOND: u32 = 62_500;
 
-/// The bytes behind which the channel of a read tells the terminal count.
+/// The number of bytes after which the channel of a read signals the terminal count.
 const FOUR_SECTORS: usize = 2048;
 
 /// A controller that awaits commands, with this medium at speed in drive 0, and the heads over cylinder 0.
 pub(crate) fn set_up(alloc: Global, medium: Medium) -> Result<Controller, Trouble> {
     let mut controller = Chip::new(alloc, PlainDrive::new(), PlainDrive::new())?;
-    // An empty bay takes it.
+    // An empty bay takes the medium.
     let _refused = controller.insert(0, medium);
     start(&mut controller);
     Ok(controller)
 }
 
-/// Out of reset, with drive 0 selected and its motor on, at 500 kbit/s.
+/// Takes the controller out of reset, with drive 0 selected and its motor on, at 500 kbit/s.
 fn start(controller: &mut Controller) {
     controller.write(DOR, 0x1C);
     controller.write(CCR, 0x00);
-    // INT follows the reset, and SENSE INTERRUPT tells of each drive. RECALIBRATE ends with INT too.
+    // INT follows the reset, and SENSE INTERRUPT gives a result of each drive. RECALIBRATE ends with INT too.
     controller.run(100);
     for _drive in 0..4 {
         sense(controller);
@@ -48,14 +48,15 @@ fn start(controller: &mut Controller) {
     controller.run(6_250);
 }
 
-/// A second in which nothing is called: in how many of its device steps no line surely changes. They are made, and none does.
+/// Lets a second pass in which nothing is called. Gives in how many of its device steps no line surely changes. The
+/// steps are made, and no line changes in any.
 pub(crate) fn rest(controller: &mut Controller) -> Result<u32, Trouble> {
     let quiet = controller.quiet(SECOND);
     must(controller.run(SECOND) == SECOND)?;
     Ok(quiet)
 }
 
-/// SENSE INTERRUPT, and its two results.
+/// Sends SENSE INTERRUPT, and reads its two results.
 fn sense(controller: &mut Controller) {
     send(controller, &[0x08]);
     controller.read(DATA);
@@ -88,7 +89,7 @@ pub(crate) fn dump(controller: &mut Controller) -> [u8; 10] {
     registers
 }
 
-/// A command that ends with INT, whatever it finds.
+/// Runs a command that ends with INT, whatever it finds.
 pub(crate) fn end(controller: &mut Controller, command: &[u8]) -> Result<[u8; 7], Trouble> {
     send(controller, command);
     controller.run(100_000);
@@ -96,17 +97,18 @@ pub(crate) fn end(controller: &mut Controller, command: &[u8]) -> Result<[u8; 7]
     Ok(results(controller))
 }
 
-/// A read on its way: what the channel took, and what was seen between two device steps.
+/// A read that is under way: what the channel took, and what was seen between device steps.
 #[derive(Drop)]
 pub(crate) struct Reading {
     pub bytes: Vec<u8>,
-    /// INT and DRQ in turn.
+    /// INT and DRQ, one after the other.
     pub lines: Vec<bool>,
     /// Whether drive and medium stayed as `set_up` left them.
     pub stayed: bool,
 }
 
-/// Goes on with a read of which these bytes have passed, step by step, until so many have, or INT tells that there are results.
+/// Goes on with a read of which these bytes have passed, step by step. Stops once this many bytes have passed, or once
+/// INT says that there are results.
 pub(crate) fn read_on(
     alloc: Global,
     controller: &mut Controller,
@@ -128,7 +130,7 @@ pub(crate) fn read_on(
 }
 
 impl Reading {
-    /// Notes what is seen; then the channel takes a byte, unless the read has ended or enough have passed.
+    /// Notes what is seen. Then the channel takes a byte, unless the read has ended or enough bytes have passed.
     fn goes_on(&mut self, controller: &mut Controller, most: usize) -> Result<bool, NoMemory> {
         self.look(controller)?;
         if controller.int() || self.bytes.len() >= most {
@@ -138,7 +140,7 @@ impl Reading {
         Ok(true)
     }
 
-    /// The channel takes the byte that is asked for, where one is.
+    /// Lets the channel take the byte that is asked for, if one is.
     fn take(&mut self, controller: &mut Controller) -> Result<(), NoMemory> {
         let Some(byte) = controller.dack_read() else {
             return Ok(());
@@ -161,17 +163,18 @@ impl Reading {
     }
 }
 
-/// Drive 0 is selected, its motor is on, and the rate is 500 kbit/s, at which a word time has 16,000 nanoseconds.
+/// Whether drive 0 is selected, its motor is on, and the rate is 500 kbit/s, at which a word time has 16,000
+/// nanoseconds.
 fn is_turning(controller: &Controller) -> bool {
     controller.selected() == 0 && controller.is_motor_on(0) && controller.word_time() == 16_000
 }
 
-/// The medium is in, under heads over cylinder 0, and none of its words was replaced.
+/// Whether the medium is in, under heads over cylinder 0, and none of its words was replaced.
 fn has_medium(controller: &Controller) -> bool {
     controller.medium(0).is_some() && controller.cylinder(0) == 0 && !controller.is_written(0)
 }
 
-/// The channel gives these bytes as they are asked for, step by step, until INT tells that there are results.
+/// Lets the channel give these bytes as they are asked for, step by step, until INT says that there are results.
 pub(crate) fn give_all(controller: &mut Controller, bytes: &[u8]) {
     let mut given = 0;
     for _step in 0..MOST_STEPS {
@@ -183,7 +186,8 @@ pub(crate) fn give_all(controller: &mut Controller, bytes: &[u8]) {
     }
 }
 
-/// Gives the next byte, where one is asked for, and the terminal count with the last; tells how many were given.
+/// Gives the next byte, if one is asked for, and the terminal count with the last byte. The result is how many bytes
+/// were given.
 fn give(controller: &mut Controller, bytes: &[u8], given: usize) -> usize {
     let Some(byte) = bytes.get(given) else {
         return given;

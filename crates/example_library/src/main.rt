@@ -1,5 +1,6 @@
-//! Examples of the library, one a file: a sector of an image, a controller at its ports, a driver over a machine, and the rest on
-//! one diskette. The first step that doesn't come out as it should ends the program with status 1.
+//! Examples of the library, one in each file: a sector of an image, a controller at its ports, a driver over a machine,
+//! the strap for step times, and the rest on one diskette. The first step that doesn't come out as it should ends the
+//! program with status 1.
 #![tactic(auto)]
 
 mod controller;

@@ -16,7 +16,7 @@ const KEY: Chrn = Chrn {
     n: 1,
 };
 
-/// The image of a disk of one track, on which one sector has the bytes 00, 01, 02 and so on, marked deleted.
+/// The image of a disk of one track. One sector on it has the bytes 00, 01, 02 and so on, and is marked deleted.
 fn image(alloc: Global) -> Result<Vec<u8>, NoMemory> {
     let mut content = [0; 256];
     for i in 0..256 {
@@ -24,14 +24,15 @@ fn image(alloc: Global) -> Result<Vec<u8>, NoMemory> {
     }
     let mut track = vec![in alloc; 0; 500]?;
     fill_layout(track.as_mut_slice(), &[KEY], KEY.n, 27, 0xF6);
-    // A data field begins 146 + 44 words behind the index, and has 12 of sync, 4 of marks, the content and 2 of its check.
+    // The words of the data field begin 146 + 44 words after the index. They are 12 of sync, 4 of marks, the content,
+    // and 2 of the CRC.
     fill_field_words(&mut track[190..464], true, &content);
     let mut medium = Medium::blank(alloc, 1, 1, 500)?;
     medium.set_words(0, 0, 0, &track);
     write_image(alloc, &medium)
 }
 
-/// Reads the sector of the key from an image.
+/// Reads the sector with this sector ID from an image.
 fn read_sector(alloc: Global, bytes: &[u8], content: &mut [u8]) -> Result<TurnRead, ImageError>
     requires { length content.old ≡ content_size 1 }
 {
@@ -42,7 +43,7 @@ fn read_sector(alloc: Global, bytes: &[u8], content: &mut [u8]) -> Result<TurnRe
     }
 }
 
-/// What the sector has.
+/// The data mark and the content of the sector.
 fn found(alloc: Global) -> Result<(bool, [u8; 256]), Trouble> {
     let bytes = image(alloc)?;
     let mut content = [0; 256];
@@ -55,10 +56,10 @@ fn found(alloc: Global) -> Result<(bool, [u8; 256]), Trouble> {
 /// Makes the image, and reads the sector.
 pub(crate) fn run(rt: &(impl Print + AllocGlobal)) -> Result<(), Trouble> {
     let (deleted, content) = found(rt.alloc())?;
-    // F8 is the mark of what is deleted (IBM System 34), as `image` says of its field.
+    // F8 is the mark of deleted data (IBM System 34). `image` gives its field this mark.
     let mark = if deleted { 0xF8 } else { 0xFB };
     println!(rt; "mark {mark:02X}")?;
-    // 00 01 02 03: `image` counts so.
+    // The bytes are 00 01 02 03, since `image` counts from 00.
     let [first, second, third, fourth, ..] = content;
     println!(rt; "{first:02X} {second:02X} {third:02X} {fourth:02X}")?;
     Ok(())

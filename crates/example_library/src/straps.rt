@@ -1,5 +1,5 @@
-// The strap for step times: what SENSE INTERRUPT tells of a SEEK that comes right after a reset, and of a RECALIBRATE from further out
-// than its pulses go, is the same with the strap and without.
+// The strap for step times. What SENSE INTERRUPT gives is the same with the strap and without, for two seeks. One is a
+// SEEK that comes right after a reset; the other is a RECALIBRATE from further out than its pulses go.
 use crate::guest::{Controller, send};
 use crate::trouble::Trouble;
 use std::alloc::Global;
@@ -11,7 +11,7 @@ const DOR: u16 = 0x3F2;
 
 const DATA: u16 = 0x3F5;
 
-/// Device steps within which each seek here ends: a pulse takes 1,000.
+/// The number of device steps within which each seek here ends. A pulse takes 1,000.
 const MOST_STEPS: u32 = 100_000;
 
 /// ST0 and the cylinder number of SENSE INTERRUPT.
@@ -21,16 +21,16 @@ struct Sensed {
     cylinder: u8,
 }
 
-/// What is told from a reset on.
+/// What is reported from a reset on.
 #[derive(Clone, Copy)]
 struct Told {
-    /// INT in the first device step.
+    /// INT after the first device step.
     int: bool,
     /// ST0 of each drive's poll.
     polls: [u8; 4],
-    /// A SEEK to cylinder 3 that came before that step.
+    /// The result of a SEEK to cylinder 3, which was sent before that step.
     near: Sensed,
-    /// A SEEK to cylinder 82, and two RECALIBRATEs from there.
+    /// The results of a SEEK to cylinder 82, and of two RECALIBRATEs from there.
     far: Sensed,
     first: Sensed,
     second: Sensed,
@@ -43,7 +43,7 @@ fn sense(controller: &mut Controller) -> Sensed {
     Sensed { status, cylinder }
 }
 
-/// What a seek comes to.
+/// Runs a seek, and gives its result.
 fn seek(controller: &mut Controller, command: &[u8]) -> Sensed {
     send(controller, command);
     controller.run(MOST_STEPS);
@@ -95,7 +95,7 @@ fn print_told(rt: &impl Print, strap: bool, told: &Told) -> io::Result<()> {
     print_seek(rt, "RECALIBRATE again", &told.second)
 }
 
-/// Without the strap, and with it.
+/// Runs the controller without the strap, and then with it.
 pub(crate) fn run(rt: &(impl Print + AllocGlobal)) -> Result<(), Trouble> {
     let alloc = rt.alloc();
     let without = tell(alloc, false)?;

@@ -14,16 +14,17 @@ const KEY: Chrn = Chrn {
     n: 2,
 };
 
-/// A desk with this medium in its first bay. What is read and written there goes through driver, ports, controller and cells.
+/// A desk with this medium in its first bay. What is read and written at the desk goes through driver, ports,
+/// controller and cells.
 fn set_desk(alloc: Global, medium: Medium) -> Result<SectorDesk, Trouble> {
     let mut desk = SectorDesk::new(alloc)?;
-    // An empty bay takes it.
+    // An empty bay takes the medium.
     let _refused = desk.insert(0, medium);
     desk.acknowledge(0)?;
     Ok(desk)
 }
 
-/// Writes a sector of this medium at a desk and reads it back; tells whether it is marked deleted.
+/// Writes a sector of this medium at a desk and reads it back. Gives whether the sector is marked deleted.
 pub(crate) fn use_desk(alloc: Global, medium: Option<Medium>) -> Result<bool, Trouble> {
     let Some(medium) = medium else {
         return Err(Trouble::Differs);
@@ -41,7 +42,7 @@ fn try_sector(desk: &mut SectorDesk) -> Result<bool, Trouble> {
     Ok(deleted)
 }
 
-/// Runs the program with these words, between which line feeds stand.
+/// Runs the program with these arguments, which are separated by line feeds.
 fn run(rt: &impl Print, alloc: Global, shelf: &mut RunShelf, words: &[u8]) -> Result<(), Trouble> {
     let words = split_words(alloc, words)?;
     match shelf.run(alloc, words.as_slice()) {
@@ -63,11 +64,11 @@ fn show(rt: &impl Print, report: &[u8], status: Status) -> Result<(), Trouble> {
     must(number == 0)
 }
 
-/// Puts a flat file on a shelf, where the program makes a disk of it, and reads each sector of that.
+/// Puts a flat file on a shelf. The program makes a disk of it there, and reads each sector of the disk.
 pub(crate) fn use_shelf(rt: &impl Print, alloc: Global, flat: &[u8]) -> Result<(), Trouble> {
     let mut shelf = RunShelf::new(alloc);
     shelf.put("in.flat", flat)?;
-    // 80 cylinders of two heads have 2,880 sectors, and status 0 tells that none is refused.
+    // 80 cylinders of two heads have 2,880 sectors. Status 0 says that none of them is refused.
     run(rt, alloc, &mut shelf, b"import\nin.flat\ndisk.rt")?;
     run(rt, alloc, &mut shelf, b"verify\ndisk.rt")
 }

@@ -4,9 +4,9 @@ use std::error::Error;
 /// Why the program ends before its last line.
 #[derive(Clone, Copy, Debug)]
 pub(crate) enum Trouble {
-    /// A call failed. Its own error tells more, where a caller has a use for it.
+    /// A call failed. The call's own error says more, if a caller needs it.
     Failed,
-    /// Something came out otherwise than it should.
+    /// Something came out differently than it should.
     Differs,
 }
 
@@ -16,7 +16,7 @@ impl<E: Error> From<E> for Trouble {
     }
 }
 
-/// Goes on where this is so.
+/// Goes on if this is so, and otherwise fails with `Differs`.
 pub(crate) fn must(is_so: bool) -> Result<(), Trouble> {
     if is_so { Ok(()) } else { Err(Trouble::Differs) }
 }

@@ -1,4 +1,4 @@
--- The rate of the controller through port accesses.
+-- The data rate of the controller through port accesses.
 use Rattle.std.proofs.Common.{◌≡◌, ℕ, Bool, true, false, Option, Some, None, [], ◌∷◌, ◌++◌, refl, sym, ap, ◌∙◌}
 use Rattle.std.specs.Prelude.{◌==◌, ◌||◌, if◌then◌else◌}
 use Rattle.std.proofs.lemmas.Bool.{eqb-true, true≢false}
@@ -80,7 +80,7 @@ obeyed (command.WriteData h key last x y) lines old new (resting, seeking) = see
 obeyed (command.WriteDeleted h key last x y) lines old new (resting, seeking) = seek_or_rest (command.WriteDeleted h key last x y) lines old new resting seeking
 obeyed (command.FormatTrack h n sectors gap3 fill) lines old new (resting, seeking) = seek_or_rest (command.FormatTrack h n sectors gap3 fill) lines old new resting seeking
 
--- what bytes came to keeps the rate
+-- what bytes came to keeps the data rate
 pub taken_as : (came : Accepted) (lines : Lines) (old new : Fdc) → TakesAs came lines old new → data_rate new ≡ data_rate old
 taken_as More lines old new after = ap data_rate after
 taken_as (Ready command) lines old new after = obeyed command lines old new after
@@ -88,7 +88,7 @@ taken_as Invalid lines old new after = ap data_rate after
 
 -- ---- ports
 
--- a byte of a command keeps the rate
+-- a byte of a command keeps the data rate
 takes_rate : (byte : ℕ) (lines : Lines) (old new : Fdc) → Takes byte lines old new → data_rate new ≡ data_rate old
 takes_rate byte lines old new takes =
     let bytes = old.command ++ byte ∷ [] in taken_as (answer bytes) lines (record old { command = kept (answer bytes) bytes }) new takes
@@ -97,14 +97,14 @@ reset_or_not : (b : Bool) (set : Fdc) → data_rate (if b then reset set else se
 reset_or_not true set = refl
 reset_or_not false set = refl
 
--- DSR and CCR choose the rate
+-- a write of DSR or CCR chooses the data rate
 chosen_rate : (port value : ℕ) (lines : Lines) (old new : Fdc) → Writes port value lines old new → (port == 0x3F4 || port == 0x3F7) ≡ true
     → data_rate new ≡ rate_chosen value
 chosen_rate port value lines old new writes here = either_way (port == 0x3F4)
     (λ is. ap data_rate (writes.select (eqb-true port 0x3F4 is)) ∙ reset_or_not _ (record old { rate = rate_chosen value }))
     (λ other. ap data_rate (writes.control (eqb-true port 0x3F7 (sym (ap (λ b. b || port == 0x3F7) other) ∙ here))))
 
--- no other port does
+-- a write of any other port keeps the data rate
 kept_rate : (port value : ℕ) (lines : Lines) (old new : Fdc) → Writes port value lines old new → (port == 0x3F4 || port == 0x3F7) ≡ false
     → data_rate new ≡ data_rate old
 kept_rate port value lines old new writes away = either_way (port == 0x3F2)
@@ -123,7 +123,7 @@ kept_rate port value lines old new writes away = either_way (port == 0x3F2)
     neither_second false b none = none
     neither_second true b none = absurd (true≢false none)
 
--- the word time behind a write of a port
+-- the word time after a write of a port
 pub time_after : (port value was : ℕ) (lines : Lines) (old new : Fdc) → Writes port value lines old new → was ≡ nanoseconds (data_rate old)
     → (if port == 0x3F4 || port == 0x3F7 then nanoseconds (rate_chosen value) else was) ≡ nanoseconds (data_rate new)
 time_after port value was lines old new writes is = by_port (port == 0x3F4 || port == 0x3F7) refl
@@ -138,11 +138,11 @@ given_up_by : (ending : Option Ending) (old : Fdc) → data_rate (given_up_if en
 given_up_by None old = refl
 given_up_by (Some ending) old = refl
 
--- results that are given up keep the rate
+-- results that are given up keep the data rate
 pub given_up_rate : (old : Fdc) → data_rate (given_up old) ≡ data_rate old
 given_up_rate old = given_up_by (ending_told old) old
 
--- a seek that is forgotten keeps the rate
+-- a seek that is dropped keeps the data rate
 pub without_seek_rate : (old : Fdc) → data_rate (without_seek old) ≡ data_rate old
 without_seek_rate old = by_end (has_ended_seek old.seeks) (record old { seeks = without_ended old.seeks; interrupt = false }) refl
   where

@@ -11,7 +11,7 @@ pub runs_none : (int drq : Bool) (adapter : AdapterState) → RunsWith int drq 0
 unfolding RunsWith
 runs_none int drq adapter = refl
 
--- a run behind another
+-- a run after another is one run
 pub runs_plus : (int drq : Bool) (n m : ℕ) (old between new : AdapterState) → RunsWith int drq n old between → RunsWith int drq m between new
     → RunsWith int drq (n + m) old new
 unfolding RunsWith
@@ -22,7 +22,7 @@ runs_plus int drq n (suc m) old between new runs more =
     subst (λ (count : ℕ). RunsWith int drq count old new) (sym (add-suc n m))
     (more.0, runs_plus int drq n m old between more.0 runs more.1, more.2, more.3)
 
--- the same where the lines are those that the first run began with
+-- a run after another is one run, if the lines are then those that the first run began with
 pub runs_on : (int drq : Bool) (n m : ℕ) (old between new : AdapterState) → RunsWith int drq n old between → HasLines int drq between
     → RunsWith (interrupts between.controller) (asks between.controller) m between new → RunsWith int drq (n + m) old new
 runs_on int drq n m old between new runs lines more =
@@ -30,7 +30,7 @@ runs_on int drq n m old between new runs lines more =
     (subst (λ (int : Bool). RunsWith int drq m between new) lines.0
     (subst (λ (drq : Bool). RunsWith (interrupts between.controller) drq m between new) lines.1 more))
 
--- a run behind a step
+-- a run after one device step is a run
 runs_front : (int drq : Bool) (n : ℕ) (old between new : AdapterState) → HasLines int drq old → StepsAdapter old between
     → RunsWith int drq n between new → RunsWith int drq (suc n) old new
 unfolding RunsWith
@@ -40,7 +40,7 @@ runs_front int drq (suc n) old between new lines step runs =
 
 -- ---- word times at once
 
--- word times of one drive selected are device steps
+-- word times with one drive selected are device steps
 pub times_leap : (count : ℕ) (old : AdapterState) (fdc : Fdc) (first second : DriveState)
     → WordTimes count (selected_at old) old.controller old.first old.second fdc first second
     → LeapsAdapter count old (record { controller = fdc; first = first; second = second })
@@ -73,14 +73,14 @@ times_run int drq (suc count) old fdc first second lines times =
     runs_front int drq count old mid _ lines times.3
     (times_run int drq count mid fdc first second (times.4.interrupt ∙ lines.0, times.4.request ∙ lines.1) left)
 
--- from the lines that they begin with
+-- word times in which neither line changes are a run from the lines that they begin with
 pub leap_runs : (count : ℕ) (old new : AdapterState)
     → WordTimes count (selected_at old) old.controller old.first old.second new.controller new.first new.second
     → RunsWith (interrupts old.controller) (asks old.controller) count old new
 leap_runs count old new times =
     times_run (interrupts old.controller) (asks old.controller) count old new.controller new.first new.second (refl, refl) times
 
--- a step where none was made before
+-- one device step, after no word times were passed at once
 pub runs_one : (none : ℕ) (old between new : AdapterState) → none ≡ 0
     → WordTimes none (selected_at old) old.controller old.first old.second between.controller between.first between.second
     → StepsAdapter between new → RunsWith (interrupts old.controller) (asks old.controller) 1 old new

@@ -16,13 +16,13 @@ use Rattle.fdc_adapter.specs.Still.{Stands}
 
 -- ---- a word time in which nothing is executed
 
--- what a step of a data command leaves isn't that command at the same step
+-- a device step of a data command doesn't leave the command at the same step
 not_executing : (phase : Phase) → EndsIn phase phase → is_executing phase ≡ false
 not_executing Command ends = refl
 not_executing (Result answer) ends = refl
 not_executing (Execute execution) ends = let fewer = ends.0 in absurd (omega arith)
 
--- the poll leaves the phase
+-- the poll doesn't change the phase
 polled_phase : (old : Fdc) → (polled old).phase ≡ old.phase
 polled_phase old = by_poll (old.poll_due && not (is_held old))
   where
@@ -30,7 +30,7 @@ polled_phase old = by_poll (old.poll_due && not (is_held old))
     by_poll true = refl
     by_poll false = refl
 
--- two outcomes of one device step are the same
+-- any two outcomes of one device step are the same
 one_outcome : (phase : Phase) (track0 : Bool) (polls one other : Fdc) → is_executing phase ≡ false → RestsIn phase track0 polls one → RestsIn phase track0 polls other → other ≡ one
 one_outcome Command track0 polls one other idle first second = second ∙ sym first
 one_outcome (Result answer) track0 polls one other idle first second = second ∙ sym first
@@ -54,7 +54,7 @@ still_stays zero old first second new first_after second_after still passes = st
 still_stays (suc zero) old first second new first_after second_after still passes = still_with old second new second_after still (passes.at_second refl).0
 still_stays (suc (suc n)) old first second new first_after second_after still passes = still_alone old new still (passes.at_none (omega arith)).0
 
--- a controller of which a device step may change nothing is left by each
+-- if a device step may leave a controller unchanged, each device step leaves it unchanged
 pub stands : (fdc : Fdc) → IsStill fdc → Stands fdc
 stands fdc still old new is step =
     still_stays (selected_at old) old.controller old.first old.second new.controller new.first new.second (subst IsStill (sym is) still) step ∙ is

@@ -1,4 +1,4 @@
--- SENSE INTERRUPT whose results are read at once.
+-- A SENSE INTERRUPT whose results are read at once.
 use Rattle.std.specs.Prelude.{ℕ, false, Option, Some, None, [], if◌then◌else◌}
 use Rattle.fdc_commands.specs.Seeking.{sensed, after_sense}
 use Rattle.fdc_core.specs.Whole.{is_idle}
@@ -9,7 +9,7 @@ use Rattle.fdc_phases.specs.declared.phases.Phase.TheVariants.{Command}
 abbrev pub pending_result : Fdc → Option (ℕ × ℕ)
 pending_result fdc = if is_idle fdc then sensed fdc.seeks else None
 
--- once it was taken, INT is down, and the controller takes commands
+-- after that result was taken, INT is down, and the controller takes commands
 abbrev pub without_result : Option (ℕ × ℕ) → Fdc → Fdc
 without_result None old = record old { phase = Command; command = [] }
 without_result (Some _) old = record old { phase = Command; command = []; seeks = after_sense old.seeks; interrupt = false }

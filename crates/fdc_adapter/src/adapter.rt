@@ -36,7 +36,7 @@ pub struct DisketteAdapter<D> {
 impl<D: Inspect> DisketteAdapter<D> {
     ghost use Rattle.fdc_adapter.specs.Adapters.{adapter_state, controller_of, lines_at, SameDrives, IsNewAdapter, WritesAdapter, Takes, Gives, HasLines, StepsAdapter, LeapsAdapter, RunsTo, RunsWith, selected_at};
 
-    /// The controller in reset, with two drives, whose motors it turns off.
+    /// The controller in reset, with two drives. The motors of the drives are turned off.
     pub fn new(alloc: Global, bay0: D, bay1: D) -> Result<DisketteAdapter<D>, NoMemory>
         ensures { IfOk result (λ adapter. IsNewAdapter (D.state bay0) (D.state bay1) (adapter_state D.state adapter)) }
     {
@@ -90,14 +90,14 @@ impl<D: Inspect> DisketteAdapter<D> {
         self.controller.write(port, value, lines);
     }
 
-    /// One device step: the controller's, with the selected drive, and the word time of the others.
+    /// Does one device step: that of the controller with the selected drive, and the word time of the other drives.
     pub fn step(&mut self)
         ensures { StepsAdapter (adapter_state D.state self.old) (adapter_state D.state self.new) }
     {
         pass_word_time(&mut self.controller, &mut self.first, &mut self.second);
     }
 
-    /// Device steps until the interrupt line or the request line changes, at most `most`, and how many were made.
+    /// Does device steps until the interrupt line or the request line changes, at most `most`, and gives their number.
     pub fn run(&mut self, most: u32) -> u32
         ensures { RunsTo most (adapter_state D.state self.old) result (adapter_state D.state self.new) }
     {
@@ -113,7 +113,8 @@ impl<D: Inspect> DisketteAdapter<D> {
         most
     }
 
-    /// At least one device step, `most` at most, and none behind one in which a line changes; tells how many.
+    /// Does at least one device step and at most `most`, and gives their number. No step comes after one in which a
+    /// line changes.
     fn advance(&mut self, most: u32) -> u32
         requires { 1 ≤ most }
         ensures some { 1 ≤ result }
@@ -129,8 +130,8 @@ impl<D: Inspect> DisketteAdapter<D> {
         1
     }
 
-    /// Makes device steps at once in which neither line changes, no data command ends and no mark is met, and tells how many, `most`
-    /// at most: where it is 0, the next step has to be made alone.
+    /// Does device steps at once, at most `most`, and gives their number. In them neither line changes, no data command
+    /// ends and no data mark is met. If the number is 0, the next step has to be done alone.
     pub fn leap(&mut self, most: u32) -> u32
         ensures few { result ≤ most }
         ensures leaps { LeapsAdapter result (adapter_state D.state self.old) (adapter_state D.state self.new) }
@@ -138,7 +139,7 @@ impl<D: Inspect> DisketteAdapter<D> {
         self.pass_times(most)
     }
 
-    /// The same as word times.
+    /// Does what `leap` does. The contract speaks of word times.
     fn pass_times(&mut self, most: u32) -> u32
         ensures few { result ≤ most }
         ensures passes { WordTimes result (selected_at (adapter_state D.state self.old)) (controller_of self.old)
@@ -156,7 +157,7 @@ impl<D: Inspect> DisketteAdapter<D> {
         )
     }
 
-    /// Whether the lines are these.
+    /// Whether the lines have these values.
     fn has_lines(&self, int: bool, drq: bool) -> bool
         ensures yes { IsTrue result → HasLines int drq (adapter_state D.state self.now) }
         ensures no { IsFalse result → HasLines int drq (adapter_state D.state self.now) → ⊥ }
@@ -185,7 +186,7 @@ impl<D: Inspect> DisketteAdapter<D> {
         self.controller.to_memory()
     }
 
-    /// The channel takes a byte, where one is asked for.
+    /// The channel takes a byte, if the controller asks for one.
     pub fn dack_read(&mut self) -> Option<u8>
         ensures takes { Takes (controller_of self.old) result (controller_of self.new) }
         ensures reads { (past : Past) (sent : Sent) → MayRead past sent (controller_of self.old)
@@ -199,7 +200,7 @@ impl<D: Inspect> DisketteAdapter<D> {
         }
     }
 
-    /// The channel gives a byte, where one is asked for, and it is told whether one was.
+    /// The channel gives a byte, if the controller asks for one. The result says whether it did.
     pub fn dack_write(&mut self, byte: u8) -> bool
         ensures gives { Gives byte (controller_of self.old) result (controller_of self.new) }
         ensures writes { (past : Past) (sent : Sent) (deleted : Bool) → MayWrite past sent deleted (controller_of self.old)
@@ -214,7 +215,7 @@ impl<D: Inspect> DisketteAdapter<D> {
         }
     }
 
-    /// The channel tells the terminal count.
+    /// The channel signals the terminal count.
     pub fn tc(&mut self)
         ensures told { controller_of self.new ≡ told_count (controller_of self.old) }
         ensures reads { (past : Past) (sent : Sent) → MayRead past sent (controller_of self.old)
@@ -226,15 +227,15 @@ impl<D: Inspect> DisketteAdapter<D> {
         self.controller.tc();
     }
 
-    /// The drive that DOR selects: those of bays 2 and 3 are absent.
+    /// The drive that DOR selects. Drives 2 and 3 are absent.
     pub fn selected(&self) -> u8
         ensures { result ≡ dor_of (controller_of self.now) % 4 }
     {
         self.controller.selected()
     }
 
-    /// The nanoseconds of a word time at the rate that was chosen last: 16,000 at 500 kbit/s, 26,667 at 300, 32,000 at
-    /// 250, as at power-up, and 8,000 at 1 Mbit/s.
+    /// The nanoseconds of a word time at the rate that was chosen last: 16,000 at 500 kbit/s, 26,667 at 300 kbit/s,
+    /// 32,000 at 250 kbit/s (the rate at power-up), and 8,000 at 1 Mbit/s.
     pub fn word_time(&self) -> u32
         ensures { result ≡ nanoseconds (data_rate (controller_of self.now)) }
     {

@@ -1,4 +1,4 @@
-// The bays: media in and out, and what a front end shows of the drives.
+// The bays: putting media in, taking them out, and what a front end shows of the drives.
 ghost use Rattle.std.specs.Prelude.{◌≡◌, ◌≤◌, ◌+◌, ◌↔◌, IsTrue, IsBitSet};
 ghost use Rattle.std.specs.Option.{option_copied};
 ghost use Rattle.drive_model.specs.Drive.{forgotten, place_under};
@@ -12,7 +12,8 @@ use raw_image::Medium;
 impl<D: Inspect> DisketteAdapter<D> {
     ghost use Rattle.fdc_adapter.specs.Adapters.{adapter_state, controller_of, drive_at};
 
-    /// Puts a medium into a bay, of which no word was replaced yet. Where one is in already, the new one is given back.
+    /// Puts a medium into a bay. No word of it counts as replaced yet. If a medium is in already, the new one is given
+    /// back.
     pub fn insert(&mut self, bay: u8, medium: Medium) -> Result<(), Medium>
         requires { bay ≤ 1 }
         ensures controller { controller_of self.new ≡ controller_of self.old }
@@ -25,7 +26,7 @@ impl<D: Inspect> DisketteAdapter<D> {
         }
     }
 
-    /// Takes the medium out of a bay. It is still told whether a word of it was replaced.
+    /// Takes the medium out of a bay. `is_written` still says whether a word of it was replaced.
     pub fn eject(&mut self, bay: u8) -> Option<Medium>
         requires { bay ≤ 1 }
         ensures controller { controller_of self.new ≡ controller_of self.old }
@@ -46,8 +47,8 @@ impl<D: Inspect> DisketteAdapter<D> {
         self.drive(bay).medium()
     }
 
-    /// Whether a word of the medium in a bay was replaced since it was put in, or since that was last forgotten. Of a medium
-    /// that was taken out it is still told.
+    /// Whether a word of the medium in a bay was replaced since the medium was put in, or since `forget_written`. This
+    /// is still known of a medium that was taken out.
     pub fn is_written(&self, bay: u8) -> bool
         requires { bay ≤ 1 }
         ensures { result ≡ (drive_at (adapter_state D.state self.now) bay).replaced }
@@ -68,7 +69,7 @@ impl<D: Inspect> DisketteAdapter<D> {
         }
     }
 
-    /// Tells what `is_written` does, and forgets it.
+    /// Gives what `is_written` gives, and forgets it.
     pub fn take_written(&mut self, bay: u8) -> bool
         requires { bay ≤ 1 }
         ensures was { result ≡ (drive_at (adapter_state D.state self.old) bay).replaced }
@@ -88,8 +89,8 @@ impl<D: Inspect> DisketteAdapter<D> {
         self.drive(bay).cylinder()
     }
 
-    /// The place of the word that passes next under the heads of the drive in a bay, in words behind the index; none where
-    /// no word passes.
+    /// The place of the word that passes next under the heads of the drive in a bay, in words after the index; or none
+    /// if no word passes.
     pub fn place(&self, bay: u8) -> Option<u16>
         requires { bay ≤ 1 }
         ensures { result ≡ place_under (drive_at (adapter_state D.state self.now) bay) }

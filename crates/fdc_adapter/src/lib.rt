@@ -1,7 +1,8 @@
-//! The diskette controller with its two drives, for a bus that isn't this repository's: its ports, its lines, its side of
-//! a DMA channel, media in and out, and what a front end shows of the drives.
+//! The diskette controller with its two drives, for a bus outside this repository: its ports, its lines, its side of a
+//! DMA channel, putting media in and taking them out, and what a front end shows of the drives.
 //!
-//! Nothing moves but in device steps. One is a word time: the time in which sixteen cells pass at the rate that was chosen.
+//! Everything moves in device steps. A device step is one word time: the time in which sixteen cells pass at the rate
+//! that was chosen.
 #![tactic(auto)]
 
 mod adapter;

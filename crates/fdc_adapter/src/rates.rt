@@ -11,7 +11,7 @@ const DSR: u16 = 0x3F4;
 /// The configuration control register.
 const CCR: u16 = 0x3F7;
 
-/// The nanoseconds of a word time once a byte is written to a port: DSR and CCR choose the rate.
+/// The nanoseconds of a word time after a byte is written to a port. DSR and CCR choose the data rate.
 pub(crate) fn word_time_after(port: u16, byte: u8, before: u32) -> u32
     ensures { result ≡ (if port == 0x3F4 || port == 0x3F7 then nanoseconds (rate_chosen byte) else before) }
 {
@@ -22,7 +22,7 @@ pub(crate) fn word_time_after(port: u16, byte: u8, before: u32) -> u32
     }
 }
 
-/// The nanoseconds of a word time at a rate. At 300 kbit/s it is 26,666 and two thirds, here rounded up.
+/// The nanoseconds of a word time at a data rate. At 300 kbit/s these are 26,666 and two thirds, which is rounded up.
 pub(crate) fn word_time_of(rate: DataRate) -> u32
     ensures { result ≡ nanoseconds rate }
 {

@@ -11,7 +11,8 @@ use std::mem;
 impl<D: Inspect> DisketteAdapter<D> {
     ghost use Rattle.fdc_adapter.specs.Adapters.{adapter_state, adapter_with_drive, controller_of, drive_at, drive_held};
 
-    /// Moves the tab of the medium in a bay, so that it is write-protected, or not. Where none is in, nothing changes.
+    /// Moves the tab of the medium in a bay, so that the medium is write-protected, or isn't. If none is in, nothing
+    /// changes.
     pub fn set_protected(&mut self, bay: u8, on: bool)
         requires { bay ≤ 1 }
         ensures controller { controller_of self.new ≡ controller_of self.old }
@@ -24,8 +25,8 @@ impl<D: Inspect> DisketteAdapter<D> {
         }
     }
 
-    /// Puts a medium in place of the one in a bay, which is given back, as if it had always been the one that turns there. Where none is
-    /// in, or the tracks of the two differ in length, the new one is given back.
+    /// Puts a medium in place of the one in a bay, as if the new one had always turned there, and gives the old one
+    /// back. If no medium is in, or if the tracks of the two differ in length, the new one is given back.
     pub fn exchange(&mut self, bay: u8, medium: Medium) -> Result<Medium, Medium>
         requires { bay ≤ 1 }
         ensures controller { controller_of self.new ≡ controller_of self.old }
@@ -38,7 +39,8 @@ impl<D: Inspect> DisketteAdapter<D> {
         }
     }
 
-    /// Puts a drive into a bay with all that is in it, and gives the one that was there: nothing else learns of it.
+    /// Puts a drive into a bay with all that is in the drive, and gives the one that was there. The controller doesn't
+    /// change.
     pub fn swap_drive(&mut self, bay: u8, drive: &mut D)
         requires { bay ≤ 1 }
         ensures controller { controller_of self.new ≡ controller_of self.old }

@@ -12,8 +12,8 @@ const DATA: u16 = 0x3F5;
 impl<D: Inspect> DisketteAdapter<D> {
     ghost use Rattle.fdc_adapter.specs.Adapters.{controller_of, SameDrives};
 
-    /// Takes the pending result of the lowest drive that has one, where the controller takes commands: ST0 and the present
-    /// cylinder number.
+    /// Takes the pending result of the lowest drive that has one, if the controller takes commands. The result is ST0
+    /// and the present cylinder number.
     pub fn sense(&mut self) -> Option<(u8, u8)>
         ensures result { result ≡ pending_result (controller_of self.old) }
         ensures after { controller_of self.new ≡ after_result (controller_of self.old) }

@@ -10,7 +10,7 @@ use drive_model::Inspect;
 impl<D: Inspect> DisketteAdapter<D> {
     ghost use Rattle.fdc_adapter.specs.Adapters.{controller_of};
 
-    /// Whether a device step changes nothing but the drives, and so each further one.
+    /// Whether a device step changes nothing but the drives. If so, no later device step does either.
     pub fn is_still(&self) -> bool
         ensures value { result ≡ is_at_rest (controller_of self.now) }
         ensures still { result ≡ true → Stands (controller_of self.now) }
@@ -18,7 +18,7 @@ impl<D: Inspect> DisketteAdapter<D> {
         self.controller.is_still()
     }
 
-    /// The numbers of its controller are those that registers hold. It does nothing.
+    /// The numbers of the adapter's controller are those that registers hold. The function does nothing.
     pub fn ranges(&self)
         ensures { IsInRange (controller_of self.now) }
     {

@@ -1,4 +1,5 @@
-// Whole commands, their endings and seeks, for a layer in front of the adapter that collects the bytes itself.
+// Whole commands, their endings and seeks, for a layer in front of the adapter that collects the bytes of commands
+// itself.
 ghost use Rattle.std.specs.Prelude.{◌≡◌};
 ghost use Rattle.fdc_core.specs.Listening.{is_executing};
 ghost use Rattle.fdc_core.specs.State.{is_gated};
@@ -14,7 +15,7 @@ use fdc_stages::Ending;
 impl<D: Inspect> DisketteAdapter<D> {
     ghost use Rattle.fdc_adapter.specs.Adapters.{adapter_state, controller_of, lines_at, SameDrives};
 
-    /// Whether the data port takes a byte, and none of a command has come.
+    /// Whether the data port takes a byte, and no byte of a command has come yet.
     pub fn is_idle(&self) -> bool
         ensures { result ≡ is_idle (controller_of self.now) }
     {
@@ -35,14 +36,14 @@ impl<D: Inspect> DisketteAdapter<D> {
         self.controller.is_gated()
     }
 
-    /// The options of the CONFIGURE that this byte of a command would complete, where it would be done.
+    /// The options of the CONFIGURE that this byte of a command would complete, if that command would be done.
     pub fn options_with(&self, byte: u8) -> Option<u8>
         ensures { result ≡ options_with byte (controller_of self.now) }
     {
         self.controller.options_with(byte)
     }
 
-    /// Takes what the bytes of a command came to elsewhere, in place of bytes that came to the data port.
+    /// Takes what the bytes of a command came to elsewhere, instead of bytes that come to the data port.
     pub fn take_accepted(&mut self, accepted: Accepted)
         ensures takes { TakesWhole accepted (lines_at (adapter_state D.state self.old)) (controller_of self.old) (controller_of self.new) }
         ensures drives { SameDrives self.old self.new }
@@ -51,8 +52,8 @@ impl<D: Inspect> DisketteAdapter<D> {
         self.controller.take_accepted(accepted, lines);
     }
 
-    /// How a data command ended, while the host reads its results: they are given up, INT falls, and the controller takes
-    /// commands.
+    /// How a data command ended, while the host reads its results. The results are given up, INT falls, and the
+    /// controller takes commands.
     pub fn take_ending(&mut self) -> Option<Ending>
         ensures ending { result ≡ ending_told (controller_of self.old) }
         ensures after { controller_of self.new ≡ given_up (controller_of self.old) }
@@ -61,14 +62,14 @@ impl<D: Inspect> DisketteAdapter<D> {
         self.controller.take_ending()
     }
 
-    /// The mark of the data field that a READ DATA reads, once it is met: F8 is true.
+    /// The data mark of the field that a READ DATA reads, once the mark is met: true for F8.
     pub fn mark(&self) -> Option<bool>
         ensures { result ≡ mark_of (controller_of self.now) }
     {
         self.controller.mark()
     }
 
-    /// Forgets a seek that has ended, with its interrupt, and tells whether there was one.
+    /// Drops a seek that has ended, together with its interrupt, and says whether there was one.
     pub fn forget_seek(&mut self) -> bool
         ensures told { result ≡ has_ended_seek (controller_of self.old).seeks }
         ensures after { controller_of self.new ≡ without_seek (controller_of self.old) }
@@ -77,7 +78,8 @@ impl<D: Inspect> DisketteAdapter<D> {
         self.controller.forget_seek()
     }
 
-    /// Begins a RECALIBRATE that gives so many pulses at most, where the first byte of a command may come and no seek bit is set.
+    /// Begins a RECALIBRATE that gives at most this many pulses, if the first byte of a command may come and no seek
+    /// bit is set.
     pub fn recalibrate_within(&mut self, drive: u8, pulses: u8)
         ensures after { controller_of self.new ≡ recalibrated_within drive pulses (controller_of self.old) }
         ensures drives { SameDrives self.old self.new }

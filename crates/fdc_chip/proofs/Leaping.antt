@@ -1,4 +1,4 @@
--- Device steps at once while a sector is moved behind.
+-- Device steps at once while the inner controller moves a sector.
 use Rattle.std.proofs.Common.{◌≡◌, ℕ, zero, suc, ◌+◌, Bool, false, refl, sym, ap, subst, ◌∙◌, arith}
 use Rattle.std.specs.Prelude.{◌==◌, bit_and}
 use Rattle.fdc_sequencer.specs.Fronts.{Front, interrupts_at, interrupts_outside, value_outside}
@@ -14,14 +14,14 @@ use Rattle.fdc_chip.specs.declared.stage.Task.TheVariants.{Sent}
 use Rattle.fdc_chip.proofs.Quieting.{same_lines}
 use Rattle.fdc_chip.proofs.Runs.{runs_one, runs_plus}
 
--- no results wait then, and INT is down
+-- while a sector is moved, no results wait and INT of the inner controller is down
 moving_waits : (moving : MovingSector) (front : Front) → front.stage ≡ Moving moving → has_results front ≡ false
 moving_waits moving front at = ap (λ stage. bit_and (value_outside 0x3F4 (record front { stage = stage })) 0xC0 == 0xC0) at
 
 moving_shows : (moving : MovingSector) (front : Front) → front.stage ≡ Moving moving → interrupts_outside front ≡ false
 moving_shows moving front at = ap (λ stage. interrupts_at stage front.adapter.controller) at
 
--- nothing follows a step
+-- nothing is done after such a device step
 sent_step : (chip : ChipState) (front : Front) → chip.stage ≡ Busy Sent → StepsFront chip.front front → MovesAlong chip.front front
     → StepsChip chip (with_front front chip)
 sent_step chip front at step along =
@@ -33,7 +33,7 @@ sent_step chip front at step along =
           (subst (λ (ends : Bool). EndsIf ends Sent new new) (sym (moving_waits along.moving front along.is)) refl);
     }
 
--- and neither line changes
+-- neither line changes in such a device step
 sent_lines : (int drq : Bool) (chip : ChipState) (front : Front) → MovesAlong chip.front front → HasLinesChip int drq chip → HasLinesChip int drq (with_front front chip)
 sent_lines int drq chip front along lines =
     let same = same_lines chip front along.request (moving_shows along.moving front along.is ∙ sym (moving_shows along.moving chip.front along.was)) in

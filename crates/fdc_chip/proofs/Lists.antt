@@ -1,4 +1,4 @@
--- Bytes that are sent one by one, results that are taken over one by one, bytes that go nowhere one by one.
+-- Bytes that are sent one by one, results that are taken over one by one, and bytes that go nowhere one by one.
 use Rattle.std.specs.Prelude.{Option, ⊤}
 use Rattle.std.specs.Option.{ForSome}
 use Rattle.std.proofs.Common.{◌≡◌, ◌<◌, ◌≤◌, ℕ, suc, zero, ◌+◌, List, [], ◌∷◌, ◌++◌, length, take, get_or, refl, sym, ap, ◌∙◌, subst, add-one, arith}
@@ -8,7 +8,7 @@ use Rattle.fdc_chip.specs.Chips.{ChipState}
 use Rattle.fdc_chip.specs.Doing.{Sends, drained_one, drained_by}
 use Rattle.fdc_chip.specs.Steps.{Swallows, SwallowsBy}
 
--- one byte more
+-- bytes are sent, and then one byte more
 sends_more : (bytes : List ℕ) (byte : ℕ) (old between new : Front) → Sends bytes old between → WritesFront 0x3F5 byte between new → Sends (bytes ++ byte ∷ []) old new
 sends_more [] byte old between new same access = (new, subst (λ f. WritesFront 0x3F5 byte f new) same access, refl)
 sends_more (first ∷ rest) byte old between new (next, one, others) access = (next, one, sends_more rest byte next between new others access)
@@ -32,7 +32,7 @@ pub drained_more : (n : ℕ) (start between new : ChipState) → between ≡ dra
 unfolding drained_by
 drained_more n start between new was is = rw add-one (is ∙ ap drained_one was)
 
--- ---- a value that may be missing, of which each fits
+-- ---- a value that may be missing, of which each value fits
 
 pub all_fit : {A : Type 0} (value : Option A) → ForSome value (λ _. ⊤)
 all_fit value = λ some is. tt

@@ -16,14 +16,14 @@ use Rattle.fdc_chip.specs.declared.pace.Pace.{Pace}
 use Rattle.fdc_chip.specs.declared.stage.Stage.{Stage}
 use Rattle.fdc_chip.specs.declared.stage.Stage.TheVariants.{Ready, Held, Busy, Telling}
 
--- ---- what is done behind a step
+-- ---- what is done after a step
 
--- no pulses are to come
+-- if no pulses are to come, nothing is done for them
 paced_none : (pace : Option Pace) (old new : ChipState) → pace ≡ None → Paces pace old new → new ≡ old
 paced_none None old new unpaced paces = paces
 paced_none (Some pace) old new unpaced paces = absurd (true≢false (ap is_some unpaced))
 
--- nothing, where no result is there to be taken over
+-- nothing is done after the step, if there is no result to be taken over
 follows_none : (stage : Stage) (old new : ChipState) → rests_at stage ≡ true → old.pace ≡ None → interrupts_outside old.front ≡ false → Follows stage old new → new ≡ old
 follows_none Ready old new rests unpaced down (paced, paces, is) =
     is ∙ (ap (λ (c : ChipState). if interrupts_outside c.front then drained c else c) (paced_none old.pace old paced unpaced paces)
@@ -43,7 +43,7 @@ follows_still (Busy task) chip rests unpaced down = absurd (true≢false (sym re
 
 -- ---- the lines
 
--- INT of a chip with this request and this INT behind it
+-- INT of a chip whose inner controller has this request and this INT
 abbrev interrupts_by : ChipState → Bool → Bool → Bool
 interrupts_by chip asks shows = chip.gated && (if passes_by_port chip then asks else (chip.interrupts.line || shows))
 
@@ -76,7 +76,7 @@ kept_lines chip new keeps =
 
 -- ---- many device steps
 
--- what each leaves so many leave
+-- what each device step keeps is kept by this many
 lasts : (P : ChipState → Type 0) (n : ℕ) (old new : ChipState) → ((one next : ChipState) → P one → StepsChip one next → P next) → P old → StepsBy n old new → P new
 unfolding StepsBy
 lasts P zero old new goes was is = subst P (sym is) was
@@ -101,7 +101,7 @@ keeps_with chip new between keeps all = record {
   rest = all ∙ ap (λ (c : ChipState). with_front c.front chip) (sym all);
 }
 
--- a device step
+-- a device step of a chip that is still changes nothing but the drives
 still_on : (chip old new : ChipState) → IsStill chip → KeepsChip chip old → StepsChip old new → KeepsChip chip new
 still_on chip old new still keeps step =
     let front = still.stands old.front step.between keeps.front step.steps in
@@ -115,7 +115,7 @@ pub still_quiet : (most : ℕ) (chip : ChipState) → IsStill chip → IsQuietFo
 still_quiet most chip still n new within steps =
     kept_lines chip new (lasts (λ c. KeepsChip chip c) n chip new (λ one next keeps step. still_on chip one next still keeps step) (keeps_itself chip) steps)
 
--- the steps that what stands behind makes at once
+-- the device steps that the inner controller makes at once are a run of the chip
 still_runs : (chip : ChipState) (int drq : Bool) (n : ℕ) (front : Front) → IsStill chip → RunsFrontWith int drq n chip.front front
     → KeepsFront chip.front front × RunsChipWith (interrupts_chip chip) (asks_chip chip) n chip (with_front front chip)
 unfolding RunsFrontWith RunsChipWith
@@ -142,7 +142,7 @@ still_runs_on most made chip front still runs = (still_runs chip (interrupts_out
 
 -- ---- DOR lets no line out
 
--- what is under way here stays, and DOR's gate
+-- what is under way in the chip is the same in both, and so is DOR's gate
 record IsAlike (one other : ChipState) : Type 0 where
   stage : other.stage ≡ one.stage
   pace : other.pace ≡ one.pace

@@ -1,4 +1,4 @@
--- Device steps one by one, and those that what stands behind makes at once.
+-- Device steps one by one, and those that the inner controller makes at once.
 use Rattle.std.proofs.Common.{◌≡◌, ◌≤◌, ℕ, zero, suc, ◌+◌, Bool, true, false, refl, sym, ap, subst, ◌∙◌, arith, add-suc}
 use Rattle.std.specs.Prelude.{Option, None, not, ◌&&◌, ◌||◌, if◌then◌else◌}
 use Rattle.fdc_sequencer.specs.Fronts.{Front, interrupts_outside, asks_outside}
@@ -19,7 +19,7 @@ pub runs_one : (int drq : Bool) (old new : ChipState) → HasLinesChip int drq o
 unfolding RunsChipWith
 runs_one int drq old new lines step = (old, refl, lines, step)
 
--- a step where none was made before
+-- one device step, after no device steps were made at once
 pub runs_after : (none : ℕ) (old between new : ChipState) → none ≡ 0 → RunsChipWith (interrupts_chip old) (asks_chip old) none old between → StepsChip between new
     → RunsChipWith (interrupts_chip old) (asks_chip old) 1 old new
 unfolding RunsChipWith
@@ -27,7 +27,7 @@ runs_after none old between new is runs step =
     let same : between ≡ old = subst (λ (n : ℕ). RunsChipWith (interrupts_chip old) (asks_chip old) n old between) is runs in
     (old, refl, (refl, refl), subst (λ (chip : ChipState). StepsChip chip new) same step)
 
--- a run behind another
+-- a run after another is one run
 pub runs_plus : (int drq : Bool) (n m : ℕ) (old between new : ChipState) → RunsChipWith int drq n old between → RunsChipWith int drq m between new
     → RunsChipWith int drq (n + m) old new
 unfolding RunsChipWith
@@ -38,7 +38,7 @@ runs_plus int drq n (suc m) old between new runs more =
     subst (λ (count : ℕ). RunsChipWith int drq count old new) (sym (add-suc n m))
     (more.0, runs_plus int drq n m old between more.0 runs more.1, more.2, more.3)
 
--- the same where the lines are those that the first run began with
+-- a run after another is one run, if the lines are then those that the first run began with
 pub runs_on : (int drq : Bool) (n m : ℕ) (old between new : ChipState) → RunsChipWith int drq n old between → HasLinesChip int drq between
     → RunsChipWith (interrupts_chip between) (asks_chip between) m between new → RunsChipWith int drq (n + m) old new
 runs_on int drq n m old between new runs lines more =
@@ -48,7 +48,7 @@ runs_on int drq n m old between new runs lines more =
 
 -- ---- nothing is under way
 
--- the same chip with this behind it, nothing under way and no pulses to come
+-- the same chip with this inner controller, with nothing under way and no pulses to come
 abbrev idle : ChipState → Front → ChipState
 idle chip front = record chip { front = front; stage = Ready; pace = None }
 
@@ -60,7 +60,7 @@ none_asks : (b asks : Bool) → ((b && false) && asks) ≡ false
 none_asks true asks = refl
 none_asks false asks = refl
 
--- INT is then that of what stands behind, where none was up and DOR lets it out, and DRQ is down
+-- in such a chip whose own INT is down, INT is that of the inner controller, if DOR lets it out; and DRQ is down
 idle_interrupts : (chip : ChipState) (front : Front) → chip.interrupts.line ≡ false → interrupts_chip (idle chip front) ≡ (chip.gated && interrupts_outside front)
 idle_interrupts chip front down =
     ap (λ up. chip.gated && up) (by_none (is_by_port chip.settings) _ _ ∙ ap (λ line. line || interrupts_outside front) down)
@@ -68,7 +68,7 @@ idle_interrupts chip front down =
 idle_asks : (chip : ChipState) (front : Front) → asks_chip (idle chip front) ≡ false
 idle_asks chip front = none_asks (chip.gated && not (is_by_port chip.settings)) (asks_outside front)
 
--- the lines are those of another such chip
+-- the lines of one such chip are those of another
 idle_lines : (chip : ChipState) (old front : Front) → chip.interrupts.line ≡ false → interrupts_outside old ≡ false → interrupts_outside front ≡ false
     → HasLinesChip (interrupts_chip (idle chip old)) (asks_chip (idle chip old)) (idle chip front)
 idle_lines chip old front down was quiet = (
@@ -76,7 +76,7 @@ idle_lines chip old front down was quiet = (
   idle_asks chip front ∙ sym (idle_asks chip old),
 )
 
--- while INT is down behind nothing follows a step
+-- while INT of the inner controller is down, nothing is done after a step
 follows_nothing : (chip : ChipState) (front : Front) → interrupts_outside front ≡ false → Follows Ready (idle chip front) (idle chip front)
 follows_nothing chip front quiet = (idle chip front, refl, sym (ap (λ b. if b then drained (idle chip front) else idle chip front) quiet))
 
@@ -92,7 +92,7 @@ idle_runs chip drq (suc n) old front down was runs quiet = (
   record { between = front; steps = runs.3; follows = follows_nothing chip front quiet },
 )
 
--- behind the last step something may follow
+-- something may be done after the last step of a run
 idle_runs_to : (chip : ChipState) (drq : Bool) (n : ℕ) (old front : Front) (new : ChipState) → chip.interrupts.line ≡ false → interrupts_outside old ≡ false
     → 1 ≤ n → RunsFrontWith false drq n old front → Follows Ready (idle chip front) new
     → RunsChipWith (interrupts_chip (idle chip old)) (asks_chip (idle chip old)) n (idle chip old) new
@@ -105,7 +105,7 @@ idle_runs_to chip drq (suc n) old front new down was some runs follows = (
   record { between = front; steps = runs.3; follows = follows },
 )
 
--- at least one step is made
+-- at least one device step is made
 pub ready_some : (most made : ℕ) (old front : Front) → 1 ≤ most → RunsFront most old made front → 1 ≤ made
 unfolding RunsFrontWith
 ready_some most zero old front some runs =

@@ -1,4 +1,4 @@
--- What the host reads behind a command.
+-- What the host reads after a command.
 use Rattle.std.specs.Prelude.{ℕ, Bool, true, false, List, [], ◌∷◌, if◌then◌else◌, bit_and}
 use Rattle.std.specs.Int.RustNames.{bit_or}
 use Rattle.fdc_commands.specs.Results.{result_bytes}
@@ -6,8 +6,8 @@ use Rattle.fdc_chip.specs.declared.answer.Answer.{Answer}
 use Rattle.fdc_chip.specs.declared.answer.Answer.TheVariants as answer
 use Rattle.fdc_chip.specs.declared.answer.Registers.{Registers}
 
--- DUMPREG: the present cylinder numbers; SRT and HUT; HLT and ND; SC or EOT; LOCK, which drives are perpendicular, GAP and
--- WGATE; EIS, EFIFO, POLL and FIFOTHR; PRETRK
+-- DUMPREG: the present cylinder numbers; SRT and HUT; HLT and ND; SC or EOT; LOCK, which drives are perpendicular, GAP
+-- and WGATE; EIS, EFIFO, POLL and FIFOTHR; PRETRK
 abbrev pub register_bytes : Registers → List ℕ
 register_bytes registers = let settings = registers.settings in
     registers.first ∷ registers.second ∷ registers.third ∷ registers.fourth
@@ -21,7 +21,7 @@ answer_bytes (answer.Sensed status cylinder) = status ∷ cylinder ∷ []
 answer_bytes (answer.Results results) = result_bytes results
 answer_bytes (answer.Registers registers) = register_bytes registers
 
--- a data command's
+-- whether it is the answer of a data command
 abbrev pub is_of_data : Answer → Bool
 is_of_data (answer.Results _) = true
 is_of_data _ = false

@@ -24,9 +24,10 @@ use Rattle.fdc_chip.specs.declared.stage.Stage.TheVariants.{Ready, Held, Busy, T
 use Rattle.fdc_chip.specs.declared.stage.Task.{Task}
 use Rattle.fdc_chip.specs.declared.stage.Task.TheVariants.{Sent, Track}
 
--- what stands behind, what is under way, the command that came last and how many bytes came of one that isn't whole, results and
--- interrupt line, what commands set, and the strap for implied seeks; how many bytes of keys a FORMAT TRACK still takes, whether DOR
--- lets INT and DRQ out, a seek whose pulses come in the time that SPECIFY sets, and the strap for such seeks
+-- the inner controller (`front`), what is under way, the command that came last, and how many bytes came of a command
+-- that isn't whole. Then come results and interrupt line, what commands set, and the strap for implied seeks. The other
+-- fields are how many bytes of sector IDs a FORMAT TRACK still takes, and whether DOR lets INT and DRQ out. The last
+-- two are a seek whose pulses come in the time that SPECIFY sets, and the strap for such seeks
 pub record ChipState : Type 0 where
   pub front : Front
   pub stage : Stage
@@ -55,22 +56,22 @@ chip_state state chip = record {
   paced = chip.paced;
 }
 
--- what stands behind
+-- the inner controller
 abbrev pub behind_of : {D : Type 0} → Chip D → Sequencer D
 behind_of chip = chip.behind
 
--- with this drive in a bay
+-- the chip with this drive in a bay
 abbrev pub chip_with_drive : {D : Type 0} → ℕ → D → Chip D → Chip D
 chip_with_drive bay drive chip = record chip { behind = front_with_drive bay drive chip.behind }
 
--- all but what stands behind is as it was
+-- the chip with this inner controller; all else is as it was
 abbrev pub with_front : Front → ChipState → ChipState
 with_front front old = record old { front = front }
 
 abbrev pub KeepsRest : ChipState → ChipState → Type 0
 KeepsRest old new = new ≡ with_front new.front old
 
--- a new one with these drives
+-- a new chip with these drives
 pub record IsNewChip (bay0 bay1 : DriveState) (new : ChipState) : Type 0 where
   pub front : IsNewFront bay0 bay1 new.front
   pub stage : new.stage ≡ Ready
@@ -84,19 +85,19 @@ pub record IsNewChip (bay0 bay1 : DriveState) (new : ChipState) : Type 0 where
   pub pace : new.pace ≡ None
   pub paced : new.paced ≡ false
 
--- all but the drives stays
+-- all but the drives stays as it was
 pub record KeepsChip (old new : ChipState) : Type 0 where
   pub front : KeepsFront old.front new.front
   pub rest : KeepsRest old new
 
 -- ---- the lines
 
--- a READ TRACK reads a data field
+-- whether a READ TRACK reads a data field
 abbrev pub is_data : Place → Bool
 is_data Data = true
 is_data _ = false
 
--- the bytes of what is executed behind are the host's
+-- whether the host takes or gives the bytes of what the inner controller executes
 abbrev pub passes_bytes : Task → Bool
 passes_bytes Sent = true
 passes_bytes (Track track) = is_data track.place
@@ -106,23 +107,24 @@ abbrev pub passes_at : Stage → Bool
 passes_at (Busy task) = passes_bytes task
 passes_at _ = false
 
--- and it takes or gives more of them: a FORMAT TRACK takes four for each of its sectors
+-- whether the command takes or gives more bytes of the host. A FORMAT TRACK takes four for each of its sectors
 abbrev pub passes : ChipState → Bool
 passes chip = passes_at chip.stage && not (is_format chip.order && chip.keys == 0)
 
--- they pass by the data port; or by the channel, where DOR lets DRQ out
+-- whether these bytes pass by the data port. Otherwise they pass by the channel, if DOR lets DRQ out
 abbrev pub passes_by_port : ChipState → Bool
 passes_by_port chip = is_by_port chip.settings && passes chip
 
 abbrev pub passes_by_channel : ChipState → Bool
 passes_by_channel chip = (chip.gated && not (is_by_port chip.settings)) && passes chip
 
--- INT of what stands behind shows while nothing is under way
+-- INT of the inner controller shows while nothing is under way
 abbrev pub shows_behind : Stage → Front → Bool
 shows_behind Ready front = interrupts_outside front
 shows_behind _ front = false
 
--- INT, where DOR lets it out: a byte is asked for at the data port; or a result is there, or a seek or poll has ended
+-- INT, if DOR lets it out. In the non-DMA mode it asks for a byte at the data port. Otherwise it says that a result is
+-- there, or that a seek or poll has ended
 abbrev pub interrupts_chip : ChipState → Bool
 interrupts_chip chip =
     chip.gated
@@ -132,33 +134,33 @@ interrupts_chip chip =
 abbrev pub asks_chip : ChipState → Bool
 asks_chip chip = passes_by_channel chip && asks_outside chip.front
 
--- the words of a track that begin in its first 2 ms: one takes 16 µs at 500 kbit/s, and 32 µs at 250
+-- how many words of a track begin in its first 2 ms. One takes 16 µs at 500 kbit/s, and 32 µs at 250 kbit/s
 abbrev pub index_words : Rate → ℕ
 index_words R500 = 125
 index_words R250 = 63
 
--- a place is among so many words behind the index
+-- the place is among the first words after the index
 abbrev pub is_among : ℕ → Option ℕ → Bool
 is_among words None = false
 is_among words (Some place) = nat_lt place words
 
--- INDEX of a drive: up in the first 2 ms behind the index, while a medium turns at speed
+-- INDEX of a drive: up in the first 2 ms after the index, while a medium turns at speed
 abbrev pub indexes : DriveState → Bool
 indexes drive = is_among (index_words (rate_of drive.medium)) (place_under drive)
 
--- INDEX of the drive that DOR selects; an absent drive's is low
+-- INDEX of the drive that DOR selects. That of an absent drive is low
 abbrev pub indexes_chip : ChipState → Bool
 indexes_chip chip = let bay = selected_at chip.front.adapter in
     nat_le bay 1 && indexes (drive_at chip.front.adapter bay)
 
 -- ---- MSR
 
--- a byte is asked for at the data port
+-- the bits by which a byte is asked for at the data port, if one is
 abbrev pub port_bits : Bool → Bool → ℕ
 port_bits true to_memory = if to_memory then bit_or rqm dio else rqm
 port_bits false to_memory = 0
 
--- while a command is executed: in the non-DMA mode its bit, and the request
+-- the bits while a command is executed. In the non-DMA mode these are its bit too, and the request
 abbrev pub execution_bits : Bool → Bool → Bool → ℕ
 execution_bits true asked to_memory = bit_or (bit_or busy non_dma) (port_bits asked to_memory)
 execution_bits false asked to_memory = busy
@@ -184,10 +186,10 @@ status_of chip = bit_or (bit_or (stage_bits chip.stage chip) (seek_bits chip.int
 
 -- ---- DOR
 
--- as it was written
+-- DOR as it was written
 abbrev pub output_of : ChipState → ℕ
 output_of chip = bit_or (bit_and (value_outside 0x3F2 chip.front) 0xF7) (if chip.gated then gate else 0)
 
--- what a port gives but MSR and the data port
+-- what a port gives, for ports other than MSR and the data port
 abbrev pub value_of : ℕ → ChipState → ℕ
 value_of port chip = if port == 0x3F2 then output_of chip else value_outside port chip.front

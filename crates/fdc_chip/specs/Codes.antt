@@ -6,7 +6,7 @@ use Rattle.fdc_chip.specs.declared.code.Code.TheVariants.{ReadTrack, Specify, Se
 abbrev pub has_bit : ℕ → ℕ → Bool
 has_bit byte bit = not (bit_and byte bit == 0)
 
--- MT in a code, MFM and SK
+-- MT in a code; then MFM and SK
 abbrev pub has_multitrack : ℕ → Bool
 has_multitrack byte = has_bit byte 0x80
 
@@ -16,11 +16,11 @@ has_mfm byte = has_bit byte 0x40
 abbrev pub has_skip : ℕ → Bool
 has_skip byte = has_bit byte 0x20
 
--- neither MT nor SK
+-- the code has neither MT nor SK
 abbrev pub is_bare : ℕ → Bool
 is_bare byte = not (has_multitrack byte) && not (has_skip byte)
 
--- a command whose low five bits are these, by the bits above them; READ ID is taken with any
+-- the command whose code has these low five bits, by the bits above them. READ ID is taken with any MT and SK
 abbrev pub code_with : ℕ → ℕ → Option Code
 code_with low byte =
     if low == 0x02 then (if is_bare byte then Some (ReadTrack (has_mfm byte)) else None) else (
@@ -47,7 +47,7 @@ code_with low byte =
 abbrev pub code_of : ℕ → Option Code
 code_of byte = code_with (bit_and byte 0x1F) byte
 
--- how many bytes follow
+-- how many bytes follow the code of a command
 abbrev pub parameters : Code → ℕ
 parameters SenseInterrupt = 0
 parameters DumpRegisters = 0

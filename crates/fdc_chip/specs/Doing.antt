@@ -23,22 +23,24 @@ use Rattle.fdc_chip.specs.declared.stage.Task.{Task}
 use Rattle.fdc_chip.specs.declared.stage.Task.TheVariants as task
 use Rattle.fdc_chip.specs.declared.stage.Track.{Track}
 
--- ---- what stands behind
+-- ---- the inner controller
 
--- bytes go to its data port, one by one
+-- bytes go to the data port of the inner controller, one by one
 abbrev pub Sends : List ℕ → Front → Front → Type 0
 Sends [] old new = new ≡ old
 Sends (byte ∷ rest) old new = (between : Front) × WritesFront 0x3F5 byte old between × Sends rest between new
 
--- and nothing else changes
+-- bytes go to the data port of the inner controller, and nothing else changes
 abbrev pub SendsOn : List ℕ → ChipState → ChipState → Type 0
 SendsOn bytes old new = Sends bytes old.front new.front × KeepsRest old new
 
--- a result is to be told: while pulses come in the time that SPECIFY sets, what one of them came to isn't, and the poll is
+-- whether a result is reported to the host. While pulses come in the time that SPECIFY sets, the result of the poll is
+-- reported, and the result of a single pulse isn't
 abbrev pub is_told : Option Pace → ℕ → Bool
 is_told pace status = (bit_and status seek_end == 0) || is_none pace
 
--- a result of a seek or poll that is pending behind is taken over, and INT rises where it is to be told
+-- the chip takes over a pending result of a seek or poll from the inner controller. If the result is to be reported,
+-- INT rises
 abbrev pub kept : Option (ℕ × ℕ) → ChipState → ChipState
 kept None old = old
 kept (Some (status, cylinder)) old =
@@ -47,26 +49,26 @@ kept (Some (status, cylinder)) old =
 abbrev pub drained_one : ChipState → ChipState
 drained_one old = kept (pending_outside old.front) (with_front (sensed_outside old.front) old)
 
--- so many are
+-- this many results are taken over
 unfoldable pub drained_by : ℕ → ChipState → ChipState
 drained_by zero old = old
 drained_by (suc n) old = drained_one (drained_by n old)
 
--- all are: there is one of each drive at most
+-- all results are taken over, of which each drive has at most one
 abbrev pub drained : ChipState → ChipState
 drained old = drained_by 4 old
 
--- heads move: a seek bit is set behind
+-- heads move: a seek bit of the inner controller is set
 abbrev pub moves_heads : Front → Bool
 moves_heads front = not (bit_and (value_outside 0x3F4 front) 0x0F == 0)
 
--- or pulses are to come in the time that SPECIFY sets
+-- heads move, or pulses are to come in the time that SPECIFY sets
 abbrev pub is_moving : ChipState → Bool
 is_moving chip = is_some chip.pace || moves_heads chip.front
 
 -- ---- answers
 
--- the host reads this
+-- the host reads this answer
 abbrev pub told : Answer → ChipState → ChipState
 told answer old = record old { stage = Telling answer 0 }
 
@@ -77,7 +79,7 @@ told_byte byte old = told (answer.Byte byte) old
 abbrev pub ready : ChipState → ChipState
 ready old = record old { stage = Ready }
 
--- SENSE INTERRUPT gives the result of the lowest drive, 80 where none is pending
+-- SENSE INTERRUPT gives the result of the lowest drive that has one, or 80 if none is pending
 abbrev pub answer_sensed : Option (ℕ × ℕ) → Answer
 answer_sensed None = answer.Byte 0x80
 answer_sensed (Some (status, cylinder)) = answer.Sensed status cylinder
@@ -90,7 +92,7 @@ abbrev pub specified : ChipState → ChipState
 specified old =
     ready (record old { settings = record old.settings { step_rate = old.order.unit; head_load = old.order.key.c } })
 
--- CONFIGURE: EIS isn't told behind, where seeks are implied for each command
+-- CONFIGURE. The inner controller isn't given EIS: the chip says for each command whether a seek is implied
 abbrev pub configured : ChipState → ChipState
 configured old =
     ready (record old { settings = record old.settings { options = old.order.key.c; precompensation = old.order.key.h; forgotten = false } })
@@ -108,7 +110,7 @@ dumped old = told (answer.Registers (record {
   settings = old.settings;
 })) old
 
--- LOCK tells its bit
+-- LOCK answers with its bit
 abbrev pub locked : Bool → ChipState → ChipState
 locked on old =
     told_byte (if on then 0x10 else 0) (record old { settings = record old.settings { locked = on } })
@@ -117,12 +119,12 @@ locked on old =
 abbrev pub made_perpendicular : ChipState → ChipState
 made_perpendicular old = ready (record old { settings = perpendicular_set old.order.unit old.settings })
 
--- where a RELATIVE SEEK goes, at most from cylinder 0 to 255
+-- the cylinder to which a RELATIVE SEEK goes. It is at least 0 and at most 255
 abbrev pub relative_target : Bool → ℕ → ℕ → ℕ
 relative_target true cylinder count = min (cylinder + count) 255
 relative_target false cylinder count = cylinder - count
 
--- a command is given behind, and the byte that it answers is told
+-- the inner controller is given a command, and the byte that it answers is the chip's answer
 pub record Asks (bytes : List ℕ) (old new : ChipState) : Type 0 where
   pub sent : ChipState
   pub sends : SendsOn bytes old sent
@@ -135,11 +137,12 @@ abbrev pub moving : ℕ → Option ℕ → List ℕ
 moving unit None = 0x07 ∷ unit ∷ []
 moving unit (Some target) = 0x0F ∷ unit ∷ target ∷ []
 
--- from the cylinder number that the controller counts, the first pulse at once; a RECALIBRATE gives 79 at most
+-- a seek begins at the cylinder number that the controller counts. The first pulse comes at once, and a RECALIBRATE
+-- gives at most 79
 abbrev pub pace_begun : ℕ → ℕ → Option ℕ → Pace
 pace_begun unit cylinder goal = record { unit = unit; cylinder = cylinder; goal = goal; left = 79; wait = 0 }
 
--- its pulses come in the time that SPECIFY sets, or it is given behind
+-- the pulses of the seek come in the time that SPECIFY sets, or the inner controller is given the seek
 abbrev pub MovesIf : Bool → Option ℕ → ChipState → ChipState → Type 0
 MovesIf true goal old new = let unit = old.order.unit in
     new ≡ record (ready old) { pace = Some (pace_begun unit (cylinder_of unit old.interrupts) goal) }
@@ -150,20 +153,21 @@ Moves goal old new = MovesIf old.paced goal old new
 
 -- ---- data commands
 
--- EOT, or the sectors of a FORMAT TRACK, is what DUMPREG gives
+-- DUMPREG gives EOT of a data command, or the number of sectors of a FORMAT TRACK
 abbrev pub with_last : ℕ → ChipState → ChipState
 with_last last_sector old = record old { settings = record old.settings { last_sector = last_sector } }
 
--- seeks are implied by the strap or by EIS
+-- whether the strap or EIS implies seeks
 abbrev pub implies : ChipState → Bool
 implies chip = chip.strapped || implies_seeks chip.settings
 
--- the heads then go to the command's cylinder
+-- if a seek is implied, the heads go to the command's cylinder
 abbrev pub sought_if : Bool → ChipState → ChipState
 sought_if true old = record old { interrupts = with_cylinder old.order.unit old.order.key.c old.interrupts }
 sought_if false old = old
 
--- a command of this task begins: INT falls, the pending result of its drive goes, and seeks are implied for it or not
+-- a command of this task begins: INT falls, the pending result of its drive is dropped, and a seek is implied for it or
+-- not
 abbrev pub begun : Task → Bool → ChipState → ChipState
 begun task seeks old = record old {
   front = record old.front { strapped = seeks };
@@ -171,7 +175,7 @@ begun task seeks old = record old {
   interrupts = without_results_of old.order.unit old.interrupts;
 }
 
--- what LOCK kept over a reset is told behind again
+-- after a reset, the inner controller is given again what LOCK kept
 abbrev pub RemembersIf : Bool → ChipState → ChipState → Type 0
 RemembersIf true old new =
     SendsOn (configuring old.settings.options old.settings.precompensation) (record old { settings = record old.settings { forgotten = false } }) new
@@ -180,17 +184,17 @@ RemembersIf false old new = new ≡ old
 abbrev pub Remembers : ChipState → ChipState → Type 0
 Remembers old new = RemembersIf old.settings.forgotten old new
 
--- and these bytes are given behind
+-- a command of this task begins, and the inner controller is given these bytes
 pub record Begins (task : Task) (seeks : Bool) (bytes : List ℕ) (old new : ChipState) : Type 0 where
   pub set : ChipState
   pub remembers : Remembers (begun task seeks old) set
   pub sends : SendsOn bytes set new
 
--- READ ID of a unit
+-- the bytes of a READ ID of a unit
 abbrev pub identifying : ℕ → List ℕ
 identifying unit = 0x4A ∷ unit ∷ []
 
--- a command that this medium can't have: an address mark is looked for in its place
+-- a command that this medium can't have: the inner controller looks for an address mark instead
 abbrev pub Refuses : Chrn → Bool → ChipState → ChipState → Type 0
 Refuses key mfm old new =
     Begins (task.Refused old.order.unit key mfm) false (identifying old.order.unit) old new
@@ -198,7 +202,7 @@ Refuses key mfm old new =
 abbrev pub no_key : Chrn
 no_key = record { c = 0; h = 0; r = 0; n = 0 }
 
--- size codes that a field of this medium can have
+-- whether a field of this medium can have this size code
 abbrev pub is_size : ℕ → Bool
 is_size n = nat_le 1 n && nat_le n 6
 
@@ -214,16 +218,16 @@ abbrev pub FormatsIf : Bool → Bool → ChipState → ChipState → Type 0
 FormatsIf true mfm old new = Begins task.Sent false (format_bytes old.order) old new
 FormatsIf false mfm old new = Refuses no_key mfm old new
 
--- it takes four bytes for each of its sectors
+-- a FORMAT TRACK takes four bytes for each of its sectors
 abbrev pub with_keys : ℕ → ChipState → ChipState
 with_keys sectors old = record old { keys = 4 * sectors }
 
--- its size code is the third byte, and its sectors the fourth
+-- a FORMAT TRACK. Its third byte is the size code, and its fourth the number of sectors
 abbrev pub Formats : Bool → ChipState → ChipState → Type 0
 Formats mfm old new =
     FormatsIf (mfm && is_size old.order.key.c) mfm (with_keys old.order.key.h (with_last old.order.key.h old)) new
 
--- a command of sectors that this medium can have, or not
+-- a command of sectors, which this medium can have or can't
 abbrev pub TransfersIf : Bool → Bool → Task → List ℕ → ChipState → ChipState → Type 0
 TransfersIf true mfm what bytes old new = Begins what (implies old) bytes (sought_if (implies old) old) new
 TransfersIf false mfm what bytes old new = Refuses old.order.key mfm old new
@@ -234,18 +238,19 @@ Transfers mfm what bytes old new =
 
 -- ---- VERIFY
 
--- the sectors of a track from one on, to the last, over the number 255
+-- how many sectors a track has from this one on, up to the last. The count goes on after the number 255 with 0
 abbrev pub sectors_to : ℕ → ℕ → ℕ
 sectors_to last r = (last + 256 - r) % 256 + 1
 
--- the sectors that it verifies: as many as it counts, 256 for 0; else to the last, with MT on both heads
+-- how many sectors a VERIFY verifies. If it counts its sectors, it is that number, where 0 is 256. Otherwise it is all
+-- up to the last, with MT on both heads
 abbrev pub sectors_verified : Order → ℕ
 sectors_verified order =
     if has_bit order.unit 0x80 then (if order.length == 0 then 256 else order.length)
     else (if has_bit order.code 0x80 && not (has_bit order.unit 0x04) then sectors_to order.last_sector order.key.r + sectors_to order.last_sector 1
     else sectors_to order.last_sector order.key.r)
 
--- the READ DATA that it is behind, with MT and SK as they were sent
+-- the READ DATA that the inner controller executes for a VERIFY. It has MT and SK as they were sent
 abbrev pub verifying : Order → Order
 verifying order = record order { code = bit_or 0x46 (bit_and order.code 0xA0); unit = bit_and order.unit 0x07 }
 
@@ -255,7 +260,7 @@ Verifies mfm old new =
 
 -- ---- READ TRACK
 
--- it begins: all its sectors are left, 256 for 0
+-- a READ TRACK begins. All its sectors are left, where 0 is 256
 abbrev pub track_begun : Order → Track
 track_begun order = record {
   unit = order.unit;
@@ -268,11 +273,11 @@ track_begun order = record {
   st2 = record { 0 = 0 };
 }
 
--- READ DATA of a sector alone
+-- the bytes of a READ DATA of one sector
 abbrev pub reading_one : ℕ → Chrn → ℕ → ℕ → List ℕ
 reading_one unit key gap length = 0x46 ∷ unit ∷ key.c ∷ key.h ∷ key.r ∷ key.n ∷ key.r ∷ gap ∷ length ∷ []
 
--- a sector that no track is expected to have: the search for it ends with the index
+-- a sector ID that no track is expected to have. The search for it ends with the index pulse
 abbrev pub absent_key : ℕ → Chrn
 absent_key c = record { c = c; h = 0xFF; r = 0xFF; n = 6 }
 
@@ -301,7 +306,7 @@ Obeys (Transfer mfm) old new = Transfers mfm task.Sent (order_bytes old.order) o
 Obeys (Verify mfm) old new = Verifies mfm old new
 Obeys (ReadTrack mfm) old new = ReadsTrack mfm old new
 
--- what doesn't need what stands behind is done at once, while heads move
+-- whether the command needs the inner controller. If it doesn't, it is done at once, even while heads move
 abbrev pub needs_heads : Code → Bool
 needs_heads Specify = false
 needs_heads SenseInterrupt = false
@@ -315,11 +320,11 @@ abbrev pub AttendsIf : Bool → Code → ChipState → ChipState → Type 0
 AttendsIf true code old new = new ≡ record old { stage = Held }
 AttendsIf false code old new = Obeys code old new
 
--- a whole command: it is done, or held while heads move
+-- a whole command is done, or is held while heads move
 abbrev pub Attends : Code → ChipState → ChipState → Type 0
 Attends code old new = AttendsIf (needs_heads code && is_moving (drained old)) code (drained old) new
 
--- by its code; 80 where there is none
+-- a whole command is done by its code. If there is no such code, the answer is 80
 abbrev pub AttendsTo : Option Code → ChipState → ChipState → Type 0
 AttendsTo None old new = new ≡ told_byte 0x80 old
 AttendsTo (Some code) old new = Attends code old new

@@ -1,4 +1,4 @@
--- How what is executed behind ends, and what comes of it.
+-- How what the inner controller executes ends, and what comes of it.
 use Rattle.std.specs.Prelude.{◌≡◌, ℕ, ◌+◌, ◌-◌, ◌%◌, Bool, true, false, not, ◌==◌, ◌&&◌, ◌||◌, if◌then◌else◌, bit_and}
 use Rattle.std.specs.Int.Bits.{bit_xor}
 use Rattle.std.specs.Int.RustNames.{bit_or}
@@ -20,16 +20,16 @@ use Rattle.fdc_chip.specs.declared.stage.Task.{Task}
 use Rattle.fdc_chip.specs.declared.stage.Task.TheVariants as task
 use Rattle.fdc_chip.specs.declared.stage.Track.{Track}
 
--- ---- the results of what was executed behind
+-- ---- the results of what the inner controller executed
 
--- one byte of them was read, and the byte
+-- the inner controller after one byte of its results was read; then the byte
 abbrev pub behind_one : Front → Front
 behind_one front = after_reading 0x3F5 front
 
 abbrev pub byte_behind : Front → ℕ
 byte_behind front = value_outside 0x3F5 front
 
--- so many were
+-- the inner controller after this many bytes of its results were read
 abbrev pub behind_three : Front → Front
 behind_three front = behind_one (behind_one (behind_one front))
 
@@ -49,17 +49,17 @@ results_behind front = record {
   };
 }
 
--- all seven were read
+-- the inner controller after all seven bytes were read
 abbrev pub results_taken : Front → Front
 results_taken front = behind_one (behind_six front)
 
--- they wait to be read
+-- results wait to be read
 abbrev pub has_results : Front → Bool
 has_results front = bit_and (value_outside 0x3F4 front) 0xC0 == 0xC0
 
--- ---- what is told
+-- ---- what is reported
 
--- the host reads these, and INT rises
+-- the host reads these results, and INT rises
 abbrev pub told_results : Results → ChipState → ChipState
 told_results results old =
     told (answer.Results results) (record old { interrupts = record old.interrupts { line = true } })
@@ -68,11 +68,11 @@ told_results results old =
 abbrev pub is_not_found : Results → Bool
 is_not_found results = results.st1.0 == no_data
 
--- a command that has a key: any but READ ID
+-- whether a command has a sector ID: all but READ ID have one
 abbrev pub has_key : Order → Bool
 has_key order = not (bit_and order.code 0x1F == 0x0A)
 
--- it is then looked which cylinder passes
+-- whether the chip looks next which cylinder passes
 abbrev pub looks_for_cylinder : Order → Results → Bool
 looks_for_cylinder order results = has_key order && is_not_found results
 
@@ -80,21 +80,22 @@ looks_for_cylinder order results = has_key order && is_not_found results
 abbrev pub unit_of : Results → ℕ
 unit_of results = bit_and results.st0.0 7
 
--- where another cylinder passes WC is set, and BC too where it is FF
+-- WC if another cylinder passes than the wanted one, and BC too if that cylinder is FF
 abbrev pub cylinder_bits : ℕ → ℕ → ℕ
 cylinder_bits wanted passed =
     if wanted == passed then 0 else (if passed == 0xFF then bit_or wrong_cylinder bad_cylinder else wrong_cylinder)
 
--- the results of a sector that wasn't found, once READ ID was looking: only a key that it heard tells
+-- the results of a sector that wasn't found, after a READ ID looked which cylinder passes. They change only if the READ
+-- ID heard a sector ID
 abbrev pub with_cylinder_passed : Results → Results → Results
 with_cylinder_passed first passed =
     if passed.st1.0 == 0 then record first { st2 = record { 0 = bit_or first.st2.0 (cylinder_bits first.key.c passed.key.c) } } else first
 
--- address marks passed, though none of an intact field may have
+-- whether address marks passed, even if none of them belongs to an intact field
 abbrev pub saw_marks : Results → Bool
 saw_marks results = bit_and results.st1.0 missing_mark == 0
 
--- the results in place of a command that this medium can't have: ND where address marks pass, and MA where none does
+-- the results of a command that this medium can't have: ND if address marks pass, and MA if none does
 abbrev pub refusal : ℕ → Chrn → Bool → Results
 refusal unit key marks = record {
   st0 = record { 0 = bit_or (bit_and unit 7) abnormal };
@@ -105,7 +106,7 @@ refusal unit key marks = record {
 
 -- ---- VERIFY
 
--- the key of the sector behind EOT, with MT behind that of head 1
+-- the sector ID after EOT. With MT it is the one after EOT of head 1
 abbrev pub behind_last : Bool → Chrn → Chrn
 behind_last multitrack key = record key {
   c = (key.c + 1) % 256;
@@ -113,7 +114,8 @@ behind_last multitrack key = record key {
   r = 1;
 }
 
--- one that doesn't count its sectors is done behind EOT, where the sequencer ends with EN since sectors were passed over
+-- whether a VERIFY that doesn't count its sectors is done. It is done after EOT, where the sequencer ends with EN
+-- because sectors were passed over
 abbrev pub is_done : Order → Results → Bool
 is_done order results = not (has_bit order.unit 0x80) && results.st1.0 == end_of_cylinder
 
@@ -126,7 +128,7 @@ verified order results = if is_done order results then record results {
 
 -- ---- READ TRACK
 
--- a sector is over
+-- a sector of the READ TRACK is over
 abbrev pub without_one : Results → Track → Track
 without_one results track = record track {
   left = track.left - 1;
@@ -137,12 +139,12 @@ without_one results track = record track {
 abbrev pub is_same_key : Chrn → Chrn → Bool
 is_same_key one other = ((one.c == other.c && one.h == other.h) && one.r == other.r) && one.n == other.n
 
--- an address field of this key was met, and its sector is read
+-- an address field of this sector ID was met, and its sector is read next
 abbrev pub met_key : Chrn → Track → Track
 met_key key track = record track { place = Data; met = track.met || is_same_key key track.key }
 
--- what is wrong: what was wrong with any field; ND where no field had the key, unless none was seen; EN where all sectors were
--- read and the terminal count didn't come
+-- what is wrong after a READ TRACK is what was wrong with any field. ND is added if no field had the sector ID, unless
+-- no field was seen. EN is added if all sectors were read and the terminal count didn't come
 abbrev pub is_missed : Track → Bool
 is_missed track = not track.met && bit_and track.st1.0 missing_mark == 0
 
@@ -158,50 +160,50 @@ results_of_track track = record {
   key = track.key;
 }
 
--- the track ends with this wrong besides
+-- the READ TRACK with this fault as well
 abbrev pub with_fault : ℕ → Track → Track
 with_fault fault track = record track { st1 = record { 0 = bit_or track.st1.0 fault } }
 
 abbrev pub track_told : Track → ChipState → ChipState
 track_told track old = told_results (results_of_track track) old
 
--- no seek is implied for what follows
+-- no seek is implied for the next commands
 abbrev pub without_seeks : Front → Front
 without_seeks front = record front { strapped = false; configured = false }
 
--- and this is then under way
+-- this READ TRACK is then under way
 abbrev pub track_at : Track → ChipState → ChipState
 track_at track old = record old { front = without_seeks old.front; stage = Busy (task.Track track) }
 
--- it looks for the next address field
+-- the READ TRACK looks for the next address field
 abbrev pub LooksOn : Track → ChipState → ChipState → Type 0
 LooksOn track old new = SendsOn (identifying track.unit) (track_at (record track { place = Address }) old) new
 
--- it reads the sector of the field that was met
+-- the READ TRACK reads the sector of the address field that was met
 abbrev pub ReadsOn : Track → Chrn → ChipState → ChipState → Type 0
 ReadsOn track key old new =
     SendsOn (reading_one track.unit key old.order.gap old.order.length) (track_at (met_key key track) old) new
 
--- the search for the absent sector ended with the index, or it saw no mark
+-- the search for the absent sector has ended with the index pulse. The Bool says whether it saw no address mark
 abbrev pub EndsIndex : Bool → Track → ChipState → ChipState → Type 0
 EndsIndex true track old new = new ≡ track_told (with_fault missing_mark track) old
 EndsIndex false track old new = LooksOn track old new
 
--- why no sector is read: ND for a size that there isn't, else why no address field was met
+-- why no sector is read: ND for a size code that doesn't exist, or else why no address field was met
 abbrev pub unread : Results → ℕ
 unread results = if results.st1.0 == 0 then no_data else results.st1.0
 
--- an address field was met, or none; and its sector has a size that there is, or not
+-- an address field was met whose sector has an existing size code (true), or not
 abbrev pub EndsAddressIf : Bool → Results → Track → ChipState → ChipState → Type 0
 EndsAddressIf true results track old new = ReadsOn track results.key old new
 EndsAddressIf false results track old new = new ≡ track_told (with_fault (unread results) track) old
 
--- or the terminal count came between two sectors
+-- a READ ID of the READ TRACK ended. The first Bool says whether the terminal count came between two sectors
 abbrev pub EndsAddress : Bool → Results → Track → ChipState → ChipState → Type 0
 EndsAddress true results track old new = new ≡ track_told track old
 EndsAddress false results track old new = EndsAddressIf ((results.st1.0 == 0) && is_size results.key.n) results track old new
 
--- a sector is over: it was the last, or the next is looked for
+-- whether the READ TRACK ends after this sector. Otherwise it looks for the next one
 abbrev pub is_over : Results → Track → Bool
 is_over results track = (track.counted || track.left == 0) || not (bit_and results.st1.0 overrun == 0)
 
@@ -221,7 +223,7 @@ EndsSent true results old new =
     SendsOn (identifying (unit_of results)) (record old { stage = Busy (task.Sought results) }) new
 EndsSent false results old new = new ≡ told_results results old
 
--- what was executed behind for this task ended with these results
+-- what the inner controller executed for this task ended with these results
 abbrev pub Ends : Task → Results → ChipState → ChipState → Type 0
 Ends task.Sent results old new = EndsSent (looks_for_cylinder old.order results) results old new
 Ends (task.Sought first) results old new = new ≡ told_results (with_cylinder_passed first results) old
@@ -233,6 +235,6 @@ abbrev pub EndsIf : Bool → Task → ChipState → ChipState → Type 0
 EndsIf true task old new = Ends task (results_behind old.front) (with_front (results_taken old.front) old) new
 EndsIf false task old new = new ≡ old
 
--- where its results wait they are taken, and that comes of them
+-- if results of the task wait, they are taken, and `Ends` says what comes of them
 abbrev pub MayEnd : Task → ChipState → ChipState → Type 0
 MayEnd task old new = EndsIf (has_results old.front) task old new

@@ -4,7 +4,7 @@ use Rattle.std.specs.Option.{option_map_or}
 use Rattle.std.specs.Int.RustNames.{bit_or}
 use Rattle.fdc_registers.specs.St0.{seek_end}
 
--- ST0 of each drive's pending result, the present cylinder number of each drive, and INT, where DOR lets it out
+-- ST0 of each drive's pending result, the present cylinder number of each drive, and INT, if DOR lets it out
 pub record Interrupting : Type 0 where
   pub pending : List (Option ℕ)
   pub cylinders : List ℕ
@@ -15,7 +15,7 @@ pub record AreFour (interrupts : Interrupting) : Type 0 where
   pub pending : length interrupts.pending ≡ 4
   pub cylinders : length interrupts.cylinders ≡ 4
 
--- no result, and each drive at cylinder 0
+-- no result is pending, and each drive counts as at cylinder 0
 abbrev pub at_rest : Interrupting
 at_rest = record {
   pending = None ∷ None ∷ None ∷ None ∷ [];
@@ -23,7 +23,7 @@ at_rest = record {
   line = false;
 }
 
--- a drive's result is pending, in place of an older one, and INT is up
+-- a drive's result is pending in place of an older one, and INT is up
 abbrev pub with_result : ℕ → ℕ → Interrupting → Interrupting
 with_result status cylinder old = record {
   pending = slice_set old.pending (status % 4) (Some status);
@@ -31,7 +31,7 @@ with_result status cylinder old = record {
   line = true;
 }
 
--- the result of a unit's drive goes, and INT is down
+-- the result of a unit's drive is dropped, and INT is down
 abbrev pub without_results_of : ℕ → Interrupting → Interrupting
 without_results_of unit old = record old { pending = slice_set old.pending (unit % 4) None; line = false }
 
@@ -46,7 +46,7 @@ first_pending interrupts = position is_some interrupts.pending
 abbrev pub sensed : Interrupting → Option (ℕ × ℕ)
 sensed old = option_map (λ drive. (status_of old drive, slice_index old.cylinders drive)) (first_pending old)
 
--- once it was taken INT is down
+-- after that result was taken, INT is down
 abbrev pub after_sense : Interrupting → Interrupting
 after_sense old =
     option_map_or (λ drive. record old { pending = slice_set old.pending drive None; line = false }) (first_pending old) old

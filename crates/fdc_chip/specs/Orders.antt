@@ -1,4 +1,4 @@
--- The bytes of a command, as they come.
+-- The bytes of a command, one after the other.
 use Rattle.std.specs.Prelude.{ℕ, Bool, ◌==◌, List, [], ◌∷◌, if◌then◌else◌, bit_and}
 use Rattle.flop_base.specs.declared.key.Chrn.{Chrn}
 use Rattle.fdc_chip.specs.declared.order.Order.{Order}
@@ -13,11 +13,11 @@ blank = record {
   length = 0;
 }
 
--- a FORMAT TRACK
+-- whether the command is a FORMAT TRACK
 abbrev pub is_format : Order → Bool
 is_format order = bit_and order.code 0x1F == 0x0D
 
--- with the byte at a place
+-- the command with this byte at a place
 abbrev pub with_byte : ℕ → ℕ → Order → Order
 with_byte place byte old =
     if place == 0 then record old { code = byte } else (
@@ -30,7 +30,7 @@ with_byte place byte old =
     if place == 7 then record old { gap = byte } else
     record old { length = byte })))))))
 
--- the nine bytes
+-- the nine bytes of a command
 abbrev pub order_bytes : Order → List ℕ
 order_bytes order =
     order.code ∷ order.unit ∷ order.key.c ∷ order.key.h ∷ order.key.r ∷ order.key.n ∷ order.last_sector ∷ order.gap ∷ order.length ∷ []

@@ -6,11 +6,11 @@ use Rattle.fdc_chip.specs.Doing.{SendsOn, drained, moving, moves_heads}
 use Rattle.fdc_chip.specs.Settings.{step_words}
 use Rattle.fdc_chip.specs.declared.pace.Pace.{Pace}
 
--- the cylinder by the number that the controller counts: 0 for a RECALIBRATE
+-- the cylinder to which the seek goes, by the number that the controller counts. It is 0 for a RECALIBRATE
 abbrev pub target_of : Pace → ℕ
 target_of pace = unwrap_or pace.goal 0
 
--- a cylinder nearer by a pulse, and so many word times until the next
+-- the seek is one cylinder nearer after a pulse, and waits this many word times until the next
 abbrev pub stepped : ℕ → Pace → Pace
 stepped words pace = record pace {
   cylinder = if nat_lt pace.cylinder (target_of pace) then pace.cylinder + 1 else pace.cylinder - 1;
@@ -18,20 +18,21 @@ stepped words pace = record pace {
   wait = words;
 }
 
--- it is there by the number, or is a RECALIBRATE that gave all its pulses
+-- whether the seek is at its cylinder by the number, or is a RECALIBRATE that gave all its pulses
 abbrev pub is_over : Pace → Bool
 is_over pace = (pace.cylinder == target_of pace) || (is_none pace.goal && (pace.left == 0))
 
--- the time is over, and what stands behind takes the next command
+-- whether the time is over, and the inner controller takes the next command
 abbrev pub is_due : Pace → ChipState → Bool
 is_due pace chip = (nat_le pace.wait 1 && is_ready chip.front) && not (moves_heads chip.front)
 
--- what ends it is given behind: a SEEK of its cylinder, or a RECALIBRATE with no more pulses than are left of the 79
+-- the inner controller is given what ends the seek: a SEEK of its cylinder, or a RECALIBRATE with at most the pulses
+-- that are left of the 79
 abbrev pub EndsAt : Option ℕ → Pace → ChipState → ChipState → Type 0
 EndsAt (Some target) pace old new = SendsOn (moving pace.unit (Some target)) old new
 EndsAt None pace old new = new ≡ with_front (recalibrated_outside pace.unit pace.left old.front) old
 
--- it is over, and ends; else a SEEK by one cylinder is given behind
+-- a seek that is over ends. Otherwise the inner controller is given a SEEK by one cylinder
 abbrev pub PulsesIf : Bool → Pace → ChipState → ChipState → Type 0
 PulsesIf true pace old new = EndsAt pace.goal pace (record old { pace = None }) new
 PulsesIf false pace old new = let next = stepped (step_words old.settings) pace in
@@ -41,11 +42,12 @@ abbrev pub GoesOnIf : Bool → Pace → ChipState → ChipState → Type 0
 GoesOnIf true pace old new = PulsesIf (is_over pace) pace old new
 GoesOnIf false pace old new = new ≡ record old { pace = Some (record pace { wait = pace.wait - 1 }) }
 
--- a device step of it
+-- what a device step makes of the seek
 abbrev pub GoesOn : Pace → ChipState → ChipState → Type 0
 GoesOn pace old new = GoesOnIf (is_due pace old) pace old new
 
--- results behind are taken over first: those of the poll are told, and those of a SEEK by one cylinder aren't
+-- what a device step makes of the seek, after the results of the inner controller were taken over. Results of the poll
+-- are reported, and those of a SEEK by one cylinder aren't
 abbrev pub Paces : Option Pace → ChipState → ChipState → Type 0
 Paces None old new = new ≡ old
 Paces (Some pace) old new = GoesOn pace (drained old) new

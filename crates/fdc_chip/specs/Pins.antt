@@ -5,11 +5,12 @@ use Rattle.fdc_chip.specs.Ports.{WritesChip}
 use Rattle.fdc_chip.specs.Settings.{at_power_up}
 use Rattle.fdc_chip.specs.declared.settings.Settings.{Settings}
 
--- as at power-up, but for what SPECIFY set: LOCK saves nothing from the pin
+-- what commands set is as at power-up, except for what SPECIFY set. LOCK keeps nothing from the reset pin
 abbrev pub pin_settings : Settings → Settings
 pin_settings old = record at_power_up { step_rate = old.step_rate; head_load = old.head_load }
 
--- it is what DOR does with 00 in it, at the rate of power-up, and what commands set is then so
+-- the reset pin does what writing 00 to DOR does, with the data rate of power-up. What commands set is then as
+-- `pin_settings` says
 pub record ResetsByPin (old new : ChipState) : Type 0 where
   pub held : ChipState
   pub rated : ChipState

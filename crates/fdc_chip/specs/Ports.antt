@@ -27,12 +27,12 @@ abbrev pub quieted_if : Bool → ChipState → ChipState
 quieted_if true old = record old { interrupts = record old.interrupts { line = false } }
 quieted_if false old = old
 
--- a byte of an answer was read; behind the last the controller takes commands
+-- a byte of an answer was read. After the last byte the controller takes commands
 abbrev pub byte_told : Answer → ℕ → ChipState → ChipState
 byte_told answer read old =
     record (quieted_if (is_of_data answer && read == 0) old) { stage = if nat_le (length (answer_bytes answer)) (read + 1) then Ready else Telling answer (read + 1) }
 
--- a byte of the command in execution, FF where none is asked for
+-- a byte of the command in execution is read, or FF if none is asked for
 pub record PassesOut (old : ChipState) (value : ℕ) (new : ChipState) : Type 0 where
   pub byte : Option ℕ
   pub takes : TakesFront old.front byte new.front
@@ -55,12 +55,12 @@ pub record ReadsChip (port : ℕ) (old : ChipState) (value : ℕ) (new : ChipSta
 
 -- ---- writes
 
--- the bytes so far are a command, or not yet
+-- the bytes so far are a whole command, or aren't one yet
 abbrev pub CollectsIf : Bool → Option Code → ChipState → ChipState → Type 0
 CollectsIf true code old new = AttendsTo code (record old { count = 0 }) new
 CollectsIf false code old new = new ≡ old
 
--- those of a code that there isn't are one byte
+-- whether this many bytes are a whole command. If the code doesn't exist, one byte is
 abbrev pub is_whole : ℕ → Option Code → Bool
 is_whole count None = true
 is_whole count (Some code) = nat_le (parameters code + 1) count
@@ -72,7 +72,7 @@ Collects old new = let code = code_of old.order.code in CollectsIf (is_whole old
 abbrev pub with_next : ℕ → ChipState → ChipState
 with_next byte old = record old { order = with_byte old.count byte old.order; count = (old.count + 1) % 256 }
 
--- it is taken where a command has begun, or may begin
+-- a byte of a command is taken if a command has begun, or may begin
 abbrev pub may_come : ChipState → Bool
 may_come old = not (old.count == 0) || is_ready old.front
 
@@ -80,11 +80,11 @@ abbrev pub ComesIf : Bool → ℕ → ChipState → ChipState → Type 0
 ComesIf true byte old new = Collects (with_next byte old) new
 ComesIf false byte old new = new ≡ old
 
--- of a FORMAT TRACK one byte fewer is left
+-- after a byte was given, a FORMAT TRACK has one byte fewer left
 abbrev pub given_one : Bool → ChipState → ChipState
 given_one was old = record old { keys = if was then old.keys - 1 else old.keys }
 
--- a byte of the command in execution
+-- a byte of the command in execution is written
 pub record PassesIn (byte : ℕ) (old new : ChipState) : Type 0 where
   pub was : Bool
   pub gives : GivesFront byte old.front was new.front
@@ -99,12 +99,12 @@ abbrev pub TakesByte : Stage → ℕ → ChipState → ChipState → Type 0
 TakesByte Ready byte old new = ComesIf (may_come old) byte old new
 TakesByte _ byte old new = GivesIf (passes_by_port old) byte old new
 
--- a reset ends what is under way, and forgets results, cylinders and what CONFIGURE set but LOCK doesn't keep
+-- a reset ends what is under way. It forgets results, cylinders, and what CONFIGURE set and LOCK doesn't keep
 abbrev pub reset_if : Bool → ChipState → ChipState
 reset_if true old = record old { stage = Ready; count = 0; interrupts = at_rest; settings = reset old.settings; pace = None }
 reset_if false old = old
 
--- DOR lets INT and DRQ out or keeps them in here, and behind they are let out always
+-- DOR lets INT and DRQ out of the chip or keeps them in. The inner controller always lets them out
 abbrev pub gated_by : ℕ → ℕ → ChipState → ChipState
 gated_by port value old = record old { gated = if port == 0x3F2 then has_bit value gate else old.gated }
 
@@ -123,7 +123,7 @@ abbrev pub TakesIf : Bool → ChipState → Option ℕ → ChipState → Type 0
 TakesIf true old byte new = TakesFront old.front byte new.front × KeepsRest old new
 TakesIf false old byte new = (byte ≡ None) × (new ≡ old)
 
--- the channel takes a byte, where one is asked for in this direction
+-- the channel takes a byte, if one is asked for in this direction
 abbrev pub TakesChip : ChipState → Option ℕ → ChipState → Type 0
 TakesChip old byte new = TakesIf (passes_by_channel old) old byte new
 
@@ -131,11 +131,11 @@ abbrev pub GivesChipIf : Bool → ℕ → ChipState → Bool → ChipState → T
 GivesChipIf true byte old was new = GivesFront byte old.front was new.front × KeepsRest (given_one was old) new
 GivesChipIf false byte old was new = (was ≡ false) × (new ≡ old)
 
--- the channel gives a byte, where one is asked for in this direction
+-- the channel gives a byte, if one is asked for in this direction
 abbrev pub GivesChip : ℕ → ChipState → Bool → ChipState → Type 0
 GivesChip byte old was new = GivesChipIf (passes_by_channel old) byte old was new
 
--- the terminal count comes: it is told behind while bytes pass, and a READ TRACK ends behind its sector
+-- the terminal count comes. While bytes pass, the inner controller is given it. A READ TRACK ends after its sector
 abbrev pub counted_if : Bool → ChipState → ChipState
 counted_if true old = with_front (told_front old.front) old
 counted_if false old = old

@@ -1,4 +1,4 @@
--- The bytes of a chip that is saved.
+-- The bytes in which a chip is saved.
 use Rattle.std.specs.Prelude.{ℕ, List, ◌∷◌}
 use Rattle.saved_state.specs.Saved.{spelled_byte, spelled_double, spelled_each, spelled_flag, spelled_key, spelled_option, spelled_word}
 use Rattle.fdc_commands.specs.Saving.{spelled_results}
@@ -59,7 +59,7 @@ spelled_track track rest =
     spelled_byte track.unit (spelled_key track.key (spelled_word track.left (spelled_place track.place (spelled_flag track.counted
     (spelled_flag track.met (spelled_byte track.st1.0 (spelled_byte track.st2.0 rest)))))))
 
--- what is executed behind
+-- what the inner controller executes
 unfoldable pub spelled_task : Task → List ℕ → List ℕ
 spelled_task task.Sent rest = 0 ∷ rest
 spelled_task (task.Sought results) rest = 1 ∷ spelled_results results rest
@@ -79,11 +79,11 @@ spelled_stage stage.Held rest = 1 ∷ rest
 spelled_stage (stage.Busy task) rest = 2 ∷ spelled_task task rest
 spelled_stage (stage.Telling answer read) rest = 3 ∷ spelled_answer answer (spelled_byte read rest)
 
--- what stands behind fits, and there are four drives
+-- the inner controller fits, and there are four drives
 abbrev pub ChipFits : {D : Type 0} → (D → Type 0) → Chip D → Type 0
 ChipFits fits chip = SequencerFits fits chip.behind × AreFour chip.interrupts
 
--- a G, what stands behind, and what the chip keeps
+-- the letter G, then the inner controller, and then what the chip keeps
 unfoldable pub spelled_chip : {D : Type 0} → (D → List ℕ → List ℕ) → Chip D → List ℕ → List ℕ
 spelled_chip spelled chip rest =
     71 ∷ spelled_sequencer spelled chip.behind (spelled_stage chip.stage (spelled_order chip.order (spelled_byte chip.count

@@ -14,7 +14,8 @@ use Rattle.fdc_chip.specs.declared.stage.Task.TheVariants.{Verify}
 
 -- ---- the bytes of a VERIFY
 
--- one went nowhere, if one was asked for, of so many that were left; behind the last of them the terminal count is told
+-- a byte of a VERIFY went nowhere, if one was asked for. `left` bytes were left before. After the last of them the
+-- inner controller is given the terminal count
 abbrev pub SwallowsAs : Option ℕ → ℕ → Front → ℕ → Front → Type 0
 SwallowsAs None left between now new = (now ≡ left) × (new ≡ between)
 SwallowsAs (Some _) left between now new = (now ≡ left - 1) × (new ≡ (if left == 1 then told_front between else between))
@@ -25,28 +26,28 @@ pub record Swallows (left : ℕ) (old : Front) (now : ℕ) (new : Front) : Type 
   pub takes : TakesFront old byte between
   pub after : SwallowsAs byte left between now new
 
--- so many times
+-- this is done this many times
 unfoldable pub SwallowsBy : ℕ → ℕ → Front → ℕ → Front → Type 0
 SwallowsBy zero left old now new = (now ≡ left) × (new ≡ old)
 SwallowsBy (suc n) left old now new =
     (some : ℕ) × (between : Front) × SwallowsBy n left old some between × Swallows some between now new
 
--- as many as the FIFO has
+-- this is done for as many bytes as the FIFO can have
 pub record SwallowsAll (left : ℕ) (old new : ChipState) : Type 0 where
   pub now : ℕ
   pub front : Front
   pub swallows : SwallowsBy 16 left old.front now front
   pub after : new ≡ record old { front = front; stage = Busy (Verify now) }
 
--- ---- what is done behind a step
+-- ---- what is done after a step
 
 abbrev pub FollowsTask : Task → ChipState → ChipState → Type 0
 FollowsTask (Verify left) old new =
     (between : ChipState) × SwallowsAll left old between × MayEnd (Verify left) between new
 FollowsTask task old new = MayEnd task old new
 
--- a seek goes on whose pulses come in time; results of seeks and polls are taken over, once INT rises behind; a command that is held is
--- done once heads stand
+-- a seek goes on whose pulses come in time. Results of seeks and polls are taken over, once INT of the inner controller
+-- rises. A command that is held is done once the heads stand
 abbrev pub Follows : Stage → ChipState → ChipState → Type 0
 Follows Ready old new =
     (paced : ChipState) × Paces old.pace old paced × (new ≡ (if interrupts_outside paced.front then drained paced else paced))
@@ -62,17 +63,17 @@ pub record StepsChip (old new : ChipState) : Type 0 where
 
 -- ---- many steps
 
--- the interrupt line and the request line
+-- these are the interrupt line and the request line
 abbrev pub HasLinesChip : Bool → Bool → ChipState → Type 0
 HasLinesChip int drq chip = (interrupts_chip chip ≡ int) × (asks_chip chip ≡ drq)
 
--- so many device steps, each from these lines
+-- this many device steps, each of which begins with these lines
 unfoldable pub RunsChipWith : Bool → Bool → ℕ → ChipState → ChipState → Type 0
 RunsChipWith int drq zero old new = new ≡ old
 RunsChipWith int drq (suc n) old new =
     (between : ChipState) × RunsChipWith int drq n old between × HasLinesChip int drq between × StepsChip between new
 
--- device steps until a line changes, and so many at most
+-- device steps until a line changes, at most `most`
 pub record RunsChip (most : ℕ) (old : ChipState) (steps : ℕ) (new : ChipState) : Type 0 where
   pub within : steps ≤ most
   pub runs : RunsChipWith (interrupts_chip old) (asks_chip old) steps old new

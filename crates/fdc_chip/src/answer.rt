@@ -1,17 +1,17 @@
-// What the host reads behind a command.
+// What the host reads after a command.
 ghost use Rattle.std.specs.Prelude.{◌≡◌, ◌≤◌, get_or, length};
 ghost use Rattle.fdc_chip.specs.Answers.{register_bytes, answer_bytes, is_of_data};
 
 use crate::settings::Settings;
 use fdc_commands::Results;
 
-/// What a port gives that has nothing to give.
+/// What a port gives when it has nothing to give.
 pub(crate) const NOTHING: u8 = 0xFF;
 
 /// LOCK in the eighth byte of DUMPREG.
 const LOCK: u8 = 0x80;
 
-/// EIS, EFIFO, POLL and FIFOTHR in the ninth.
+/// EIS, EFIFO, POLL and FIFOTHR in the ninth byte of DUMPREG.
 const OPTIONS: u8 = 0x7F;
 
 /// What DUMPREG gives.
@@ -25,7 +25,7 @@ pub struct Registers {
     pub settings: Settings,
 }
 
-/// What the host reads behind a command.
+/// What the host reads after a command.
 #[derive(Clone, Copy, PartialEq, Eq, Debug)]
 pub enum Answer {
     /// One byte.
@@ -38,7 +38,7 @@ pub enum Answer {
     Registers { registers: Registers },
 }
 
-/// A byte of some, FF where there is none.
+/// The byte at a place, or FF if there is none.
 fn nth(bytes: &[u8], at: u8) -> u8
     ensures { result ≡ get_or bytes.now at 0xFF }
 {
@@ -71,7 +71,7 @@ impl Registers {
 }
 
 impl Answer {
-    /// The byte behind so many, FF where there is none.
+    /// The byte that comes after this many, or FF if there is none.
     pub(crate) fn byte(self, read: u8) -> u8
         ensures { result ≡ get_or (answer_bytes self) read 0xFF }
     {
@@ -83,7 +83,7 @@ impl Answer {
         }
     }
 
-    /// How many bytes it has.
+    /// How many bytes the answer has.
     pub(crate) fn count(self) -> u8
         ensures count { result ≡ length (answer_bytes self) }
         ensures most { result ≤ 10 }
@@ -96,7 +96,7 @@ impl Answer {
         }
     }
 
-    /// Whether it is a data command's, whose first byte lets INT fall.
+    /// Whether the answer is a data command's, whose first byte lets INT fall.
     pub(crate) fn is_of_data(self) -> bool
         ensures { result ≡ is_of_data self }
     {

@@ -1,4 +1,4 @@
-// The bays, and what a front end shows: as behind.
+// The bays and what a front end shows, which are those of the inner controller.
 ghost use Rattle.std.specs.Prelude.{◌≡◌, ◌≤◌, ◌+◌, ◌%◌, ◌↔◌, IsTrue, IsBitSet};
 ghost use Rattle.std.specs.Option.{option_copied};
 ghost use Rattle.drive_model.specs.Drive.{forgotten, rate_of};
@@ -14,7 +14,7 @@ use drive_model::Inspect;
 use flop_base::Rate;
 use raw_image::Medium;
 
-/// The words of a track that begin in its first 2 ms: one takes 16 µs at 500 kbit/s, and 32 µs at 250.
+/// How many words of a track begin in its first 2 ms. One takes 16 µs at 500 kbit/s, and 32 µs at 250 kbit/s.
 fn index_words(rate: Rate) -> u16
     ensures { result ≡ index_words rate }
 {
@@ -25,7 +25,8 @@ fn index_words(rate: Rate) -> u16
 }
 
 impl<D: Inspect> Chip<D> {
-    /// Puts a medium into a bay, of which no word was replaced yet. Where one is in already, the new one is given back.
+    /// Puts a medium into a bay. No word of it counts as replaced yet. If a medium is in already, the new one is given
+    /// back.
     pub fn insert(&mut self, bay: u8, medium: Medium) -> Result<(), Medium>
         requires { bay ≤ 1 }
         ensures keeps { KeepsChip (chip_state D.state self.old) (chip_state D.state self.new) }
@@ -34,7 +35,7 @@ impl<D: Inspect> Chip<D> {
         self.behind.insert(bay, medium)
     }
 
-    /// Takes the medium out of a bay. It is still told whether a word of it was replaced.
+    /// Takes the medium out of a bay. `is_written` still says whether a word of it was replaced.
     pub fn eject(&mut self, bay: u8) -> Option<Medium>
         requires { bay ≤ 1 }
         ensures keeps { KeepsChip (chip_state D.state self.old) (chip_state D.state self.new) }
@@ -51,8 +52,8 @@ impl<D: Inspect> Chip<D> {
         self.behind.adapter().medium(bay)
     }
 
-    /// Whether a word of the medium in a bay was replaced since it was put in, or since that was last forgotten. Of a medium
-    /// that was taken out it is still told.
+    /// Whether a word of the medium in a bay was replaced since the medium was put in, or since `forget_written`. This
+    /// is still known of a medium that was taken out.
     pub fn is_written(&self, bay: u8) -> bool
         requires { bay ≤ 1 }
         ensures { result ≡ (drive_at (chip_state D.state self.now).front.adapter bay).replaced }
@@ -69,7 +70,7 @@ impl<D: Inspect> Chip<D> {
         self.behind.forget_written(bay);
     }
 
-    /// Tells what `is_written` does, and forgets it.
+    /// Gives what `is_written` gives, and forgets it.
     pub fn take_written(&mut self, bay: u8) -> bool
         requires { bay ≤ 1 }
         ensures was { result ≡ (drive_at (chip_state D.state self.old).front.adapter bay).replaced }
@@ -103,14 +104,14 @@ impl<D: Inspect> Chip<D> {
         self.behind.adapter().is_motor_on(bay)
     }
 
-    /// The drive that DOR selects: those of bays 2 and 3 are absent.
+    /// The drive that DOR selects. Drives 2 and 3 are absent.
     pub fn selected(&self) -> u8
         ensures { result ≡ dor_of (controller_of (adapter_of (behind_of self.now))) % 4 }
     {
         self.behind.adapter().selected()
     }
 
-    /// The rate of the medium in a bay, R500 where none is in.
+    /// The rate of the medium in a bay, or R500 if none is in.
     fn rate(&self, bay: u8) -> Rate
         requires { bay ≤ 1 }
         ensures { result ≡ rate_of (drive_at (chip_state D.state self.now).front.adapter bay).medium }
@@ -132,8 +133,8 @@ impl<D: Inspect> Chip<D> {
         }
     }
 
-    /// The INDEX line of the drive that DOR selects: up in the first 2 ms behind the index, while a medium turns at speed. An
-    /// absent drive's is low.
+    /// The INDEX line of the drive that DOR selects. It is up in the first 2 ms after the index, while a medium turns
+    /// at speed. That of an absent drive is low.
     pub fn index(&self) -> bool
         ensures { result ≡ indexes_chip (chip_state D.state self.now) }
     {

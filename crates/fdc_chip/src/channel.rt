@@ -10,7 +10,7 @@ use crate::stage::{Place, Stage, Task, Track};
 use drive_model::Inspect;
 
 impl<D: Inspect> Chip<D> {
-    /// The channel takes a byte, where one is asked for.
+    /// The channel takes a byte, if one is asked for.
     pub fn dack_read(&mut self) -> Option<u8>
         ensures takes { TakesChip (chip_state D.state self.old) result (chip_state D.state self.new) }
         ensures drives { SameDrives (adapter_of (behind_of self.old)) (adapter_of (behind_of self.new)) }
@@ -22,7 +22,7 @@ impl<D: Inspect> Chip<D> {
         }
     }
 
-    /// The channel gives a byte, where one is asked for, and it is told whether one was.
+    /// The channel gives a byte, if one is asked for. The result says whether it did.
     pub fn dack_write(&mut self, byte: u8) -> bool
         ensures gives { GivesChip byte (chip_state D.state self.old) result (chip_state D.state self.new) }
         ensures drives { SameDrives (adapter_of (behind_of self.old)) (adapter_of (behind_of self.new)) }
@@ -34,8 +34,8 @@ impl<D: Inspect> Chip<D> {
         }
     }
 
-    /// Gives a byte of the command in execution behind, where one is asked for, and tells whether one was. Of a FORMAT TRACK one
-    /// byte fewer is left then.
+    /// Gives a byte of the command that the inner controller executes, if one is asked for, and says whether it did. A
+    /// FORMAT TRACK then has one byte fewer left.
     pub(crate) fn give(&mut self, byte: u8) -> bool
         ensures gives { GivesFront byte (chip_state D.state self.old).front result (chip_state D.state self.new).front }
         ensures rest { KeepsRest (given_one result (chip_state D.state self.old)) (chip_state D.state self.new) }
@@ -48,7 +48,7 @@ impl<D: Inspect> Chip<D> {
         was
     }
 
-    /// The channel tells the terminal count: the command ends behind its sector.
+    /// The channel signals the terminal count. The command ends after its sector.
     pub fn tc(&mut self)
         ensures told { chip_state D.state self.new ≡ told_chip (chip_state D.state self.old) }
         ensures drives { SameDrives (adapter_of (behind_of self.old)) (adapter_of (behind_of self.new)) }
@@ -62,7 +62,7 @@ impl<D: Inspect> Chip<D> {
         }
     }
 
-    /// The same in a READ TRACK.
+    /// Does what `tc` does in a READ TRACK.
     fn count_track(&mut self, track: Track)
         ensures told { chip_state D.state self.new ≡ counted_if (is_data track.place) (record (chip_state D.state self.old) { stage = Stage.Busy (Task.Track (record track { counted = true })) }) }
         ensures drives { SameDrives (adapter_of (behind_of self.old)) (adapter_of (behind_of self.new)) }

@@ -1,4 +1,4 @@
-// The state, the strap, and the lines that are seen outside.
+// The state, the straps, and the lines that are seen outside.
 ghost use Rattle.std.specs.Prelude.{◌≡◌, IfOk, IsTrue, IsFalse};
 ghost use Rattle.fdc_adapter.specs.Adapters.{controller_of, SameDrives};
 ghost use Rattle.fdc_core.specs.Dma.{to_memory_of};
@@ -21,26 +21,26 @@ use std::alloc::Global;
 pub struct Chip<D> {
     pub(crate) behind: Sequencer<D>,
     pub(crate) stage: Stage,
-    /// The bytes of the command that comes or came last.
+    /// The bytes of the command that is coming, or that came last.
     pub(crate) order: Order,
     /// How many bytes came of a command that isn't whole.
     pub(crate) count: u8,
     pub(crate) interrupts: Interrupts,
     pub(crate) settings: Settings,
-    /// Seeks are implied by a strap of the adapter.
+    /// Whether a strap of the adapter implies seeks.
     pub(crate) strapped: bool,
-    /// How many bytes of keys a FORMAT TRACK still takes.
+    /// How many bytes of sector IDs a FORMAT TRACK still takes.
     pub(crate) keys: u16,
-    /// DOR lets INT and DRQ out.
+    /// Whether DOR lets INT and DRQ out.
     pub(crate) gated: bool,
     /// A seek whose pulses come in the time that SPECIFY sets.
     pub(crate) pace: Option<Pace>,
-    /// The pulses of seeks come so by a strap of the adapter.
+    /// Whether a strap of the adapter lets the pulses of seeks come in that time.
     pub(crate) paced: bool,
 }
 
 impl Task {
-    /// Whether the bytes of what is executed behind are the host's.
+    /// Whether the host takes or gives the bytes of what the inner controller executes.
     pub(crate) fn passes_bytes(&self) -> bool
         ensures { result ≡ passes_bytes self.now }
     {
@@ -53,7 +53,7 @@ impl Task {
 }
 
 impl<D: Inspect> Chip<D> {
-    /// The controller in reset, with two drives, whose motors it turns off.
+    /// The controller in reset, with two drives. The motors of the drives are turned off.
     pub fn new(alloc: Global, bay0: D, bay1: D) -> Result<Chip<D>, NoMemory>
         ensures { IfOk result (λ new. IsNewChip (D.state bay0) (D.state bay1) (chip_state D.state new)) }
     {
@@ -72,8 +72,8 @@ impl<D: Inspect> Chip<D> {
         })
     }
 
-    /// Lets each data command seek its cylinder first, as a strap of an adapter would, whatever CONFIGURE sets; or leaves that to
-    /// CONFIGURE.
+    /// Lets each data command seek its cylinder first, whatever CONFIGURE sets, as a strap of an adapter would. With
+    /// `on` false, this is left to CONFIGURE.
     pub fn strap_seeks(&mut self, on: bool)
         ensures state { chip_state D.state self.new ≡ record (chip_state D.state self.old) { strapped = on } }
         ensures drives { SameDrives (adapter_of (behind_of self.old)) (adapter_of (behind_of self.new)) }
@@ -81,9 +81,9 @@ impl<D: Inspect> Chip<D> {
         self.strapped = on;
     }
 
-    /// Lets the pulses of SEEK, RELATIVE SEEK and RECALIBRATE come in the time that SPECIFY sets; or one in each word time. A
-    /// RECALIBRATE gives those of the cylinders that the controller has counted so, and what is left to track 0 in a word time each,
-    /// 79 in all at most.
+    /// Lets the pulses of SEEK, RELATIVE SEEK and RECALIBRATE come in the time that SPECIFY sets, or else one in each
+    /// word time. A RECALIBRATE gives the pulses of the cylinders that the controller has counted in that time. The
+    /// pulses that are left until track 0 then come one in each word time. It gives at most 79 in all.
     pub fn strap_steps(&mut self, on: bool)
         ensures state { chip_state D.state self.new ≡ record (chip_state D.state self.old) { paced = on } }
         ensures drives { SameDrives (adapter_of (behind_of self.old)) (adapter_of (behind_of self.new)) }
@@ -91,7 +91,7 @@ impl<D: Inspect> Chip<D> {
         self.paced = on;
     }
 
-    /// Whether what is under way passes bytes.
+    /// Whether the host takes or gives bytes of what is under way.
     fn passes_at(&self) -> bool
         ensures { result ≡ passes_at (chip_state D.state self.now).stage }
     {
@@ -101,29 +101,30 @@ impl<D: Inspect> Chip<D> {
         }
     }
 
-    /// Whether the bytes of a command pass: a FORMAT TRACK takes no more than its keys.
+    /// Whether the host takes or gives more bytes of the command. A FORMAT TRACK takes no more than the bytes of its
+    /// sector IDs.
     pub(crate) fn passes(&self) -> bool
         ensures { result ≡ passes (chip_state D.state self.now) }
     {
         self.passes_at() && !(self.order.is_format() && self.keys == 0)
     }
 
-    /// Whether they pass by the data port.
+    /// Whether these bytes pass by the data port.
     pub(crate) fn passes_by_port(&self) -> bool
         ensures { result ≡ passes_by_port (chip_state D.state self.now) }
     {
         self.settings.is_by_port() && self.passes()
     }
 
-    /// Whether they pass by the channel, where DOR lets DRQ out.
+    /// Whether these bytes pass by the channel, if DOR lets DRQ out.
     pub(crate) fn passes_by_channel(&self) -> bool
         ensures { result ≡ passes_by_channel (chip_state D.state self.now) }
     {
         self.gated && !self.settings.is_by_port() && self.passes()
     }
 
-    /// The interrupt line, where DOR lets it out. In the non-DMA mode it asks for a byte; else it rises with results and with the
-    /// end of a seek.
+    /// The interrupt line, if DOR lets it out. In the non-DMA mode it asks for a byte. Otherwise it rises with results
+    /// and with the end of a seek.
     pub fn int(&self) -> bool
         ensures { result ≡ interrupts_chip (chip_state D.state self.now) }
     {
@@ -146,7 +147,7 @@ impl<D: Inspect> Chip<D> {
         self.passes_by_channel() && self.behind.drq()
     }
 
-    /// Whether the lines are these.
+    /// Whether the lines have these values.
     pub(crate) fn has_lines(&self, int: bool, drq: bool) -> bool
         ensures yes { IsTrue result → HasLinesChip int drq (chip_state D.state self.now) }
         ensures no { IsFalse result → HasLinesChip int drq (chip_state D.state self.now) → ⊥ }

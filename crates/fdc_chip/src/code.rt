@@ -2,7 +2,8 @@
 ghost use Rattle.std.specs.Prelude.{◌≡◌, ◌≤◌};
 ghost use Rattle.fdc_chip.specs.Codes.{has_bit, code_of, parameters};
 
-/// A command by its code (82077AA data sheet, command set). Without MFM it is about FM, in which no medium is recorded here.
+/// A command by its code (82077AA data sheet, command set). Without MFM a command is for FM, and no medium here is
+/// recorded in FM.
 #[derive(Clone, Copy, PartialEq, Eq, Debug)]
 pub enum Code {
     ReadTrack { mfm: bool },
@@ -24,7 +25,7 @@ pub enum Code {
     Verify { mfm: bool },
 }
 
-/// MT, or DIR's and LOCK's high bit.
+/// MT, or the high bit that DIR and LOCK have.
 pub(crate) const MULTITRACK: u8 = 0x80;
 
 /// MFM.
@@ -33,7 +34,7 @@ const MFM: u8 = 0x40;
 /// SK.
 pub(crate) const SKIP: u8 = 0x20;
 
-/// Which command it is.
+/// The bits that say which command it is.
 const COMMAND: u8 = 0x1F;
 
 /// Whether a bit is set.
@@ -44,7 +45,7 @@ pub(crate) fn has_bit(byte: u8, bit: u8) -> bool
 }
 
 impl Code {
-    /// The command of a code, if there is one. READ ID has no MT and SK, and is taken with these.
+    /// The command of a code, if there is one. READ ID has neither MT nor SK, and is taken even if these bits are set.
     pub(crate) fn of(byte: u8) -> Option<Code>
         ensures { result ≡ code_of byte }
     {

@@ -15,7 +15,7 @@ use crate::stage::{Stage, Task};
 use drive_model::Inspect;
 use fdc_registers::{Flags, St0};
 
-/// MSR where it is read.
+/// MSR when the port is read.
 pub(crate) const STATUS: u16 = 0x3F4;
 
 /// The data port.
@@ -30,14 +30,14 @@ const ENHANCED: u8 = 0x90;
 /// The seek bits of MSR.
 const SEEKING: u8 = 0x0F;
 
-/// LOCK in the byte that tells it.
+/// LOCK in the byte with which the command answers.
 const LOCKED: u8 = 0x10;
 
 /// All of CONFIGURE's options but EIS.
 const WITHOUT_IMPLIED_SEEK: u8 = 0x3F;
 
 impl Code {
-    /// Whether it needs what stands behind, which takes no command while heads move.
+    /// Whether the command needs the inner controller, which takes no command while heads move.
     fn needs_heads(self) -> bool
         ensures { result ≡ needs_heads self }
     {
@@ -65,7 +65,7 @@ fn relative_target(inward: bool, cylinder: u8, count: u8) -> u8
 }
 
 impl<D: Inspect> Chip<D> {
-    /// Gives bytes to what stands behind.
+    /// Gives bytes to the inner controller.
     pub(crate) fn send(&mut self, bytes: &[u8])
         ensures { SendsOn bytes.now (chip_state D.state self.old) (chip_state D.state self.new) }
     {
@@ -74,21 +74,22 @@ impl<D: Inspect> Chip<D> {
         }
     }
 
-    /// The host reads this.
+    /// Lets the host read this answer.
     pub(crate) fn tell(&mut self, answer: Answer)
         ensures { chip_state D.state self.new ≡ told answer (chip_state D.state self.old) }
     {
         self.stage = Stage::Telling { answer, read: 0 };
     }
 
-    /// Whether a result with this ST0 is to be told. While pulses come in the time that SPECIFY sets, what one of them came to isn't.
+    /// Whether a result with this ST0 is reported to the host. While pulses come in the time that SPECIFY sets, the
+    /// result of a single pulse isn't.
     fn is_told(&self, status: u8) -> bool
         ensures { result ≡ is_told (chip_state D.state self.now).pace status }
     {
         status & St0::SEEK_END.bits() == 0 || self.pace.is_none()
     }
 
-    /// Takes over a result of a seek or poll that is pending behind, where it is to be told.
+    /// Takes over a pending result of a seek or poll from the inner controller, and keeps it if it is to be reported.
     fn drain_one(&mut self)
         ensures { chip_state D.state self.new ≡ drained_one (chip_state D.state self.old) }
     {
@@ -99,7 +100,7 @@ impl<D: Inspect> Chip<D> {
         }
     }
 
-    /// Takes over all.
+    /// Takes over all pending results of the inner controller.
     pub(crate) fn drain(&mut self)
         ensures { chip_state D.state self.new ≡ drained (chip_state D.state self.old) }
     {
@@ -108,7 +109,7 @@ impl<D: Inspect> Chip<D> {
         }
     }
 
-    /// Whether heads move behind.
+    /// Whether heads move, by the seek bits of the inner controller.
     pub(crate) fn moves_heads(&mut self) -> bool
         ensures moves { result ≡ moves_heads (chip_state D.state self.old).front }
         ensures same { chip_state D.state self.new ≡ chip_state D.state self.old }
@@ -116,7 +117,7 @@ impl<D: Inspect> Chip<D> {
         self.behind.read(STATUS) & SEEKING != 0
     }
 
-    /// Whether heads move, or are to.
+    /// Whether heads move, or are to move.
     fn is_moving(&mut self) -> bool
         ensures moves { result ≡ is_moving (chip_state D.state self.old) }
         ensures same { chip_state D.state self.new ≡ chip_state D.state self.old }
@@ -124,7 +125,7 @@ impl<D: Inspect> Chip<D> {
         self.pace.is_some() || self.moves_heads()
     }
 
-    /// A whole command came, of this code if there is one.
+    /// Does or holds a whole command that came, if there is one with this code.
     pub(crate) fn attend_to(&mut self, code: Option<Code>)
         ensures { AttendsTo code (chip_state D.state self.old) (chip_state D.state self.new) }
     {
@@ -134,7 +135,7 @@ impl<D: Inspect> Chip<D> {
         }
     }
 
-    /// A whole command is done, or held while heads move.
+    /// Does a whole command, or holds it while heads move.
     fn attend(&mut self, code: Code)
         ensures { Attends code (chip_state D.state self.old) (chip_state D.state self.new) }
     {
@@ -172,7 +173,7 @@ impl<D: Inspect> Chip<D> {
         }
     }
 
-    /// SPECIFY. What stands behind always moves bytes by DMA.
+    /// SPECIFY. The inner controller always moves bytes by DMA.
     fn specify(&mut self)
         ensures { chip_state D.state self.new ≡ specified (chip_state D.state self.old) }
     {
@@ -184,7 +185,7 @@ impl<D: Inspect> Chip<D> {
         self.stage = Stage::Ready;
     }
 
-    /// A command that is answered by a byte behind.
+    /// Gives a command to the inner controller, which answers it with one byte.
     fn ask(&mut self, bytes: &[u8])
         ensures { Asks bytes.now (chip_state D.state self.old) (chip_state D.state self.new) }
     {
@@ -204,8 +205,8 @@ impl<D: Inspect> Chip<D> {
         self.tell(answer);
     }
 
-    /// The heads go to a cylinder; or to track 0, where there is none. Their pulses come in the time that SPECIFY sets, or it is
-    /// given behind.
+    /// Sends the heads to a cylinder, or to track 0 if none is given. The pulses come in the time that SPECIFY sets, or
+    /// the inner controller is given the seek.
     fn move_heads(&mut self, goal: Option<u8>)
         ensures { Moves goal (chip_state D.state self.old) (chip_state D.state self.new) }
     {
@@ -227,7 +228,7 @@ impl<D: Inspect> Chip<D> {
         self.move_heads(Some(target));
     }
 
-    /// PERPENDICULAR MODE, which has no effect at these rates but on what DUMPREG gives.
+    /// PERPENDICULAR MODE. At these rates it changes nothing but what DUMPREG gives.
     fn make_perpendicular(&mut self)
         ensures { chip_state D.state self.new ≡ made_perpendicular (chip_state D.state self.old) }
     {
@@ -235,7 +236,7 @@ impl<D: Inspect> Chip<D> {
         self.stage = Stage::Ready;
     }
 
-    /// CONFIGURE. Implied seeks are told behind with each command.
+    /// CONFIGURE. Whether a seek is implied is set in the inner controller with each command.
     fn configure(&mut self)
         ensures { Obeys Code.Configure (chip_state D.state self.old) (chip_state D.state self.new) }
     {
@@ -250,7 +251,7 @@ impl<D: Inspect> Chip<D> {
         self.configure_behind(key.c, key.h);
     }
 
-    /// Tells CONFIGURE behind.
+    /// Gives CONFIGURE to the inner controller.
     pub(crate) fn configure_behind(&mut self, options: u8, precompensation: u8)
         ensures { SendsOn (configuring options precompensation) (chip_state D.state self.old) (chip_state D.state self.new) }
     {

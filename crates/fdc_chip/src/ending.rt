@@ -1,4 +1,4 @@
-// How what is executed behind ends, and what comes of it.
+// How what the inner controller executes ends, and what comes of it.
 ghost use Rattle.std.specs.Prelude.{◌≡◌, ◌==◌, not};
 ghost use Rattle.fdc_sequencer.specs.Fronts.{Front, front_state};
 ghost use Rattle.fdc_chip.specs.Chips.{chip_state, behind_of, with_front};
@@ -22,7 +22,7 @@ const UNIT: u8 = 0x07;
 /// READ ID with MFM.
 const READ_ID: u8 = 0x4A;
 
-/// Which command a code is, and READ ID among these.
+/// The bits that say which command a code is; then READ ID by these bits.
 const COMMAND: u8 = 0x1F;
 
 const READ_ANY_ID: u8 = 0x0A;
@@ -30,7 +30,7 @@ const READ_ANY_ID: u8 = 0x0A;
 /// The cylinder of tracks that are marked bad.
 const BAD: u8 = 0xFF;
 
-/// WC and BC, where another cylinder passes than the wanted one.
+/// WC and BC, if another cylinder passes than the wanted one.
 fn cylinder_bits(wanted: u8, passed: u8) -> St2
     ensures { result.0 ≡ cylinder_bits wanted passed }
 {
@@ -43,7 +43,7 @@ fn cylinder_bits(wanted: u8, passed: u8) -> St2
     }
 }
 
-/// The results of a sector that wasn't found, once READ ID was looking.
+/// The results of a sector that wasn't found, after a READ ID looked which cylinder passes.
 fn with_cylinder_passed(first: Results, passed: Results) -> Results
     ensures { result ≡ with_cylinder_passed first passed }
 {
@@ -56,14 +56,14 @@ fn with_cylinder_passed(first: Results, passed: Results) -> Results
     }
 }
 
-/// Whether address marks passed, though none of an intact field may have.
+/// Whether address marks passed, even if none of them belongs to an intact field.
 fn saw_marks(results: Results) -> bool
     ensures { result ≡ saw_marks results }
 {
     results.st1.bits() & St1::MISSING_MARK.bits() == 0
 }
 
-/// The key of the sector behind EOT, with MT behind that of head 1.
+/// The sector ID after EOT. With MT it is the one after EOT of head 1.
 fn behind_last(multitrack: bool, key: Chrn) -> Chrn
     ensures { result ≡ behind_last multitrack key }
 {
@@ -75,7 +75,7 @@ fn behind_last(multitrack: bool, key: Chrn) -> Chrn
     }
 }
 
-/// The results in place of a command that this medium can't have. `marks` says that address marks pass.
+/// The results of a command that this medium can't have. `marks` says that address marks pass.
 fn refusal(unit: u8, key: Chrn, marks: bool) -> Results
     ensures { result ≡ refusal unit key marks }
 {
@@ -92,15 +92,15 @@ fn refusal(unit: u8, key: Chrn, marks: bool) -> Results
 }
 
 impl Order {
-    /// Whether it has a key, as any but READ ID.
+    /// Whether the command has a sector ID: all but READ ID have one.
     fn has_key(self) -> bool
         ensures { result ≡ has_key self }
     {
         self.code & COMMAND != READ_ANY_ID
     }
 
-    /// Whether a VERIFY is done, though the sequencer ends with EN behind EOT since sectors were passed over: one that doesn't
-    /// count its sectors.
+    /// Whether a VERIFY is done although the sequencer ends with EN after EOT, because sectors were passed over. This
+    /// is so for a VERIFY that doesn't count its sectors.
     fn is_done(self, results: Results) -> bool
         ensures { result ≡ is_done self results }
     {
@@ -124,7 +124,7 @@ impl Order {
 }
 
 impl<D: Inspect> Chip<D> {
-    /// Whether results wait behind.
+    /// Whether results of the inner controller wait.
     fn has_results(&mut self) -> bool
         ensures waits { result ≡ has_results (chip_state D.state self.old).front }
         ensures same { chip_state D.state self.new ≡ chip_state D.state self.old }
@@ -133,7 +133,7 @@ impl<D: Inspect> Chip<D> {
         self.behind.read(STATUS) & wait == wait
     }
 
-    /// The next of them.
+    /// The next byte of these results.
     fn next_result(&mut self) -> u8
         ensures byte { result ≡ byte_behind (chip_state D.state self.old).front }
         ensures after { chip_state D.state self.new ≡ with_front (behind_one (chip_state D.state self.old).front) (chip_state D.state self.old) }
@@ -141,7 +141,7 @@ impl<D: Inspect> Chip<D> {
         self.behind.read(DATA)
     }
 
-    /// Takes all seven.
+    /// Takes all seven bytes of the results.
     fn take_results(&mut self) -> Results
         ensures results { result ≡ results_behind (chip_state D.state self.old).front }
         ensures after { chip_state D.state self.new ≡ with_front (results_taken (chip_state D.state self.old).front) (chip_state D.state self.old) }
@@ -161,7 +161,7 @@ impl<D: Inspect> Chip<D> {
         }
     }
 
-    /// The host reads results, and INT rises.
+    /// Lets the host read results. INT rises.
     pub(crate) fn tell_results(&mut self, results: Results)
         ensures { chip_state D.state self.new ≡ told_results results (chip_state D.state self.old) }
     {
@@ -169,7 +169,7 @@ impl<D: Inspect> Chip<D> {
         self.tell(Answer::Results { results });
     }
 
-    /// Takes the results of what was executed behind for a task, where they wait.
+    /// Takes the results of what the inner controller executed for a task, if they wait.
     pub(crate) fn may_end(&mut self, task: Task)
         ensures { MayEnd task (chip_state D.state self.old) (chip_state D.state self.new) }
     {
@@ -179,7 +179,7 @@ impl<D: Inspect> Chip<D> {
         }
     }
 
-    /// What comes of them.
+    /// Does what these results lead to.
     fn end(&mut self, task: Task, results: Results)
         ensures { Ends task results (chip_state D.state self.old) (chip_state D.state self.new) }
     {
@@ -196,7 +196,7 @@ impl<D: Inspect> Chip<D> {
         }
     }
 
-    /// The command that was sent ended: where its sector wasn't found it is looked which cylinder passes.
+    /// The command that was sent ended. If its sector wasn't found, the chip looks which cylinder passes.
     fn end_sent(&mut self, results: Results)
         ensures { EndsSent (looks_for_cylinder self.old.order results) results (chip_state D.state self.old) (chip_state D.state self.new) }
     {

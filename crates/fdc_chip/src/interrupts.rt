@@ -13,7 +13,7 @@ pub struct Interrupts {
     pending: [Option<u8>; 4],
     /// The present cylinder number of each drive.
     cylinders: [u8; 4],
-    /// INT is up, where DOR lets it out.
+    /// Whether INT is up, if DOR lets it out.
     line: bool,
 }
 
@@ -35,7 +35,7 @@ impl Model for Interrupts {
     }) };
 }
 
-/// The seek bit of a drive, where this result of it is pending.
+/// The seek bit of a drive, if this result of the drive is pending.
 fn seek_bit(pending: Option<u8>, bit: u8) -> u8
     ensures { result ≡ seek_bit pending bit }
 {
@@ -46,7 +46,7 @@ fn seek_bit(pending: Option<u8>, bit: u8) -> u8
 }
 
 impl Interrupts {
-    /// No result, and each drive at cylinder 0.
+    /// No result is pending, and each drive counts as at cylinder 0.
     pub(crate) fn new() -> Interrupts
         ensures { result ≡ at_rest }
     {
@@ -57,7 +57,7 @@ impl Interrupts {
         }
     }
 
-    /// A result becomes pending, in place of an older one of the same drive, and INT rises.
+    /// Makes a result pending, in place of an older one of the same drive. INT rises.
     pub(crate) fn keep(&mut self, status: u8, cylinder: u8)
         ensures { self.new ≡ with_result status cylinder self.old }
     {
@@ -67,7 +67,7 @@ impl Interrupts {
         self.line = true;
     }
 
-    /// The result of a unit's drive goes, and INT falls.
+    /// Drops the result of a unit's drive. INT falls.
     pub(crate) fn forget(&mut self, unit: u8)
         ensures { self.new ≡ without_results_of unit self.old }
     {
@@ -101,7 +101,7 @@ impl Interrupts {
         self.line
     }
 
-    /// INT rises, or falls.
+    /// Lets INT rise or fall.
     pub(crate) fn set_line(&mut self, up: bool)
         ensures { self.new ≡ record self.old { line = up } }
     {
@@ -126,7 +126,7 @@ impl Interrupts {
         self.cylinders[usize::from(unit % 4)]
     }
 
-    /// A unit's drive is at a cylinder.
+    /// Sets the present cylinder number of a unit's drive.
     pub(crate) fn set_cylinder(&mut self, unit: u8, cylinder: u8)
         ensures { self.new ≡ with_cylinder unit cylinder self.old }
     {

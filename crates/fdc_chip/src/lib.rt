@@ -1,10 +1,10 @@
-//! The whole diskette controller as a guest meets it (Intel 82077AA data sheet), in front of one that takes the data commands
-//! of several sectors.
+//! The whole diskette controller as a guest meets it (Intel 82077AA data sheet). It stands in front of an inner
+//! controller, the sequencer, which takes the data commands of several sectors.
 //!
-//! A command's bytes are collected here. What stands behind is then given what it can do, and the rest is made of that: a
-//! command that this medium can't have ends as a search does, with INT and its results. The results of seeks are kept here, so
-//! that commands come while some are pending. DOR lets INT and DRQ out here: behind they are always let out, so that MSR asks for
-//! bytes all the same.
+//! The bytes of a command are collected here. The inner controller is then given what it can do, and the rest is made
+//! of that. A command that this medium can't have ends like a search, with INT and its results. The results of seeks
+//! are kept here, so that commands can come while some results are pending. DOR lets INT and DRQ out here. The inner
+//! controller always lets them out, so that its MSR asks for bytes all the same.
 #![tactic(auto)]
 
 mod answer;

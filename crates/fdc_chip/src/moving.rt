@@ -11,11 +11,11 @@ use crate::code::Code;
 use crate::stage::{Stage, Task};
 use drive_model::Inspect;
 
-/// The bytes that the FIFO has at most.
+/// The most bytes that the FIFO has.
 const DEPTH: u8 = 16;
 
 impl<D: Inspect> Chip<D> {
-    /// One device step: that of what stands behind, and where something ended in it, what comes of that.
+    /// Does one device step of the inner controller. If something ended in it, does what comes of that.
     pub fn step(&mut self)
         ensures { StepsChip (chip_state D.state self.old) (chip_state D.state self.new) }
     {
@@ -23,7 +23,7 @@ impl<D: Inspect> Chip<D> {
         self.follow();
     }
 
-    /// What is done behind a step.
+    /// Does what has to be done after a step.
     fn follow(&mut self)
         ensures { Follows self.old.stage (chip_state D.state self.old) (chip_state D.state self.new) }
     {
@@ -41,7 +41,7 @@ impl<D: Inspect> Chip<D> {
         }
     }
 
-    /// Takes over the results of seeks and polls, once INT rises behind.
+    /// Takes over the results of seeks and polls, once INT of the inner controller rises.
     fn take_over(&mut self)
         ensures { chip_state D.state self.new ≡ (if interrupts_outside (chip_state D.state self.old).front then drained (chip_state D.state self.old) else chip_state D.state self.old) }
     {
@@ -50,7 +50,7 @@ impl<D: Inspect> Chip<D> {
         }
     }
 
-    /// The same while something is executed behind.
+    /// Does what has to be done after a step while the inner controller executes something.
     fn follow_task(&mut self, task: Task)
         ensures { FollowsTask task (chip_state D.state self.old) (chip_state D.state self.new) }
     {
@@ -60,7 +60,7 @@ impl<D: Inspect> Chip<D> {
         self.may_end(task);
     }
 
-    /// Takes the bytes of a VERIFY that are asked for, of so many that are left.
+    /// Takes the bytes of a VERIFY that are asked for. `left` is how many of its bytes are left.
     fn swallow_all(&mut self, left: u32)
         ensures { SwallowsAll left (chip_state D.state self.old) (chip_state D.state self.new) }
     {
@@ -73,7 +73,7 @@ impl<D: Inspect> Chip<D> {
         };
     }
 
-    /// Takes one, and behind the last tells the terminal count.
+    /// Takes one byte, if it is asked for. After the last byte the inner controller is given the terminal count.
     fn swallow(&mut self, left: u32) -> u32
         ensures swallows { Swallows left (chip_state D.state self.old).front result (chip_state D.state self.new).front }
         ensures rest { chip_state D.state self.new ≡ record (chip_state D.state self.old) { front = (chip_state D.state self.new).front } }
@@ -89,7 +89,7 @@ impl<D: Inspect> Chip<D> {
         }
     }
 
-    /// Device steps until the interrupt line or the request line changes, at most `most`, and how many were made.
+    /// Does device steps until the interrupt line or the request line changes, at most `most`, and gives their number.
     pub fn run(&mut self, most: u32) -> u32
         ensures { RunsChip most (chip_state D.state self.old) result (chip_state D.state self.new) }
     {
@@ -105,7 +105,8 @@ impl<D: Inspect> Chip<D> {
         most
     }
 
-    /// At least one device step, `most` at most, and none behind one in which a line changes; tells how many.
+    /// Does at least one device step and at most `most`, and gives their number. No step comes after one in which a
+    /// line changes.
     fn advance(&mut self, most: u32) -> u32
         requires { 1 ≤ most }
         ensures some { 1 ≤ result }
@@ -120,7 +121,8 @@ impl<D: Inspect> Chip<D> {
         }
     }
 
-    /// The same while nothing is under way, no pulses are to come and INT is down, where many steps are made at once.
+    /// Does what `advance` does, while nothing is under way, no pulses are to come and INT is down. Many steps are then
+    /// made at once.
     fn advance_ready(&mut self, most: u32) -> u32
         requires some { 1 ≤ most }
         requires ready { self.old.stage ≡ Ready }

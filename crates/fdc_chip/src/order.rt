@@ -1,25 +1,26 @@
-// The bytes of a command, as they come.
+// The bytes of a command, one after the other.
 ghost use Rattle.std.specs.Prelude.{◌≡◌};
 ghost use Rattle.fdc_chip.specs.Orders.{blank, is_format, with_byte, order_bytes};
 
 use flop_base::Chrn;
 
-/// Which command a code is, and FORMAT TRACK among these.
+/// The bits that say which command a code is; then FORMAT TRACK by these bits.
 const COMMAND: u8 = 0x1F;
 
 const FORMAT_ANY_TRACK: u8 = 0x0D;
 
-/// The bytes of a command, named as in those that have nine: a shorter command has the first of them.
+/// The bytes of a command. The names are those of commands with nine bytes; a shorter command has the first of these
+/// bytes.
 #[derive(Clone, Copy, PartialEq, Eq, Debug)]
 pub struct Order {
     pub code: u8,
-    /// The head in bit 2 and the drive in bits 1 and 0; in bit 7 whether a VERIFY counts its sectors.
+    /// The head in bit 2 and the drive in bits 1 and 0. In bit 7, whether a VERIFY counts its sectors.
     pub unit: u8,
     pub key: Chrn,
     /// EOT: the number of the track's last sector.
     pub last_sector: u8,
     pub gap: u8,
-    /// DTL, or the sectors of a VERIFY that counts them.
+    /// DTL, or the number of sectors of a VERIFY that counts them.
     pub length: u8,
 }
 
@@ -43,14 +44,14 @@ impl Order {
         }
     }
 
-    /// Whether it is a FORMAT TRACK.
+    /// Whether the command is a FORMAT TRACK.
     pub(crate) fn is_format(self) -> bool
         ensures { result ≡ is_format self }
     {
         self.code & COMMAND == FORMAT_ANY_TRACK
     }
 
-    /// With the byte at a place, counted from 0.
+    /// The command with this byte at a place, which is counted from 0.
     pub(crate) fn with(self, place: u8, byte: u8) -> Order
         ensures { result ≡ with_byte place byte self }
     {
@@ -86,7 +87,7 @@ impl Order {
         }
     }
 
-    /// The nine bytes.
+    /// The nine bytes of the command.
     pub(crate) fn bytes(self) -> [u8; 9]
         ensures { result ≡ order_bytes self }
     {

@@ -1,5 +1,5 @@
-// Seeks whose pulses come in the time that SPECIFY sets: behind, each is a SEEK by one cylinder, and a RECALIBRATE ends with the
-// pulses that are left of its 79.
+// Seeks whose pulses come in the time that SPECIFY sets. For each pulse the inner controller is given a SEEK by one
+// cylinder. A RECALIBRATE ends with the pulses that are left of its 79.
 ghost use Rattle.std.specs.Prelude.{◌≡◌, Some};
 ghost use Rattle.fdc_chip.specs.Chips.{chip_state, pace_bit};
 ghost use Rattle.fdc_chip.specs.Doing.{SendsOn, moving, pace_begun};
@@ -16,7 +16,7 @@ const RECALIBRATE: u8 = 0x07;
 /// SEEK.
 const SEEK: u8 = 0x0F;
 
-/// The most pulses of a RECALIBRATE.
+/// The most pulses that a RECALIBRATE gives.
 const RECALIBRATE_PULSES: u8 = 79;
 
 /// A seek that goes on cylinder by cylinder.
@@ -24,9 +24,9 @@ const RECALIBRATE_PULSES: u8 = 79;
 pub struct Pace {
     /// The head in bit 2 and the drive in bits 1 and 0.
     pub unit: u8,
-    /// The cylinder that it has come to, by the number that the controller counts.
+    /// The cylinder to which the seek has come, by the number that the controller counts.
     pub cylinder: u8,
-    /// Where it goes; none for a RECALIBRATE.
+    /// The cylinder to which the seek goes, or none for a RECALIBRATE.
     pub goal: Option<u8>,
     /// The most pulses that a RECALIBRATE has left.
     pub left: u8,
@@ -34,7 +34,7 @@ pub struct Pace {
     pub wait: u16,
 }
 
-/// The seek bit of the drive whose pulses come so.
+/// The seek bit of the drive of this seek.
 pub(crate) fn pace_bit(pace: Option<Pace>) -> u8
     ensures { result ≡ pace_bit pace }
 {
@@ -50,7 +50,7 @@ pub(crate) fn pace_bit(pace: Option<Pace>) -> u8
 }
 
 impl Pace {
-    /// It begins, from the number that the controller counts.
+    /// A seek that begins at the number that the controller counts.
     pub(crate) fn of(unit: u8, cylinder: u8, goal: Option<u8>) -> Pace
         ensures { result ≡ pace_begun unit cylinder goal }
     {
@@ -63,7 +63,7 @@ impl Pace {
         }
     }
 
-    /// The number of the cylinder where it goes.
+    /// The number of the cylinder to which the seek goes.
     fn target(self) -> u8
         ensures { result ≡ target_of self }
     {
@@ -73,14 +73,14 @@ impl Pace {
         }
     }
 
-    /// Whether it is there by the number, or is a RECALIBRATE that gave all its pulses.
+    /// Whether the seek is at its cylinder by the number, or is a RECALIBRATE that gave all its pulses.
     fn is_over(self) -> bool
         ensures { result ≡ is_over self }
     {
         self.cylinder == self.target() || (self.goal.is_none() && self.left == 0)
     }
 
-    /// A cylinder nearer by a pulse, and so many word times until the next.
+    /// The seek one cylinder nearer after a pulse, with this many word times until the next.
     fn stepped(self, words: u16) -> Pace
         ensures { result ≡ stepped words self }
     {
@@ -99,7 +99,7 @@ impl Pace {
 }
 
 impl<D: Inspect> Chip<D> {
-    /// Gives a SEEK of a cylinder or a RECALIBRATE behind.
+    /// Gives a SEEK of a cylinder or a RECALIBRATE to the inner controller.
     pub(crate) fn send_move(&mut self, unit: u8, goal: Option<u8>)
         ensures { SendsOn (moving unit goal) (chip_state D.state self.old) (chip_state D.state self.new) }
     {
@@ -109,8 +109,8 @@ impl<D: Inspect> Chip<D> {
         }
     }
 
-    /// A device step of such a seek, if one is under way. The results behind are taken over first: those of the poll are told, and
-    /// those of a SEEK by one cylinder aren't.
+    /// Does a device step of such a seek, if one is under way. The results of the inner controller are taken over
+    /// first. Those of the poll are reported, and those of a SEEK by one cylinder aren't.
     pub(crate) fn keep_pace(&mut self)
         ensures { Paces self.old.pace (chip_state D.state self.old) (chip_state D.state self.new) }
     {
@@ -120,7 +120,7 @@ impl<D: Inspect> Chip<D> {
         }
     }
 
-    /// The same, once no result waits behind.
+    /// Does a device step of such a seek, once no result of the inner controller waits.
     fn pace_on(&mut self, pace: Pace)
         ensures { GoesOn pace (chip_state D.state self.old) (chip_state D.state self.new) }
     {
@@ -134,7 +134,7 @@ impl<D: Inspect> Chip<D> {
         }
     }
 
-    /// Whether the next pulse is due, and what stands behind takes the next command.
+    /// Whether the next pulse is due, and the inner controller takes the next command.
     fn is_due(&mut self, pace: Pace) -> bool
         ensures due { result ≡ is_due pace (chip_state D.state self.old) }
         ensures same { chip_state D.state self.new ≡ chip_state D.state self.old }
@@ -142,7 +142,7 @@ impl<D: Inspect> Chip<D> {
         pace.wait <= 1 && self.behind.is_ready() && !self.moves_heads()
     }
 
-    /// The next pulse; or the command that ends the seek, where it is over.
+    /// Gives the next pulse. If the seek is over, gives the command that ends it.
     fn pulse(&mut self, pace: Pace)
         ensures { PulsesIf (is_over pace) pace (chip_state D.state self.old) (chip_state D.state self.new) }
     {
@@ -156,7 +156,8 @@ impl<D: Inspect> Chip<D> {
         self.send_move(next.unit, Some(next.cylinder));
     }
 
-    /// Gives behind what ends it: a SEEK of its cylinder, or a RECALIBRATE with no more pulses than are left of the 79.
+    /// Gives the inner controller what ends the seek: a SEEK of its cylinder, or a RECALIBRATE with at most the pulses
+    /// that are left of the 79.
     fn end_pace(&mut self, pace: Pace)
         ensures { EndsAt pace.goal pace (chip_state D.state self.old) (chip_state D.state self.new) }
     {

@@ -10,13 +10,13 @@ use drive_model::Inspect;
 /// The digital output register. With 00 in it the controller is in reset, the motors are off, and drive 0 is selected.
 const DOR: u16 = 0x3F2;
 
-/// The configuration control register, and in it the rate at power-up: 250 kbit/s.
+/// The configuration control register; then the rate in it at power-up, 250 kbit/s.
 const CCR: u16 = 0x3F7;
 
 const RATE_AT_POWER_UP: u8 = 2;
 
 impl Settings {
-    /// Behind the reset pin: as at power-up, but for what SPECIFY set.
+    /// The settings after the reset pin: as at power-up, except for what SPECIFY set.
     fn behind_pin(self) -> Settings
         ensures { result ≡ pin_settings self }
     {
@@ -29,8 +29,8 @@ impl Settings {
 }
 
 impl<D: Inspect> Chip<D> {
-    /// The reset pin: what is under way ends, and all registers are as at power-up but for those that SPECIFY sets, whatever LOCK says.
-    /// The controller is held in reset until DOR lets it out. Media, heads and straps stay.
+    /// The reset pin. What is under way ends, and all registers are as at power-up except for those that SPECIFY sets,
+    /// whatever LOCK says. The controller is held in reset until DOR lets it out. Media, heads and straps stay.
     pub fn reset_by_pin(&mut self)
         ensures { ResetsByPin (chip_state D.state self.old) (chip_state D.state self.new) }
     {

@@ -25,7 +25,7 @@ const WITHOUT_GATE: u8 = 0xF7;
 /// The seek bits of MSR.
 const SEEKING: u8 = 0x0F;
 
-/// The bits of MSR by which a byte is asked for at the data port.
+/// The bits of MSR by which a byte is asked for at the data port, if one is.
 fn port_bits(asked: bool, to_memory: bool) -> Msr
     ensures { result.0 ≡ port_bits asked to_memory }
 {
@@ -49,7 +49,7 @@ fn execution_bits(by_port: bool, asked: bool, to_memory: bool) -> Msr
     }
 }
 
-/// Whether so many bytes are a whole command; one of a code that there isn't is.
+/// Whether this many bytes are a whole command. If the code doesn't exist, one byte is.
 fn is_whole(count: u8, code: Option<Code>) -> bool
     ensures { result ≡ is_whole count code }
 {
@@ -94,7 +94,7 @@ impl<D: Inspect> Chip<D> {
         self.behind.read(OUTPUT) & WITHOUT_GATE | gate
     }
 
-    /// Its bits by what is under way.
+    /// The bits of MSR by what is under way.
     fn stage_bits(&mut self) -> Msr
         ensures value { result.0 ≡ stage_bits self.old.stage (chip_state D.state self.old) }
         ensures same { chip_state D.state self.new ≡ chip_state D.state self.old }
@@ -137,7 +137,7 @@ impl<D: Inspect> Chip<D> {
         }
     }
 
-    /// A byte of an answer is read.
+    /// Moves on after a byte of an answer was read.
     fn tell_next(&mut self, answer: Answer, read: u8)
         ensures told { chip_state D.state self.new ≡ byte_told answer read (chip_state D.state self.old) }
         ensures drives { SameDrives (adapter_of (behind_of self.old)) (adapter_of (behind_of self.new)) }
@@ -155,7 +155,7 @@ impl<D: Inspect> Chip<D> {
         };
     }
 
-    /// A byte of the command in execution.
+    /// Reads a byte of the command in execution.
     fn pass_out(&mut self) -> u8
         ensures passes { PassesOut (chip_state D.state self.old) result (chip_state D.state self.new) }
         ensures drives { SameDrives (adapter_of (behind_of self.old)) (adapter_of (behind_of self.new)) }
@@ -185,8 +185,8 @@ impl<D: Inspect> Chip<D> {
         self.behind.write(port, given);
     }
 
-    /// Lets INT and DRQ out or keeps them in, where this is DOR, and gives what goes behind: there they are always let out, so that
-    /// MSR asks for bytes all the same.
+    /// If the port is DOR, lets INT and DRQ out or keeps them in. Gives the byte for the inner controller, which always
+    /// lets them out, so that its MSR asks for bytes all the same.
     fn gate(&mut self, port: u16, value: u8) -> u8
         ensures given { result ≡ value_behind port value }
         ensures gated { chip_state D.state self.new ≡ gated_by port value (chip_state D.state self.old) }
@@ -225,7 +225,7 @@ impl<D: Inspect> Chip<D> {
         self.count != 0 || self.behind.is_ready()
     }
 
-    /// A byte of a command comes.
+    /// Takes a byte of a command.
     fn add_byte(&mut self, byte: u8)
         ensures { chip_state D.state self.new ≡ with_next byte (chip_state D.state self.old) }
     {
@@ -233,7 +233,7 @@ impl<D: Inspect> Chip<D> {
         self.count = self.count.wrapping_add(1);
     }
 
-    /// The command is done, once its bytes are whole.
+    /// Does the command, if its bytes are whole.
     fn collect(&mut self)
         ensures { Collects (chip_state D.state self.old) (chip_state D.state self.new) }
     {
@@ -244,7 +244,7 @@ impl<D: Inspect> Chip<D> {
         }
     }
 
-    /// A byte of the command in execution.
+    /// Writes a byte of the command in execution.
     fn pass_in(&mut self, byte: u8)
         ensures { PassesIn byte (chip_state D.state self.old) (chip_state D.state self.new) }
     {

@@ -1,4 +1,4 @@
-// How long no line changes, and device steps while nothing runs; and the range of the numbers behind.
+// How long no line changes, and device steps while nothing runs; also the ranges of the inner controller's numbers.
 ghost use Rattle.std.specs.Prelude.{◌≡◌, ◌≤◌, true};
 ghost use Rattle.fdc_core.specs.Ranges.{IsInRange};
 ghost use Rattle.fdc_sequencer.specs.Ranges.{HasByteNumbers};
@@ -25,7 +25,7 @@ impl Stage {
 }
 
 impl<D: Inspect> Chip<D> {
-    /// The numbers behind are those that registers and bytes hold. It does nothing.
+    /// The numbers of the inner controller are those that registers and bytes hold. The function does nothing.
     pub fn ranges(&self)
         ensures controller { IsInRange (chip_state D.state self.now).front.adapter.controller }
         ensures records { HasByteNumbers (chip_state D.state self.now).front.stage }
@@ -33,9 +33,10 @@ impl<D: Inspect> Chip<D> {
         self.behind.ranges();
     }
 
-    /// So many device steps, `most` at most, surely leave INT and DRQ as they are, whatever the drives do. It is `most` where no
-    /// command is executed and no heads move, motors on or off, or where moreover DOR lets no line out, so that no timer is needed
-    /// until the next call; and 0 where the next step may change a line.
+    /// This many device steps, at most `most`, surely leave INT and DRQ as they are, whatever the drives do. The number
+    /// is `most` if no command is executed and no heads move, whether motors are on or off. It is also `most` if DOR
+    /// lets no line out, no command is executed, and no pulses are to come in the time that SPECIFY sets. Then no timer
+    /// is needed until the next call. The number is 0 if the next step may change a line.
     pub fn quiet(&self, most: u32) -> u32
         ensures few { result ≤ most }
         ensures value { result ≡ quiet_steps most (chip_state D.state self.now) }
@@ -50,7 +51,7 @@ impl<D: Inspect> Chip<D> {
         UNKNOWN
     }
 
-    /// Whether a device step goes on with nothing here.
+    /// Whether a device step goes on with nothing in the chip itself.
     fn is_idle(&self) -> bool
         ensures value { result ≡ idles (chip_state D.state self.now) }
         ensures idle { result ≡ true → IsIdle (chip_state D.state self.now) }
@@ -75,7 +76,7 @@ impl<D: Inspect> Chip<D> {
         false
     }
 
-    /// Whether DOR lets no line out, and a device step goes on with nothing here.
+    /// Whether DOR lets no line out, and a device step goes on with nothing in the chip itself.
     fn is_shut(&self) -> bool
         ensures value { result ≡ is_shut_at (chip_state D.state self.now) }
         ensures shut { result ≡ true → IsShut (chip_state D.state self.now) }
@@ -86,8 +87,8 @@ impl<D: Inspect> Chip<D> {
         self.is_idle()
     }
 
-    /// At least one device step, `most` at most, and none behind one in which a line changes; tells how many: all of them at once
-    /// while nothing runs.
+    /// Does at least one device step and at most `most`, and gives their number. No step comes after one in which a
+    /// line changes. While nothing runs, all of them are made at once.
     pub(crate) fn advance_other(&mut self, most: u32) -> u32
         requires { 1 ≤ most }
         ensures some { 1 ≤ result }
@@ -106,8 +107,8 @@ impl<D: Inspect> Chip<D> {
         1
     }
 
-    /// Makes device steps at once while a command that was sent on moves a sector, in which neither line changes, and tells how many,
-    /// `most` at most: where it is 0, the next step has to be made alone.
+    /// Does device steps at once while a command that was sent on moves a sector, at most `most`, and gives their
+    /// number. Neither line changes in them. If the number is 0, the next step has to be done alone.
     fn leap(&mut self, most: u32) -> u32
         ensures few { result ≤ most }
         ensures runs { RunsChipWith (interrupts_chip (chip_state D.state self.old)) (asks_chip (chip_state D.state self.old)) result
@@ -119,7 +120,7 @@ impl<D: Inspect> Chip<D> {
         0
     }
 
-    /// Whether a command is executed that was sent on.
+    /// Whether the inner controller executes a command that was sent on.
     fn has_sent(&self) -> bool
         ensures { result ≡ true → (chip_state D.state self.now).stage ≡ Busy Sent }
     {

@@ -7,21 +7,21 @@ use crate::code::has_bit;
 /// What commands set (82077AA data sheet: SPECIFY, CONFIGURE, LOCK, PERPENDICULAR MODE), as DUMPREG gives it.
 #[derive(Clone, Copy, PartialEq, Eq, Debug)]
 pub struct Settings {
-    /// SRT in the high four bits, HUT in the low ones.
+    /// SRT in the high four bits, and HUT in the low four.
     pub step_rate: u8,
-    /// HLT, and in bit 0 ND.
+    /// HLT, and ND in bit 0.
     pub head_load: u8,
-    /// EOT of the last data command, or the sectors of the last FORMAT TRACK.
+    /// EOT of the last data command, or the number of sectors of the last FORMAT TRACK.
     pub last_sector: u8,
     /// LOCK.
     pub locked: bool,
-    /// Which drives are perpendicular in bits 5 to 2, GAP and WGATE in bits 1 and 0.
+    /// Which drives are perpendicular in bits 5 to 2, and GAP and WGATE in bits 1 and 0.
     pub perpendicular: u8,
     /// EIS, EFIFO, POLL and FIFOTHR.
     pub options: u8,
     /// PRETRK.
     pub precompensation: u8,
-    /// A reset turned the FIFO off behind, though LOCK keeps what was set.
+    /// A reset turned the FIFO of the inner controller off, though LOCK keeps what was set.
     pub forgotten: bool,
 }
 
@@ -40,7 +40,7 @@ const FIFO_OFF: u8 = 0x20;
 /// The steps of SRT in a byte of SPECIFY.
 const STEP_RATE: u8 = 16;
 
-/// OW in the byte of PERPENDICULAR MODE: it sets which drives are perpendicular too.
+/// OW in the byte of PERPENDICULAR MODE. With it, the command also sets which drives are perpendicular.
 const OVERWRITE: u8 = 0x80;
 
 /// Which drives are perpendicular, GAP and WGATE.
@@ -53,7 +53,7 @@ const PERPENDICULAR_DRIVES: u8 = 0x3C;
 const PERPENDICULAR_MODE: u8 = 0x03;
 
 impl Settings {
-    /// As at power-up.
+    /// The settings at power-up.
     pub(crate) fn new() -> Settings
         ensures { result ≡ at_power_up }
     {
@@ -69,8 +69,8 @@ impl Settings {
         }
     }
 
-    /// Behind a reset by DOR or DSR: CONFIGURE's settings are as at power-up, but for those that LOCK keeps, and GAP and WGATE
-    /// are clear.
+    /// The settings after a reset by DOR or DSR. CONFIGURE's settings are as at power-up, except for those that LOCK
+    /// keeps. GAP and WGATE are clear.
     pub(crate) fn reset(self) -> Settings
         ensures { result ≡ reset self }
     {
@@ -88,28 +88,29 @@ impl Settings {
         }
     }
 
-    /// The word times from one step pulse to the next: 16 less SRT milliseconds at 500 kbit/s, and at another rate as many word times.
+    /// The word times from one step pulse to the next. At 500 kbit/s they last 16 less SRT milliseconds. At another
+    /// rate there are as many word times.
     pub(crate) fn step_words(self) -> u16
         ensures { result ≡ step_words self }
     {
         (16 - u16::from(self.step_rate / STEP_RATE)) * 125 / 2
     }
 
-    /// Bytes pass by the data port.
+    /// Whether bytes pass by the data port.
     pub(crate) fn is_by_port(self) -> bool
         ensures { result ≡ is_by_port self }
     {
         has_bit(self.head_load, NON_DMA)
     }
 
-    /// CONFIGURE set EIS.
+    /// Whether CONFIGURE set EIS.
     pub(crate) fn implies_seeks(self) -> bool
         ensures { result ≡ implies_seeks self }
     {
         has_bit(self.options, IMPLIED_SEEK)
     }
 
-    /// Behind a PERPENDICULAR MODE with this byte.
+    /// The settings after a PERPENDICULAR MODE with this byte.
     pub(crate) fn with_perpendicular(self, mode: u8) -> Settings
         ensures { result ≡ perpendicular_set mode self }
     {

@@ -7,28 +7,28 @@ use flop_base::Chrn;
 /// What is under way.
 #[derive(Clone, Copy, PartialEq, Eq, Debug)]
 pub enum Stage {
-    /// Nothing: the bytes of a command come, and heads may move.
+    /// Nothing is under way: the bytes of a command come, and heads may move.
     Ready,
     /// A command is whole, and is done once the heads stand.
     Held,
-    /// A command is executed behind.
+    /// The inner controller executes a command.
     Busy { task: Task },
-    /// The host reads an answer, of which so many bytes were read.
+    /// The host reads an answer. It has read this many of its bytes.
     Telling { answer: Answer, read: u8 },
 }
 
-/// What a command that is executed behind is for.
+/// What a command of the inner controller is executed for.
 #[derive(Clone, Copy, PartialEq, Eq, Debug)]
 pub enum Task {
-    /// It is the one that was sent.
+    /// The command is the one that the host sent.
     Sent,
-    /// A READ ID looks which cylinder passes, behind a sector that wasn't found.
+    /// A READ ID looks which cylinder passes, after a sector that wasn't found.
     Sought { results: Results },
-    /// A READ ID, in place of a command that this medium can't have: with MFM it may see an address mark.
+    /// A READ ID is executed in place of a command that this medium can't have. With MFM it may see an address mark.
     Refused { unit: u8, key: Chrn, mfm: bool },
-    /// A READ DATA whose bytes go nowhere, for a VERIFY: so many are left before the terminal count.
+    /// A READ DATA is executed for a VERIFY, and its bytes go nowhere. This many are left before the terminal count.
     Verify { left: u32 },
-    /// Commands of one sector, for a READ TRACK.
+    /// Commands of one sector are executed for a READ TRACK.
     Track { track: Track },
 }
 
@@ -37,16 +37,16 @@ pub enum Task {
 pub struct Track {
     /// The head in bit 2 and the drive in bits 1 and 0, as they were sent.
     pub unit: u8,
-    /// The key that was sent.
+    /// The sector ID that was sent.
     pub key: Chrn,
-    /// The sectors that are left.
+    /// How many sectors are left.
     pub left: u16,
     pub place: Place,
-    /// The terminal count came.
+    /// Whether the terminal count came.
     pub counted: bool,
-    /// An address field had the key.
+    /// Whether an address field had the sector ID.
     pub met: bool,
-    /// What was wrong with a field.
+    /// What was wrong with any field.
     pub st1: St1,
     pub st2: St2,
 }
@@ -54,10 +54,10 @@ pub struct Track {
 /// Where a READ TRACK stands.
 #[derive(Clone, Copy, PartialEq, Eq, Debug)]
 pub enum Place {
-    /// It waits for the index.
+    /// It waits for the index pulse.
     Index,
     /// It waits for the next address field.
     Address,
-    /// It reads the data field behind that.
+    /// It reads the data field after that address field.
     Data,
 }

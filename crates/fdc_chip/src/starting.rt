@@ -1,4 +1,4 @@
-// Data commands: those that this medium can have are given behind, and a search takes the place of others.
+// Data commands. The inner controller is given those that this medium can have. For the others it searches instead.
 ghost use Rattle.std.specs.Prelude.{◌≡◌, ◌≤◌, ◌*◌};
 ghost use Rattle.fdc_sequencer.specs.Transfers.{size_of};
 ghost use Rattle.fdc_chip.specs.Chips.{chip_state};
@@ -29,10 +29,10 @@ const UNIT: u8 = 0x07;
 /// The head.
 const HEAD: u8 = 0x04;
 
-/// EC in the second byte of VERIFY: it counts its sectors.
+/// EC in the second byte of VERIFY: the command counts its sectors.
 pub(crate) const COUNTS: u8 = 0x80;
 
-/// The key where none was sent.
+/// The sector ID of a command that has none.
 const NO_KEY: Chrn = Chrn {
     c: 0,
     h: 0,
@@ -47,7 +47,7 @@ pub(crate) fn is_size(n: u8) -> bool
     1 <= n && n <= 6
 }
 
-/// The sectors of a track from one on, to the last.
+/// How many sectors a track has from this one on, up to the last.
 fn sectors_to(last: u8, r: u8) -> u32
     ensures count { result ≡ sectors_to last r }
     ensures most { result ≤ 256 }
@@ -55,7 +55,7 @@ fn sectors_to(last: u8, r: u8) -> u32
     (u32::from(last) + 256 - u32::from(r)) % 256 + 1
 }
 
-/// The bytes of so many keys.
+/// How many bytes this many sector IDs have.
 fn bytes_of_keys(sectors: u8) -> u16
     ensures { result ≡ 4 * sectors }
 {
@@ -63,7 +63,7 @@ fn bytes_of_keys(sectors: u8) -> u16
 }
 
 impl Order {
-    /// The sectors of a VERIFY.
+    /// How many sectors a VERIFY verifies.
     fn sectors_verified(self) -> u32
         ensures count { result ≡ sectors_verified self }
         ensures most { result ≤ 512 }
@@ -83,7 +83,7 @@ impl Order {
         }
     }
 
-    /// The bytes of a VERIFY.
+    /// How many bytes a VERIFY verifies.
     fn bytes_verified(self) -> u32
         ensures { result ≡ sectors_verified self * size_of self.key.n }
     {
@@ -99,7 +99,7 @@ impl Order {
         }
     }
 
-    /// The READ DATA of a VERIFY.
+    /// The READ DATA that is executed for a VERIFY.
     fn verifying(self) -> Order
         ensures { result ≡ verifying self }
     {
@@ -110,7 +110,7 @@ impl Order {
         }
     }
 
-    /// The READ DATA of a sector alone, with its gap and length.
+    /// The READ DATA of one sector, with the gap and length of this command.
     pub(crate) fn reading_one(self, key: Chrn) -> Order
         ensures { order_bytes result ≡ reading_one self.unit key self.gap self.length }
     {
@@ -124,7 +124,7 @@ impl Order {
 }
 
 impl Track {
-    /// A READ TRACK begins.
+    /// A READ TRACK that begins.
     fn of(order: Order) -> Track
         ensures { result ≡ track_begun order }
     {
@@ -146,7 +146,8 @@ impl Track {
 }
 
 impl<D: Inspect> Chip<D> {
-    /// A command of this task begins: INT falls, the pending result of its drive goes, and these bytes are given behind.
+    /// Begins a command of this task: INT falls, the pending result of its drive is dropped, and the inner controller
+    /// is given these bytes.
     fn begin(&mut self, task: Task, seeks: bool, bytes: &[u8])
         ensures { Begins task seeks bytes.now (chip_state D.state self.old) (chip_state D.state self.new) }
     {
@@ -158,7 +159,7 @@ impl<D: Inspect> Chip<D> {
         self.send(bytes);
     }
 
-    /// Tells behind what LOCK kept over a reset.
+    /// Gives the inner controller again what LOCK kept over a reset.
     fn remember(&mut self)
         ensures { Remembers (chip_state D.state self.old) (chip_state D.state self.new) }
     {
@@ -177,7 +178,8 @@ impl<D: Inspect> Chip<D> {
         self.configure_behind(options, precompensation);
     }
 
-    /// A command that this medium can't have: an address mark is looked for in its place, as the chip would.
+    /// A command that this medium can't have: the inner controller looks for an address mark instead, as the real chip
+    /// would.
     fn refuse(&mut self, key: Chrn, mfm: bool)
         ensures { Refuses key mfm (chip_state D.state self.old) (chip_state D.state self.new) }
     {
@@ -197,7 +199,7 @@ impl<D: Inspect> Chip<D> {
         }
     }
 
-    /// What DUMPREG gives of a data command.
+    /// Notes what DUMPREG gives of a data command.
     fn note(&mut self, last_sector: u8)
         ensures { chip_state D.state self.new ≡ with_last last_sector (chip_state D.state self.old) }
     {
@@ -232,7 +234,7 @@ impl<D: Inspect> Chip<D> {
         self.strapped || self.settings.implies_seeks()
     }
 
-    /// A command of sectors, done behind by the bytes of another.
+    /// Begins a command of sectors, for which the inner controller is given the bytes of another command.
     pub(crate) fn transfer(&mut self, mfm: bool, task: Task, order: Order)
         ensures { Transfers mfm task (order_bytes order) (chip_state D.state self.old) (chip_state D.state self.new) }
     {
@@ -263,7 +265,7 @@ impl<D: Inspect> Chip<D> {
         self.transfer(mfm, Task::Verify { left }, order.verifying());
     }
 
-    /// READ TRACK. It begins with a search that ends with the index.
+    /// READ TRACK. It begins with a search that ends with the index pulse.
     pub(crate) fn read_track(&mut self, mfm: bool)
         ensures { ReadsTrack mfm (chip_state D.state self.old) (chip_state D.state self.new) }
     {

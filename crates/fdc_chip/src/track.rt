@@ -1,4 +1,5 @@
-// READ TRACK: the sectors of a track, one behind the other from the index on, each by a READ ID and a READ DATA of what that heard.
+// READ TRACK: the sectors of a track, one after the other from the index pulse on. Each is read by a READ ID, and then
+// by a READ DATA of the sector ID that the READ ID heard.
 ghost use Rattle.std.specs.Prelude.{◌≡◌, ◌==◌, ◌&&◌, not, bit_and};
 ghost use Rattle.fdc_chip.specs.Chips.{chip_state};
 ghost use Rattle.fdc_chip.specs.Doing.{is_size};
@@ -22,7 +23,7 @@ const UNIT: u8 = 0x07;
 /// All of ST1 but EN.
 const WITHOUT_END: u8 = 0x7F;
 
-/// Why no sector is read behind an address field, or none was met: ND for a size that there isn't.
+/// Why no sector is read after an address field, or why no field was met: ND for a size code that doesn't exist.
 fn unread(results: Results) -> St1
     ensures { result.0 ≡ unread results }
 {
@@ -40,7 +41,7 @@ fn is_same_key(one: Chrn, other: Chrn) -> bool
 }
 
 impl Track {
-    /// A sector is over.
+    /// The READ TRACK after a sector is over.
     fn without_one(self, results: Results) -> Track
         ensures { result ≡ without_one results self }
     {
@@ -52,7 +53,7 @@ impl Track {
         }
     }
 
-    /// An address field of this key was met.
+    /// The READ TRACK after an address field of this sector ID was met.
     fn met_key(self, key: Chrn) -> Track
         ensures { result ≡ met_key key self }
     {
@@ -63,7 +64,7 @@ impl Track {
         }
     }
 
-    /// It ends with this wrong besides.
+    /// The READ TRACK with this fault as well.
     fn with_fault(self, fault: St1) -> Track
         ensures { result ≡ with_fault fault.0 self }
     {
@@ -73,7 +74,7 @@ impl Track {
         }
     }
 
-    /// What is wrong.
+    /// What is wrong after this READ TRACK.
     fn faults(self) -> St1
         ensures { result.0 ≡ track_faults self }
     {
@@ -90,7 +91,7 @@ impl Track {
         self.st1.union(missed).union(uncounted)
     }
 
-    /// Its results, where it ends here.
+    /// The results of the READ TRACK, if it ends here.
     fn results(self) -> Results
         ensures { result ≡ results_of_track self }
     {
@@ -108,7 +109,7 @@ impl Track {
         }
     }
 
-    /// Whether no sector comes behind one that ended so.
+    /// Whether no sector comes after one that ended with these results.
     fn is_over(self, results: Results) -> bool
         ensures { result ≡ is_over results self }
     {
@@ -117,14 +118,14 @@ impl Track {
 }
 
 impl<D: Inspect> Chip<D> {
-    /// It ends here.
+    /// Ends the READ TRACK here.
     fn tell_track(&mut self, track: Track)
         ensures { chip_state D.state self.new ≡ track_told track (chip_state D.state self.old) }
     {
         self.tell_results(track.results());
     }
 
-    /// This is under way, and no seek is implied for it.
+    /// This READ TRACK is under way, and no seek is implied for its commands.
     fn go_on(&mut self, track: Track)
         ensures { chip_state D.state self.new ≡ track_at track (chip_state D.state self.old) }
     {
@@ -134,7 +135,7 @@ impl<D: Inspect> Chip<D> {
         };
     }
 
-    /// It looks for the next address field.
+    /// Looks for the next address field.
     fn look_on(&mut self, track: Track)
         ensures { LooksOn track (chip_state D.state self.old) (chip_state D.state self.new) }
     {
@@ -145,7 +146,7 @@ impl<D: Inspect> Chip<D> {
         self.send(&[READ_ID, track.unit]);
     }
 
-    /// It reads the sector of the field that was met.
+    /// Reads the sector of the address field that was met.
     fn read_on(&mut self, track: Track, key: Chrn)
         ensures { ReadsOn track key (chip_state D.state self.old) (chip_state D.state self.new) }
     {
@@ -158,7 +159,7 @@ impl<D: Inspect> Chip<D> {
         self.send(&bytes);
     }
 
-    /// A part of it ended with these results.
+    /// Goes on after a part of the READ TRACK ended with these results.
     pub(crate) fn end_part(&mut self, track: Track, results: Results)
         ensures { EndsAt track.place track results (chip_state D.state self.old) (chip_state D.state self.new) }
     {

@@ -117,7 +117,7 @@ pulse_due old track0 = option_map_or (λ seek. pulse_of seek.motion track0) old.
 abbrev pub stepped : Seeking → Bool → Seeking
 stepped old track0 = option_map_or (λ seek. stepped_seek old seek.drive seek.motion track0) old.seek old
 
--- the seek bits of the main status register, where bit 0 is drive 0's
+-- the seek bits of the main status register; bit 0 is that of drive 0
 abbrev pub seek_bits : Seeking → ℕ
 seek_bits seeking = option_map_or (λ seek. 2 ^ seek.drive) seeking.seek 0
 

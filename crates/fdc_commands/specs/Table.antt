@@ -21,7 +21,7 @@ row code count spells = record { code = code; count = count; spells = spells }
 abbrev pub nth : List ℕ → ℕ → ℕ
 nth bytes i = slice_index bytes i
 
--- the key of a data command: the second to the fifth byte after the code
+-- the sector ID of a data command: the second to the fifth byte after the code
 abbrev pub key_of : List ℕ → Chrn
 key_of bytes = record { c = nth bytes 2; h = nth bytes 3; r = nth bytes 4; n = nth bytes 5 }
 
@@ -67,7 +67,7 @@ abbrev pub is_begun : List ℕ → Bool
 is_begun [] = false
 is_begun (_ ∷ _) = true
 
--- what the bytes so far come to, where their code is in this row
+-- what the bytes so far come to, if their code is in this row
 abbrev pub answer_by : Row → List ℕ → Accepted
 answer_by r bytes = if nat_le (length bytes) r.count then More else whole (r.spells bytes)
 

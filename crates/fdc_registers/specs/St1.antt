@@ -13,7 +13,7 @@ data_error = 0x20
 abbrev pub overrun : ℕ
 overrun = 0x10
 
--- no sector has the key
+-- no sector has the sector ID
 abbrev pub no_data : ℕ
 no_data = 0x04
 

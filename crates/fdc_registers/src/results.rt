@@ -63,7 +63,7 @@ bitflag_items! {
         const DATA_ERROR = 0x20;
         /// DMA came too late.
         const OVERRUN = 0x10;
-        /// No sector has the key.
+        /// No sector has the sector ID.
         const NO_DATA = 0x04;
         /// The medium is protected.
         const NOT_WRITABLE = 0x02;

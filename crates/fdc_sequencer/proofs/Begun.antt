@@ -4,7 +4,7 @@ use Rattle.fdc_adapter.specs.Adapters.{AdapterState}
 use Rattle.fdc_sequencer.specs.Fronts.{Front, begun_if}
 use Rattle.fdc_sequencer.specs.declared.transfer.Transfer.{Transfer}
 
--- the adapter that was there before doesn't count
+-- the adapter that the front had before doesn't matter
 pub begun_over : (executing : Bool) (transfer : Transfer) (counted passed_over : Bool) (between : AdapterState) (old : Front)
     → begun_if executing transfer counted passed_over between (record old { adapter = between }) ≡ begun_if executing transfer counted passed_over between old
 begun_over true transfer counted passed_over between old = refl

@@ -6,7 +6,7 @@ use Rattle.fdc_sequencer.specs.Opcodes.{plain_code}
 use Rattle.fdc_sequencer.specs.declared.opcode.Operation.{Operation}
 use Rattle.fdc_sequencer.specs.declared.opcode.Operation.TheVariants.{Read, Write}
 
--- bytes come behind each of them
+-- more bytes come after each of these codes
 pub plain_begins : (operation : Operation) → answer (plain_code operation ∷ []) ≡ More
 unfolding answer
 plain_begins (Read deleted skip) = refl

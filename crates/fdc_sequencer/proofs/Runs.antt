@@ -21,7 +21,7 @@ pub runs_none : (int drq : Bool) (front : Front) → RunsFrontWith int drq 0 fro
 unfolding RunsFrontWith
 runs_none int drq front = refl
 
--- a run behind another
+-- a run after another is one run
 pub runs_plus : (int drq : Bool) (n m : ℕ) (old between new : Front) → RunsFrontWith int drq n old between → RunsFrontWith int drq m between new
     → RunsFrontWith int drq (n + m) old new
 unfolding RunsFrontWith
@@ -32,7 +32,7 @@ runs_plus int drq n (suc m) old between new runs more =
     subst (λ (count : ℕ). RunsFrontWith int drq count old new) (sym (add-suc n m))
     (more.0, runs_plus int drq n m old between more.0 runs more.1, more.2, more.3)
 
--- the same where the lines are those that the first run began with
+-- a run after another is one run, if the lines are then those that the first run began with
 pub runs_on : (int drq : Bool) (n m : ℕ) (old between new : Front) → RunsFrontWith int drq n old between → HasLinesOutside int drq between
     → RunsFrontWith (interrupts_outside between) (asks_outside between) m between new → RunsFrontWith int drq (n + m) old new
 runs_on int drq n m old between new runs lines more =
@@ -40,7 +40,7 @@ runs_on int drq n m old between new runs lines more =
     (subst (λ (int : Bool). RunsFrontWith int drq m between new) lines.0
     (subst (λ (drq : Bool). RunsFrontWith (interrupts_outside between) drq m between new) lines.1 more))
 
--- a run behind a step
+-- a run after one device step is a run
 runs_behind : (int drq : Bool) (n : ℕ) (old between new : Front) → HasLinesOutside int drq old → StepsFront old between
     → RunsFrontWith int drq n between new → RunsFrontWith int drq (suc n) old new
 unfolding RunsFrontWith
@@ -50,7 +50,7 @@ runs_behind int drq (suc n) old between new lines step runs =
 
 -- ---- a sector is moved
 
--- INT is down then
+-- INT is down while a sector is moved
 moving_shows : (moving : MovingSector) (front : Front) → front.stage ≡ Moving moving → interrupts_outside front ≡ false
 moving_shows moving front at = ap (λ stage. interrupts_at stage front.adapter.controller) at
 
@@ -58,7 +58,7 @@ pub leaps_none : (front : Front) → LeapsFront 0 front front
 unfolding LeapsFront
 leaps_none front = refl
 
--- neither line changes
+-- neither line changes in a device step that moves a sector along
 along_lines : (int drq : Bool) (old new : Front) → MovesAlong old new → HasLinesOutside int drq old → HasLinesOutside int drq new
 along_lines int drq old new along lines = (
   moving_shows along.moving new along.is ∙ sym (moving_shows along.moving old along.was) ∙ lines.0,
@@ -71,11 +71,11 @@ leap_runs_with int drq zero old new lines leaps = leaps
 leap_runs_with int drq (suc n) old new lines (mid, step, along, rest) =
     runs_behind int drq n old mid new lines step (leap_runs_with int drq n mid new (along_lines int drq old mid along lines) rest)
 
--- device steps at once are a run
+-- device steps that are made at once are a run
 pub leap_runs : (n : ℕ) (old new : Front) → LeapsFront n old new → RunsFrontWith (interrupts_outside old) (asks_outside old) n old new
 leap_runs n old new leaps = leap_runs_with (interrupts_outside old) (asks_outside old) n old new (refl, refl) leaps
 
--- a step where none was made before
+-- one device step, after no device steps were made at once
 pub runs_one : (none : ℕ) (old between new : Front) → none ≡ 0 → LeapsFront none old between → StepsFront between new
     → RunsFrontWith (interrupts_outside old) (asks_outside old) 1 old new
 unfolding LeapsFront RunsFrontWith
@@ -89,7 +89,7 @@ executing_goes (Execute execution) is = refl
 executing_goes Command is = absurd (true≢false (sym is))
 executing_goes (Result answer) is = absurd (true≢false (sym is))
 
--- a step of the adapter in which nothing ends and no mark is met is one of the whole
+-- a device step of the adapter in which nothing ends and no mark is met is a device step of the front
 under_way_step : (front : Front) (mid : AdapterState) → IsUnderWay front → StepsAdapter front.adapter mid → HoldsLines front.adapter.controller mid.controller
     → StepsFront front (record front { adapter = mid })
 under_way_step front mid under steps holds =
@@ -125,7 +125,7 @@ under_way_on front mid under holds = record {
   wanted = ap (is_unwanted under.moving) holds.mark ∙ under.wanted;
 }
 
--- so many are as many of the whole
+-- this many such device steps of the adapter are as many of the front
 pub front_leaps : (n : ℕ) (front : Front) (new : AdapterState) → IsUnderWay front → LeapsAdapter n front.adapter new → LeapsFront n front (record front { adapter = new })
 unfolding LeapsAdapter LeapsFront
 front_leaps zero front new under leaps = ap (λ (adapter : AdapterState). record front { adapter = adapter }) leaps
@@ -142,7 +142,7 @@ front_leaps (suc n) front new under (mid, step, holds, rest) = (
 abbrev through : Front → AdapterState → Front
 through front adapter = record front { adapter = adapter; stage = Through }
 
--- a run of the adapter is one of the whole
+-- a run of the adapter is a run of the front
 through_runs : (int drq : Bool) (n : ℕ) (front : Front) (old new : AdapterState) → RunsWith int drq n old new
     → RunsFrontWith int drq n (through front old) (through front new)
 unfolding RunsWith RunsFrontWith
@@ -162,7 +162,7 @@ through_to most front old steps new runs = record {
   all = runs.all;
 }
 
--- the same in the stage in which nothing is done
+-- a run of the adapter is a run of the front, if the front's stage is the one in which it does nothing
 pub adapter_runs : (most : ℕ) (front : Front) (steps : ℕ) (new : AdapterState) → front.stage ≡ Through → RunsTo most front.adapter steps new
     → RunsFront most front steps (record front { adapter = new })
 adapter_runs most front steps new is runs =

@@ -9,7 +9,7 @@ use Rattle.fdc_sequencer.specs.Still.{StandsFront, rests_at}
 use Rattle.fdc_sequencer.specs.declared.stage.Stage.{Stage}
 use Rattle.fdc_sequencer.specs.declared.stage.Stage.TheVariants.{Through, Collecting, Seeking, Moving, Telling}
 
--- nothing is done behind the adapter's step
+-- nothing is done after the adapter's step
 follows_none : (stage : Stage) (old new : Front) → rests_at stage ≡ true → FollowsStep stage old new → new ≡ old
 follows_none Through old new rests follows = follows
 follows_none (Collecting opcode) old new rests follows = follows
@@ -17,11 +17,11 @@ follows_none (Telling results read) old new rests follows = follows
 follows_none (Seeking transfer counted) old new rests follows = absurd (true≢false (sym rests))
 follows_none (Moving moving) old new rests follows = absurd (true≢false (sym rests))
 
--- so it is the adapter's alone
+-- the device step is the adapter's alone
 rests_on : (old new : Front) (step : StepsFront old new) → rests_at old.stage ≡ true → new ≡ record old { adapter = step.between }
 rests_on old new step rests = follows_none old.stage (record old { adapter = step.between }) new rests step.follows
 
--- where that leaves the controller, all but the drives stays
+-- if that step leaves the controller as it is, all but the drives stays
 adapter_stands : (front old : Front) (between : AdapterState) → KeepsFront front old → between.controller ≡ front.adapter.controller → KeepsFront front (record old { adapter = between })
 adapter_stands front old between keeps same =
     record { controller = same; stage = keeps.stage; bytes = keeps.bytes; strapped = keeps.strapped; configured = keeps.configured }

@@ -1,5 +1,5 @@
--- A controller with its drives and what stands in front of it, as contracts see it: its state, its lines, port accesses, and
--- its side of the channel.
+-- A controller with its drives and what stands in front of it, as contracts see them: their state, their lines, port
+-- accesses, and their side of the channel.
 use Rattle.std.specs.Prelude.{◌≡◌, ℕ, ◌+◌, ◌-◌, Bool, true, false, not, ◌==◌, ◌&&◌, ◌||◌, List, [], ◌∷◌, ◌++◌, Option, Some, None, if◌then◌else◌, nat_le, nat_lt, get_or, bit_and}
 use Rattle.std.specs.Int.RustNames.{bit_or}
 use Rattle.drive_model.specs.Drive.{DriveState}
@@ -26,8 +26,8 @@ use Rattle.fdc_sequencer.specs.declared.stage.Stage.{Stage}
 use Rattle.fdc_sequencer.specs.declared.stage.Stage.TheVariants.{Through, Collecting, Seeking, Moving, Telling}
 use Rattle.fdc_sequencer.specs.declared.transfer.Transfer.{Transfer}
 
--- the adapter behind, what is done in front of it, the bytes of the command that comes, and whether seeks are implied: by a
--- strap, or by CONFIGURE
+-- the adapter, what is done in front of it, and the bytes of the command that comes. The last two fields say whether
+-- seeks are implied: by a strap, or by CONFIGURE
 pub record Front : Type 0 where
   pub adapter : AdapterState
   pub stage : Stage
@@ -44,15 +44,15 @@ front_state state front = record {
   configured = front.configured;
 }
 
--- the adapter behind
+-- the adapter of the sequencer
 abbrev pub adapter_of : {D : Type 0} → Sequencer D → DisketteAdapter D
 adapter_of front = front.adapter
 
--- with this drive in a bay
+-- the sequencer with this drive in a bay
 abbrev pub front_with_drive : {D : Type 0} → ℕ → D → Sequencer D → Sequencer D
 front_with_drive bay drive front = record front { adapter = adapter_with_drive bay drive front.adapter }
 
--- a new one with these drives
+-- a new front with these drives
 pub record IsNewFront (bay0 bay1 : DriveState) (new : Front) : Type 0 where
   pub adapter : IsNewAdapter bay0 bay1 new.adapter
   pub stage : new.stage ≡ Through
@@ -60,7 +60,7 @@ pub record IsNewFront (bay0 bay1 : DriveState) (new : Front) : Type 0 where
   pub strapped : new.strapped ≡ false
   pub configured : new.configured ≡ false
 
--- all but the drives stays
+-- all but the drives stays as it was
 pub record KeepsFront (old new : Front) : Type 0 where
   pub controller : new.adapter.controller ≡ old.adapter.controller
   pub stage : new.stage ≡ old.stage
@@ -68,13 +68,14 @@ pub record KeepsFront (old new : Front) : Type 0 where
   pub strapped : new.strapped ≡ old.strapped
   pub configured : new.configured ≡ old.configured
 
--- the controller is this one
+-- the adapter with this controller
 abbrev pub with_controller : Fdc → AdapterState → AdapterState
 with_controller controller old = record old { controller = controller }
 
 -- ---- the lines outside
 
--- INT falls where a command of several sectors begins, and rises with its results, until the first of them is read
+-- INT falls when a command of several sectors begins. It rises with the command's results, and stays up until the first
+-- of them is read
 abbrev pub interrupts_at : Stage → Fdc → Bool
 interrupts_at Through fdc = interrupts fdc
 interrupts_at (Collecting _) fdc = interrupts fdc
@@ -85,7 +86,7 @@ interrupts_at (Telling _ read) fdc = (read == 0) && is_gated fdc
 abbrev pub interrupts_outside : Front → Bool
 interrupts_outside front = interrupts_at front.stage front.adapter.controller
 
--- DRQ is up only while bytes of the sector are still to pass
+-- DRQ is up only while bytes of the sector still have to pass
 abbrev pub asks_at : Stage → Fdc → Bool
 asks_at Through fdc = asks fdc
 asks_at (Moving moving) fdc = nat_lt 0 moving.left && asks fdc
@@ -96,7 +97,7 @@ asks_outside front = asks_at front.stage front.adapter.controller
 
 -- ---- reads of a port
 
--- MSR: busy with a command of several sectors, and no seek bit shows within it
+-- MSR: busy during a command of several sectors. No seek bit shows meanwhile
 abbrev pub status_at : Stage → Fdc → ℕ
 status_at Through fdc = main_status fdc
 status_at (Collecting _) fdc = bit_or (main_status fdc) busy
@@ -104,7 +105,7 @@ status_at (Seeking _ _) fdc = busy
 status_at (Moving _) fdc = busy
 status_at (Telling _ _) fdc = bit_or (bit_or rqm dio) busy
 
--- the data port: the next result byte, and FF where there is none
+-- the data port: the next result byte, or FF if there is none
 abbrev pub byte_at : Stage → Fdc → ℕ
 byte_at Through fdc = result_byte fdc.phase
 byte_at (Telling results read) fdc = get_or (result_bytes results) read 0xFF
@@ -116,7 +117,7 @@ value_outside port front =
     if port == 0x3F5 then byte_at front.stage front.adapter.controller else
     value_read port (lines_at front.adapter) front.adapter.controller)
 
--- once the data port was read: behind the seventh result byte each access is the controller's again
+-- the front after the data port was read. After the seventh result byte, each access is the controller's again
 abbrev pub byte_given : Stage → Front → Front
 byte_given Through old = record old { adapter = with_controller (given old.adapter.controller) old.adapter }
 byte_given (Telling results read) old = record old { stage = if nat_le 6 read then Through else Telling results (read + 1) }
@@ -127,13 +128,13 @@ after_reading port old = if port == 0x3F5 then byte_given old.stage old else old
 
 -- ---- a command begins
 
--- what bytes came to is done by the controller
+-- the controller does what the bytes of a command came to
 pub record TakesAdapter (accepted : Accepted) (old new : AdapterState) : Type 0 where
   pub takes : TakesWhole accepted (lines_at old) old.controller new.controller
   pub first : new.first ≡ old.first
   pub second : new.second ≡ old.second
 
--- the terminal count is told, where it came
+-- the controller is given the terminal count, if it came
 abbrev pub told_if : Bool → AdapterState → AdapterState
 told_if true old = with_controller (told_count old.controller) old
 told_if false old = old
@@ -143,7 +144,7 @@ abbrev pub moving_of : Transfer → Bool → Bool → MovingSector
 moving_of transfer counted passed_over =
     record { transfer = transfer; left = size_of transfer.key.n; counted = counted; passed_over = passed_over; skipped = false }
 
--- the controller executes its own command for the sector, or the host reads what it answers in place of that
+-- the controller executes its own command for the sector. Otherwise the host reads what the controller answers
 abbrev pub begun_if : Bool → Transfer → Bool → Bool → AdapterState → Front → Front
 begun_if true transfer counted passed_over between old =
     record old { adapter = told_if counted between; stage = Moving (moving_of transfer counted passed_over) }
@@ -155,7 +156,7 @@ pub record BeginsSector (transfer : Transfer) (counted passed_over : Bool) (old 
   pub takes : TakesAdapter (Ready (command_of transfer)) old.adapter between
   pub begun : new ≡ begun_if (is_executing between.controller.phase) transfer counted passed_over between old
 
--- the heads go to the command's cylinder, or the host reads what the controller answers in place of that
+-- the heads go to the command's cylinder. Otherwise the host reads what the controller answers
 pub record SeeksFirst (transfer : Transfer) (old new : Front) : Type 0 where
   pub between : AdapterState
   pub takes : TakesAdapter (Ready (Seek transfer.head_drive transfer.key.c)) old.adapter between
@@ -165,12 +166,12 @@ abbrev pub StartsIf : Bool → Transfer → Front → Front → Type 0
 StartsIf true transfer old new = SeeksFirst transfer old new
 StartsIf false transfer old new = BeginsSector transfer false false old new
 
--- a command starts, with a seek where these are implied
+-- a command starts, with a seek if seeks are implied
 abbrev pub Starts : Option Transfer → Front → Front → Type 0
 Starts None old new = new ≡ record old { stage = Through }
 Starts (Some transfer) old new = StartsIf (old.strapped || old.configured) transfer old new
 
--- the controller answers in place of a command whose size code isn't 1 to 6
+-- the controller answers a command whose size code isn't 1 to 6
 pub record Refuses (old new : Front) : Type 0 where
   pub between : AdapterState
   pub takes : TakesAdapter Invalid old.adapter between
@@ -178,7 +179,7 @@ pub record Refuses (old new : Front) : Type 0 where
 
 -- ---- writes of a port
 
--- the bytes of a command come to this
+-- what the front does when the bytes of a command come to this
 abbrev pub CollectsAs : Opcode → Accepted → Front → Front → Type 0
 CollectsAs opcode More old new = new ≡ old
 CollectsAs opcode (Ready command) old new = Starts (transfer_of opcode command) old new
@@ -188,12 +189,12 @@ abbrev pub Collects : Opcode → ℕ → Front → Front → Type 0
 Collects opcode byte old new =
     let bytes = old.bytes ++ byte ∷ [] in CollectsAs opcode (answer bytes) (record old { bytes = kept (answer bytes) bytes }) new
 
--- EIS, once a CONFIGURE with these options was done
+-- EIS after a byte: what a CONFIGURE with these options set, if the byte completed one
 abbrev pub configured_with : Option ℕ → Bool → Bool
 configured_with None was = was
 configured_with (Some options) was = not (bit_and options 0x40 == 0)
 
--- a byte that begins a command of several sectors is kept here, and any other is the controller's
+-- a byte that begins a command of several sectors is kept here. Any other byte is the controller's
 abbrev pub PassesAs : Option Opcode → ℕ → Front → Front → Type 0
 PassesAs (Some opcode) byte old new =
     new ≡ record old { stage = Collecting opcode; bytes = plain_code opcode.operation ∷ [] }
@@ -209,7 +210,7 @@ TakesByte Through byte old new = PassesAs (begins_with byte old.adapter.controll
 TakesByte (Collecting opcode) byte old new = Collects opcode byte old new
 TakesByte _ byte old new = new ≡ old
 
--- a reset ends what is done in front, and lets CONFIGURE's EIS go
+-- a reset ends what is done in front, and clears the EIS that CONFIGURE set
 abbrev pub reset_if : Bool → Front → Front
 reset_if true old = record old { stage = Through; configured = false }
 reset_if false old = old
@@ -221,7 +222,7 @@ pub record WritesFront (port value : ℕ) (old new : Front) : Type 0 where
 
 -- ---- the channel
 
--- a byte of the sector passed; behind the last the controller is told the count
+-- a byte of the sector passed. After the last byte the controller is given the terminal count
 abbrev pub passed_one : MovingSector → Fdc → Front → Front
 passed_one moving controller old = record old {
   adapter = with_controller (if moving.left - 1 == 0 then told_count controller else controller) old.adapter;
@@ -234,7 +235,7 @@ TakesMoving moving old (Some byte) new = let fdc = old.adapter.controller in
 TakesMoving moving old None new = let fdc = old.adapter.controller in
     ((nat_lt 0 moving.left && (asks fdc && to_memory_of fdc)) ≡ false) × (new ≡ old)
 
--- the channel takes a byte, where one is asked for in this direction
+-- the channel takes a byte, if one is asked for in this direction
 abbrev pub TakesAt : Stage → Front → Option ℕ → Front → Type 0
 TakesAt Through old byte new = Takes old.adapter.controller byte new.adapter.controller × (new ≡ record old { adapter = with_controller new.adapter.controller old.adapter })
 TakesAt (Moving moving) old byte new = TakesMoving moving old byte new
@@ -249,7 +250,7 @@ GivesMoving moving byte old true new = let fdc = old.adapter.controller in
 GivesMoving moving byte old false new = let fdc = old.adapter.controller in
     ((nat_lt 0 moving.left && (asks fdc && not (to_memory_of fdc))) ≡ false) × (new ≡ old)
 
--- the channel gives a byte, where one is asked for in this direction
+-- the channel gives a byte, if one is asked for in this direction
 abbrev pub GivesAt : Stage → ℕ → Front → Bool → Front → Type 0
 GivesAt Through byte old was new = Gives byte old.adapter.controller was new.adapter.controller × (new ≡ record old { adapter = with_controller new.adapter.controller old.adapter })
 GivesAt (Moving moving) byte old was new = GivesMoving moving byte old was new
@@ -258,7 +259,7 @@ GivesAt _ byte old was new = (was ≡ false) × (new ≡ old)
 abbrev pub GivesFront : ℕ → Front → Bool → Front → Type 0
 GivesFront byte old was new = GivesAt old.stage byte old was new
 
--- the terminal count comes: the command ends behind its sector
+-- the terminal count comes: the command ends after its sector
 abbrev pub count_told : Stage → Front → Front
 count_told Through old = record old { adapter = told_if true old.adapter }
 count_told (Seeking transfer _) old = record old { stage = Seeking transfer true }

@@ -1,4 +1,5 @@
--- Device steps of a controller and what stands in front of it: a sector ends, and the next begins or results are told.
+-- Device steps of a controller and what stands in front of it: a sector ends, and the next begins or the host reads
+-- results.
 use Rattle.std.specs.Prelude.{◌≡◌, ◌≤◌, ℕ, zero, suc, Bool, true, false, not, ◌==◌, ◌&&◌, ◌||◌, Option, Some, None, if◌then◌else◌}
 use Rattle.fdc_commands.specs.Seeking.{has_ended_seek}
 use Rattle.fdc_stages.specs.declared.ending.Ending.{Ending}
@@ -15,27 +16,28 @@ use Rattle.fdc_sequencer.specs.declared.transfer.Transfer.{Transfer}
 
 -- ---- the end of a sector
 
--- a field of the mark that isn't wanted was met, here or before
+-- a field with the mark that isn't wanted was met, at this sector or before
 abbrev pub has_met_other : MovingSector → Bool → Bool
 has_met_other moving deleted = moving.passed_over || is_other moving.transfer.opcode.operation deleted
 
--- the terminal count didn't come, and the sector had the mark that is wanted, or such that haven't it are passed over
+-- the terminal count didn't come, and either the sector had the mark that is wanted, or fields with the other mark are
+-- passed over
 abbrev pub would_go_on : MovingSector → Bool → Bool
 would_go_on moving deleted =
     not moving.counted && (not (is_other moving.transfer.opcode.operation deleted) || is_skipping moving.transfer.opcode.operation)
 
--- another sector comes behind this one
+-- another sector comes after this one
 abbrev pub goes_on : MovingSector → Bool → Bool
 goes_on moving deleted = would_go_on moving deleted && not (is_last moving.transfer)
 
--- the results where none comes: EN with the key as it was sent, if the terminal count was missing alone; else the key of the
--- sector behind
+-- the results if no sector comes after this one. If only the terminal count was missing, they have EN and the sector ID
+-- as it was sent. Otherwise they have the sector ID of the next sector
 abbrev pub results_behind : MovingSector → Bool → Results
 results_behind moving deleted = let at = moving.transfer in
     if would_go_on moving deleted then results_told NoCount at.head_drive at.key (has_met_other moving deleted)
     else results_told (Done false) at.head_drive (next_of at).key (has_met_other moving deleted)
 
--- the results of a failure, with the key as it was sent
+-- the results of a failure, with the sector ID as it was sent
 abbrev pub results_failed : MovingSector → Ending → Results
 results_failed moving ending = results_told ending moving.transfer.head_drive moving.transfer.key moving.passed_over
 
@@ -43,8 +45,8 @@ abbrev pub EndsIf : Bool → MovingSector → Bool → Front → Front → Type 
 EndsIf true moving deleted old new = BeginsSector (next_of moving.transfer) false (has_met_other moving deleted) old new
 EndsIf false moving deleted old new = new ≡ record old { stage = Telling (results_behind moving deleted) 0 }
 
--- the ending of the controller's own command as the command judges it: a field that is passed over has the mark that isn't wanted,
--- and its check doesn't count
+-- the ending of the controller's own command, as the command of several sectors judges it. A field that is passed over
+-- has the mark that isn't wanted, and its CRC doesn't count
 abbrev pub judged : MovingSector → Ending → Ending
 judged moving BadCheck = if moving.skipped then Done (other_mark moving.transfer.opcode.operation) else BadCheck
 judged moving ending = ending
@@ -53,32 +55,34 @@ abbrev pub judged_if : MovingSector → Option Ending → Option Ending
 judged_if moving None = None
 judged_if moving (Some ending) = Some (judged moving ending)
 
--- the controller's own command for a sector ended so, as it is judged
+-- what the front does when the controller's own command for a sector has this ending, as it is judged
 abbrev pub EndsSector : MovingSector → Ending → Front → Front → Type 0
 EndsSector moving (Done deleted) old new = EndsIf (goes_on moving deleted) moving deleted old new
 EndsSector moving ending old new = new ≡ record old { stage = Telling (results_failed moving ending) 0 }
 
 -- ---- device steps
 
--- the mark of the field is met, before a byte of it passed, and it isn't wanted: the field is to be passed over
+-- the mark of the field is met before a byte of the field passed, and the mark isn't wanted. Then the field is to be
+-- passed over
 abbrev pub is_unwanted : MovingSector → Option Bool → Bool
 is_unwanted moving None = false
 is_unwanted moving (Some deleted) = let operation = moving.transfer.opcode.operation in
     is_skipping operation && (is_other operation deleted && (moving.left == size_of moving.transfer.key.n))
 
--- the field is passed over: the controller is told the count, and no byte of it passes
+-- the field is passed over: the controller is given the terminal count, and no byte of the field passes
 abbrev pub passed_over_if : Bool → MovingSector → Front → Front
 passed_over_if true moving old =
     record old { adapter = told_if true old.adapter; stage = Moving (record moving { left = 0; passed_over = true; skipped = true }) }
 passed_over_if false moving old = old
 
--- what the front does behind the controller's step, while a sector is moved: its command ended so, as it is judged, or it goes on
+-- what the front does after the controller's step, while a sector is moved. The controller's own command has this
+-- ending, as it is judged, or it goes on
 abbrev pub MovesOn : Option Ending → MovingSector → Front → Front → Type 0
 MovesOn (Some ending) moving old new =
     EndsSector moving ending (record old { adapter = with_controller (given_up old.adapter.controller) old.adapter }) new
 MovesOn None moving old new = new ≡ passed_over_if (is_unwanted moving (mark_of old.adapter.controller)) moving old
 
--- and while the heads seek
+-- what the front does after the controller's step, while the heads seek
 abbrev pub SeeksOn : Bool → Transfer → Bool → Front → Front → Type 0
 SeeksOn true transfer counted old new =
     BeginsSector transfer counted false (record old { adapter = with_controller (without_seek old.adapter.controller) old.adapter }) new
@@ -89,7 +93,7 @@ FollowsStep (Seeking transfer counted) old new = SeeksOn (has_ended_seek old.ada
 FollowsStep (Moving moving) old new = MovesOn (judged_if moving (ending_told old.adapter.controller)) moving old new
 FollowsStep _ old new = new ≡ old
 
--- one device step: the adapter's, and what the front does behind it
+-- one device step: that of the adapter, and what the front does after it
 pub record StepsFront (old new : Front) : Type 0 where
   pub between : AdapterState
   pub steps : StepsAdapter old.adapter between
@@ -97,35 +101,35 @@ pub record StepsFront (old new : Front) : Type 0 where
 
 -- ---- many steps
 
--- the interrupt line and the request line
+-- these are the interrupt line and the request line
 abbrev pub HasLinesOutside : Bool → Bool → Front → Type 0
 HasLinesOutside int drq front = (interrupts_outside front ≡ int) × (asks_outside front ≡ drq)
 
--- a sector is moved, and a device step leaves that and DRQ as they were
+-- a sector is moved, and the device step changes neither this nor DRQ
 pub record MovesAlong (old new : Front) : Type 0 where
   pub moving : MovingSector
   pub was : old.stage ≡ Moving moving
   pub is : new.stage ≡ Moving moving
   pub request : asks_outside new ≡ asks_outside old
 
--- so many of these
+-- this many such device steps
 unfoldable pub LeapsFront : ℕ → Front → Front → Type 0
 LeapsFront zero old new = new ≡ old
 LeapsFront (suc n) old new = (between : Front) × StepsFront old between × MovesAlong old between × LeapsFront n between new
 
--- a sector is moved that hasn't ended, and no field of the mark that isn't wanted is met
+-- a sector is moved, its command hasn't ended, and no field with the mark that isn't wanted is met
 pub record IsUnderWay (front : Front) : Type 0 where
   pub moving : MovingSector
   pub at : front.stage ≡ Moving moving
   pub goes : ending_told front.adapter.controller ≡ None
   pub wanted : is_unwanted moving (mark_of front.adapter.controller) ≡ false
 
--- so many device steps, each from these lines
+-- this many device steps, each of which begins with these lines
 unfoldable pub RunsFrontWith : Bool → Bool → ℕ → Front → Front → Type 0
 RunsFrontWith int drq zero old new = new ≡ old
 RunsFrontWith int drq (suc n) old new = (between : Front) × RunsFrontWith int drq n old between × HasLinesOutside int drq between × StepsFront between new
 
--- device steps until a line changes, and so many at most
+-- device steps until a line changes, at most `most`
 pub record RunsFront (most : ℕ) (old : Front) (steps : ℕ) (new : Front) : Type 0 where
   pub within : steps ≤ most
   pub runs : RunsFrontWith (interrupts_outside old) (asks_outside old) steps old new

@@ -4,7 +4,7 @@ use Rattle.fdc_sequencer.specs.declared.opcode.Opcode.{Opcode}
 use Rattle.fdc_sequencer.specs.declared.opcode.Operation.{Operation}
 use Rattle.fdc_sequencer.specs.declared.opcode.Operation.TheVariants.{Read, Write}
 
--- what a code asks for, without MT: MFM is set in each
+-- what a code without MT asks for; MFM is set in each of these codes
 abbrev pub operation_of : ℕ → Option Operation
 operation_of code =
     if code == 0x46 then Some (Read false false) else (
@@ -15,7 +15,7 @@ operation_of code =
     if code == 0x49 then Some (Write true) else
     None)))))
 
--- and with MT
+-- what a code asks for, with MT or without
 abbrev pub opcode_of : ℕ → Option Opcode
 opcode_of code =
     option_map (λ operation. record { operation = operation; multitrack = not (bit_and code 0x80 == 0) })

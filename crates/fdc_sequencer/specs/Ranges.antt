@@ -4,11 +4,11 @@ use Rattle.fdc_sequencer.specs.declared.stage.Stage.{Stage}
 use Rattle.fdc_sequencer.specs.declared.stage.Stage.TheVariants.{Seeking, Moving}
 use Rattle.fdc_sequencer.specs.declared.transfer.Transfer.{Transfer}
 
--- the numbers of its record and of the last one are bytes
+-- the numbers of the command's record and of its last record are bytes
 abbrev pub HasByteRecords : Transfer → Type 0
 HasByteRecords at = (at.key.r < 256) × (at.last_sector < 256)
 
--- so they are where one is under way
+-- these numbers are bytes in a command that is under way
 abbrev pub HasByteNumbers : Stage → Type 0
 HasByteNumbers (Seeking transfer _) = HasByteRecords transfer
 HasByteNumbers (Moving moving) = HasByteRecords moving.transfer

@@ -1,4 +1,4 @@
--- The bytes of a sequencer that is saved.
+-- The bytes in which a sequencer is saved.
 use Rattle.std.specs.Prelude.{ℕ, List, ◌∷◌}
 use Rattle.saved_state.specs.Saved.{spelled_byte, spelled_bytes, spelled_flag, spelled_key, spelled_word}
 use Rattle.fdc_commands.specs.Saving.{spelled_results, IsPart}
@@ -41,11 +41,11 @@ spelled_stage (stage.Seeking transfer counted) rest = 2 ∷ spelled_transfer tra
 spelled_stage (stage.Moving moving) rest = 3 ∷ spelled_moving moving rest
 spelled_stage (stage.Telling results read) rest = 4 ∷ spelled_results results (spelled_byte read rest)
 
--- a sequencer whose adapter and bytes fit
+-- the adapter of the sequencer and its bytes of a command fit
 abbrev pub SequencerFits : {D : Type 0} → (D → Type 0) → Sequencer D → Type 0
 SequencerFits fits sequencer = AdapterFits fits sequencer.adapter × IsPart sequencer.bytes
 
--- a C, the adapter, whose drives are spelled so, and what the sequencer keeps
+-- the letter C, then the adapter, where `spelled` gives the bytes of a drive, and then what the sequencer keeps
 unfoldable pub spelled_sequencer : {D : Type 0} → (D → List ℕ → List ℕ) → Sequencer D → List ℕ → List ℕ
 spelled_sequencer spelled sequencer rest =
     67 ∷ spelled_adapter spelled sequencer.adapter (spelled_stage sequencer.stage (spelled_bytes sequencer.bytes

@@ -1,4 +1,4 @@
--- The controller behind, for a layer in front of the sequencer that keeps the results of seeks itself.
+-- The controller of the sequencer, for a layer in front of the sequencer that keeps the results of seeks itself.
 use Rattle.std.specs.Prelude.{ℕ, Bool, false, Option, None}
 use Rattle.fdc_adapter.specs.Senses.{pending_result, after_result}
 use Rattle.fdc_core.specs.Whole.{is_idle, recalibrated_within}
@@ -23,7 +23,7 @@ pending_at _ fdc = None
 abbrev pub pending_outside : Front → Option (ℕ × ℕ)
 pending_outside front = pending_at front.stage front.adapter.controller
 
--- once it was taken
+-- the front after that result was taken
 abbrev pub sensed_at : Stage → Front → Front
 sensed_at Through old = record old { adapter = with_controller (after_result old.adapter.controller) old.adapter }
 sensed_at _ old = old
@@ -31,7 +31,7 @@ sensed_at _ old = old
 abbrev pub sensed_outside : Front → Front
 sensed_outside old = sensed_at old.stage old
 
--- a RECALIBRATE begins that gives so many pulses at most, where the first byte of a command may come and no heads move
+-- a RECALIBRATE begins that gives at most this many pulses, if the first byte of a command may come and no heads move
 abbrev pub recalibrated_at : Stage → ℕ → ℕ → Front → Front
 recalibrated_at Through drive pulses old =
     record old { adapter = with_controller (recalibrated_within drive pulses old.adapter.controller) old.adapter }

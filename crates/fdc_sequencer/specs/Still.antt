@@ -6,13 +6,13 @@ use Rattle.fdc_sequencer.specs.Moves.{StepsFront}
 use Rattle.fdc_sequencer.specs.declared.stage.Stage.{Stage}
 use Rattle.fdc_sequencer.specs.declared.stage.Stage.TheVariants.{Seeking, Moving}
 
--- a device step is the adapter's, and nothing is done behind it
+-- a device step is the adapter's, and nothing is done after it
 abbrev pub rests_at : Stage → Bool
 rests_at (Seeking _ _) = false
 rests_at (Moving _) = false
 rests_at _ = true
 
--- nor does the controller do anything
+-- nothing is done after a device step, and the controller does nothing either
 abbrev pub stands_at : Front → Bool
 stands_at front = if rests_at front.stage then is_at_rest front.adapter.controller else false
 

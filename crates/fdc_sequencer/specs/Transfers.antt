@@ -45,7 +45,7 @@ command_of transfer =
 
 -- ---- from sector to sector
 
--- the head in a command's second byte is 1
+-- the head in the second byte of a command is 1
 abbrev pub is_second_head : ℕ → Bool
 is_second_head head_drive = not (bit_and head_drive 4 == 0)
 
@@ -57,7 +57,7 @@ next_record at = record at { key = record at.key { r = (at.key.r + 1) % 256 } }
 abbrev pub next_cylinder : Transfer → Transfer
 next_cylinder at = record at { key = record at.key { c = (at.key.c + 1) % 256; r = 1 } }
 
--- record 1 of the other head, and behind head 1 of the next cylinder
+-- record 1 of the other head. If the head was 1, this is on the next cylinder
 abbrev pub other_head : Transfer → Transfer
 other_head at = record at {
   head_drive = bit_xor at.head_drive 4;
@@ -68,7 +68,7 @@ other_head at = record at {
   };
 }
 
--- the sector behind one
+-- the sector after this one
 abbrev pub next_of : Transfer → Transfer
 next_of at =
     if at.key.r == at.last_sector then (if at.opcode.multitrack then other_head at else next_cylinder at)
@@ -78,14 +78,14 @@ next_of at =
 abbrev pub is_last : Transfer → Bool
 is_last at = (at.key.r == at.last_sector) && (not at.opcode.multitrack || is_second_head at.head_drive)
 
--- the bytes of a sector
+-- how many bytes a sector has
 abbrev pub size_of : ℕ → ℕ
 size_of n = if n == 1 then 256 else (if n == 2 then 512 else (if n == 3 then 1024 else (if n == 4 then 2048 else (
     if n == 5 then 4096 else (if n == 6 then 8192 else 128)))))
 
 -- ---- marks
 
--- a field of this mark isn't of those that are wanted
+-- a field with this mark isn't one of those that are wanted
 abbrev pub is_other : Operation → Bool → Bool
 is_other (Read true _) deleted = not deleted
 is_other (Read false _) deleted = deleted
@@ -96,14 +96,14 @@ abbrev pub other_mark : Operation → Bool
 other_mark (Read deleted _) = not deleted
 other_mark (Write deleted) = not deleted
 
--- fields of the other mark are passed over
+-- whether fields with the other mark are passed over
 abbrev pub is_skipping : Operation → Bool
 is_skipping (Read _ skip) = skip
 is_skipping (Write _) = false
 
 -- ---- results
 
--- the results of this ending, with CM where a field was passed over
+-- the results of this ending, with CM if a field was passed over
 abbrev pub results_told : Ending → ℕ → Chrn → Bool → Results
 results_told ending head_drive key passed_over =
     let told = results_of ending head_drive key in

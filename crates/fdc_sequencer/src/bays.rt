@@ -1,4 +1,4 @@
-// The bays: the adapter's.
+// The bays, which are those of the adapter.
 ghost use Rattle.std.specs.Prelude.{◌≡◌, ◌≤◌};
 ghost use Rattle.drive_model.specs.Drive.{forgotten};
 ghost use Rattle.fdc_adapter.specs.Adapters.{drive_at};
@@ -11,7 +11,8 @@ use fdc_adapter::DisketteAdapter;
 use raw_image::Medium;
 
 impl<D: Inspect> Sequencer<D> {
-    /// Puts a medium into a bay, of which no word was replaced yet. Where one is in already, the new one is given back.
+    /// Puts a medium into a bay. No word of it counts as replaced yet. If a medium is in already, the new one is given
+    /// back.
     pub fn insert(&mut self, bay: u8, medium: Medium) -> Result<(), Medium>
         requires { bay ≤ 1 }
         ensures keeps { KeepsFront (front_state D.state self.old) (front_state D.state self.new) }
@@ -20,7 +21,7 @@ impl<D: Inspect> Sequencer<D> {
         self.adapter.insert(bay, medium)
     }
 
-    /// Takes the medium out of a bay. It is still told whether a word of it was replaced.
+    /// Takes the medium out of a bay. `is_written` of the adapter still says whether a word of it was replaced.
     pub fn eject(&mut self, bay: u8) -> Option<Medium>
         requires { bay ≤ 1 }
         ensures keeps { KeepsFront (front_state D.state self.old) (front_state D.state self.new) }
@@ -38,7 +39,7 @@ impl<D: Inspect> Sequencer<D> {
         self.adapter.forget_written(bay);
     }
 
-    /// Tells what `is_written` does, and forgets it.
+    /// Gives what `is_written` of the adapter gives, and forgets it.
     pub fn take_written(&mut self, bay: u8) -> bool
         requires { bay ≤ 1 }
         ensures was { result ≡ (drive_at (front_state D.state self.old).adapter bay).replaced }

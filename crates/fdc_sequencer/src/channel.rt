@@ -8,7 +8,7 @@ use crate::stage::{Moving, Stage};
 use drive_model::Inspect;
 
 impl<D: Inspect> Sequencer<D> {
-    /// The channel takes a byte, where one is asked for.
+    /// The channel takes a byte, if one is asked for.
     pub fn dack_read(&mut self) -> Option<u8>
         ensures takes { TakesFront (front_state D.state self.old) result (front_state D.state self.new) }
         ensures drives { SameDrives (adapter_of self.old) (adapter_of self.new) }
@@ -33,7 +33,7 @@ impl<D: Inspect> Sequencer<D> {
         Some(byte)
     }
 
-    /// The channel gives a byte, where one is asked for, and it is told whether one was.
+    /// The channel gives a byte, if one is asked for. The result says whether it did.
     pub fn dack_write(&mut self, byte: u8) -> bool
         ensures gives { GivesFront byte (front_state D.state self.old) result (front_state D.state self.new) }
         ensures drives { SameDrives (adapter_of self.old) (adapter_of self.new) }
@@ -57,7 +57,7 @@ impl<D: Inspect> Sequencer<D> {
         true
     }
 
-    /// A byte of the sector passed. Behind the last the controller is told the count.
+    /// A byte of the sector passed. After the last byte the controller is given the terminal count.
     fn pass_one(&mut self, moving: Moving)
         requires { 1 ≤ moving.left }
         ensures passed { front_state D.state self.new ≡ passed_one moving (controller_of (adapter_of self.old)) (front_state D.state self.old) }
@@ -72,7 +72,7 @@ impl<D: Inspect> Sequencer<D> {
         };
     }
 
-    /// The channel tells the terminal count: the command ends behind its sector, of which no further byte is moved.
+    /// The channel signals the terminal count. The command ends after its sector, of which no further byte is moved.
     pub fn tc(&mut self)
         ensures told { front_state D.state self.new ≡ told_front (front_state D.state self.old) }
         ensures drives { SameDrives (adapter_of self.old) (adapter_of self.new) }

@@ -1,7 +1,8 @@
-//! Commands of several sectors (Intel 82077AA data sheet: MT, SK, EOT, implied seeks) in front of a controller that takes
-//! one sector a command: of each it makes single ones, sector by sector.
+//! Commands of several sectors (Intel 82077AA data sheet: MT, SK, EOT, implied seeks), in front of a controller that
+//! takes one sector a command. The sequencer makes single commands of each such command, sector by sector.
 //!
-//! READ DATA, READ DELETED DATA, WRITE DATA and WRITE DELETED DATA are collected here. Everything else is the controller's.
+//! READ DATA, READ DELETED DATA, WRITE DATA and WRITE DELETED DATA are collected here. All other commands are the
+//! controller's.
 #![tactic(auto)]
 
 mod bays;

@@ -15,7 +15,7 @@ use fdc_commands::{Accepted, Results};
 use fdc_stages::Ending;
 
 impl<D: Inspect> Sequencer<D> {
-    /// One device step: the adapter's, and where a sector ended in it, the next begins or there are results.
+    /// Does one device step of the adapter. If a sector ended in it, the next one begins, or there are results.
     pub fn step(&mut self)
         ensures { StepsFront (front_state D.state self.old) (front_state D.state self.new) }
     {
@@ -23,7 +23,7 @@ impl<D: Inspect> Sequencer<D> {
         self.follow_step();
     }
 
-    /// What is done behind the adapter's step.
+    /// Does what has to be done after the adapter's step.
     fn follow_step(&mut self)
         ensures { FollowsStep self.old.stage (front_state D.state self.old) (front_state D.state self.new) }
     {
@@ -34,7 +34,7 @@ impl<D: Inspect> Sequencer<D> {
         }
     }
 
-    /// The sector begins behind an implied seek.
+    /// Begins the sector after an implied seek, if the seek has ended.
     fn follow_seek(&mut self, transfer: Transfer, counted: bool)
         ensures { SeeksOn (has_ended_seek (controller_of (adapter_of self.old)).seeks) transfer counted (front_state D.state self.old) (front_state D.state self.new) }
     {
@@ -43,7 +43,8 @@ impl<D: Inspect> Sequencer<D> {
         }
     }
 
-    /// The next sector or the results, where this one ended; else a field whose mark isn't wanted may have been met.
+    /// Begins the next sector or gives the results, if this sector ended. If it didn't, a field whose mark isn't wanted
+    /// may have been met, which is then passed over.
     fn follow_sector(&mut self, moving: Moving)
         ensures { MovesOn (judged_if moving (ending_told (controller_of (adapter_of self.old)))) moving (front_state D.state self.old) (front_state D.state self.new) }
     {
@@ -57,7 +58,7 @@ impl<D: Inspect> Sequencer<D> {
         }
     }
 
-    /// No byte of the field passes, and its check doesn't count.
+    /// Passes the field over: no byte of it passes, and its CRC doesn't count.
     fn pass_over(&mut self, moving: Moving)
         ensures { front_state D.state self.new ≡ passed_over_if true moving (front_state D.state self.old) }
     {
@@ -72,7 +73,7 @@ impl<D: Inspect> Sequencer<D> {
         };
     }
 
-    /// The controller's own command for the sector ended so, as it is judged.
+    /// The controller's own command for the sector has this ending, as it is judged.
     fn end_sector(&mut self, moving: Moving, ending: Ending)
         ensures { EndsSector moving ending (front_state D.state self.old) (front_state D.state self.new) }
     {
@@ -85,7 +86,7 @@ impl<D: Inspect> Sequencer<D> {
         }
     }
 
-    /// The host reads results.
+    /// Lets the host read results.
     fn tell(&mut self, results: Results)
         ensures { self.new ≡ record self.old { stage = Stage.Telling results 0 } }
     {
@@ -101,7 +102,7 @@ impl<D: Inspect> Sequencer<D> {
         self.follow_begun(transfer, counted, passed_over);
     }
 
-    /// The controller executes its own command for a sector, or answers in place of that.
+    /// The controller executes its own command for a sector, or has answered the host without executing it.
     fn follow_begun(&mut self, transfer: Transfer, counted: bool, passed_over: bool)
         ensures { front_state D.state self.new ≡ begun_if (is_executing (controller_of (adapter_of self.old)).phase)
             transfer counted passed_over (front_state D.state self.old).adapter (front_state D.state self.old) }
@@ -116,7 +117,7 @@ impl<D: Inspect> Sequencer<D> {
         };
     }
 
-    /// Tells the controller the terminal count, where it came.
+    /// Gives the controller the terminal count, if it came.
     fn tell_if(&mut self, counted: bool)
         ensures { front_state D.state self.new ≡ record (front_state D.state self.old) {
           adapter = told_if counted (front_state D.state self.old).adapter;
@@ -142,7 +143,7 @@ impl Moving {
         }
     }
 
-    /// Whether a mark is met that isn't wanted, before a byte passed, so that the field is to be passed over.
+    /// Whether a mark that isn't wanted is met before a byte passed. If so, the field is to be passed over.
     pub(crate) fn is_unwanted(self, mark: Option<bool>) -> bool
         ensures { result ≡ is_unwanted self mark }
     {
@@ -156,7 +157,8 @@ impl Moving {
         }
     }
 
-    /// The ending of the controller's own command as it is judged: a field that is passed over is done, whatever its check.
+    /// The ending of the controller's own command, as it is judged. A field that is passed over is done, whatever its
+    /// CRC is.
     fn judged(self, ending: Ending) -> Ending
         ensures { result ≡ judged self ending }
     {
@@ -168,28 +170,28 @@ impl Moving {
         }
     }
 
-    /// Whether a field of the mark that isn't wanted was met, here or before.
+    /// Whether a field with the mark that isn't wanted was met, at this sector or before.
     fn has_met_other(self, deleted: bool) -> bool
         ensures { result ≡ has_met_other self deleted }
     {
         self.passed_over || self.transfer.is_other(deleted)
     }
 
-    /// Whether the command would go on behind this sector, were it not the last.
+    /// Whether the command would go on after this sector, if it were not the last.
     fn would_go_on(self, deleted: bool) -> bool
         ensures { result ≡ would_go_on self deleted }
     {
         !self.counted && (!self.transfer.is_other(deleted) || self.transfer.is_skipping())
     }
 
-    /// Whether another sector comes behind this one.
+    /// Whether another sector comes after this one.
     fn goes_on(self, deleted: bool) -> bool
         ensures { result ≡ goes_on self deleted }
     {
         self.would_go_on(deleted) && !self.transfer.is_last()
     }
 
-    /// The results behind a sector that was moved, where none comes behind it.
+    /// The results after a sector that was moved, if no other sector comes after it.
     fn results_behind(self, deleted: bool) -> Results
         ensures { result ≡ results_behind self deleted }
     {

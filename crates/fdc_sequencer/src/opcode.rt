@@ -5,8 +5,8 @@ ghost use Rattle.fdc_sequencer.specs.Opcodes.{operation_of, opcode_of, plain_cod
 /// What a command does with its sectors.
 #[derive(Clone, Copy, PartialEq, Eq, Debug)]
 pub enum Operation {
-    /// READ DATA, and READ DELETED DATA where `deleted` marks are wanted. With `skip` (SK) a field of the other mark is
-    /// passed over, whatever its check.
+    /// READ DATA; or READ DELETED DATA, if `deleted` marks are wanted. With `skip` (SK), a field with the other mark is
+    /// passed over, whatever its CRC is.
     Read { deleted: bool, skip: bool },
     /// WRITE DATA, and WRITE DELETED DATA.
     Write { deleted: bool },
@@ -16,7 +16,7 @@ pub enum Operation {
 #[derive(Clone, Copy, PartialEq, Eq, Debug)]
 pub struct Opcode {
     pub operation: Operation,
-    /// MT: it goes on from head 0 to head 1.
+    /// MT: the command goes on from head 0 to head 1.
     pub multitrack: bool,
 }
 
@@ -26,7 +26,7 @@ const MULTITRACK: u8 = 0x80;
 /// All but MT.
 const WITHOUT_MULTITRACK: u8 = 0x7F;
 
-/// What a code asks for, without MT. MFM is set in each, and SK in those of reads alone.
+/// What a code without MT asks for. MFM is set in each of these codes, and SK only in some codes of reads.
 fn operation_of(code: u8) -> Option<Operation>
     ensures { result ≡ operation_of code }
 {
@@ -54,7 +54,7 @@ fn operation_of(code: u8) -> Option<Operation>
 }
 
 impl Opcode {
-    /// What a code asks for, where it is one of these commands.
+    /// What a code asks for, if it is the code of one of these commands.
     pub(crate) fn of(code: u8) -> Option<Opcode>
         ensures { result ≡ opcode_of code }
     {

@@ -13,12 +13,12 @@ use fdc_commands::{Accepted, Command, CommandBytes, Results};
 use fdc_core::Fdc;
 use fdc_registers::{Flags, Msr};
 
-/// MSR where it is read, DSR where it is written.
+/// MSR when the port is read, DSR when it is written.
 const STATUS: u16 = 0x3F4;
 
 const DATA: u16 = 0x3F5;
 
-/// What a port gives that has nothing to give.
+/// What a port gives when it has nothing to give.
 const NOTHING: u8 = 0xFF;
 
 /// The last of seven result bytes.
@@ -28,7 +28,8 @@ const LAST_RESULT: u8 = 6;
 const IMPLIED_SEEK: u8 = 0x40;
 
 impl<D: Inspect> Sequencer<D> {
-    /// Reads a port, 3F0 to 3F7. Within a command of several sectors MSR is 10, and D0 while its results are read.
+    /// Reads a port, 3F0 to 3F7. While a command of several sectors is executed, MSR is 10. While its results are read,
+    /// MSR is D0.
     pub fn read(&mut self, port: u16) -> u8
         ensures value { result ≡ value_outside port (front_state D.state self.old) }
         ensures after { front_state D.state self.new ≡ after_reading port (front_state D.state self.old) }
@@ -74,7 +75,7 @@ impl<D: Inspect> Sequencer<D> {
         }
     }
 
-    /// Writes a port, 3F0 to 3F7. A reset ends a command of several sectors as any other.
+    /// Writes a port, 3F0 to 3F7. A reset ends a command of several sectors like any other.
     pub fn write(&mut self, port: u16, value: u8)
         ensures { WritesFront port value (front_state D.state self.old) (front_state D.state self.new) }
     {
@@ -103,7 +104,7 @@ impl<D: Inspect> Sequencer<D> {
         }
     }
 
-    /// A byte that begins a command of several sectors is kept, and any other is the controller's.
+    /// Keeps a byte that begins a command of several sectors. Any other byte is the controller's.
     fn pass_byte(&mut self, byte: u8)
         ensures { PassesAs (begins_with byte (controller_of (adapter_of self.old))) byte (front_state D.state self.old) (front_state D.state self.new) }
     {
@@ -130,7 +131,7 @@ impl<D: Inspect> Sequencer<D> {
         }
     }
 
-    /// The code of a command came.
+    /// Keeps the code of a command that came.
     #[tactic(auto, using(crate::proofs::Codes::plain_begins))]
     fn begin_bytes(&mut self, opcode: Opcode)
         ensures { front_state D.state self.new ≡ record (front_state D.state self.old) {
@@ -143,7 +144,7 @@ impl<D: Inspect> Sequencer<D> {
         self.stage = Stage::Collecting { opcode };
     }
 
-    /// The bytes of a command came to this.
+    /// Does what the bytes of a command came to.
     fn collect(&mut self, opcode: Opcode, accepted: Accepted)
         ensures { CollectsAs opcode accepted (front_state D.state self.old) (front_state D.state self.new) }
     {
@@ -154,7 +155,7 @@ impl<D: Inspect> Sequencer<D> {
         }
     }
 
-    /// The controller answers in place of a command whose size code isn't 1 to 6.
+    /// Lets the controller answer a command whose size code isn't 1 to 6.
     fn refuse(&mut self)
         ensures { Refuses (front_state D.state self.old) (front_state D.state self.new) }
     {
@@ -162,7 +163,7 @@ impl<D: Inspect> Sequencer<D> {
         self.adapter.take_accepted(Accepted::Invalid);
     }
 
-    /// A command starts, with a seek where these are implied.
+    /// Starts a command, with a seek if seeks are implied.
     fn start(&mut self, transfer: Option<Transfer>)
         ensures { Starts transfer (front_state D.state self.old) (front_state D.state self.new) }
     {
@@ -173,7 +174,7 @@ impl<D: Inspect> Sequencer<D> {
         }
     }
 
-    /// The heads go to the command's cylinder.
+    /// Sends the heads to the command's cylinder.
     fn seek_first(&mut self, transfer: Transfer)
         ensures { SeeksFirst transfer (front_state D.state self.old) (front_state D.state self.new) }
     {
@@ -192,7 +193,7 @@ impl<D: Inspect> Sequencer<D> {
     }
 }
 
-/// What is done behind a result byte.
+/// The stage after a result byte was read.
 fn after_byte(results: Results, read: u8) -> Stage
     ensures { result ≡ (if nat_le 6 read then Stage.Through else Stage.Telling results (read + 1)) }
 {
@@ -205,7 +206,7 @@ fn after_byte(results: Results, read: u8) -> Stage
     }
 }
 
-/// EIS, once a byte came that completes a CONFIGURE with these options, or doesn't.
+/// EIS after a byte: what a CONFIGURE with these options set, if the byte completed one.
 fn configured_after(options: Option<u8>, was: bool) -> bool
     ensures { result ≡ configured_with options was }
 {

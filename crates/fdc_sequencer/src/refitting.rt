@@ -10,7 +10,8 @@ use drive_model::Inspect;
 use raw_image::Medium;
 
 impl<D: Inspect> Sequencer<D> {
-    /// Moves the tab of the medium in a bay, so that it is write-protected, or not. Where none is in, nothing changes.
+    /// Moves the tab of the medium in a bay, so that the medium is write-protected, or isn't. If none is in, nothing
+    /// changes.
     pub fn set_protected(&mut self, bay: u8, on: bool)
         requires { bay ≤ 1 }
         ensures keeps { KeepsFront (front_state D.state self.old) (front_state D.state self.new) }
@@ -19,8 +20,8 @@ impl<D: Inspect> Sequencer<D> {
         self.adapter.set_protected(bay, on);
     }
 
-    /// Puts a medium in place of the one in a bay, which is given back, as if it had always been the one that turns there. Where none is
-    /// in, or the tracks of the two differ in length, the new one is given back.
+    /// Puts a medium in place of the one in a bay, as if the new one had always turned there, and gives the old one
+    /// back. If no medium is in, or if the tracks of the two differ in length, the new one is given back.
     pub fn exchange(&mut self, bay: u8, medium: Medium) -> Result<Medium, Medium>
         requires { bay ≤ 1 }
         ensures keeps { KeepsFront (front_state D.state self.old) (front_state D.state self.new) }
@@ -29,7 +30,7 @@ impl<D: Inspect> Sequencer<D> {
         self.adapter.exchange(bay, medium)
     }
 
-    /// Puts a drive into a bay with all that is in it, and gives the one that was there: nothing else learns of it.
+    /// Puts a drive into a bay with all that is in the drive, and gives the one that was there. Nothing else changes.
     pub fn swap_drive(&mut self, bay: u8, drive: &mut D)
         requires { bay ≤ 1 }
         ensures keeps { KeepsFront (front_state D.state self.old) (front_state D.state self.new) }

@@ -1,4 +1,4 @@
-// For a layer in front that keeps the results of seeks itself.
+// What a layer in front of the sequencer uses that keeps the results of seeks itself.
 ghost use Rattle.std.specs.Prelude.{◌≡◌};
 ghost use Rattle.fdc_adapter.specs.Adapters.{controller_of, SameDrives};
 ghost use Rattle.fdc_core.specs.State.{is_gated};
@@ -27,8 +27,8 @@ impl<D: Inspect> Sequencer<D> {
         self.adapter.is_gated()
     }
 
-    /// Takes the pending result of the lowest drive that has one, where the first byte of a command may come: ST0 and the
-    /// present cylinder number.
+    /// Takes the pending result of the lowest drive that has one, if the first byte of a command may come. The result
+    /// is ST0 and the present cylinder number.
     pub fn sense(&mut self) -> Option<(u8, u8)>
         ensures result { result ≡ pending_outside (front_state D.state self.old) }
         ensures after { front_state D.state self.new ≡ sensed_outside (front_state D.state self.old) }
@@ -40,8 +40,8 @@ impl<D: Inspect> Sequencer<D> {
         }
     }
 
-    /// Begins a RECALIBRATE of a drive that gives so many pulses at most, where the first byte of a command may come and no heads
-    /// move.
+    /// Begins a RECALIBRATE of a drive that gives at most this many pulses, if the first byte of a command may come and
+    /// no heads move.
     pub fn recalibrate_within(&mut self, drive: u8, pulses: u8)
         ensures after { front_state D.state self.new ≡ recalibrated_outside drive pulses (front_state D.state self.old) }
         ensures drives { SameDrives (adapter_of self.old) (adapter_of self.new) }

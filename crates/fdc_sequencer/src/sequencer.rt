@@ -13,21 +13,21 @@ use fdc_commands::CommandBytes;
 use flop_base::NoMemory;
 use std::alloc::Global;
 
-/// A controller with its drives that takes commands of several sectors.
+/// A controller with its drives, which takes commands of several sectors.
 #[derive(Drop)]
 pub struct Sequencer<D> {
     pub(crate) adapter: DisketteAdapter<D>,
     pub(crate) stage: Stage,
-    /// The bytes of the command that comes, with the code of the controller's own.
+    /// The bytes of the command that comes. They begin with the code of the controller's own command.
     pub(crate) bytes: CommandBytes,
-    /// Seeks are implied by a strap of the adapter.
+    /// Whether a strap of the adapter implies seeks.
     pub(crate) strapped: bool,
-    /// CONFIGURE set EIS.
+    /// Whether CONFIGURE set EIS.
     pub(crate) configured: bool,
 }
 
 impl<D: Inspect> Sequencer<D> {
-    /// The controller in reset, with two drives, whose motors it turns off.
+    /// The controller in reset, with two drives. The motors of the drives are turned off.
     pub fn new(alloc: Global, bay0: D, bay1: D) -> Result<Sequencer<D>, NoMemory>
         ensures { IfOk result (λ new. IsNewFront (D.state bay0) (D.state bay1) (front_state D.state new)) }
     {
@@ -40,8 +40,8 @@ impl<D: Inspect> Sequencer<D> {
         })
     }
 
-    /// Lets each command of several sectors seek its cylinder first, as a strap of an adapter would, whatever CONFIGURE sets;
-    /// or leaves that to CONFIGURE.
+    /// Lets each command of several sectors seek its cylinder first, whatever CONFIGURE sets, as a strap of an adapter
+    /// would. With `on` false, this is left to CONFIGURE.
     pub fn strap_seeks(&mut self, on: bool)
         ensures state { front_state D.state self.new ≡ record (front_state D.state self.old) { strapped = on } }
         ensures drives { SameDrives (adapter_of self.old) (adapter_of self.new) }
@@ -49,7 +49,7 @@ impl<D: Inspect> Sequencer<D> {
         self.strapped = on;
     }
 
-    /// Lets no command seek its cylinder first, whatever a strap or CONFIGURE set.
+    /// Lets no command seek its cylinder first, whatever a strap or CONFIGURE has set.
     pub fn drop_seeks(&mut self)
         ensures state { front_state D.state self.new ≡ record (front_state D.state self.old) { strapped = false; configured = false } }
         ensures drives { SameDrives (adapter_of self.old) (adapter_of self.new) }
@@ -58,7 +58,7 @@ impl<D: Inspect> Sequencer<D> {
         self.configured = false;
     }
 
-    /// The interrupt line. It falls where a command of several sectors begins, and rises with its results.
+    /// The interrupt line. It falls when a command of several sectors begins, and rises with the command's results.
     pub fn int(&self) -> bool
         ensures { result ≡ interrupts_outside (front_state D.state self.now) }
     {
@@ -69,7 +69,7 @@ impl<D: Inspect> Sequencer<D> {
         }
     }
 
-    /// The DMA request line. It is down where the bytes of a sector have all passed.
+    /// The DMA request line. It is down once all bytes of a sector have passed.
     pub fn drq(&self) -> bool
         ensures { result ≡ asks_outside (front_state D.state self.now) }
     {
@@ -80,7 +80,7 @@ impl<D: Inspect> Sequencer<D> {
         }
     }
 
-    /// Whether the lines are these.
+    /// Whether the lines have these values.
     fn has_lines(&self, int: bool, drq: bool) -> bool
         ensures yes { IsTrue result → HasLinesOutside int drq (front_state D.state self.now) }
         ensures no { IsFalse result → HasLinesOutside int drq (front_state D.state self.now) → ⊥ }
@@ -95,7 +95,7 @@ impl<D: Inspect> Sequencer<D> {
         self.adapter.to_memory()
     }
 
-    /// Device steps until the interrupt line or the request line changes, at most `most`, and how many were made.
+    /// Does device steps until the interrupt line or the request line changes, at most `most`, and gives their number.
     pub fn run(&mut self, most: u32) -> u32
         ensures { RunsFront most (front_state D.state self.old) result (front_state D.state self.new) }
     {
@@ -105,7 +105,8 @@ impl<D: Inspect> Sequencer<D> {
         }
     }
 
-    /// The same where nothing is done behind a step and the lines are the adapter's, which makes many steps at once.
+    /// Does what `run` does, if nothing is done after a step and the lines are the adapter's. The adapter makes many
+    /// steps at once.
     fn run_through(&mut self, most: u32) -> u32
         requires { self.old.stage ≡ Stage.Through }
         ensures { RunsFront most (front_state D.state self.old) result (front_state D.state self.new) }
@@ -113,7 +114,7 @@ impl<D: Inspect> Sequencer<D> {
         self.adapter.run(most)
     }
 
-    /// The same while something may be done behind a step.
+    /// Does what `run` does, while something may have to be done after a step.
     fn run_on(&mut self, most: u32) -> u32
         ensures { RunsFront most (front_state D.state self.old) result (front_state D.state self.new) }
     {
@@ -129,7 +130,8 @@ impl<D: Inspect> Sequencer<D> {
         most
     }
 
-    /// At least one device step, `most` at most, and none behind one in which a line changes; tells how many.
+    /// Does at least one device step and at most `most`, and gives their number. No step comes after one in which a
+    /// line changes.
     fn advance(&mut self, most: u32) -> u32
         requires { 1 ≤ most }
         ensures some { 1 ≤ result }
@@ -145,8 +147,8 @@ impl<D: Inspect> Sequencer<D> {
         1
     }
 
-    /// Makes device steps at once while a sector is moved, in which neither line changes and nothing is done behind the adapter's, and tells
-    /// how many, `most` at most: where it is 0, the next step has to be made alone.
+    /// Does device steps at once while a sector is moved, at most `most`, and gives their number. In them neither line
+    /// changes, and nothing is done after the adapter's step. If the number is 0, the next step has to be done alone.
     pub fn leap(&mut self, most: u32) -> u32
         ensures few { result ≤ most }
         ensures leaps { LeapsFront result (front_state D.state self.old) (front_state D.state self.new) }
@@ -157,7 +159,7 @@ impl<D: Inspect> Sequencer<D> {
         0
     }
 
-    /// Whether a sector is moved that hasn't ended, and no field of the mark that isn't wanted is met.
+    /// Whether a sector is moved, its command hasn't ended, and no field with the mark that isn't wanted is met.
     fn is_under_way(&self) -> bool
         ensures { result ≡ true → IsUnderWay (front_state D.state self.now) }
     {
@@ -167,7 +169,7 @@ impl<D: Inspect> Sequencer<D> {
         }
     }
 
-    /// Whether the sector hasn't ended, and no field of the mark that isn't wanted is met.
+    /// Whether the command for the sector hasn't ended, and no field with the mark that isn't wanted is met.
     fn goes_along(&self, moving: Moving) -> bool
         ensures goes { result ≡ true → ending_told (controller_of (adapter_of self.now)) ≡ None }
         ensures wanted { result ≡ true → is_unwanted moving (mark_of (controller_of (adapter_of self.now))) ≡ false }

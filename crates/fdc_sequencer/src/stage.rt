@@ -8,27 +8,27 @@ use fdc_commands::Results;
 pub struct Moving {
     /// The command at this sector.
     pub transfer: Transfer,
-    /// The bytes of the sector that are still to pass: none of one that is passed over.
+    /// How many bytes of the sector still have to pass: none if the sector is passed over.
     pub left: u16,
-    /// The terminal count came.
+    /// Whether the terminal count came.
     pub counted: bool,
-    /// A field of the mark that isn't wanted was passed over, here or before.
+    /// Whether a field with the mark that isn't wanted was passed over, at this sector or before.
     pub passed_over: bool,
-    /// The field of this sector is passed over.
+    /// Whether the field of this sector is passed over.
     pub skipped: bool,
 }
 
 /// What is done in front of the controller.
 #[derive(Clone, Copy, PartialEq, Eq, Debug)]
 pub enum Stage {
-    /// Nothing: each access is the controller's.
+    /// Nothing is done: each access is the controller's.
     Through,
-    /// The bytes of a command with this code come.
+    /// The bytes of a command with this code are coming.
     Collecting { opcode: Opcode },
     /// The heads go to the cylinder of a command. `counted` says that the terminal count came.
     Seeking { transfer: Transfer, counted: bool },
-    /// A sector is moved, by a command of the controller's own.
+    /// A sector is moved, by one of the controller's own commands.
     Moving { moving: Moving },
-    /// The host reads results, of which so many bytes were read.
+    /// The host reads results. It has read this many of their bytes.
     Telling { results: Results, read: u8 },
 }

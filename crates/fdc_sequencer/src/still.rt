@@ -1,4 +1,4 @@
-// Whether anything is done, and the range of its numbers.
+// Whether anything is done, and the ranges of the numbers.
 ghost use Rattle.std.specs.Prelude.{◌≡◌, ◌<◌, true};
 ghost use Rattle.fdc_core.specs.Ranges.{IsInRange};
 ghost use Rattle.fdc_sequencer.specs.Fronts.{front_state};
@@ -10,14 +10,14 @@ use crate::stage::Stage;
 use crate::transfer::Transfer;
 use drive_model::Inspect;
 
-// The numbers of two records are bytes.
+// The numbers of two records are bytes. The function does nothing.
 fn keep_records(_record: u8, _last: u8)
     ensures record { _record < 256 }
     ensures last { _last < 256 }
 {}
 
 impl Transfer {
-    /// The numbers of its record and of the last one are bytes. It does nothing.
+    /// The numbers of the command's record and of its last record are bytes. The function does nothing.
     fn ranges(&self)
         ensures { HasByteRecords self.now }
     {
@@ -26,7 +26,7 @@ impl Transfer {
 }
 
 impl Stage {
-    /// The same of a command of several sectors that is under way.
+    /// The numbers of a command of several sectors that is under way are bytes. The function does nothing.
     fn ranges(&self)
         ensures { HasByteNumbers self.now }
     {
@@ -39,7 +39,7 @@ impl Stage {
 }
 
 impl<D: Inspect> Sequencer<D> {
-    /// Its numbers are those that registers and bytes hold. It does nothing.
+    /// The sequencer's numbers are those that registers and bytes hold. The function does nothing.
     pub fn ranges(&self)
         ensures controller { IsInRange (front_state D.state self.now).adapter.controller }
         ensures records { HasByteNumbers (front_state D.state self.now).stage }
@@ -48,7 +48,7 @@ impl<D: Inspect> Sequencer<D> {
         self.stage.ranges();
     }
 
-    /// Whether a device step is the adapter's alone: no command of several sectors is under way.
+    /// Whether a device step is the adapter's alone: no command of several sectors seeks or moves a sector.
     fn rests(&self) -> bool
         ensures { result ≡ rests_at (front_state D.state self.now).stage }
     {
@@ -58,7 +58,7 @@ impl<D: Inspect> Sequencer<D> {
         }
     }
 
-    /// Whether a device step changes nothing but the drives, and so each further one.
+    /// Whether a device step changes nothing but the drives. If so, no later device step does either.
     pub fn is_still(&self) -> bool
         ensures value { result ≡ stands_at (front_state D.state self.now) }
         ensures still { result ≡ true → StandsFront (front_state D.state self.now) }

@@ -9,16 +9,16 @@ use fdc_registers::{Flags, St2};
 use fdc_stages::Ending;
 use flop_base::Chrn;
 
-/// The head in the second byte of a command.
+/// The bit of the head in the second byte of a command.
 const HEAD: u8 = 0x04;
 
 /// A command of several sectors, as it stands at one of them.
 #[derive(Clone, Copy, PartialEq, Eq, Debug)]
 pub struct Transfer {
     pub opcode: Opcode,
-    /// The head in bit 2, the drive in bits 1 and 0.
+    /// The head in bit 2, and the drive in bits 1 and 0.
     pub head_drive: u8,
-    /// The key of the sector.
+    /// The sector ID of the sector.
     pub key: Chrn,
     /// EOT: the number of the track's last sector.
     pub last_sector: u8,
@@ -27,7 +27,7 @@ pub struct Transfer {
 }
 
 impl Transfer {
-    /// That which the controller's own command for its first sector spells.
+    /// The command of several sectors that the controller's own command for its first sector spells.
     pub(crate) fn of(opcode: Opcode, command: Command) -> Option<Transfer>
         ensures { result ≡ transfer_of opcode command }
     {
@@ -101,8 +101,8 @@ impl Transfer {
         }
     }
 
-    /// The same command at the sector behind this one: the next record; behind the last, record 1 of the other head with MT,
-    /// of the next cylinder without it and behind head 1.
+    /// The same command at the sector after this one. This is the next record, or after the last record: with MT,
+    /// record 1 of the other head, after head 1 on the next cylinder; without MT, record 1 of the next cylinder.
     pub(crate) fn next(self) -> Transfer
         ensures { result ≡ next_of self }
     {
@@ -142,14 +142,14 @@ impl Transfer {
         }
     }
 
-    /// Whether no sector comes behind this one.
+    /// Whether no sector comes after this one.
     pub(crate) fn is_last(self) -> bool
         ensures { result ≡ is_last self }
     {
         self.key.r == self.last_sector && (!self.opcode.multitrack || self.head_drive & HEAD != 0)
     }
 
-    /// Whether a field of this mark isn't of those that the command wants.
+    /// Whether a field with this mark isn't one of those that the command wants.
     pub(crate) fn is_other(self, deleted: bool) -> bool
         ensures { result ≡ is_other self.opcode.operation deleted }
     {
@@ -171,14 +171,14 @@ impl Transfer {
         }
     }
 
-    /// Whether it passes such fields over.
+    /// Whether the command passes fields with the other mark over.
     pub(crate) fn is_skipping(self) -> bool
         ensures { result ≡ is_skipping self.opcode.operation }
     {
         matches!(self.opcode.operation, Operation::Read { skip: true, .. })
     }
 
-    /// The bytes of a sector.
+    /// How many bytes a sector has.
     pub(crate) fn size(self) -> u16
         ensures { result ≡ size_of self.key.n }
     {
@@ -193,7 +193,8 @@ impl Transfer {
         }
     }
 
-    /// The results where it ends at this sector so. `passed_over` says that a field of the other mark was passed over.
+    /// The results if the command ends at this sector with this ending. `passed_over` says that a field with the other
+    /// mark was passed over.
     pub(crate) fn results(self, ending: Ending, key: Chrn, passed_over: bool) -> Results
         ensures { result ≡ results_told ending self.head_drive key passed_over }
     {

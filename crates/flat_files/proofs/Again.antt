@@ -1,4 +1,4 @@
--- The flat file of a medium that a flat file made is that file.
+-- If a flat file made a medium, the flat file of that medium is that file again.
 use Rattle.std.proofs.Common.{◌≡◌, ◌+◌, ◌-◌, ◌*◌, ◌<◌, ◌≤◌, ◌==◌, ◌&&◌, ◌∷◌, ◌++◌, [], ℕ, zero, suc, Bool, true, false, cond, List, length, map, take, get_or, Option, Some, None, refl, sym, ap, ◌∙◌, subst, arith, ⊎_elim, eq-eqb, ne_eqb, take-add, take_all}
 use Rattle.std.specs.Prelude.{find, slice_range}
 use Rattle.std.specs.List.{range_with_len}
@@ -41,7 +41,7 @@ find_none p (y ∷ ys) is (suc i) d lt =
       | false ↦ (λ is. find_none p ys is i d (omega arith))
     ] is
 
--- of a list made of the index, the one that alone passes
+-- in a list made from the indices, the only item that passes the test is found
 find_made : {X : Type 0} (f : ℕ → X) (p : X → Bool) (k : ℕ) → p (f k) ≡ true → ((i : ℕ) → (i ≡ k → ⊥) → p (f i) ≡ false) → (a n : ℕ) → a ≤ k → k < a + n
     → find p (map f (range_with_len a n)) ≡ Some (f k)
 find_made f p k met unmet a zero from below = absurd (omega (arith, from, below))
@@ -84,7 +84,7 @@ no_track = record { c = 0; h = 0; n = 0; sectors = [] }
 is_here : (c h : ℕ) (track : ImdTrack) → track.c ≡ c → track.h ≡ h → is_track c h track ≡ true
 is_here c h track same_c same_h = rw (eq-eqb track.c c same_c, eq-eqb track.h h same_h) refl
 
--- so has each image that has all of the medium
+-- an image that has all of the medium has these sectors too
 sectors_found : (disk : Disk) (image : ImdImage) (c h : ℕ) (sectors : List ImdSector) → IsOn disk c h sectors → AreGood sectors → 0 < length sectors
     → HasImage disk image → (found : Option ImdTrack) → find (is_track c h) image.tracks ≡ found → sectors_on image.tracks c h ≡ sectors
 sectors_found disk image c h sectors on good some has None is =
@@ -109,7 +109,7 @@ sectors_are form bytes disk image track valid made has below =
     sectors_found disk image (cylinder_of form track) (head_of form track) (form_sectors form bytes track) (form_on form bytes disk track made below)
     (good_sectors form bytes track (range_with_len 0 form.sectors)) (omega (arith, many, valid.some_sectors)) has _ refl
 
--- ---- one of them
+-- ---- one of the sectors
 
 passes : (c h n r s : ℕ) → s ≡ r → ((c == c) && ((h == h) && ((s == r) && (n == n)))) ≡ true
 passes c h n r s same = rw (eq-eqb c c refl, eq-eqb h h refl, eq-eqb s r same, eq-eqb n n refl) refl
@@ -127,7 +127,7 @@ sector_is form bytes tracks track k below sectors =
     ∙ find_made (form_sector form bytes track) (is_wanted form.n c h (k + 1)) k (passes c h form.n (k + 1) (k + 1) refl)
     (λ i other. fails c h form.n (k + 1) (i + 1) (λ same. other (omega (arith, same)))) 0 form.sectors (omega arith) (omega (arith, below))
 
--- ---- their bytes
+-- ---- the bytes of the sectors
 
 part_more : (bytes : List ℕ) (place size : ℕ) → take place bytes ++ slice_range bytes place (place + size) ≡ take (place + size) bytes
 part_more bytes place size = let rest : place + size - place ≡ size = omega arith in rw rest (sym (take-add place size bytes))
@@ -165,7 +165,7 @@ tracks_are form bytes tracks (suc track) file all are =
     records_are form bytes tracks track form.sectors are.0 file (omega arith) (all track (omega arith)) are.3 before
     ∙ ap (λ n. take (n * sector_bytes form) bytes) next
 
--- all of them are the file
+-- the bytes of all sectors are the file
 pub file_again : (form : FlatForm) (bytes : List ℕ) (disk : Disk) (image : ImdImage) (file : List ℕ) → IsForm form → length bytes ≡ file_length form
     → HasImage disk (form_image form bytes) → HasImage disk image → AreOfTracks image.tracks form (tracks_of form) file → file ≡ bytes
 file_again form bytes disk image file valid whole made has are =

@@ -1,4 +1,5 @@
--- What stands on a track is one: where all sectors of one list are whole, another list that the track has is this list.
+-- A track has only one list of sectors if one of its lists has whole sectors alone: any other list of the track is the
+-- same.
 use Rattle.std.proofs.Common.{◌≡◌, ◌+◌, ◌<◌, ◌≤◌, ◌∷◌, [], ℕ, zero, suc, false, true, List, length, get_or, refl, sym, ap, ◌∙◌, subst, arith}
 use Rattle.std.specs.Prelude.{⊤}
 use Rattle.flop_base.specs.declared.key.Chrn.{Chrn}
@@ -10,7 +11,7 @@ use Rattle.imagedisk.specs.declared.sector.ImdKind.{ImdKind}
 use Rattle.imagedisk.specs.declared.sector.ImdKind.TheVariants.{Absent, Good, Deleted, Bad, BadDeleted}
 use Rattle.imagedisk.specs.declared.sector.ImdSector.{ImdSector}
 
--- all of them have whole data
+-- all these sectors have whole data
 abbrev pub AreGood : List ImdSector → Type 0
 AreGood [] = ⊤
 AreGood (sector ∷ sectors) = (sector.kind ≡ Good) × AreGood sectors
@@ -67,7 +68,7 @@ behind track low sector sectors on = record {
           | suc i ↦ (λ lt e. (i, omega arith, e))
         ] found.1 found.2
 
--- no address comes before the first
+-- no address field comes before that of the first sector
 least : (track : List ℕ) (low : ℕ) (sector : ImdSector) (sectors : List ImdSector) (on : HasOn track low (sector ∷ sectors)) (p : ℕ) (key : Chrn)
     → low ≤ p → IsAddressAt track p key → on.place 0 ≤ p
 least track low sector sectors on p key from at =

@@ -1,4 +1,4 @@
--- The contents of a medium's sectors, one behind the other.
+-- The contents of a medium's sectors, one after the other.
 use Rattle.std.proofs.Common.{◌≡◌, ◌∙◌, ◌+◌, ◌*◌, ◌/◌, ◌%◌, ◌<◌, ◌≤◌, ◌==◌, ◌++◌, [], ℕ, zero, suc, Bool, true, false, List, refl, ap, sym, subst, arith, ⊎_elim}
 use Rattle.std.specs.Prelude.{Some, None, Option, IsSome, if◌then◌else◌}
 use Rattle.std.proofs.lemmas.Bool.{cases_lt, eqb-false, eqb-true}
@@ -23,7 +23,7 @@ more_records tracks n c h count old between new content adds found added =
     subst (λ (k : ℕ). AddsRecords tracks n c h k old new) (more count)
     (between, adds, (found.0, found.1, added ∙ ap (λ (bytes : List ℕ). between ++ bytes) found.2))
 
--- so each of these records is there
+-- each of the first `count` records is on the track if their contents were added
 records_there : (tracks : List ImdTrack) (n c h count : ℕ) (old new : List ℕ) → AddsRecords tracks n c h count old new → (k : ℕ) → 1 ≤ k → k ≤ count
     → IsSome (sector_on tracks n c h k)
 unfolding AddsRecords
@@ -46,7 +46,7 @@ unfolding AreOfTracks
 more_tracks tracks form track before bytes are plain adds =
     subst (λ (k : ℕ). AreOfTracks tracks form k bytes) (more track) (before, are, plain, adds)
 
--- where a track stands among all, by cylinder, then head
+-- the number of a track among all tracks, by cylinder, then head
 pub record IsAt (form : FlatForm) (track c h : ℕ) : Type 0 where
   pub cylinder : c < form.cylinders
   pub head : h < form.heads
@@ -65,7 +65,7 @@ at_by form track false is valid there =
 pub at_place : (form : FlatForm) (track : ℕ) → IsForm form → track < tracks_of form → IsAt form track (cylinder_of form track) (head_of form track)
 at_place form track is there = at_by form track (form.heads == 1) refl is there
 
--- the tracks are counted by cylinder, then head
+-- the tracks before this one are as a flat file has them
 pub reached : (tracks : List ImdTrack) (form : FlatForm) (track : ℕ) (before : List ℕ) → IsForm form → track < tracks_of form
     → AreOfTracks tracks form track before → IsReached tracks form (cylinder_of form track) (head_of form track)
 reached tracks form track before is there are =
@@ -77,7 +77,7 @@ reached tracks form track before is there are =
       are = subst (λ (n : ℕ). AreOfTracks tracks form n before) at.place are;
     }
 
--- behind so many records the next one isn't there
+-- the first i records are there, and the next record isn't
 pub next_lacks : (tracks : List ImdTrack) (form : FlatForm) (track i : ℕ) (before between : List ℕ) → IsForm form → track < tracks_of form → i < form.sectors
     → AreOfTracks tracks form track before → is_plain tracks form.sectors (cylinder_of form track) (head_of form track) ≡ true
     → AddsRecords tracks form.n (cylinder_of form track) (head_of form track) i before between

@@ -1,4 +1,5 @@
--- A medium that a flat file made has a flat file: its tracks are such as an image can have, and nothing but want of memory refuses it.
+-- A medium that a flat file made has a flat file. Its tracks are such as an image can have, and nothing but a lack of
+-- memory refuses it.
 use Rattle.std.proofs.Common.{◌≡◌, ◌+◌, ◌*◌, ◌<◌, ◌≤◌, ℕ, zero, suc, List, length, get_or, Result, Ok, Err, refl, sym, ap, ◌∙◌, subst, arith, ⊎_elim}
 use Rattle.std.specs.Global.{Vec}
 use Rattle.std.proofs.lemmas.Bool.{cases_eq, cases_lt}
@@ -42,7 +43,7 @@ further words sectors has j k p q within first second less =
     (cases_eq k j))
     (cases_lt j k)
 
--- the sector of an address field comes no earlier than it
+-- address field i is that of a sector with the number i or a higher one
 index_of : (words : List ℕ) (fields : List Field) (sectors : List ImdSector) (has : HasSectors words sectors) → AreAddresses words fields → (i : ℕ) → i < length fields
     → (j : ℕ) × (i ≤ j) × (j < length sectors) × ((get_or fields i no_field).place ≡ has.place j)
 index_of words fields sectors has addresses zero lt =
@@ -67,7 +68,7 @@ no_more_fields words fields sectors has addresses (suc last) many =
     let within = at.2 in
     omega (arith, so_far, within)
 
--- ---- so few that an image can have them
+-- ---- the address fields are few enough for an image
 
 most_words : (rate : Rate) → words_at rate ≤ 12500
 most_words R500 = omega arith

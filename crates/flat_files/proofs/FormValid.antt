@@ -1,4 +1,4 @@
--- The image of a flat file is one of an ImageDisk file.
+-- The image of a flat file is an image that an ImageDisk file can hold.
 use Rattle.std.proofs.Common.{◌≡◌, ◌+◌, ◌-◌, ◌/◌, ◌%◌, ◌<◌, ◌≤◌, ◌∷◌, ◌++◌, ◌==◌, [], ℕ, List, length, map, drop, get_or, sym, ap, ◌∙◌, subst, arith}
 use Rattle.std.specs.Prelude.{slice_range, All}
 use Rattle.std.specs.List.{range_with_len}
@@ -11,13 +11,13 @@ use Rattle.flat_files.specs.Forms.{IsForm, cylinder_of, head_of, tracks_of}
 use Rattle.flat_files.specs.FormMaking.{form_image, form_track}
 use Rattle.flat_files.specs.declared.form.FlatForm.{FlatForm}
 
--- one more of a list made of the index
+-- one more item of a list made from the indices
 pub pushed_more : {X : Type 0} (f : ℕ → X) (kept new : List X) (n : ℕ) (x : X) → kept ≡ map f (range_with_len 0 n) → x ≡ f n → new ≡ kept ++ x ∷ []
     → new ≡ map f (range_with_len 0 (n + 1))
 pushed_more f kept new n x is at pushed =
     pushed ∙ ap (λ xs. xs ++ x ∷ []) is ∙ ap (λ y. map f (range_with_len 0 n) ++ y ∷ []) at ∙ sym (map-range_with_len_more f 0 n n (omega arith))
 
--- the length of a part
+-- the length of a part of a list
 pub length-part : (bytes : List ℕ) (from size : ℕ) → from + size ≤ length bytes → length (slice_range bytes from (from + size)) ≡ size
 length-part bytes from size fits = omega (arith, length-take (from + size - from) (drop from bytes), length-drop from bytes)
 
@@ -25,7 +25,7 @@ pub track_is : (form : FlatForm) (bytes : List ℕ) (i : ℕ) (d : ImdTrack) →
     → get_or (map (form_track form bytes) (range_with_len 0 (tracks_of form))) i d ≡ form_track form bytes i
 track_is form bytes i d below = get_or-map-range_with_len (form_track form bytes) 0 (tracks_of form) i i d below (omega arith)
 
--- two tracks are of different places
+-- two tracks have different places
 places_apart : (form : FlatForm) (i j : ℕ) → i < j → cylinder_of form i ≡ cylinder_of form j → head_of form i ≡ head_of form j → ⊥
 places_apart form i j less c h = grind (arith, less, c, h)
 

@@ -1,4 +1,5 @@
--- A medium that a flat file made has its geometry, no more sectors, and none that lacks.
+-- A medium that a flat file made has the geometry of that file. It has no more sectors than the file, and it lacks
+-- none.
 use Rattle.std.proofs.Common.{◌≡◌, ◌+◌, ◌-◌, ◌*◌, ◌/◌, ◌%◌, ◌<◌, ◌≤◌, ◌==◌, ◌&&◌, ◌∷◌, [], ℕ, zero, suc, Bool, true, false, not, leb, List, length, map, get_or, Some, refl, sym, ap, ◌∙◌, subst, arith, eq-eqb, ne_eqb, le-leb}
 use Rattle.std.specs.Prelude.{if◌then◌else◌}
 use Rattle.std.specs.List.{range_with_len}
@@ -44,7 +45,7 @@ number_of form c h valid cylinder head =
     let is = number_by form c h (form.heads == 1) refl valid cylinder head in
     record { below = is.0; cylinder = is.1; head = is.2 }
 
--- ---- no more sectors, and none that lacks
+-- ---- the medium has no more sectors, and lacks none
 
 none_deleted : (form : FlatForm) (bytes : List ℕ) (track : ℕ) (each : List ℕ) → has_deleted (map (form_sector form bytes track) each) ≡ false
 none_deleted form bytes track [] = refl
@@ -62,7 +63,7 @@ plain_there form bytes sectors track is =
     let none : has_deleted sectors ≡ false = ap has_deleted is ∙ none_deleted form bytes track (range_with_len 0 form.sectors) in
     rw (few, none) refl
 
--- the sectors of a place
+-- the sectors on the track of a cylinder and head
 sectors_at : (form : FlatForm) (bytes : List ℕ) (tracks : List ImdTrack) (c h track : ℕ) → AreForm form bytes tracks → IsNumber form c h track
     → sectors_on tracks c h ≡ form_sectors form bytes track
 sectors_at form bytes tracks c h track all is =

@@ -1,4 +1,4 @@
--- A flat file of 1.44 MB or 720 KB is one of a geometry, and so is its medium.
+-- A flat file of 1.44 MB or 720 KB is a flat file of a geometry, and its medium is a medium of that geometry.
 use Rattle.std.proofs.Common.{◌≡◌, ◌≤◌, ◌+◌, ◌-◌, ◌*◌, ◌/◌, ◌%◌, ◌==◌, ◌∷◌, [], ℕ, Bool, true, false, List, length, map, Result, Ok, Err, refl, sym, ap, ◌∙◌, subst, arith, cond, nat_lt, ◌⊎◌, inl, inr, ⊎_elim}
 use Rattle.std.specs.Prelude.{slice_range}
 use Rattle.std.specs.Global.{Vec}
@@ -26,7 +26,7 @@ use Rattle.flat_files.specs.declared.file_fault.FileFault.TheVariants.{Flat}
 use Rattle.flat_files.specs.declared.form.FlatForm.{FlatForm}
 use Rattle.flat_files.proofs.Fit.{given_again}
 
--- so many sectors a track, at a rate
+-- the geometry with this many sectors per track, at a rate
 abbrev form_with : ℕ → Rate → FlatForm
 form_with sectors rate = record { cylinders = 80; heads = 2; sectors = sectors; n = 2; rate = rate }
 
@@ -65,7 +65,7 @@ image_same : (bytes : List ℕ) (sectors : ℕ) (rate : Rate) → flat_image byt
 image_same bytes sectors rate =
     ap (image_with rate) (map_same (flat_track bytes sectors) (form_track (form_with sectors rate) bytes) (track_same bytes sectors rate) (range_with_len 0 160))
 
--- ---- which of both it is
+-- ---- which of the two densities it is
 
 abbrev told : ℕ → Result ℕ ImageError
 told n = Ok n

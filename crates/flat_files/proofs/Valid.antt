@@ -1,4 +1,4 @@
--- The image of a flat file is one of an ImageDisk file, and its tracks have room.
+-- The image of a flat file is an image that an ImageDisk file can hold, and its tracks have room.
 use Rattle.std.proofs.Common.{◌≡◌, ◌+◌, ◌-◌, ◌/◌, ◌%◌, ◌<◌, ◌≤◌, ◌∷◌, ◌++◌, [], ℕ, List, length, map, drop, get_or, sym, ap, ◌∙◌, subst, arith, ⊎_elim}
 use Rattle.std.specs.Prelude.{slice_range, All}
 use Rattle.std.specs.List.{range_with_len}
@@ -14,13 +14,13 @@ use Rattle.imagedisk.specs.declared.track.ImdTrack.{ImdTrack}
 use Rattle.track_format.specs.Gaps.{Suits}
 use Rattle.flat_files.specs.Flats.{flat_image, flat_sector, flat_track, rate_of}
 
--- one more of a list made of the index
+-- one more item of a list made from the indices
 pub pushed_more : {X : Type 0} (f : ℕ → X) (kept new : List X) (n : ℕ) (x : X) → kept ≡ map f (range_with_len 0 n) → x ≡ f n → new ≡ kept ++ x ∷ []
     → new ≡ map f (range_with_len 0 (n + 1))
 pushed_more f kept new n x is at pushed =
     pushed ∙ ap (λ xs. xs ++ x ∷ []) is ∙ ap (λ y. map f (range_with_len 0 n) ++ y ∷ []) at ∙ sym (map-range_with_len_more f 0 n n (omega arith))
 
--- the length of a part
+-- the length of a part of a list
 pub length-part : (bytes : List ℕ) (from : ℕ) → from + 512 ≤ length bytes → length (slice_range bytes from (from + 512)) ≡ 512
 length-part bytes from fits = omega (arith, length-take (from + 512 - from) (drop from bytes), length-drop from bytes)
 
@@ -42,7 +42,7 @@ valid_image bytes sectors rate tracks =
       rate = λ none. let zero : 160 ≡ 0 = sym many ∙ ap length none in absurd (omega (arith, zero));
     }
 
--- each track has room
+-- each track has room for its sectors
 roomy : (sectors : ℕ) → IsDensity sectors → Suits 2 sectors (words_at (rate_of sectors)) (gap_at (rate_of sectors))
 roomy sectors density =
     ⊎_elim (λ (nine : sectors ≡ 9). subst (λ (n : ℕ). Suits 2 n (words_at (rate_of n)) (gap_at (rate_of n))) (sym nine) (record { fits = omega arith; room = omega arith }))
@@ -52,7 +52,7 @@ wide : (rate : Rate) → 16 ≤ gap_at rate
 wide R500 = omega arith
 wide R250 = omega arith
 
--- so none is crowded
+-- no track is therefore crowded
 pub not_crowded : (bytes : List ℕ) (sectors c h i : ℕ) → IsDensity sectors → IsFirstCrowded (flat_image bytes sectors (rate_of sectors)) c h i → ⊥
 not_crowded bytes sectors c h i density first =
     let many : length (map (flat_track bytes sectors) (range_with_len 0 160)) ≡ 160 = length-map-range_with_len (flat_track bytes sectors) 0 160 in

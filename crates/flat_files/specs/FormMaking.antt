@@ -13,7 +13,7 @@ use Rattle.flat_files.specs.declared.form_fault.FormFault.{FormFault}
 use Rattle.flat_files.specs.declared.form_fault.FormFault.TheVariants as fault
 use Rattle.flat_files.specs.declared.form.FlatForm.{FlatForm}
 
--- a sector of a track, counted from 0: its bytes in the file, under the record behind that
+-- Sector i of a track, counted from 0: it has its bytes of the file, and its record number is i + 1.
 abbrev pub form_sector : FlatForm → List ℕ → (track i : ℕ) → ImdSector
 form_sector form bytes track i = record {
   key = record { c = cylinder_of form track; h = head_of form track; r = i + 1; n = form.n };
@@ -21,7 +21,7 @@ form_sector form bytes track i = record {
   content = slice_range bytes (sector_place form track i) (sector_place form track i + sector_bytes form);
 }
 
--- a track, counted by cylinder, then head
+-- a track with this number, counted by cylinder, then head
 abbrev pub form_track : FlatForm → List ℕ → (track : ℕ) → ImdTrack
 form_track form bytes track = record {
   c = cylinder_of form track;
@@ -41,8 +41,8 @@ pub record HasForm (form : FlatForm) (bytes : List ℕ) (disk : Disk) : Type 0 w
   pub made : IsMediumOf (form_image form bytes) disk
   pub found : HasImage disk (form_image form bytes)
 
--- the medium of a flat file, or why there is none, unless memory ran out: there is no such geometry, the file has another length, or a track
--- has no room
+-- The medium of a flat file, or why there is none, unless memory ran out. There is no such geometry, the file has
+-- another length, or a track has no room.
 abbrev pub MakesForm : FlatForm → List ℕ → Result Disk FormFault → Type 0
 MakesForm form bytes (Ok disk) = HasForm form bytes disk
 MakesForm form bytes (Err fault.NoForm) = IsForm form → ⊥

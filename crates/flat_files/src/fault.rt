@@ -9,19 +9,19 @@ use thiserror::Error;
 /// Why a medium has no flat file.
 #[derive(Clone, Copy, Debug, PartialEq, Eq, Error)]
 pub enum FlatFault {
-    /// It hasn't the cylinders, the heads or the rate of such a file.
+    /// The medium has other cylinders, other heads or another rate than such a file.
     #[error("another geometry")]
     Shape,
-    /// The first track with sectors of several sizes, or of a size that none names.
+    /// The first track with sectors of several sizes, or of a size code that names no size.
     #[error("track {c} {h} unfit")]
     Unfit { c: u8, h: u8 },
-    /// The first track with more sectors than a flat file takes of it, or with one that is marked as deleted.
+    /// The first track with more sectors than a flat file takes from it, or with one that is marked as deleted.
     #[error("track {c} {h} has more")]
     More { c: u8, h: u8 },
-    /// The first sector that isn't there, or whose data is missing or damaged.
+    /// The first sector that isn't there, or whose data are missing or damaged.
     #[error("sector {c} {h} {r} lacking")]
     Lacks { c: u8, h: u8, r: u8 },
-    /// Memory couldn't be had. This says nothing of the medium.
+    /// Memory ran out. This says nothing of the medium.
     #[error("no memory")]
     NoMemory,
 }

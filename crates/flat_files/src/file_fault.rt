@@ -8,10 +8,10 @@ use thiserror::Error;
 /// Why a medium has no flat file of a geometry.
 #[derive(Clone, Copy, Debug, PartialEq, Eq, Error)]
 pub enum FileFault {
-    /// There is no such geometry here.
+    /// There is no such geometry.
     #[error("no geometry")]
     NoForm,
-    /// The medium isn't as such a file has it.
+    /// The medium isn't as a flat file of this geometry has it.
     #[error("{fault}")]
     Flat { fault: FlatFault },
 }

@@ -13,7 +13,7 @@ use imagedisk::{ImdError, ImdTrack, from_medium};
 use raw_image::Medium;
 use std::alloc::Global;
 
-/// The geometry of 1.44 MB, at 500 kbit/s, and of 720 KB, at 250.
+/// The geometry of 1.44 MB, at 500 kbit/s, or of 720 KB, at 250 kbit/s.
 fn standard_form(rate: Rate) -> FlatForm
     ensures value { result ≡ standard_form_at rate }
     ensures form { IsForm result }
@@ -31,7 +31,7 @@ fn standard_form(rate: Rate) -> FlatForm
     }
 }
 
-/// Adds the contents of a track's records, behind those of the tracks before it.
+/// Adds the contents of a track's records, after those of the tracks before it.
 fn add_records(
     bytes: &mut Vec<u8>,
     tracks: &[ImdTrack],
@@ -56,8 +56,8 @@ fn add_records(
     Ok(())
 }
 
-/// Adds the contents of a track, counted by cylinder, then head, behind those of the tracks before it. What a flat file has no
-/// room for isn't left out: such a track is refused.
+/// Adds the contents of a track, after those of the tracks before it. Tracks are counted by cylinder, then head. A
+/// track with sectors that a flat file has no room for is refused: they aren't left out.
 fn add_track(
     bytes: &mut Vec<u8>,
     tracks: &[ImdTrack],
@@ -111,15 +111,17 @@ fn file_as(alloc: Global, medium: &Medium, form: FlatForm) -> Result<Vec<u8>, Fl
     }
 }
 
-/// The flat file of a medium of 80 cylinders of two heads, which has no sector beyond it: of each track the records 1 to 18 at
-/// 500 kbit/s, 1 to 9 at 250, each of 512 bytes under the key of its cylinder and head, and not marked as deleted.
+/// The flat file of a medium of 80 cylinders with two heads, which has no other sectors than the file. The file has the
+/// records 1 to 18 of each track at 500 kbit/s, and 1 to 9 at 250 kbit/s. Each has 512 bytes, the key of its cylinder
+/// and head, and no mark as deleted.
 pub fn flat_file(alloc: Global, medium: &Medium) -> Result<Vec<u8>, FlatFault>
     ensures { GivesFlat medium.now result }
 {
     file_as(alloc, medium, standard_form(medium.rate()))
 }
 
-/// The same of a medium of this geometry: of each track its records, each of its size code.
+/// The flat file of a medium of this geometry. It has the records of the geometry on each track, each with the
+/// geometry's size code.
 pub fn flat_file_as(alloc: Global, medium: &Medium, form: FlatForm) -> Result<Vec<u8>, FileFault>
     ensures { GivesForm form medium.now result }
 {

@@ -1,4 +1,4 @@
-// The sector of a key in the image of a medium.
+// The sector with a key in the image of a medium.
 ghost use Rattle.std.specs.Prelude.{◌≡◌, MatchOption, Some, None, find};
 ghost use Rattle.imagedisk.specs.declared.sector.ImdSector.{ImdSector};
 ghost use Rattle.flat_files.specs.Files.{has_deleted as has_deleted_of, is_deleted as is_deleted_kind, is_plain as is_plain_track, is_track as is_track_of, is_wanted as is_wanted_of, is_whole as is_whole_kind, sector_on, sectors_on as sectors_of_track};
@@ -12,14 +12,14 @@ fn is_whole(kind: ImdKind) -> bool
     matches!(kind, ImdKind::Good)
 }
 
-/// Whether data are marked as deleted, also where they are damaged.
+/// Whether data are marked as deleted, be they whole or damaged.
 fn is_deleted(kind: ImdKind) -> bool
     ensures { result ≡ is_deleted_kind kind }
 {
     matches!(kind, ImdKind::Deleted | ImdKind::BadDeleted)
 }
 
-/// Whether it is a whole sector of this size code with this key.
+/// Whether the sector is whole, and has this size code and this key.
 fn is_wanted(sector: &ImdSector, n: u8, c: u8, h: u8, r: u8) -> bool
     ensures { result ≡ is_wanted_of n c h r sector.now }
 {
@@ -30,7 +30,7 @@ fn is_wanted(sector: &ImdSector, n: u8, c: u8, h: u8, r: u8) -> bool
         && sector.key.n == n
 }
 
-/// Whether it is the track of this cylinder and head.
+/// Whether the track has this cylinder and head.
 fn is_track(track: &ImdTrack, c: u8, h: u8) -> bool
     ensures { result ≡ is_track_of c h track.now }
 {
@@ -56,7 +56,7 @@ fn has_deleted(sectors: &[ImdSector]) -> bool
     sectors.iter().any(|sector| is_deleted(sector.kind))
 }
 
-/// Whether the track of this cylinder and head has so many sectors at most, and none that is marked as deleted.
+/// Whether the track of this cylinder and head has at most this many sectors, and none that is marked as deleted.
 pub(crate) fn is_plain(tracks: &[ImdTrack], most: u8, c: u8, h: u8) -> bool
     ensures { result ≡ is_plain_track tracks.now most c h }
 {
@@ -64,7 +64,7 @@ pub(crate) fn is_plain(tracks: &[ImdTrack], most: u8, c: u8, h: u8) -> bool
     sectors.len() <= usize::from(most) && !has_deleted(sectors)
 }
 
-/// The first whole one of these with this key.
+/// The first whole sector of these that has this key.
 fn wanted(sectors: &[ImdSector], n: u8, c: u8, h: u8, r: u8) -> Option<&ImdSector>
     ensures { MatchOption result (find (is_wanted_of n c h r) sectors.now ≡ None)
         (λ sector. find (is_wanted_of n c h r) sectors.now ≡ Some sector.now) }
@@ -77,7 +77,7 @@ fn wanted(sectors: &[ImdSector], n: u8, c: u8, h: u8, r: u8) -> Option<&ImdSecto
     None
 }
 
-/// The content of the sector with this key.
+/// The content of the whole sector with this key.
 pub(crate) fn content(tracks: &[ImdTrack], n: u8, c: u8, h: u8, r: u8) -> Option<&[u8]>
     ensures { MatchOption result (sector_on tracks.now n c h r ≡ None)
         (λ content. (sector : ImdSector) × (sector_on tracks.now n c h r ≡ Some sector) × (content.now ≡ sector.content)) }

@@ -1,10 +1,11 @@
-// The geometry of a flat file, and where its sectors stand.
+// The geometry of a flat file, and where its sectors are in the file.
 ghost use Rattle.std.specs.Prelude.{◌≡◌, ◌≤◌, ◌<◌, ◌+◌, IsTrue, IsFalse};
 ghost use Rattle.flat_files.specs.Forms.{IsForm, cylinder_of, file_length, head_of, sector_place, sector_bytes, tracks_of};
 
 use flop_base::{Rate, sector_size};
 
-/// So many cylinders and heads, and on each track the records 1 to so many, of a size code, at a rate.
+/// A geometry: the numbers of cylinders and heads, the records 1 to `sectors` on each track, their size code, and a
+/// rate.
 #[derive(Clone, Copy, Debug, PartialEq, Eq)]
 pub struct FlatForm {
     pub cylinders: u8,
@@ -15,7 +16,8 @@ pub struct FlatForm {
 }
 
 impl FlatForm {
-    /// Whether a medium has such a geometry: 1 to 80 cylinders, 1 or 2 heads, a sector at least, and size code 1 to 6.
+    /// Whether a medium can have this geometry: 1 to 80 cylinders, 1 or 2 heads, at least one sector, and size code 1
+    /// to 6.
     pub fn is_one(self) -> bool
         ensures yes { IsTrue result → IsForm self }
         ensures no { IsFalse result → IsForm self → ⊥ }
@@ -29,7 +31,7 @@ impl FlatForm {
             && self.n <= 6
     }
 
-    /// The tracks, by cylinder, then head.
+    /// The number of tracks.
     pub(crate) fn tracks(self) -> u8
         requires { IsForm self }
         ensures value { result ≡ tracks_of self }
@@ -42,7 +44,7 @@ impl FlatForm {
         }
     }
 
-    /// The cylinder of a track.
+    /// The cylinder of a track. Tracks are counted by cylinder, then head.
     pub(crate) fn cylinder(self, track: u8) -> u8
         requires form { IsForm self }
         requires there { track < tracks_of self }
@@ -52,7 +54,7 @@ impl FlatForm {
         if self.heads == 1 { track } else { track / 2 }
     }
 
-    /// Its head.
+    /// The head of a track. Tracks are counted by cylinder, then head.
     pub(crate) fn head(self, track: u8) -> u8
         requires form { IsForm self }
         ensures value { result ≡ head_of self track }
@@ -61,7 +63,7 @@ impl FlatForm {
         if self.heads == 1 { 0 } else { track % 2 }
     }
 
-    /// The bytes of a sector.
+    /// The number of bytes of a sector.
     pub(crate) fn size(self) -> usize
         requires { IsForm self }
         ensures value { result ≡ sector_bytes self }
@@ -70,7 +72,7 @@ impl FlatForm {
         sector_size(self.n)
     }
 
-    /// The bytes of the file.
+    /// The number of bytes of the file.
     pub(crate) fn length(self) -> usize
         requires { IsForm self }
         ensures { result ≡ file_length self }

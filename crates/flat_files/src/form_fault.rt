@@ -8,16 +8,16 @@ use thiserror::Error;
 /// Why a flat file makes no medium.
 #[derive(Clone, Copy, Debug, PartialEq, Eq, Error)]
 pub enum FormFault {
-    /// There is no such geometry here.
+    /// There is no such geometry.
     #[error("no geometry")]
     NoForm,
     /// The file has another length.
     #[error("another length")]
     Length,
-    /// A track has no room for so many sectors.
+    /// A track has no room for its sectors.
     #[error("no room on a track")]
     Crowded,
-    /// Memory couldn't be had. This says nothing of the file.
+    /// Memory ran out. This says nothing of the file.
     #[error("no memory")]
     NoMemory,
 }

@@ -9,7 +9,7 @@ use flop_base::{Bytes, Chrn, NoMemory};
 use imagedisk::{ImdImage, ImdKind, ImdSector, ImdSectors, ImdTrack, ImdTracks};
 use std::alloc::Global;
 
-/// The sector of a track, counted from 0.
+/// Sector `i` of a track, counted from 0.
 fn form_sector(
     alloc: Global,
     bytes: &[u8],
@@ -39,7 +39,7 @@ fn form_sector(
     })
 }
 
-/// A track, counted by cylinder, then head.
+/// The track with this number, counted by cylinder, then head.
 fn form_track(alloc: Global, bytes: &[u8], form: FlatForm, track: u8) -> Result<ImdTrack, NoMemory>
     requires form { IsForm form }
     requires whole { length bytes.now ≡ file_length form }
@@ -62,7 +62,7 @@ fn form_track(alloc: Global, bytes: &[u8], form: FlatForm, track: u8) -> Result<
     })
 }
 
-/// The image of a file.
+/// The image of a flat file of this geometry.
 pub(crate) fn form_image(alloc: Global, bytes: &[u8], form: FlatForm) -> Result<ImdImage, NoMemory>
     requires form { IsForm form }
     requires whole { length bytes.now ≡ file_length form }

@@ -8,7 +8,7 @@ use imagedisk::{ImdError, to_medium};
 use raw_image::Medium;
 use std::alloc::Global;
 
-/// The medium of a flat file of this geometry, not protected, with its sectors and no others.
+/// The medium of a flat file of this geometry. It isn't protected, and has the sectors of the file and no others.
 pub fn flat_medium_as(alloc: Global, bytes: &[u8], form: FlatForm) -> Result<Medium, FormFault>
     ensures { MakesForm form bytes.now result }
 {

@@ -13,7 +13,7 @@ use std::alloc::Global;
 /// The tracks of a file: 80 cylinders of 2 heads.
 const TRACKS: u8 = 160;
 
-/// The sector of a track, counted from 0.
+/// Sector `i` of a track, counted from 0.
 fn flat_sector(
     alloc: Global,
     bytes: &[u8],
@@ -46,7 +46,7 @@ fn flat_sector(
     })
 }
 
-/// A track, counted by cylinder, then head.
+/// The track with this number, counted by cylinder, then head.
 fn flat_track(alloc: Global, bytes: &[u8], sectors: u8, track: u8) -> Result<ImdTrack, NoMemory>
     requires density { IsDensity sectors }
     requires most { sectors ≤ 18 }
@@ -70,7 +70,7 @@ fn flat_track(alloc: Global, bytes: &[u8], sectors: u8, track: u8) -> Result<Imd
     })
 }
 
-/// The image of a file.
+/// The image of a flat file.
 pub(crate) fn flat_image(
     alloc: Global,
     bytes: &[u8],

@@ -1,4 +1,4 @@
-// What follows of the places of sectors, and of files that are made again. The bodies are empty.
+// What follows from the contracts on the places of sectors, and on files that are made again. The bodies are empty.
 ghost use Rattle.std.specs.Prelude.{◌≡◌, ◌⊎◌};
 ghost use Rattle.flat_files.specs.Files.{GivesFlat, GivesForm, IsFileAgain, IsFlatAgain};
 ghost use Rattle.sector_map.specs.Flat.{IsDensity, IsSector, sector_place, AreApart};
@@ -19,7 +19,8 @@ pub fn same_or_apart(sectors: u8, c: u8, h: u8, r: u8, other_c: u8, other_h: u8,
         ⊎ AreApart (sector_place sectors c h r) (sector_place sectors other_c other_h other_r) }
 {}
 
-/// The flat file of a medium that a flat file made is that file again, byte for byte; want of memory alone refuses it.
+/// If a flat file made a medium, the flat file of that medium is that file again, byte for byte. Nothing but a lack of
+/// memory refuses it.
 pub fn file_made_again(
     _form: FlatForm,
     _bytes: &[u8],
@@ -31,7 +32,8 @@ pub fn file_made_again(
     ensures { IsFileAgain _bytes.now _file.now }
 {}
 
-/// The same of 1.44 MB and 720 KB.
+/// If a flat file of 1.44 MB or 720 KB made a medium, the flat file of that medium is that file again. Nothing but a
+/// lack of memory refuses it.
 pub fn flat_made_again(
     _sectors: u8,
     _bytes: &[u8],

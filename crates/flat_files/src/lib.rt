@@ -1,7 +1,8 @@
-//! Media of flat files, and back, without a drive: each sector of the file under its key on a formatted medium.
+//! Media are made of flat files, and flat files of media, without a drive. Each sector of the file is on a formatted
+//! medium under its key.
 //!
-//! A flat file has 80 cylinders of 2 heads. Its tracks have 9 sectors (720 KB) or 18 (1.44 MB). Flat files of any other geometry
-//! make media too, as far as tracks have room, and are made of them.
+//! A flat file has 80 cylinders of 2 heads. Its tracks have 9 sectors (720 KB) or 18 (1.44 MB). Media are also made of
+//! flat files of any other geometry whose tracks have room, and such files of media.
 #![tactic(auto)]
 
 mod fault;

@@ -9,7 +9,7 @@ use raw_image::{ImageError, Medium};
 use sector_map::flat::check;
 use std::alloc::Global;
 
-/// The rate at which a diskette has 18 sectors a track, or 9.
+/// The rate at which a diskette has this many sectors per track, 18 or 9.
 fn rate_of(sectors: u8) -> Rate
     ensures { result ≡ rate_of_density sectors }
 {
@@ -20,7 +20,7 @@ fn rate_of(sectors: u8) -> Rate
     }
 }
 
-/// What keeps an image whose tracks have room from being a medium: want of memory.
+/// What keeps an image whose tracks have room from becoming a medium. Nothing but a lack of memory does.
 fn fault(error: ImdError) -> ImageError
     requires { (c h : ℕ) → error ≡ ImdError.Unfit c h → ⊥ }
     ensures { result ≡ ImageError.NoMemory }
@@ -31,7 +31,8 @@ fn fault(error: ImdError) -> ImageError
     }
 }
 
-/// The medium of a flat file of 1,474,560 or 737,280 bytes, not protected, with its sectors and no others.
+/// The medium of a flat file of 1,474,560 or 737,280 bytes. It isn't protected, and has the sectors of the file and no
+/// others.
 pub fn flat_medium(alloc: Global, bytes: &[u8]) -> Result<Medium, ImageError>
     ensures { MakesFlat bytes.now result }
 {

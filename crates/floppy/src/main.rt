@@ -1,4 +1,5 @@
-//! The program: files of the current folder, standard output, the words of the command line, and a machine of two drives.
+//! The program. It uses the files of the current folder, standard output, the arguments of the command line, and a
+//! machine of two drives.
 #![tactic(auto)]
 
 use flop_base::Status;
@@ -25,7 +26,8 @@ fn main(rt: HostRuntime) -> ExitCode {
     ExitCode::from(status.number())
 }
 
-/// The words behind the program's name. Where one isn't text there are none: it is no word of a form, and nor is none.
+/// The arguments after the program's name. If one of them isn't text, there are none: such an argument is no part of a
+/// subcommand, and no arguments at all are no subcommand either.
 fn words<R: Env + AllocGlobal>(rt: &R) -> Result<Vec<String>, Status> {
     let alloc = rt.alloc();
     match env::args(rt) {

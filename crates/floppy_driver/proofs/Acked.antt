@@ -1,4 +1,4 @@
--- A bay is acknowledged, or not.
+-- A bay is acknowledged or refused.
 use Rattle.std.proofs.Common.{◌≡◌, ℕ, ◌≤◌, ◌⊎◌, Bool, true, false, if◌then◌else◌, List, Option, Some, None, IsSome, IfSome, Result, Ok, Err, MatchBool, refl, sym, ap, ◌∙◌, subst, arith, inl, inr}
 use Rattle.std.specs.Prelude.{◌==◌, ◌&&◌, not}
 use Rattle.std.proofs.lemmas.Bool.{false≢true, le-leb}
@@ -41,7 +41,7 @@ sound_disk rig bay disk sound is = subst (λ (m : Option Disk). IfSome m IsDisk)
     by_bay true = sound.first
     by_bay false = sound.second
 
--- ---- not
+-- ---- not acknowledged
 
 module _ (driver after : Driver) (old : Rig) (bay : ℕ) (new : Rig) (notes : Notes) (in_range : bay ≤ 1) (is : after ≡ with_notes driver bay notes) (gate : notes.gate ≡ false) (known : notes.known ≡ None) (attached : IsAttached driver old) (stayed : HasStayedSet bay 3 old new) where
   not_held : (line : Bool) → is_held notes line ≡ false
@@ -100,7 +100,7 @@ start_at_rate rig bay rate disk is start =
     let same = one_met (in_bay rig.media bay) rate (in_bay rig.cylinders bay) 0 disk met.0 is met.1 in
     ap (λ (d : Disk). d.rate) (sym same) ∙ met.1.same_rate
 
--- and on cylinder 0 the address field is one of its first track
+-- on cylinder 0 the address field is one of the medium's first track
 start_on_track : (rig : Rig) (bay : ℕ) (rate : Rate) (disk : Disk) → in_bay rig.media bay ≡ Some disk → in_bay rig.cylinders bay ≡ 0 → HasStart rig bay rate → HasNoStart disk → ⊥
 start_on_track rig bay rate disk is at start none =
     let medium = in_bay rig.media bay in
@@ -110,7 +110,7 @@ start_on_track rig bay rate disk is at start none =
     let track = met_track medium rate 0 0 met.0 met.1 ∙ ap (λ (d : Disk). track_of d 0 0) same in
     none there.0 (subst (λ (t : List ℕ). IsAddress t there.0) track there.1)
 
--- there, a Clear address field of the first track is met
+-- on cylinder 0, a Clear address field of the first track is met
 clear_is_met : (rig : Rig) (bay : ℕ) (disk : Disk) → IsSound rig → in_bay rig.media bay ≡ Some disk → in_bay rig.cylinders bay ≡ 0 → (clear : HasClearStart disk) → HasClearAddress (track_under rig bay disk.rate 0) clear.2.0
 clear_is_met rig bay disk sound is at clear =
     let medium = in_bay rig.media bay in
@@ -182,7 +182,7 @@ module _ (driver after : Driver) (start : Rig) (bay count : ℕ) (notes : Notes)
   unfolding disk
   medium_now = ap (λ (t : Two (Option Disk)). in_bay t bay) worked.media ∙ full.1
 
-  -- with few faults track 0 was reached
+  -- with fewer than three faults, track 0 was reached
   at_track_0 : FaultsRoseLess 3 bay start.counters new.counters → in_bay asked.cylinders bay ≡ 0
   at_track_0 few = ap (λ (t : Two ℕ). in_bay t bay) asks.heads.cylinders ∙ by_reached reached refl
     where

@@ -1,4 +1,4 @@
--- Calls that ask, or set the rate of a bay.
+-- Calls that only ask, and calls that set the rate of a bay.
 use Rattle.std.proofs.Common.{◌≡◌, ℕ, ◌≤◌, Bool, true, false, List, Option, Some, None, MatchOption, Result, Ok, Err, refl, sym, ap, ◌∙◌, subst}
 use Rattle.std.specs.Prelude.{not, if◌then◌else◌}
 use Rattle.std.proofs.lemmas.Bool.{le-leb}

@@ -95,7 +95,7 @@ module _ (driver after : Driver) (old new : Rig) (bay target : ℕ) (way : Prepa
   pub prepared_ready : IsAttached after new → IsSound new → CanTry after new bay
   prepared_ready attached sound = record { in_range = can.in_range; held = prepared_held; attached = attached; sound = sound }
 
-  -- nothing but counters changed in the station that is shown
+  -- only counters changed in the station that is shown
   pub prepared_shown : (spares : ℕ) (waiting : List DriveCounts) → HasAsked (shown driver old spares waiting) (shown after new spares waiting)
   prepared_shown spares waiting = record {
     stays =

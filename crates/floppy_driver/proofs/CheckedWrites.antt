@@ -1,4 +1,4 @@
--- A write that is read back, from a write and a reading back.
+-- A write that is read back consists of a write and a reading back.
 use Rattle.std.proofs.Common.{MatchOption, IfOk, IfErr, IsOk, ◌≡◌, ℕ, ◌+◌, ◌-◌, ◌<◌, ◌≤◌, Bool, true, false, List, length, drop, get_or, Option, Some, None, Result, Ok, Err, refl, sym, ap, ◌∙◌, subst, arith, inl, inr}
 use Rattle.std.specs.Prelude.{not}
 use Rattle.std.proofs.Math.Bool.{beq}
@@ -200,7 +200,7 @@ module _ (old : Rig) (bay : ℕ) (rate : Rate) (written : Written) (change : Opt
     under_is : track_under new bay rate written.key.h ≡ track_of found.disk (in_bay mid.cylinders bay) written.key.h
     under_is = track_same ∙ met_track (in_bay mid.media bay) rate (in_bay mid.cylinders bay) written.key.h found.disk meets
 
-    -- another mark or another content
+    -- the sector has another mark or another content
     other_content : IsFaultless bay mid.counters new.counters → (deleted ≡ written.deleted → content ≡ written.content → ⊥) → HasOtherContent (track_under new bay rate written.key.h) written
     other_content less differs =
         let sector = found.sector (inl less) in

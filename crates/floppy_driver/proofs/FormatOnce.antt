@@ -85,7 +85,7 @@ format_not_read code coded (inr e) = subst IsFormatCode e coded
 read_not_seek : (code : Code) → IsReadCode code → code ≡ Seek → ⊥
 read_not_seek code coded is = subst IsReadCode is coded
 
--- what was faultless as a whole was so in its first part
+-- what was faultless as a whole was faultless in its first part
 pub faultless_first : (bay : ℕ) (a b c : Counters) → GoesOn a b → GoesOn b c → IsFaultless bay a c → IsFaultless bay a b
 faultless_first bay a b c one two quiet =
     let f = faults_go_on b c bay two in
@@ -246,7 +246,7 @@ module _ (old middle laid : Rig) (notes after : Notes) (bay : ℕ) (format : For
           };
         }
 
-  -- it was done, and the records were read back
+  -- the command was done, and the records were read back
   module _ (laying : Option Laying) (formats : FormatsTrack bay format laying middle (Ok tt) laid) (asked : IsValidFormat format) (answer : Result (Unit {0}) Code) (new : Rig) (reads : ReadsRecords bay (sectors_at format.rate) (IsBlankUnder laid bay format.rate format.h) (HoldsRecords (track_under laid bay format.rate format.h) format.c format.h (sectors_at format.rate) format.fill) laid answer new) where
     abbrev done : Result (Unit {0}) Code
     done = Ok tt
@@ -266,7 +266,7 @@ module _ (old middle laid : Rig) (notes after : Notes) (bay : ℕ) (format : For
     faultless_all : IsUndisturbed bay old.counters new.counters → IsFaultless bay old.counters new.counters
     faultless_all = undisturbed_faultless bay old.counters new.counters goes_all
 
-    -- the track that is met then was there when the command began
+    -- the track that is met after the command was there when the command began
     was_under : (one : Option Laying) → MayLay format under was_in one is_in → (met : Disk) → MeetsTrack is_in format.rate (in_bay laid.cylinders bay) format.h met → (disk : Disk) × HasTrackUnder middle bay format disk
     was_under None same met meets =
         let From : Two ℕ → Type 0 = λ c. HasTrack met (in_bay c bay) format.h in

@@ -1,4 +1,4 @@
--- A medium that can be written still can be after the commands of a format.
+-- A medium that can be written can still be written after the commands of a format.
 use Rattle.std.proofs.Common.{◌≡◌, ℕ, Bool, false, Option, Some, None, MatchOption, Result, sym, ap, ◌∙◌}
 use Rattle.std.specs.Option.{option_map_or}
 use Rattle.flop_base.specs.declared.answers.Code.{Code}
@@ -24,14 +24,14 @@ is_protected medium = option_map_or (λ disk. disk.protected) medium false
 same_protected : (old new : Rig) (bay : ℕ) → new.media ≡ old.media → is_protected (in_bay new.media bay) ≡ is_protected (in_bay old.media bay)
 same_protected old new bay media = ap (λ (t : Two (Option Disk)). is_protected (in_bay t bay)) media
 
--- where the heads of its drive moved
+-- after the heads of its drive moved
 pub can_write_prepared : (driver after : Driver) (old new : Rig) (bay target : ℕ) (way : Prepare) (ready : Bool) → CanWrite driver old bay → after ≡ with_notes driver bay (notes_of after bay) → IsPrepared bay target way old (notes_of driver bay) ready new (notes_of after bay) → IsSound new → IsAttached after new → CanWrite after new bay
 can_write_prepared driver after old new bay target way ready can is prepared sound attached = record {
   ready = prepared_ready driver after old new bay target way ready can.ready is prepared attached sound;
   unprotected = same_protected old new bay prepared.moves.media ∙ can.unprotected;
 }
 
--- where the machine was asked
+-- after a question to the machine
 pub can_write_asked : (driver : Driver) (old new : Rig) (bay : ℕ) → CanTry driver old bay → OnlyAsks old new → IsSound new → is_protected (in_bay old.media bay) ≡ false → CanWrite driver new bay
 can_write_asked driver old new bay can asks sound unprotected = record {
   ready = can_try_asked driver old new bay can asks sound;

@@ -58,7 +58,7 @@ module _ (old : StationState) (bay c h gap3 fill : ℕ) (answer : Result (Unit {
 none_more : (first mid last most : ℕ) → mid ≤ first + 0 → last ≤ mid + most → last ≤ first + most
 none_more first mid last most idle within = omega arith
 
--- a call that only asked comes before, and spare drives may wait
+-- a call that only asked comes before the attempts, and spare drives may wait
 module _ (n : ℕ) (format : Format) (bay : ℕ) (answer : Result (Unit {0}) Code) (before after : Option Disk) (old mid new : Counters) (waiting : List DriveCounts) (one : GoesOn old mid) (two : GoesOn mid new) (idle : IsDriven 0 old mid) (formats : FormatsIn n format bay before after mid answer new) where
   abbrev from : Counters
   from = with_waiting old waiting
@@ -133,7 +133,7 @@ drive_cause format bay (Err code) old new medium never some unsent refused = rec
   never = λ can less. never refl can (record { faults = less.faults; stalls = less.stalls; together = let t = less.together in omega arith });
 }
 
--- as many attempts as the station has
+-- a format in as many attempts as the station has
 formats_drive : (format : Format) (bay : ℕ) (answer : Result (Unit {0}) Code) (old new : StationState) (before after : Option Disk) → 1 ≤ old.tries → (bay_of old bay).medium ≡ before → (bay_of new bay).medium ≡ after → HasOnlyMedium bay after old new → FormatsIn old.tries format bay before after old.counters answer new.counters
     → LastsUpTo (format_time old bay format.rate) old.counters new.counters → FormatsDrive format bay old answer new
 formats_drive format bay answer old new before after some was is becomes attempts lasts =
@@ -174,7 +174,7 @@ protects medium = option_map_or (λ disk. disk.protected) medium false
 medium_shown : (driver : Driver) (rig : Rig) (spares : ℕ) (waiting : List DriveCounts) (bay : ℕ) → (bay_of (shown driver rig spares waiting) bay).medium ≡ in_bay rig.media bay
 medium_shown driver rig spares waiting bay = ap (λ (b : Bay). b.medium) (bay_shown_at driver rig spares waiting bay)
 
--- `middle` is the driver behind the question whether the bay is held, and `old` the machine before it
+-- `middle` is the driver after the question whether the bay is held, and `old` the machine before that question
 module _ (driver middle : Driver) (old : Rig) (bay c h gap3 : ℕ) (held : Bool) (rate : Rate) (spares : ℕ) (waiting : List DriveCounts) (is : held ≡ is_held (notes_of driver bay) (in_bay old.changes bay)) (same : shown middle old spares waiting ≡ shown driver old spares waiting) (rate_is : rate ≡ (if held then (notes_of middle bay).rate else R500)) where
   abbrev start : StationState
   start = shown driver old spares waiting
@@ -182,7 +182,7 @@ module _ (driver middle : Driver) (old : Rig) (bay c h gap3 : ℕ) (held : Bool)
   acknowledged_is : is_acknowledged start bay ≡ held
   acknowledged_is = acknowledged_held driver old spares waiting bay ∙ sym is
 
-  -- the driver behind the question holds the bay too
+  -- the driver after the question holds the bay exactly if the driver before it did
   held_then : is_held (notes_of middle bay) (in_bay old.changes bay) ≡ held
   held_then = sym (acknowledged_held middle old spares waiting bay) ∙ ap (λ (s : StationState). is_acknowledged s bay) same ∙ acknowledged_is
 
@@ -222,7 +222,7 @@ module _ (driver middle : Driver) (old : Rig) (bay c h gap3 : ℕ) (held : Bool)
         ∙ ap (λ (t : Two (Option Disk)). protects (in_bay t bay)) (sym asks.media)
         ∙ sym line
 
-    -- and whether its medium is protected
+    -- the machine was also asked whether the medium is protected
     module _ (fits : gap3 ≤ most_format_gap rate) (holds : held ≡ true) (last : Rig) (too : OnlyAsks new last) (none_too : LastsFor bay 0 0 new last) where
       pub protection_refused : true ≡ protects (in_bay new.media bay) → FormatsTo bay c h gap3 fill start (Err Protected) (shown middle last spares waiting)
       protection_refused line =

@@ -23,7 +23,7 @@ use Rattle.floppy_driver.proofs.FormatOnce.{faultless_first, faultless_later}
 
 -- ---- layings keep what a format asks of a disk
 
--- both have the same tracks, rate and length of a track
+-- two disks have the same tracks, rate and length of a track
 record HasShape (disk after : Disk) : Type 0 where
   pub cylinders : after.cylinders ≡ disk.cylinders
   pub heads : after.heads ≡ disk.heads
@@ -64,14 +64,14 @@ can_shape format disk after shape can = record {
   fits = subst (Fits (format_keys format) standard_code format.gap3) (sym shape.words) can.fits;
 }
 
--- the disk that layings made of one
+-- the disk that layings made of a disk
 lays_some : (format : Format) (before after : Option Disk) (layings : List Laying) (disk : Disk) → Lays format before layings after → before ≡ Some disk → (made : Disk) × (after ≡ Some made) × HasShape disk made
 lays_some format (Some first) (Some last) layings disk lays is =
     (last, refl, subst (λ (d : Disk). HasShape d last) (same_some first disk is) (shape_of format first layings last lays))
 lays_some format (Some first) None layings disk lays is = absurd lays
 lays_some format None after layings disk lays is = absurd (cc is)
 
--- and that from which they made one
+-- the disk from which layings made a disk
 lays_from : (format : Format) (before after : Option Disk) (layings : List Laying) (made : Disk) → Lays format before layings after → after ≡ Some made → (disk : Disk) × (before ≡ Some disk) × HasShape disk made
 lays_from format (Some first) (Some last) layings made lays is =
     (first, refl, subst (λ (d : Disk). HasShape first d) (same_some last made is) (shape_of format first layings last lays))
@@ -111,7 +111,7 @@ lays_append format (Some disk) None after first second one two = absurd one
 lays_append format None (Some middle) after first second one two = absurd (cc one.1)
 lays_append format None None after first second one two = (ap (λ (xs : List Laying). xs ++ second) one.0 ∙ two.0, two.1)
 
--- ---- one attempt more
+-- ---- one more attempt
 
 more_commands : (rate : Rate) (n : ℕ) → n * (1 + sectors_at rate) + 1 * (1 + sectors_at rate) ≤ (n + 1) * (1 + sectors_at rate)
 more_commands R500 n = omega arith
@@ -121,7 +121,7 @@ fewer_commands : (rate : Rate) (few most : ℕ) → few ≤ most → few * (1 + 
 fewer_commands R500 few most le = omega arith
 fewer_commands R250 few most le = omega arith
 
--- the last attempt sent none
+-- the last attempt sent no data command
 idle_last : (rate : Rate) (n first mid last : ℕ) → mid ≤ first + n * (1 + sectors_at rate) → last ≤ mid + (1 - 1) * (1 + sectors_at rate) → last ≤ first + (n + 1 - 1) * (1 + sectors_at rate)
 idle_last R500 n first mid last before idle = omega arith
 idle_last R250 n first mid last before idle = omega arith
@@ -221,7 +221,7 @@ formats_done count most format bay before after old new some within formats = re
 abbrev with_medium : Bay → Option Disk → Bay
 with_medium bay medium = record bay { medium = medium }
 
--- with another medium in the bay of a number
+-- the bays with another medium in one of them
 abbrev put_in : Bool → Two Bay → Option Disk → Two Bay
 put_in is_first bays medium =
     if is_first then record bays { first = with_medium (if is_first then bays.first else bays.second) medium }
@@ -231,14 +231,14 @@ put_twice : (is_first : Bool) (bays : Two Bay) (first second : Option Disk) → 
 put_twice true bays first second = refl
 put_twice false bays first second = refl
 
--- nothing but the medium of a bay and counters: twice
+-- two calls, each of which changed only the medium of a bay and counters
 pub medium_twice : (old middle new : StationState) (bay : ℕ) (first second : Option Disk) → HasOnlyMedium bay first old middle → HasOnlyMedium bay second middle new → HasOnlyMedium bay second old new
 medium_twice old middle new bay first second one two =
     two
     ∙ ap (λ (s : StationState). record s { bays = put_in (bay == 0) s.bays second; counters = new.counters }) one
     ∙ ap (λ (b : Two Bay). record old { bays = b; counters = new.counters }) (put_twice (bay == 0) old.bays first second)
 
--- not at all
+-- nothing changed at all
 pub medium_itself : (old : StationState) (bay : ℕ) (medium : Option Disk) → (bay_of old bay).medium ≡ medium → HasOnlyMedium bay medium old old
 medium_itself old bay medium is = ap (λ (b : Two Bay). record old { bays = b }) (by_bay (bay == 0) is)
   where

@@ -63,7 +63,7 @@ formatted_holds format words c h byte fits r some most =
 
 -- ---- one laying, or none
 
--- a medium was laid so, from a cylinder
+-- this laying was made on a medium, at this cylinder
 pub record IsLaidFrom (format : Format) (cylinder : ℕ) (before : Option Disk) (laying : Laying) (after : Option Disk) : Type 0 where
   pub old : Disk
   pub new : Disk
@@ -73,7 +73,7 @@ pub record IsLaidFrom (format : Format) (cylinder : ℕ) (before : Option Disk) 
   pub here : laying.cylinder ≡ cylinder
   pub makes : IsLaying format old laying new
 
--- or not at all
+-- a laying was made, or the medium is as it was
 abbrev pub MayLay : Format → ℕ → Option Disk → Option Laying → Option Disk → Type 0
 MayLay format cylinder before laying after = MatchOption laying (after ≡ before) (λ one. IsLaidFrom format cylinder before one after)
 
@@ -125,7 +125,7 @@ module _ (format : Format) (cylinder : ℕ) (before after : Option Disk) where
         track = subst At c_is (laid_whole format disk one laid.new valid makes whole);
       }
 
--- so it holds its records, as a command meets them
+-- such a track holds its records, as a command meets them
 pub laid_holds : (format : Format) (disk : Disk) (after : Option Disk) → format.c ≤ 79 → format.h ≤ 1 → format.fill < 256 → Fits (format_keys format) standard_code format.gap3 disk.words_per_track → IsLaidWhole format disk after → HoldsRecords (met_in after format.rate format.c format.h) format.c format.h (sectors_at format.rate) format.fill
 laid_holds format disk after c h byte fits laid =
     let met : met_in after format.rate format.c format.h ≡ formatted format disk.words_per_track =

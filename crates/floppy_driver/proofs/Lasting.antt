@@ -1,4 +1,4 @@
--- How long calls last, one behind another.
+-- How long calls last, one after another.
 use Rattle.std.proofs.Common.{◌≡◌, ℕ, ◌+◌, ◌*◌, ◌≤◌, List, Option, Some, None, Result, refl, sym, ◌∙◌, ap, subst, arith}
 use Rattle.std.proofs.Math.Nat.{mul-le-mul_right}
 use Rattle.flop_base.specs.Bays.{Two, in_bay}
@@ -16,7 +16,7 @@ use Rattle.floppy_driver.specs.Writing.{FormatsTrack, WritesData}
 use Rattle.floppy_driver.specs.declared.driver.Driver.{Driver}
 use Rattle.floppy_driver.proofs.Shows.{bay_shown_at}
 
--- ---- turns stay as long
+-- ---- a revolution stays as long as it was
 
 pub turn_same : (bay : ℕ) (old new : Rig) → new.media ≡ old.media → turn_in new bay ≡ turn_in old bay
 turn_same bay old new same = ap (λ (media : Two (Option Disk)). turn_of (in_bay media bay)) same
@@ -38,7 +38,7 @@ format_turn bay format (Some one) old answer new formats =
     let does = formats.does in
     turn_changed (in_bay old.media bay) (in_bay new.media bay) does.before does.after does.was does.is does.makes.laid.words_per_track
 
--- ---- one call behind another
+-- ---- one call after another
 
 adds : (a b c turn other t u n m : ℕ) → other ≡ turn → b ≤ a + (t * turn + n) → c ≤ b + (u * other + m) → c ≤ a + ((t + u) * turn + (n + m))
 adds a b c turn other t u n m same first second =
@@ -56,7 +56,7 @@ grows a b turn t u n m more later few = omega (arith, later, few, mul-le-mul_rig
 pub lasts_within : (bay t u n m : ℕ) (a b : Rig) → t ≤ u → n ≤ m → LastsFor bay t n a b → LastsFor bay u m a b
 lasts_within bay t u n m a b more later lasts = record { turn = lasts.turn; few = grows a.counters.clock b.counters.clock (turn_in a bay) t u n m more later lasts.few }
 
--- where nothing was done
+-- nothing was done
 pub lasts_any : (bay t n : ℕ) (rig : Rig) → LastsFor bay t n rig rig
 lasts_any bay t n rig = record { turn = refl; few = omega arith }
 
@@ -65,17 +65,17 @@ lasts_any bay t n rig = record { turn = refl; few = omega arith }
 next_times : (k next t : ℕ) → next ≡ k + 1 → k * t + t ≡ next * t
 next_times k next t is = subst (λ x. k * t + t ≡ x * t) (sym is) (omega arith)
 
--- one more
+-- one more attempt
 pub lasts_next : (bay t n k next : ℕ) (a b c : Rig) → next ≡ k + 1 → LastsFor bay (k * t) (k * n) a b → LastsFor bay t n b c → LastsFor bay (next * t) (next * n) a c
 lasts_next bay t n k next a b c is before one =
     subst (λ turns. LastsFor bay turns (next * n) a c) (next_times k next t is)
     (subst (λ steps. LastsFor bay (k * t + t) steps a c) (next_times k next n is) (lasts_on bay (k * t) t (k * n) n a b c before one))
 
--- fewer than there may be
+-- fewer attempts than there may be
 pub lasts_fewer : (bay t n k tries : ℕ) (a b : Rig) → k ≤ tries → LastsFor bay (k * t) (k * n) a b → LastsFor bay (tries * t) (tries * n) a b
 lasts_fewer bay t n k tries a b few lasts = lasts_within bay (k * t) (tries * t) (k * n) (tries * n) a b (mul-le-mul_right t few) (mul-le-mul_right n few) lasts
 
--- a format, behind two questions
+-- a format after two questions
 pub format_lasts : (bay tries other : ℕ) (rate kept : Rate) (a b c d : Rig) → other ≡ tries → rate ≡ kept → LastsFor bay 0 0 a b → LastsFor bay 0 0 b c
     → LastsFor bay (other * format_turns rate) (other * format_steps rate) c d → LastsFor bay (tries * format_turns kept) (tries * format_steps kept) a d
 format_lasts bay tries other rate kept a b c d many same first second last =
@@ -106,7 +106,7 @@ lasts_shown driver old new spares waiting bay turns steps lasts =
 after_none : (a b c most : ℕ) → b ≤ a + 0 → c ≤ b + most → c ≤ a + most
 after_none a b c most first second = omega (arith, first, second)
 
--- attempts, behind questions
+-- attempts after questions
 pub lasts_asked : (start : StationState) (driver : Driver) (old new : Rig) (spares : ℕ) (waiting : List DriveCounts) (bay turns steps : ℕ) → HasAsked start (shown driver old spares waiting)
     → LastsUpTo 0 start.counters old.counters → LastsFor bay (driver.tries * turns) (driver.tries * steps) old new
     → LastsUpTo (time_in start bay (start.tries * turns) (start.tries * steps)) start.counters new.counters

@@ -1,4 +1,4 @@
--- What driver and machine owe each other once an attempt is prepared.
+-- How driver and machine agree once an attempt is prepared.
 use Rattle.std.proofs.Common.{◌≡◌, ℕ, ◌<◌, ◌≤◌, Bool, true, Option, Some, None, IsSome, refl, sym, ap, ◌∙◌, subst, arith}
 use Rattle.flop_base.specs.Counts.{last_count}
 use Rattle.raw_image.specs.Disk.{Disk}
@@ -16,7 +16,7 @@ use Rattle.floppy_driver.specs.Attached.{IsAttached}
 use Rattle.floppy_driver.specs.Prepared.{IsPrepared}
 use Rattle.floppy_driver.proofs.Shows.{IsNotedAt, noted_at, held_lines_stay, spun_at, attached_noted}
 
--- what is known of a cylinder is true of a drive
+-- what the notes know of the cylinder is true of the drive
 record IsKnown (known : Option ℕ) (pcn cylinder kept faults : ℕ) : Type 0 where
   number : (c : ℕ) → known ≡ Some c → pcn ≡ c
   range : (c : ℕ) → known ≡ Some c → c ≤ 79
@@ -47,7 +47,7 @@ module _ (driver after : Driver) (old new : Rig) (bay : ℕ) (in_range : bay ≤
   attached_lost is =
       known_by None is (record { number = λ c e. absurd (cc e); range = λ c e. absurd (cc e); stands = λ c e. absurd (cc e) })
 
-  -- the heads stand at the target where no fault came since the bay was acknowledged
+  -- the heads stand at the target if no fault came since the bay was acknowledged
   attached_at : (target : ℕ) → target ≤ 79 → after ≡ with_notes driver bay (record (notes_of driver bay) { known = Some target }) → in_bay new.numbers bay ≡ target → (faults_of new.counters bay ≡ (notes_of driver bay).kept → faults_of new.counters bay < last_count → in_bay new.cylinders bay ≡ target) → IsAttached after new
   attached_at target most is number stands =
       let same : (c : ℕ) → Some target ≡ Some c → target ≡ c = λ c e. cc e in
@@ -58,7 +58,8 @@ module _ (driver after : Driver) (old new : Rig) (bay : ℕ) (in_range : bay ≤
         stands = λ c e counted below. stands counted below ∙ same c e;
       })
 
-  -- where heads were known to stand, they stood at the controller's number, if no fault came since the bay was acknowledged
+  -- if the cylinder of the heads was known, they stood at the controller's number, unless a fault came since the bay
+  -- was acknowledged
   stood_at_number : IsSome (notes_of driver bay).known → faults_of old.counters bay ≡ (notes_of driver bay).kept → faults_of old.counters bay < last_count → in_bay old.cylinders bay ≡ in_bay old.numbers bay
   stood_at_number known = at (notes_of driver bay).known refl known
     where
@@ -66,7 +67,7 @@ module _ (driver after : Driver) (old new : Rig) (bay : ℕ) (in_range : bay ≤
       at (Some c) is some counted below = noted.stands c is held counted below ∙ sym (noted.number c is)
       at None is some counted below = absurd (cc some)
 
-  -- the heads of a bay stand at the target where no fault came since it was acknowledged
+  -- the heads of a bay stand at the target if no fault came since the bay was acknowledged
   pub prepared_stands : (target : ℕ) (way : Prepare) (shown : Notes) → (way ≡ prepare.Seek → IsSome (notes_of driver bay).known) → IsPrepared bay target way old (notes_of driver bay) true new shown → faults_of new.counters bay ≡ (notes_of driver bay).kept → faults_of new.counters bay < last_count → in_bay new.cylinders bay ≡ target
   prepared_stands target way shown known prepared = by_way way refl
     where

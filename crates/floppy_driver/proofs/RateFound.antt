@@ -20,7 +20,7 @@ use Rattle.floppy_driver.proofs.Shows.{driven_after, driven_within}
 pub spun_after : (a b c : Two Bool) → StaysSpun a b → StaysSpun b c → StaysSpun a c
 spun_after a b c one two = record { first = λ is. two.first (one.first is); second = λ is. two.second (one.second is) }
 
--- one command more
+-- one more command
 reads_more : (count most : ℕ) (a b c : Rig) → count + 1 ≤ most → OnlyReads count a b → SendsRead b c → c.memory ≡ b.memory → OnlyReads most a c
 reads_more count most a b c few one two memory = record {
   heads = record {
@@ -80,7 +80,7 @@ module _ (start : Rig) (bay round : ℕ) (before : Rig) (none : HasFoundNone bay
           omega arith;
     }
 
--- none was found
+-- no address field was found
 pub found_no_rate : (start : Rig) (bay : ℕ) (now : Rig) → HasFoundNone bay 3 start now → FindsRate bay start R500 now
 found_no_rate start bay now none = record {
   reads = none.reads;

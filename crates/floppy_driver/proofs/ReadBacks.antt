@@ -53,7 +53,7 @@ held_content track key fill deleted content holds sector =
     let same : look.Found deleted sector.1 ≡ look.Found false there.0 = one_look_at track sector.0 key.n (look.Found deleted sector.1) (look.Found false there.0) sector.3 there.1 in
     sector.4 ∙ ap (λ place. content_at track place key.n) (same_place deleted false sector.1 there.0 same) ∙ there.2
 
--- where nothing is recorded, a read finds no mark
+-- if nothing is recorded, a read finds no mark
 unmarked_code : (track : List ℕ) (key : Chrn) (code : Code) → HasNothing track → IsReadReason track key code → code ≡ NoMark
 unmarked_code track key NoMark nothing reason = refl
 unmarked_code track key NotFound nothing reason = absurd (nothing.marks reason.0)
@@ -66,7 +66,7 @@ unmarked_code track key Overrun nothing reason = absurd reason
 unmarked_code track key Page nothing reason = absurd reason
 unmarked_code track key Seek nothing reason = absurd reason
 
--- the beginning of a page of this byte
+-- the page begins with this byte, repeated
 filled_page : (page content new : List ℕ) (count fill : ℕ) → new ≡ with_items page 0 content → length content ≡ count → content ≡ replicate count fill → IsFilled new count fill
 unfolding with_items
 filled_page page content new count fill is long all k below =
@@ -115,7 +115,7 @@ module _ (old : Rig) (bay : ℕ) (key : Chrn) (rate : Rate) (fill : ℕ) where
         let holds_there : HoldsRecord there key fill = subst (λ (words : List ℕ). HoldsRecord words key fill) met holds in
         filled_page old.page content new.page (content_size key.n) fill reads.found.2 field.size (held_content there key fill deleted content holds_there sector)
 
-    -- it found an address field
+    -- the read found an address field
     not_blank : Blank → ⊥
     not_blank blank =
         let field = reads.found.1 in
@@ -155,7 +155,7 @@ module _ (old : Rig) (bay : ℕ) (key : Chrn) (rate : Rate) (fill : ℕ) where
 
 -- ---- one record after the other
 
--- what is met stays where neither the medium nor the heads change
+-- the track that is met stays the same if neither the medium nor the heads change
 same_under : (old new : Rig) (bay : ℕ) (rate : Rate) (h : ℕ) → HeadsStay old new → new.media ≡ old.media → track_under new bay rate h ≡ track_under old bay rate h
 same_under old new bay rate h heads media =
     ap (λ (m : Two (Option Disk)). met_in (in_bay m bay) rate (in_bay new.cylinders bay) h) media
@@ -169,11 +169,11 @@ heads_stay_after a b c one two = record {
   spun = record { first = λ e. two.spun.first (one.spun.first e); second = λ e. two.spun.second (one.spun.second e) };
 }
 
--- so does a blank track
+-- a blank track stays blank if neither the medium nor the heads change
 pub blank_next : (old new : Rig) (bay : ℕ) (rate : Rate) (h : ℕ) → HeadsStay old new → new.media ≡ old.media → IsBlankUnder old bay rate h → IsBlankUnder new bay rate h
 blank_next old new bay rate h heads media blank = subst HasNothing (sym (same_under old new bay rate h heads media)) blank
 
--- the record behind those that were read back could not be
+-- the record after those that were read back could not be read back
 pub reads_failed : (old middle new : Rig) (bay so_far most : ℕ) (blank next_blank there next : Type 0) (code : Code) → so_far + 1 ≤ most → (blank → next_blank) → (there → next) → ReadsRecords bay so_far blank there old (Ok tt) middle → ReadsRecords bay 1 next_blank next middle (Err code) new → ReadsRecords bay most blank there old (Err code) new
 reads_failed old middle new bay so_far most blank next_blank there next code within goes has first second = record {
   heads = heads_stay_after old middle new first.heads second.heads;

@@ -36,7 +36,7 @@ outside_after a b c address count one two = record {
   others = λ k is. two.others k is ∙ one.others k is;
 }
 
--- what the range held before it was written over is nothing
+-- what the range held before it was overwritten doesn't matter
 with_items_outside : (old mid : List ℕ) (address : ℕ) (bytes : List ℕ) (count : ℕ) → SameOutside address count old mid → length bytes ≡ count → with_items mid address bytes ≡ with_items old address bytes
 unfolding with_items
 with_items_outside old mid address bytes count same long =
@@ -94,7 +94,7 @@ module _ (start : StationState) (bay : ℕ) (key : Chrn) (address : ℕ) where
         last = λ some. absurd (omega arith);
       }
 
-  -- from a station where memory and counters alone are others
+  -- from a station that differs from `start` only in memory and counters
   module _ (memory : List ℕ) (counters : Counters) (goes : GoesOn start.counters counters) where
     abbrev between : StationState
     between = record start { memory = memory; counters = counters }
@@ -168,7 +168,7 @@ module _ (start : StationState) (bay : ℕ) (key : Chrn) (address : ℕ) where
       (subst (λ (s : StationState). HasTriedRead bay key address count start code s) tried.becomes tried)
       (subst (λ (s : StationState). TriesRead (IsSure start.tries (count + 1)) bay key address s (Err failed) new) tried.becomes attempt)
 
-  -- or was done
+  -- one more attempt was done
   read_done : (count : ℕ) (code : Code) (sure : Type 0) (deleted : Bool) (mid new : StationState) → count + 1 ≤ start.tries → HasTriedRead bay key address count start code mid → TriesRead sure bay key address mid (Ok deleted) new → LastsUpTo (read_time start bay) start.counters new.counters → ReadsDrive bay key address start (Ok deleted) new
   read_done count code sure deleted mid new few tried attempt lasts =
       done_after mid.memory mid.counters tried.counts count code sure deleted new few

@@ -20,7 +20,7 @@ module _ (bay : ℕ) (a b c : Counters) (one : GoesOn a b) (two : GoesOn b c) wh
       let p = less.0 in
       (omega arith, less.1)
 
-  -- of less than two faults one part has none
+  -- with less than two faults in the whole call, one part has none
   pub less_than_two : FaultsRoseLess 2 bay a c → FaultsRoseLess 1 bay a b ⊎ FaultsRoseLess 1 bay b c
   less_than_two less =
       let f = faults_go_on a b bay one in
@@ -61,7 +61,7 @@ module _ (bay : ℕ) (a b c : Counters) (one : GoesOn a b) (two : GoesOn b c) wh
   pub commands_later : (n : ℕ) → RoseBy n b.data_commands c.data_commands → RoseBy n a.data_commands c.data_commands
   commands_later n rose = let s = one.data_commands in omega arith
 
--- undisturbed, so without a stall and with no pulse lost
+-- an undisturbed call has no stall and no lost pulse
 module _ (bay : ℕ) (a b : Counters) (goes : GoesOn a b) (quiet : IsUndisturbed bay a b) where
   pub quiet_stalls : RoseBy 1 a.stalls b.stalls → ⊥
   quiet_stalls rose =

@@ -5,14 +5,14 @@ use Rattle.flop_base.specs.Counters.{FaultsRoseBy, IsDriven}
 use Rattle.floppy_driver.specs.Rigs.{Rig}
 use Rattle.floppy_driver.specs.Acknowledged.{Works, OnlyReads, IsSpoilt}
 
--- the change line stayed set in so many rounds of steps: with a medium in, which is at speed, a pulse of each was lost
+-- the change line stayed set in `count` rounds of steps: if a medium is in and at speed, a pulse of each round was lost
 pub record HasStayedSet (bay count : ℕ) (old new : Rig) : Type 0 where
   pub works : Works bay old new
   pub driven : IsDriven 0 old.counters new.counters
   pub spun : IsSome (in_bay old.media bay) → in_bay new.spun bay ≡ true
   pub lost : IsSome (in_bay old.media bay) → FaultsRoseBy count bay old.counters new.counters
 
--- no address field was found in so many rounds, each at both rates
+-- no address field was found in `count` rounds, each at both rates
 pub record HasFoundNone (bay count : ℕ) (old new : Rig) : Type 0 where
   pub reads : OnlyReads (2 * count) old new
   pub spoilt : IsSpoilt bay count old new

@@ -1,4 +1,4 @@
--- What commands do to the station that is shown, and to what driver and machine owe each other.
+-- What commands do to the station that is shown, and to the agreement of driver and machine.
 use Rattle.std.proofs.Common.{◌≡◌, ℕ, zero, suc, ◌+◌, ◌-◌, ◌≤◌, ◌⊎◌, Bool, true, false, List, Option, Some, None, refl, sym, ap, ◌∙◌, subst, arith, inl, inr}
 use Rattle.std.specs.Prelude.{◌==◌, ◌&&◌, not, is_some, if◌then◌else◌}
 use Rattle.std.proofs.lemmas.Bool.{false≢true, cases_lt}
@@ -20,7 +20,7 @@ use Rattle.floppy_driver.specs.Attached.{IsNoted, IsAttached}
 
 -- ---- counts
 
--- counters go on so whatever spare drives wait
+-- counters change in the same way whatever spare drives wait
 pub waiting_goes_on : (old new : Counters) (waiting : List DriveCounts) → GoesOn old new → GoesOn (with_waiting old waiting) (with_waiting new waiting)
 waiting_goes_on old new waiting goes = record {
   first = goes.first;
@@ -43,7 +43,7 @@ waiting_driven most old new waiting driven = record {
 pub waiting_undisturbed : (old new : Counters) (bay : ℕ) (waiting : List DriveCounts) → IsUndisturbed bay (with_waiting old waiting) (with_waiting new waiting) → IsUndisturbed bay old new
 waiting_undisturbed old new bay waiting quiet = record { faults = quiet.faults; stalls = quiet.stalls; together = quiet.together }
 
--- of two calls, one after the other
+-- the data commands of two calls, one after the other
 pub driven_after : (few more : ℕ) (a b c : Counters) → GoesOn a b → GoesOn b c → IsDriven few a b → IsDriven more b c → IsDriven (few + more) a c
 driven_after few more a b c one two first second = record {
   most_commands = let f = first.most_commands in let s = second.most_commands in omega arith;
@@ -63,7 +63,7 @@ driven_within few most old new le driven = record {
   past_driver = driven.past_driver;
 }
 
--- what was undisturbed as a whole was so in a part of it
+-- what was undisturbed as a whole was undisturbed in each part
 pub undisturbed_part : (bay : ℕ) (a b c d : Counters) → GoesOn a b → GoesOn b c → GoesOn c d → IsUndisturbed bay a d → IsUndisturbed bay b c
 undisturbed_part bay a b c d one two three quiet =
     let f = faults_go_on a b bay one in
@@ -78,14 +78,14 @@ undisturbed_part bay a b c d one two three quiet =
       together = let q = quiet.together in omega arith;
     }
 
--- no fault of the drive comes where nothing disturbs
+-- if nothing disturbs, the drive has no fault
 pub undisturbed_faultless : (bay : ℕ) (old new : Counters) → GoesOn old new → IsUndisturbed bay old new → IsFaultless bay old new
 undisturbed_faultless bay old new goes quiet =
     let s = goes.stalls in
     let q = quiet.together in
     (omega arith, quiet.faults)
 
--- less than n + 1 disturbances leave one of two parts with less than n, or undisturbed
+-- with less than n + 1 disturbances in two parts, the first has less than n or the second is undisturbed
 pub disturbed_less_more : (n bay : ℕ) (a b c : Counters) → GoesOn a b → GoesOn b c → (DisturbedLess n bay a b → ⊥) → (IsUndisturbed bay b c → ⊥) → DisturbedLess (n + 1) bay a c → ⊥
 disturbed_less_more n bay a b c one two most not less =
     elim (cases_lt (faults_of b bay + b.stalls) (faults_of a bay + a.stalls + n)) [
@@ -127,7 +127,7 @@ is_some_if : (b : Bool) (kept : ℕ) → is_some (if b then Some kept else None)
 is_some_if true kept = refl
 is_some_if false kept = refl
 
--- a bay is acknowledged where it is held
+-- a bay is acknowledged exactly if it is held
 pub acknowledged_held : (driver : Driver) (rig : Rig) (spares : ℕ) (waiting : List DriveCounts) (bay : ℕ) → is_acknowledged (shown driver rig spares waiting) bay ≡ is_held (notes_of driver bay) (in_bay rig.changes bay)
 acknowledged_held driver rig spares waiting bay =
     ap (λ (b : Bay). is_some b.acknowledged) (bay_shown_at driver rig spares waiting bay)
@@ -172,14 +172,14 @@ shown_parts driver media changes memory counters spares = record {
 }
 
 module _ (driver : Driver) (old new : Rig) (spares : ℕ) (waiting : List DriveCounts) where
-  -- the same media and change lines: memory and counters alone changed
+  -- if media and change lines stay, only memory and counters changed
   pub memory_shown : new.media ≡ old.media → new.changes ≡ old.changes → Becomes (record (shown driver old spares waiting) { memory = new.memory }) (shown driver new spares waiting)
   unfolding shown_parts
   memory_shown media changes =
       ap (λ m. shown_parts driver m new.changes new.memory (with_waiting new.counters waiting) spares) media
       ∙ ap (λ c. shown_parts driver old.media c new.memory (with_waiting new.counters waiting) spares) changes
 
-  -- and the same memory: counters alone
+  -- if memory stays too, only counters changed
   pub counters_shown : new.media ≡ old.media → new.changes ≡ old.changes → new.memory ≡ old.memory → Stays (shown driver old spares waiting) (shown driver new spares waiting)
   unfolding shown_parts
   counters_shown media changes memory =
@@ -192,7 +192,7 @@ module _ (driver : Driver) (old new : Rig) (spares : ℕ) (waiting : List DriveC
   pub read_shown : SendsRead old new → Becomes (record (shown driver old spares waiting) { memory = new.memory }) (shown driver new spares waiting)
   read_shown sends = memory_shown sends.media sends.heads.changes
 
-  -- of a held bay
+  -- the heads of a held bay moved
   pub moved_shown : (bay : ℕ) → is_held (notes_of driver bay) (in_bay old.changes bay) ≡ true → MovesHeads bay old new → Stays (shown driver old spares waiting) (shown driver new spares waiting)
   moved_shown bay held moves = counters_shown moves.media (held_lines_stay old bay new (notes_of driver bay) held moves) moves.memory
 
@@ -211,7 +211,7 @@ module _ (driver : Driver) (old new : Rig) (spares : ℕ) (waiting : List DriveC
   pub written_shown : (bay : ℕ) → bay ≤ 1 → SendsWrite bay old new → Becomes (set_bay (shown driver old spares waiting) bay (record (bay_of (shown driver old spares waiting) bay) { medium = in_bay new.media bay })) (shown driver new spares waiting)
   written_shown bay in_range sends = written_at bay in_range sends.other_medium sends.heads.changes sends.memory
 
--- a question to the machine is one to the station, by a driver that shows the same
+-- a question to the machine is a question to the station, if the driver shows the same after it
 pub asks_shown : (driver after : Driver) (old new : Rig) (spares : ℕ) (waiting : List DriveCounts) → shown after old spares waiting ≡ shown driver old spares waiting → OnlyAsks old new → HasAsked (shown driver old spares waiting) (shown after new spares waiting)
 asks_shown driver after old new spares waiting same asks = record {
   stays = subst (λ (s : StationState). Stays s (shown after new spares waiting)) same (asked_shown after old new spares waiting asks);
@@ -235,7 +235,7 @@ known_shown driver after rig spares waiting bay known is = ap (λ (d : Driver). 
     by_bay true = refl
     by_bay false = refl
 
--- ---- what driver and machine owe each other
+-- ---- the agreement of driver and machine
 
 abbrev pub IsNotedAt : Driver → Rig → ℕ → Type 0
 IsNotedAt driver rig bay = IsNoted (notes_of driver bay) (in_bay rig.media bay) (in_bay rig.changes bay) (in_bay rig.spun bay) (in_bay rig.numbers bay) (in_bay rig.cylinders bay) (faults_of rig.counters bay)
@@ -247,13 +247,13 @@ noted_at driver rig bay attached = by_bay (bay == 0)
     by_bay true = attached.first
     by_bay false = attached.second
 
--- from a bay and the other one
+-- the agreement follows from that of a bay and of the other bay
 pub attached_from : (driver : Driver) (rig : Rig) (bay : ℕ) → bay ≤ 1 → IsNotedAt driver rig bay → IsNotedAt driver rig (1 - bay) → IsAttached driver rig
 attached_from driver rig zero in_range this other = record { first = this; second = other }
 attached_from driver rig (suc zero) in_range this other = record { first = other; second = this }
 attached_from driver rig (suc (suc n)) in_range this other = absurd (omega arith)
 
--- the notes on a drive stay true where nothing but its count and its speed changed
+-- the notes on a drive stay true if nothing but its count and its speed changed
 pub noted_later : (notes : Notes) (medium medium' : Option Disk) (line line' spun spun' : Bool) (pcn pcn' cylinder cylinder' faults faults' : ℕ) → (medium' ≡ None → medium ≡ None) → line' ≡ line → (spun ≡ true → spun' ≡ true) → pcn' ≡ pcn → cylinder' ≡ cylinder → faults ≤ faults' → IsNoted notes medium line spun pcn cylinder faults → IsNoted notes medium' line' spun' pcn' cylinder' faults'
 noted_later notes medium medium' line line' spun spun' pcn pcn' cylinder cylinder' faults faults' empty same speed number place more noted =
     let held : is_held notes line' ≡ true → is_held notes line ≡ true = λ h. ap (λ (b : Bool). is_held notes b) (sym same) ∙ h in
@@ -274,7 +274,7 @@ spun_at old new bay stays = by_bay (bay == 0)
     by_bay false = stays.second
 
 module _ (driver : Driver) (old new : Rig) (counts : GoesOn old.counters new.counters) where
-  -- where heads, numbers and lines stay, and no medium is taken out
+  -- if heads, numbers and lines stay, and no medium is taken out, the notes stay true
   noted_stays : (bay : ℕ) → HeadsStay old new → (in_bay new.media bay ≡ None → in_bay old.media bay ≡ None) → IsNotedAt driver old bay → IsNotedAt driver new bay
   noted_stays bay heads media noted =
       noted_later (notes_of driver bay) (in_bay old.media bay) (in_bay new.media bay) (in_bay old.changes bay) (in_bay new.changes bay)
@@ -289,7 +289,7 @@ module _ (driver : Driver) (old new : Rig) (counts : GoesOn old.counters new.cou
     second = noted_stays 1 heads second attached.second;
   }
 
-  -- the other bay, where heads moved
+  -- the notes on the other bay stay true when heads of this bay moved
   pub noted_other : (bay : ℕ) → bay ≤ 1 → MovesHeads bay old new → IsNotedAt driver old (1 - bay) → IsNotedAt driver new (1 - bay)
   noted_other bay in_range moves noted =
       let other = 1 - bay in
@@ -316,7 +316,7 @@ attached_read driver old new sends =
     attached_stays driver old new sends.counts sends.heads
     (λ none. ap (λ (t : Two (Option Disk)). t.first) (sym sends.media) ∙ none) (λ none. ap (λ (t : Two (Option Disk)). t.second) (sym sends.media) ∙ none)
 
--- where the medium of the bay stays in
+-- the agreement after a write, if the medium of the bay stays in
 pub attached_written : (driver : Driver) (old new : Rig) (bay : ℕ) → bay ≤ 1 → SendsWrite bay old new → (in_bay new.media bay ≡ None → in_bay old.media bay ≡ None) → IsAttached driver old → IsAttached driver new
 attached_written driver old new zero in_range sends stays = attached_stays driver old new sends.counts sends.heads stays (λ none. sym sends.other_medium ∙ none)
 attached_written driver old new (suc zero) in_range sends stays = attached_stays driver old new sends.counts sends.heads (λ none. sym sends.other_medium ∙ none) stays
@@ -336,7 +336,7 @@ other_notes driver zero notes in_range = refl
 other_notes driver (suc zero) notes in_range = refl
 other_notes driver (suc (suc n)) notes in_range = absurd (omega arith)
 
--- new notes on a bay, from what is true of its drive and of the other
+-- the agreement with new notes on a bay follows from what is true of its drive and of the other
 pub attached_with : (driver after : Driver) (rig : Rig) (bay : ℕ) (notes : Notes) → bay ≤ 1 → after ≡ with_notes driver bay notes → IsNoted notes (in_bay rig.media bay) (in_bay rig.changes bay) (in_bay rig.spun bay) (in_bay rig.numbers bay) (in_bay rig.cylinders bay) (faults_of rig.counters bay) → IsNotedAt driver rig (1 - bay) → IsAttached after rig
 attached_with driver after rig bay notes in_range is noted other =
     let NotedBy : Notes → ℕ → Type 0 = λ n b. IsNoted n (in_bay rig.media b) (in_bay rig.changes b) (in_bay rig.spun b) (in_bay rig.numbers b) (in_bay rig.cylinders b) (faults_of rig.counters b) in
@@ -346,7 +346,7 @@ attached_with driver after rig bay notes in_range is noted other =
     (subst (λ (n : Notes). NotedBy n bay) (sym this) noted)
     (subst (λ (n : Notes). NotedBy n (1 - bay)) (sym that) other)
 
--- where the heads of no other drive moved
+-- the same if the heads of no other drive moved
 pub attached_noted : (driver after : Driver) (old new : Rig) (bay : ℕ) (notes : Notes) → bay ≤ 1 → after ≡ with_notes driver bay notes → MovesHeads bay old new → IsNoted notes (in_bay new.media bay) (in_bay new.changes bay) (in_bay new.spun bay) (in_bay new.numbers bay) (in_bay new.cylinders bay) (faults_of new.counters bay) → IsAttached driver old → IsAttached after new
 attached_noted driver after old new bay notes in_range is moves noted attached =
     attached_with driver after new bay notes in_range is noted

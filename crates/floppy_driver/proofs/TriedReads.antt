@@ -12,7 +12,7 @@ use Rattle.floppy_driver.specs.Attempts.{IsSure}
 use Rattle.floppy_driver.proofs.SureAttempts.{sure_attempts}
 use Rattle.floppy_driver.specs.Readings.{IsReadFailed}
 
--- so many attempts failed since the start of the call, the last one with this code
+-- `count` attempts failed since the start of the call, the last one with this code
 pub record HasTriedRead (bay : ℕ) (key : Chrn) (address count : ℕ) (start : StationState) (code : Code) (now : StationState) : Type 0 where
   pub memory : SameOutside address (content_size key.n) start.memory now.memory
   pub becomes : Becomes (record start { memory = now.memory }) now

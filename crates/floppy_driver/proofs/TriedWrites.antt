@@ -25,25 +25,26 @@ use Rattle.floppy_driver.proofs.SureAttempts.{sure_attempts}
 use Rattle.sector_model.specs.Writes.{Reaches, IsLastWhole, HasWindowCut, HasOtherContent, written_from}
 use Rattle.floppy_driver.specs.Writings.{CanWrite}
 
--- what is asked of a start, so that a regular disk stays so
+-- what has to hold at the start, so that a regular disk stays regular
 pub record IsWriteStart (written : Written) (bay : ℕ) (start : StationState) : Type 0 where
   pub fits : FitsKey written
   pub valid : (disk : Disk) → (bay_of start bay).medium ≡ Some disk → IsDisk disk
   pub some_tries : 1 ≤ start.tries
 
--- no address mark comes up however short a write stops, or nothing disturbed
+-- wherever a write stops, it makes no new address mark, or nothing disturbed the call
 abbrev pub IsSpared : Written → ℕ → List ℕ → ℕ → StationState → StationState → Type 0
 IsSpared written place track bay start now =
     IsTidy track place written.deleted written.content ⊎ IsUndisturbed bay start.counters now.counters
 
--- the track is as it was, or cut at the place of an address field: anywhere where it is Tidy there, else whole
+-- the track is as it was, or cut at the place of an address field. The cut may be of any length if the track is Tidy
+-- there, and is whole otherwise
 abbrev pub IsSameOrCut : Written → ℕ → List ℕ → List ℕ → Type 0
 IsSameOrCut written place track now =
     (now ≡ track)
     ⊎ ((words : ℕ) × IsCut track now place words (window_of written)
     × (IsTidy track place written.deleted written.content ⊎ (words ≡ length (window_of written))))
 
--- with one more change, or none
+-- the changes with one more, or with none
 abbrev pub with_change : List Change → Option Change → List Change
 with_change changes None = changes
 with_change changes (Some one) = changes ++ one ∷ []
@@ -56,7 +57,7 @@ pub record KeptSoFar (written : Written) (bay : ℕ) (disk : Disk) (start now : 
       → IsSpared written p (met (bay_of start bay) written.key.c written.key.h) bay start now
       → (after : Disk) × ((bay_of now bay).medium ≡ Some after) × IsSameOrChanged written p disk after
 
--- and of a regular track
+-- what attempts so far made of a regular track
 abbrev pub KeptTrack : Written → ℕ → StationState → StationState → Type 0
 KeptTrack written bay start now =
     IsRegular (met (bay_of start bay) written.key.c written.key.h) written.key.c written.key.h
@@ -64,7 +65,7 @@ KeptTrack written bay start now =
     → IsSpared written p (met (bay_of start bay) written.key.c written.key.h) bay start now
     → IsSameOrCut written p (met (bay_of start bay) written.key.c written.key.h) (met (bay_of now bay) written.key.c written.key.h)
 
--- so many attempts were made
+-- `count` attempts were made
 pub record WroteSoFar (written : Written) (bay count : ℕ) (start now : StationState) : Type 0 where
   pub changes : List Change
   pub few : length changes ≤ count
@@ -77,7 +78,7 @@ pub record WroteSoFar (written : Written) (bay count : ℕ) (start now : Station
   pub counts : GoesOn start.counters now.counters
   pub driven : IsDriven (2 * count) start.counters now.counters
 
--- why the last of them was refused, by what is met on the track after it
+-- why the last attempt was refused, by what is met on the track after it
 pub record IsLastCause (written : Written) (track : List ℕ) (changes : List Change) (bay : ℕ) (start : StationState) (code : Code) (now : StationState) : Type 0 where
   pub device : IsDeviceRefusal code
   pub no_mark : code ≡ NoMark → IsUndisturbed bay start.counters now.counters
@@ -92,7 +93,7 @@ pub record IsLastCause (written : Written) (track : List ℕ) (changes : List Ch
   pub sent : code ≢ Seek → RoseBy 1 start.counters.data_commands now.counters.data_commands
   pub read_back : code ≡ BadCrc → RoseBy 2 start.counters.data_commands now.counters.data_commands
 
--- so many attempts were refused, the last of them so
+-- `count` attempts were refused, the last of them with this code
 pub record HasTriedWrite (written : Written) (bay count : ℕ) (start : StationState) (code : Code) (now : StationState) : Type 0 where
   pub so_far : WroteSoFar written bay count start now
   pub unsent : 1 ≤ count → code ≡ Seek → now.counters.data_commands ≤ start.counters.data_commands + 2 * (count - 1)
@@ -103,7 +104,7 @@ pub record HasTriedWrite (written : Written) (bay count : ℕ) (start : StationS
       → IsSpared written p (met (bay_of start bay) written.key.c written.key.h) bay start now
       → DisturbedLess (sure_attempts start.tries count) bay start.counters now.counters → ⊥
 
--- between two attempts of a call: so many were made since it began with this driver and this machine
+-- between two attempts of a call: `count` were made since the call began with the driver `first` and the machine `from`
 pub record BetweenWrites (first : Driver) (from : Rig) (bay : ℕ) (key : Chrn) (address : ℕ) (deleted : Bool) (count : ℕ) (code : Code) (driver : Driver) (rig : Rig) : Type 0 where
   pub tries : driver.tries ≡ first.tries
   pub memory : rig.memory ≡ from.memory

@@ -69,7 +69,7 @@ module _ (start : Rig) (bay count : ℕ) (old : Rig) (stayed : HasStayedSet bay 
   pub spun_round : IsSome (in_bay start.media bay) → in_bay new.spun bay ≡ true
   spun_round some = spun_at mid.spun new.spun bay asks.heads.spun (spun_at old.spun mid.spun bay clears.works.spun (stayed.spun some))
 
--- ---- what is shown, and owed, of a drive that was worked with
+-- ---- what a drive that was worked with shows, and how it agrees with the notes
 
 -- a clear change line shows that a medium is in
 pub clear_is_full : (driver : Driver) (old : Rig) (bay : ℕ) (new : Rig) → IsAttached driver old → Works bay old new → in_bay new.changes bay ≡ false → (disk : Disk) × (in_bay old.media bay ≡ Some disk)

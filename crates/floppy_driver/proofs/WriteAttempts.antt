@@ -60,7 +60,7 @@ cause_earlier written track change bay code a b c one two cause =
       read_back = λ is. commands_later bay a b c one two 2 (cause.read_back is);
     }
 
--- and whatever spare drives wait
+-- the reason is the same whatever spare drives wait
 waiting_cause : (written : Written) (track : List ℕ) (change : Option Change) (bay : ℕ) (code : Code) (a b : Counters) (waiting : List DriveCounts) → IsMissCause written track change bay a code b → IsMissCause written track change bay (with_waiting a waiting) code (with_waiting b waiting)
 waiting_cause written track change bay code a b waiting cause =
     let same = waiting_undisturbed a b bay waiting in
@@ -102,7 +102,7 @@ put_shown driver old new spares waiting (suc zero) in_range other changes memory
     ∙ ap (λ m. parts driver (record { first = old.media.first; second = new.media.second }) old.changes m (with_waiting new.counters waiting) spares) memory
 put_shown driver old new spares waiting (suc (suc n)) in_range other changes memory = absurd (omega arith)
 
--- after a station in which counters alone had changed
+-- the same after a station in which only counters had changed
 put_after : (start middle new : StationState) (bay : ℕ) (medium : Option Disk) → Stays start middle → Becomes (set_bay middle bay (record (bay_of middle bay) { medium = medium })) new → (bay_of new bay).medium ≡ medium → Becomes (set_bay start bay (record (bay_of start bay) { medium = (bay_of new bay).medium })) new
 put_after start middle new bay medium stays becomes is =
     let To : StationState → StationState = λ s. record (set_bay s bay (record (bay_of s bay) { medium = medium })) { counters = new.counters } in
@@ -116,7 +116,7 @@ medium_stays : (old : Rig) (bay : ℕ) (rate : Rate) (written : Written) (change
 medium_stays old bay rate written None new same none = ap (λ (t : Two (Option Disk)). in_bay t bay) (sym same) ∙ none
 medium_stays old bay rate written (Some one) new changed none = absurd (cc (changed.is, none))
 
--- and stays unprotected
+-- the medium stays unprotected
 protection_stays : (old : Rig) (bay : ℕ) (rate : Rate) (written : Written) (change : Option Change) (new : Rig) → MatchOption change (new.media ≡ old.media) (λ one. ChangesMedium bay rate written one old new) → option_map_or (λ disk. disk.protected) (in_bay new.media bay) false ≡ option_map_or (λ disk. disk.protected) (in_bay old.media bay) false
 protection_stays old bay rate written None new same = ap (λ (t : Two (Option Disk)). option_map_or (λ disk. disk.protected) (in_bay t bay) false) same
 protection_stays old bay rate written (Some one) new changed =
@@ -256,7 +256,7 @@ tries_once driver after old mid bay way ready tries attempt address key deleted 
     (checked_from mid bay (notes_of driver bay).rate key deleted address mid.memory old.memory answer new prepared.moves.memory at_rate)
     is_ready (λ seek. sym (ap (λ (n : Notes). is_some n.known) noted) ∙ sym known_is ∙ (plan.0 seek).1) (sure_way way tries attempt known plan) refl
 
--- and what is ready after it
+-- after one attempt the bay can still be written
 pub can_write_once : (driver after : Driver) (old mid : Rig) (bay target : ℕ) (way : Prepare) (ready : Bool) (rate : Rate) (written : Written) (answer : Result (Unit {0}) Code) (new : Rig) → CanWrite driver old bay → after ≡ with_notes driver bay (notes_of after bay) → IsPrepared bay target way old (notes_of driver bay) ready mid (notes_of after bay) → IsAttached after mid → IsSound mid → WritesChecked bay rate written mid answer new → IsSound new → CanWrite after new bay
 can_write_once driver after old mid bay target way ready rate written answer new can is prepared attached sound wrote later =
     can_write_checked after mid bay rate written answer new (can_write_prepared driver after old mid bay target way ready can is prepared attached sound) wrote later

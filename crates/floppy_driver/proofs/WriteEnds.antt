@@ -71,7 +71,7 @@ module _ (written : Written) (bay : ℕ) (start now : StationState) (asked : Has
 
 -- ---- a regular disk at the end
 
--- one change from the first disk, of no words where nothing was changed
+-- one change from the first disk; it has no words if nothing was changed
 as_change : (written : Written) (p : ℕ) (disk after : Disk) → IsDisk disk → HasTrack disk written.key.c written.key.h → IsRegularDisk disk → IsAddressAt (track_of disk written.key.c written.key.h) p written.key → IsSameOrChanged written p disk after → (words : ℕ) × IsChange written disk (change_at written.key.c p words) after
 as_change written p disk after valid has regular here (inl same) = (
   0,

@@ -63,7 +63,7 @@ module _ (driver : Driver) (rig : Rig) (bay : ℕ) (key : Chrn) (address : ℕ) 
   same_bay : bay_of (shown driver rig spares waiting) bay ≡ bay_of start bay
   same_bay = ap (λ (s : StationState). bay_of s bay) asked.stays
 
-  -- what is written is the same
+  -- what is written is the same from the station's memory and from the machine's
   pub same_written : written_from start key address deleted ≡ record { key = key; deleted = deleted; content = bytes_from rig.memory address (content_size key.n) }
   same_written = ap (λ m. let written : Written = record { key = key; deleted = deleted; content = bytes_from m address (content_size key.n) } in written) (sym same_memory)
 
@@ -95,7 +95,7 @@ between_none driver rig bay key address deleted code can asked = record {
   tried = λ start spares waiting so. begun driver rig bay key address deleted can asked.within start spares waiting so code;
 }
 
--- ---- one more
+-- ---- one more attempt
 
 module _ (first : Driver) (from : Rig) (bay : ℕ) (key : Chrn) (address : ℕ) (deleted : Bool) (count attempt : ℕ) (before : Code) (driver : Driver) (rig : Rig) (can : CanWrite first from bay) (asked : IsAsked bay key address) (between : BetweenWrites first from bay key address deleted count before driver rig) (number : attempt ≡ count + 1) (answer : Result (Unit {0}) Code) (after : Driver) (new : Rig) (tries : (spares : ℕ) (waiting : List DriveCounts) → TriesWrite (IsSure driver.tries attempt) (record { key = key; deleted = deleted; content = bytes_from rig.memory address (content_size key.n) }) bay (shown driver rig spares waiting) answer (shown after new spares waiting)) where
   module _ (start : StationState) (spares : ℕ) (waiting : List DriveCounts) (so : HasAsked start (shown first from spares waiting)) where
@@ -119,14 +119,14 @@ module _ (first : Driver) (from : Rig) (bay : ℕ) (key : Chrn) (address : ℕ) 
         tried_more (written_from start key address deleted) bay start (shown driver rig spares waiting) (shown after new spares waiting) count before code
         (is_start first from bay key address deleted can asked.within start spares waiting so) (between.tried start spares waiting so) attempt_err
 
-  -- it was done
+  -- the attempt was done
   pub between_done : answer ≡ Ok tt → attempt ≤ first.tries → (start : StationState) (spares : ℕ) (waiting : List DriveCounts) → HasAsked start (shown first from spares waiting) → LastsUpTo (write_time start bay) start.counters new.counters → WritesDrive (written_from start key address deleted) bay start (Ok tt) (shown after new spares waiting)
   between_done ok few start spares waiting so lasts = done_since start spares waiting so ok (omega arith) lasts
 
   pub between_counts : GoesOn rig.counters new.counters → GoesOn from.counters new.counters
   between_counts counts = goes_on_after from.counters rig.counters new.counters between.counts counts
 
-  -- it was refused
+  -- the attempt was refused
   pub between_more : (next : ℕ) (code : Code) → next ≡ count + 1 → answer ≡ Err code → after.tries ≡ driver.tries → new.memory ≡ rig.memory → GoesOn rig.counters new.counters → CanWrite after new bay → BetweenWrites first from bay key address deleted next code after new
   between_more next code more is same memory counts ready = record {
     tries = same ∙ between.tries;

@@ -34,7 +34,7 @@ protection_shown driver rig spares waiting bay later asks =
     let Protection : Option Disk → Bool = λ m. option_map_or (λ disk. disk.protected) m false in
     ap (λ (b : Bay). Protection b.medium) (bay_shown_at driver rig spares waiting bay) ∙ ap (λ (t : Two (Option Disk)). Protection (in_bay t bay)) (sym asks.media)
 
--- where a bay is held and its medium isn't protected, it can be written
+-- if a bay is held and its medium isn't protected, it can be written
 pub can_write_asked : (driver : Driver) (rig : Rig) (bay : ℕ) (later : Rig) (protected : Bool) → CanTry driver rig bay → OnlyAsks rig later → IsSound later → protected ≡ option_map_or (λ disk. disk.protected) (in_bay rig.media bay) false → protected ≡ false → CanWrite driver later bay
 can_write_asked driver rig bay later protected can asks sound is none = record {
   ready = record {

@@ -32,7 +32,7 @@ use Rattle.floppy_driver.proofs.Rising.{disturbed_first, disturbed_later, stalls
 use Rattle.floppy_driver.proofs.WriteChanges.{same_disks, reaches_more, reached_alike, few_more, steady_more, last_whole, becomes_later, bay_after}
 use Rattle.floppy_driver.proofs.WriteTracks.{cut_keeps, cut_more, never_refused}
 
--- where an address field is met, it is on a track of the disk that is in
+-- if an address field is met, it is on a track of the disk that is in
 pub meets_field : (medium : Option Disk) (rate : Rate) (c h p : ℕ) (key : Chrn) (disk : Disk) → medium ≡ Some disk → IsAddressAt (met_in medium rate c h) p key → MeetsTrack medium rate c h disk
 meets_field medium rate c h p key disk is here =
     let found = met_from_mark medium rate c h (p, here.mark) in
@@ -96,14 +96,14 @@ module _ (written : Written) (bay : ℕ) (start mid new : StationState) (count :
       met_new : met (bay_of new bay) written.key.c written.key.h ≡ track_of changed.after written.key.c written.key.h
       met_new = met_track (bay_of new bay).medium (bay_of new bay).rate written.key.c written.key.h changed.after meets_new
 
-      -- on another cylinder
+      -- the change was on another cylinder
       changed_elsewhere : one.cylinder ≢ written.key.c → met (bay_of new bay) written.key.c written.key.h ≡ met (bay_of mid bay) written.key.c written.key.h
       changed_elsewhere other =
           met_new
           ∙ (change_keeps_tracks written middle.0 one changed.after made).others written.key.c written.key.h meets_mid.has (λ e _. other (sym e))
           ∙ sym met_mid
 
-      -- on the cylinder of the key
+      -- the change was on the cylinder of the key
       module _ (on : one.cylinder ≡ written.key.c) where
         made_on : IsChange written middle.0 (change_at written.key.c one.place one.words) changed.after
         made_on = subst (λ c. IsChange written middle.0 (change_at c one.place one.words) changed.after) on made

@@ -1,4 +1,4 @@
--- A regular track after several writes of one thing, and why none of them can be refused undisturbed.
+-- A regular track after several writes of the same content, and why none of them is refused if it is undisturbed.
 use Rattle.std.proofs.Common.{◌≡◌, ℕ, ◌+◌, ◌≤◌, ◌⊎◌, List, length, max, Option, refl, sym, ap, ◌∙◌, subst, arith, inl, inr}
 use Rattle.flop_base.specs.declared.answers.Code.{Code}
 use Rattle.flop_base.specs.declared.answers.Code.TheVariants.{NoMark, NotFound, Overrun, BadCrc, Seek}
@@ -69,7 +69,7 @@ by_device Seek device a b c d e = e refl
 by_device _ device a b c d e = device
 
 module _ (written : Written) (q : ℕ) (track : List ℕ) (has : HasWritten written q track) where
-  -- another look isn't had
+  -- no other look is possible
   no_other_look : (other : Look) → HasLook track written.key other → (other ≡ look.Found written.deleted (window_place q + 256) → ⊥) → ⊥
   no_other_look other seen differs = differs (has.one_look other seen)
 

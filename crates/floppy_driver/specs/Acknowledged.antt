@@ -10,7 +10,7 @@ use Rattle.sector_map.specs.Met.{HasClearAddress}
 use Rattle.floppy_driver.specs.Rigs.{Rig, StaysSpun, HeadsStay, track_under}
 use Rattle.floppy_driver.specs.declared.driver.Notes.{Notes}
 
--- a drive was worked with: neither media nor memory changed, nor the other drive
+-- a drive was worked with: media, memory and the other drive stayed as they were
 pub record Works (bay : ℕ) (old new : Rig) : Type 0 where
   pub media : new.media ≡ old.media
   pub memory : new.memory ≡ old.memory
@@ -21,7 +21,8 @@ pub record Works (bay : ℕ) (old new : Rig) : Type 0 where
   pub empty : in_bay old.media bay ≡ None → in_bay new.changes bay ≡ in_bay old.changes bay
   pub counts : GoesOn old.counters new.counters
 
--- steps in and out, to track 0 if that is reached: where a medium is in, and the change line stays set, a pulse was lost
+-- the heads step in and out, and end at track 0 if it is reached. If a medium is in and the change line stays set, a
+-- pulse was lost
 pub record ClearsChange (bay : ℕ) (old : Rig) (reached : Bool) (new : Rig) : Type 0 where
   pub works : Works bay old new
   pub driven : IsDriven 0 old.counters new.counters
@@ -30,7 +31,7 @@ pub record ClearsChange (bay : ℕ) (old : Rig) (reached : Bool) (new : Rig) : T
   pub lost : reached ≡ false → FaultsRoseBy 77 bay old.counters new.counters
   pub clears : IsSome (in_bay old.media bay) → in_bay new.changes bay ≡ true → FaultsRoseBy 1 bay old.counters new.counters
 
--- at most so many data commands that read, and changed neither media nor memory
+-- at most `most` data commands, which read and changed neither media nor memory
 pub record OnlyReads (most : ℕ) (old new : Rig) : Type 0 where
   pub heads : HeadsStay old new
   pub media : new.media ≡ old.media
@@ -42,12 +43,13 @@ pub record OnlyReads (most : ℕ) (old new : Rig) : Type 0 where
 abbrev pub HasStart : Rig → ℕ → Rate → Type 0
 HasStart rig bay rate = (p : ℕ) × IsAddress (track_under rig bay rate 0) p
 
--- where it has a Clear one at R250, so many commands that looked for it had a fault
+-- if that track has a Clear address field at R250, `count` commands that looked for it had a fault
 abbrev pub IsSpoilt : ℕ → ℕ → Rig → Rig → Type 0
 IsSpoilt bay count old new =
     (key : Chrn) → HasClearAddress (track_under old bay R250 0) key → FaultsRoseBy count bay old.counters new.counters
 
--- a rate was looked for: R250 where an address field was found at it, and R500 where one was found at that, or none at all
+-- a rate was looked for. It is R250 if an address field was found at R250. It is R500 if one was found at R500, or none
+-- at all
 pub record FindsRate (bay : ℕ) (old : Rig) (rate : Rate) (new : Rig) : Type 0 where
   pub reads : OnlyReads 6 old new
   pub double : rate ≡ R250 → HasStart old bay R250

@@ -13,6 +13,6 @@ pub record CanTry (driver : Driver) (rig : Rig) (bay : ℕ) : Type 0 where
   pub attached : IsAttached driver rig
   pub sound : IsSound rig
 
--- an attempt, counted from 1, that goes by track 0: each but the first of two or more
+-- an attempt, counted from 1, that surely goes by track 0: each attempt except the first of two or more
 abbrev pub IsSure : ℕ → ℕ → Type 0
 IsSure tries attempt = (tries ≡ 1) ⊎ (2 ≤ attempt)

@@ -33,7 +33,7 @@ pub record IsValidFormat (format : Format) : Type 0 where
 
 -- ---- reading back
 
--- the first bytes of the page, so many, are this one
+-- the first `count` bytes of the page are this byte
 abbrev pub IsFilled : List ℕ → ℕ → ℕ → Type 0
 IsFilled page count fill = (k : ℕ) → k < count → slice_index page k ≡ fill
 
@@ -42,7 +42,7 @@ pub record HoldsRecord (track : List ℕ) (key : Chrn) (fill : ℕ) : Type 0 whe
   pub clear : HasClearAddress track key
   pub filled : AllFilled track key fill
 
--- so it is with each record from 1 to the last
+-- this holds of each record from 1 to the last
 abbrev pub HoldsRecords : List ℕ → ℕ → ℕ → ℕ → ℕ → Type 0
 HoldsRecords track c h last fill = (r : ℕ) → 1 ≤ r → r ≤ last → HoldsRecord track (key_of c h r) fill
 
@@ -50,8 +50,8 @@ HoldsRecords track c h last fill = (r : ℕ) → 1 ≤ r → r ≤ last → Hold
 abbrev pub IsBlankUnder : Rig → ℕ → Rate → ℕ → Type 0
 IsBlankUnder rig bay rate h = HasNothing (track_under rig bay rate h)
 
--- records could not be read back, and so it goes where they are there only if something disturbs; where nothing is recorded, no
--- mark is found
+-- records could not be read back. If they are there, something disturbed the call. If nothing is recorded and nothing
+-- disturbed, no mark was found
 pub record IsReadBackMiss (bay : ℕ) (blank there : Type 0) (old : Counters) (code : Code) (new : Counters) : Type 0 where
   pub coded : IsReadCode code
   pub overrun : code ≡ Overrun → RoseBy 1 old.stalls new.stalls
@@ -59,7 +59,7 @@ pub record IsReadBackMiss (bay : ℕ) (blank there : Type 0) (old : Counters) (c
   pub unmarked : blank → IsUndisturbed bay old new → code ≡ NoMark
   pub sent : RoseBy 1 old.data_commands new.data_commands
 
--- records, so many, were read back: nothing changed but counters and the driver's page
+-- `count` records were read back: nothing changed but counters and the driver's page
 pub record ReadsRecords (bay count : ℕ) (blank there : Type 0) (old : Rig) (answer : Result (Unit {0}) Code) (new : Rig) : Type 0 where
   pub heads : HeadsStay old new
   pub media : new.media ≡ old.media
@@ -91,7 +91,7 @@ pub record EndsFormat (format : Format) (bay : ℕ) (before after : Option Disk)
       → IsFormattable format before × IsFormatted format before after
   pub refused : IfErr answer (λ code. IsAttemptRefusal bay old code new)
 
--- a medium was formatted in so many attempts, the answer being that of the last
+-- a medium was formatted in up to `count` attempts; the answer is that of the last
 pub record FormatsIn (count : ℕ) (format : Format) (bay : ℕ) (before after : Option Disk) (old : Counters) (answer : Result (Unit {0}) Code) (new : Counters) : Type 0 where
   pub layings : List Laying
   pub few : length layings ≤ count
@@ -101,7 +101,7 @@ pub record FormatsIn (count : ℕ) (format : Format) (bay : ℕ) (before after :
   -- each attempt that fails on a formattable medium was disturbed
   pub never : IsErr answer → IsFormattable format before → DisturbedLess count bay old new → ⊥
   pub driven : IsDriven (count * (1 + sectors_at format.rate)) old new
-  -- where the heads could not be placed, the last attempt sent no data command
+  -- if the heads could not be placed, the last attempt sent no data command
   pub unsent : 1 ≤ count → answer ≡ Err Seek
       → new.data_commands ≤ old.data_commands + (count - 1) * (1 + sectors_at format.rate)
   pub ends : 1 ≤ count → EndsFormat format bay before after old answer new

@@ -4,8 +4,8 @@ use Rattle.flop_base.specs.Bays.{in_bay, with_bay}
 use Rattle.flop_base.specs.Counters.{FaultsRoseBy, FaultsRoseLess, GoesOn, IsDriven}
 use Rattle.floppy_driver.specs.Rigs.{Rig, StaysSpun}
 
--- the heads of one drive were moved, or not, and nothing else changed but its change line, which a pulse clears where a
--- medium is in
+-- the heads of one drive were moved, or not. Nothing else changed but its change line, which a pulse clears if a medium
+-- is in
 pub record MovesHeads (bay : ℕ) (old new : Rig) : Type 0 where
   pub media : new.media ≡ old.media
   pub memory : new.memory ≡ old.memory
@@ -28,7 +28,7 @@ pub record Recalibrates (bay : ℕ) (old : Rig) (reached : Bool) (new : Rig) : T
   pub lost : reached ≡ false
       → FaultsRoseBy (in_bay new.cylinders bay + 79 - in_bay old.cylinders bay) bay old.counters new.counters
 
--- SEEK: a pulse for each cylinder that the target is away by the controller's number
+-- SEEK: one pulse for each cylinder between the controller's number and the target
 pub record Seeks (bay target : ℕ) (old new : Rig) : Type 0 where
   pub moves : MovesHeads bay old new
   pub number : in_bay new.numbers bay ≡ target

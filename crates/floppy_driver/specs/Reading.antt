@@ -17,7 +17,7 @@ use Rattle.flop_base.specs.Memory.{SameOutside}
 use Rattle.sector_map.specs.Met.{HasNoClearMark, HasClearAddress, HasLook}
 use Rattle.floppy_driver.specs.Rigs.{Rig, track_under, HeadsStay}
 
--- what the track has to be for a read to be refused so
+-- what the track has to be for a read to be refused with this code
 abbrev pub IsReadReason : List ℕ → Chrn → Code → Type 0
 IsReadReason track key NoMark = HasNoClearMark track ⊎ HasLook track key look.NoData
 IsReadReason track key NotFound = HasAddressMark track × (HasClearAddress track key → ⊥)
@@ -32,8 +32,8 @@ IsReadCode BadCrc = Unit {0}
 IsReadCode Overrun = Unit {0}
 IsReadCode _ = ⊥
 
--- a read of the key from this track was refused: where the drive had no fault, the track is the cause of all but OR, whatever
--- stalls were counted
+-- a read of the key from this track was refused. If the drive had no fault, the track is the cause of each code but
+-- `Overrun`, whatever stalls were counted
 pub record IsReadMiss (track : List ℕ) (key : Chrn) (bay : ℕ) (old : Counters) (code : Code) (new : Counters) : Type 0 where
   pub coded : IsReadCode code
   pub reason : IsUndisturbed bay old new → IsReadReason track key code

@@ -17,7 +17,8 @@ pub record IsReadWhole (bay : ℕ) (key : Chrn) (address : ℕ) (old : StationSt
   pub read : IsRead bay key address old deleted new
   pub size : length read.content ≡ content_size key.n
 
--- an attempt failed. Where it is sure to be on the track of the key's cylinder, and nothing disturbed, that track is the reason
+-- an attempt failed. If it is sure to be on the track of the key's cylinder, and nothing disturbed, that track is the
+-- reason
 pub record IsReadFailed (sure : Type 0) (bay : ℕ) (key : Chrn) (old : StationState) (code : Code) (new : StationState) : Type 0 where
   pub device : IsDeviceRefusal code
   pub reason : sure → IsUndisturbed bay old.counters new.counters → IsReadReason (met (bay_of old bay) key.c key.h) key code
@@ -33,5 +34,5 @@ pub record TriesRead (sure : Type 0) (bay : ℕ) (key : Chrn) (address : ℕ) (o
   pub becomes : Becomes (record old { memory = new.memory }) new
   pub counts : GoesOn old.counters new.counters
   pub driven : IsDriven 1 old.counters new.counters
-  -- where the heads could not be placed, no data command was sent
+  -- if the heads could not be placed, no data command was sent
   pub unsent : answer ≡ Err Seek → IsDriven 0 old.counters new.counters

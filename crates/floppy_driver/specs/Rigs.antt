@@ -15,13 +15,13 @@ pub record Rig : Type 0 where
   pub cylinders : Two ℕ
   -- the cylinder number that the controller keeps of each drive
   pub numbers : Two ℕ
-  -- the change line of each drive: set from an exchange of the medium on, until a pulse with a medium in
+  -- the change line of each drive. An exchange of the medium sets it, until a pulse comes while a medium is in
   pub changes : Two Bool
-  -- a medium is in each drive and turns at speed
+  -- whether a medium is in each drive and turns at speed
   pub spun : Two Bool
   -- user memory
   pub memory : List ℕ
-  -- the page of memory behind it, which is the driver's
+  -- the page of memory above it, which is the driver's
   pub page : List ℕ
   pub counters : Counters
 
@@ -29,12 +29,12 @@ pub record Rig : Type 0 where
 abbrev pub page_bytes : ℕ
 page_bytes = 65536
 
--- the bytes of a memory
+-- a memory of `count` bytes
 pub record AreBytes (memory : List ℕ) (count : ℕ) : Type 0 where
   pub length : length memory ≡ count
   pub bytes : (k : ℕ) → slice_index memory k < 2 ^ 8
 
--- the ranges of a machine
+-- the values of a machine are within their ranges
 pub record IsSound (rig : Rig) : Type 0 where
   pub first : IfSome rig.media.first IsDisk
   pub second : IfSome rig.media.second IsDisk
@@ -47,11 +47,12 @@ pub record IsSound (rig : Rig) : Type 0 where
 abbrev pub track_under : Rig → ℕ → Rate → ℕ → List ℕ
 track_under rig bay rate head = met_in (in_bay rig.media bay) rate (in_bay rig.cylinders bay) head
 
--- the device steps in which the medium in a bay turns once, 0 where there is none
+-- the device steps of one revolution of the medium in a bay, or 0 if there is none
 abbrev pub turn_in : Rig → ℕ → ℕ
 turn_in rig bay = turn_of (in_bay rig.media bay)
 
--- a call lasts so many turns of the medium in a bay and so many device steps at most; the medium's turns stay as long
+-- a call lasts at most `turns` revolutions of the medium in a bay and `steps` device steps. A revolution stays as long
+-- as it was
 pub record LastsFor (bay turns steps : ℕ) (old new : Rig) : Type 0 where
   pub turn : turn_in new bay ≡ turn_in old bay
   pub few : LastsUpTo (turns * turn_in old bay + steps) old.counters new.counters
@@ -68,7 +69,8 @@ pub record HeadsStay (old new : Rig) : Type 0 where
   pub changes : new.changes ≡ old.changes
   pub spun : StaysSpun old.spun new.spun
 
--- the controller was reset: the numbers that it keeps and the speed of media may be others, and nothing else is
+-- the controller was reset: the numbers that it keeps, the speed of media and counters may change, and nothing else
+-- does
 pub record IsReset (old new : Rig) : Type 0 where
   pub media : new.media ≡ old.media
   pub cylinders : new.cylinders ≡ old.cylinders
@@ -78,7 +80,7 @@ pub record IsReset (old new : Rig) : Type 0 where
   pub counts : GoesOn old.counters new.counters
   pub driven : IsDriven 0 old.counters new.counters
 
--- a call that asked and changed nothing, with no data command
+-- a call that only asked: it changed nothing and sent no data command
 pub record OnlyAsks (old new : Rig) : Type 0 where
   pub heads : HeadsStay old new
   pub media : new.media ≡ old.media

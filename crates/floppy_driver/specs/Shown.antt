@@ -12,11 +12,11 @@ use Rattle.floppy_driver.specs.declared.driver.Driver.{Driver}
 abbrev pub notes_of : Driver → ℕ → Notes
 notes_of driver bay = if bay == 0 then driver.first else driver.second
 
--- a bay is held where it was acknowledged and its change line is clear since
+-- a bay is held if it was acknowledged and its change line has been clear since
 abbrev pub is_held : Notes → Bool → Bool
 is_held notes changed = notes.gate && not changed
 
--- a bay by the notes on it
+-- a bay as the notes on it show it
 abbrev pub bay_shown : Notes → Option Disk → Bool → Bay
 bay_shown notes medium changed = record {
   medium = medium;
@@ -28,7 +28,7 @@ bay_shown notes medium changed = record {
 abbrev pub with_waiting : Counters → List DriveCounts → Counters
 with_waiting counters waiting = record counters { spares = waiting }
 
--- the station that driver and machine are, with so many spare drives waiting
+-- the station that driver and machine show, with `spares` spare drives waiting
 abbrev pub shown : Driver → Rig → ℕ → List DriveCounts → StationState
 shown driver rig spares waiting = record {
   bays = record {

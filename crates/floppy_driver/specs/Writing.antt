@@ -46,7 +46,7 @@ pub record ChangesMedium (bay : ℕ) (rate : Rate) (written : Written) (change :
 abbrev pub HasWindowOut : List ℕ → Chrn → Type 0
 HasWindowOut track key = (p : ℕ) × IsAddressAt track p key × (window_word p + window_words key.n ≤ length track → ⊥)
 
--- what the track has to be, after the write, for an undisturbed write to be refused so
+-- what the track has to be, after the write, for an undisturbed write to be refused with this code
 abbrev pub IsWriteReason : List ℕ → Chrn → Code → Type 0
 IsWriteReason track key NoMark = HasNoClearMark track ⊎ HasWindowOut track key
 IsWriteReason track key NotFound = HasAddressMark track × (HasClearAddress track key → ⊥)
@@ -65,7 +65,7 @@ pub record IsWriteMiss (track : List ℕ) (key : Chrn) (bay : ℕ) (old : Counte
   pub reason : IsUndisturbed bay old new → IsWriteReason track key code
   pub overrun : code ≡ Overrun → RoseBy 1 old.stalls new.stalls
 
--- the medium in the bay was changed so, or not at all
+-- a write: the medium in the bay was changed by `change`, or not at all
 pub record WritesData (bay : ℕ) (rate : Rate) (written : Written) (change : Option Change) (old : Rig) (answer : Result (Unit {0}) Code) (new : Rig) : Type 0 where
   pub sends : SendsWrite bay old new
   pub does : MatchOption change (new.media ≡ old.media) (λ one. ChangesMedium bay rate written one old new)
@@ -92,7 +92,7 @@ pub record HasTrackUnder (rig : Rig) (bay : ℕ) (format : Format) (disk : Disk)
   pub track : HasTrack disk (in_bay rig.cylinders bay) format.h
   pub same_rate : disk.rate ≡ format.rate
 
--- and the sectors fit on it
+-- and the sectors fit on that track
 abbrev pub CanFormatUnder : Rig → ℕ → Format → Type 0
 CanFormatUnder rig bay format =
     (disk : Disk) × HasTrackUnder rig bay format disk × Fits (format_keys format) standard_code format.gap3 disk.words_per_track
@@ -109,11 +109,11 @@ pub record IsFormatMiss (bay : ℕ) (format : Format) (old : Rig) (code : Code) 
   pub reason : IsUndisturbed bay old.counters new.counters → (code ≡ NoMark) × (CanFormatUnder old bay format → ⊥)
   pub overrun : code ≡ Overrun → RoseBy 1 old.counters.stalls new.counters.stalls
 
--- the track under the head was laid so, or the medium is as it was
+-- a format: the track under the head was laid by `laying`, or the medium is as it was
 pub record FormatsTrack (bay : ℕ) (format : Format) (laying : Option Laying) (old : Rig) (answer : Result (Unit {0}) Code) (new : Rig) : Type 0 where
   pub sends : SendsWrite bay old new
   pub does : MatchOption laying (new.media ≡ old.media) (λ one. LaysMedium bay format one old new)
-  -- undisturbed, or done with no fault, all words of a track that is there are laid
+  -- if the format is undisturbed, or done with no fault, all words of a track that is there are laid
   pub turn : (IsUndisturbed bay old.counters new.counters ⊎ (IsOk answer × IsFaultless bay old.counters new.counters))
       → (disk : Disk) → HasTrackUnder old bay format disk
       → MatchOption laying ⊥ (λ one. one.words ≡ disk.words_per_track)

@@ -33,7 +33,7 @@ AreBytesAlike page memory address count = (k : ℕ) → k < count → slice_inde
 abbrev pub WroteWhole : Written → Option Change → Type 0
 WroteWhole written change = MatchOption change ⊥ (IsWholeChange written)
 
--- why it was refused, by what is met on the track after it
+-- why the write was refused, by what is met on the track after it
 pub record IsMissCause (written : Written) (track : List ℕ) (change : Option Change) (bay : ℕ) (old : Counters) (code : Code) (new : Counters) : Type 0 where
   pub device : IsDeviceRefusal code
   pub no_mark : code ≡ NoMark → IsUndisturbed bay old new
@@ -46,7 +46,7 @@ pub record IsMissCause (written : Written) (track : List ℕ) (change : Option C
   pub overrun : code ≡ Overrun → RoseBy 1 old.stalls new.stalls
   pub lost : code ≡ Seek → FaultsRoseBy 77 bay old new
   pub sent : code ≢ Seek → RoseBy 1 old.data_commands new.data_commands
-  -- it was read back
+  -- the sector was read back
   pub read_back : code ≡ BadCrc → RoseBy 2 old.data_commands new.data_commands
 
 -- what was written was read back, on this cylinder
@@ -59,13 +59,13 @@ pub record IsReadBack (written : Written) (medium : Option Disk) (rate : Rate) (
   pub whole : IsFaultless bay old new → WroteWhole written change
   pub sector : IsFaultless bay old new
       → IsSector (track_of disk cylinder written.key.h) written.key written.deleted written.content
-  -- one fault came in the write or in the reading back
+  -- at most one fault came, either in the write or in the reading back
   pub nearly : FaultsRoseLess 2 bay old new
       → WroteWhole written change
       ⊎ IsSector (track_of disk cylinder written.key.h) written.key written.deleted written.content
   pub commands : RoseBy 2 old.data_commands new.data_commands
 
--- the medium in the bay was changed so, or not at all
+-- a write that is read back: the medium in the bay was changed by `change`, or not at all
 pub record WritesChecked (bay : ℕ) (rate : Rate) (written : Written) (old : Rig) (answer : Result (Unit {0}) Code) (new : Rig) : Type 0 where
   pub change : Option Change
   pub heads : HeadsStay old new
@@ -78,7 +78,7 @@ pub record WritesChecked (bay : ℕ) (rate : Rate) (written : Written) (old : Ri
       → IsReadBack written (in_bay new.media bay) rate (in_bay old.cylinders bay) change bay old.counters new.counters
   pub refused : IfErr answer (λ code.
       IsMissCause written (track_under new bay rate written.key.h) change bay old.counters code new.counters)
-  -- the heads were in place
+  -- the heads were in place already, so `Seek` isn't the answer
   pub placed : answer ≢ Err Seek
 
 -- ---- one attempt
@@ -100,7 +100,7 @@ pub record ChangesBay (written : Written) (bay : ℕ) (change : Change) (old new
       → window_word change.place + window_words written.key.n ≤ before.words_per_track
       → IsWholeChange written change
 
--- one attempt at a write, on this cylinder: the medium in the bay was changed so, or not at all
+-- one attempt at a write, on this cylinder: the medium in the bay was changed by `change`, or not at all
 pub record TriesWrite (sure : Type 0) (written : Written) (bay : ℕ) (old : StationState) (answer : Result (Unit {0}) Code) (new : StationState) : Type 0 where
   pub cylinder : ℕ
   pub change : Option Change
@@ -115,5 +115,5 @@ pub record TriesWrite (sure : Type 0) (written : Written) (bay : ℕ) (old : Sta
       IsMissCause written (met (bay_of new bay) cylinder written.key.h) change bay old.counters code new.counters)
   pub counts : GoesOn old.counters new.counters
   pub driven : IsDriven 2 old.counters new.counters
-  -- where the heads could not be placed, no data command was sent
+  -- if the heads could not be placed, no data command was sent
   pub unsent : answer ≡ Err Seek → IsDriven 0 old.counters new.counters

@@ -11,10 +11,10 @@ use crate::driver::{Driver, Notes};
 use crate::preparing::go_to_track_0;
 use flop_base::{Code, Rate};
 
-/// How often a change line is looked at behind pulses, and how often each rate is tried.
+/// How often a change line is looked at after pulses, and how often each rate is tried.
 const ROUNDS: u8 = 3;
 
-/// The rate at which an address field is found on cylinder 0 under head 0, R500 where none is found.
+/// The rate at which an address field is found on cylinder 0 under head 0, or R500 if none is found.
 fn find_rate<C: Commands>(machine: &mut C, bay: u8) -> Rate
     requires idle { C.is_idle machine.old }
     requires bay { bay ≤ 1 }
@@ -40,8 +40,8 @@ impl Driver {
     ghost use Rattle.floppy_driver.specs.Acknowledged.{IsHeldSince};
     ghost use Rattle.sector_model.specs.Calls.{Acks};
 
-    /// Acknowledges that another medium may be in, and finds its rate. Refusals: `BadRequest` where the bay is above 1;
-    /// `NotReady` where no medium is in, or its drive lost pulse after pulse.
+    /// Acknowledges that another medium may be in, and finds its rate. Refusals: `BadRequest` if the bay is above 1;
+    /// `NotReady` if no medium is in, or the drive lost pulse after pulse.
     pub fn ack<C: Commands>(&mut self, machine: &mut C, bay: u8) -> Result<(), Code>
         requires idle { C.is_idle machine.old }
         requires attached { IsAttached self.old (C.rig machine.old) }
@@ -68,7 +68,7 @@ impl Driver {
         Err(Code::NotReady)
     }
 
-    /// Holds a bay whose change line is clear, with its heads at track 0 where that was reached.
+    /// Holds a bay whose change line is clear. Its heads stand at track 0 if track 0 was reached.
     fn hold<C: Commands>(&mut self, machine: &mut C, bay: u8, reached: bool)
         requires idle { C.is_idle machine.old }
         requires bay { bay ≤ 1 }
@@ -95,7 +95,8 @@ impl Driver {
     }
 }
 
-/// Steps in and out, so that the change line clears where a medium is in; whether the heads then stand at track 0.
+/// Steps in and out, so that the change line clears if a medium is in. The answer says whether the heads then stand at
+/// track 0.
 fn clear_change<C: Commands>(machine: &mut C, bay: u8) -> bool
     requires idle { C.is_idle machine.old }
     requires bay { bay ≤ 1 }

@@ -1,10 +1,10 @@
-// Whether the change of a diskette that was last seen has been acknowledged.
+// Whether the last change of the diskette that was seen has been acknowledged.
 ghost use Rattle.std.specs.Prelude.{◌≡◌, true, false, if◌then◌else◌};
 
 use std::marker::Model;
 
-/// A bay's gate: closed at first and from each change of the diskette on, until the user of the bay acknowledges
-/// that another diskette may be in. Contracts see whether it is acknowledged.
+/// A bay's gate. It is closed at first, and each change of the diskette closes it. It opens when the user of the bay
+/// acknowledges that another diskette may be in. Contracts see whether it is acknowledged.
 #[derive(Clone, Copy)]
 pub struct Gate {
     acknowledged: bool,
@@ -39,14 +39,14 @@ impl Gate {
         }
     }
 
-    /// Opens the gate: another diskette may be in, and that is known.
+    /// Opens the gate: the user of the bay knows that another diskette may be in.
     pub fn acknowledge(&mut self)
         ensures { self.new ≡ true }
     {
         self.acknowledged = true;
     }
 
-    /// Whether it was acknowledged, and no change was seen since.
+    /// Whether the gate was acknowledged, and no change was seen since.
     pub fn is_acknowledged(&self) -> bool
         ensures { result ≡ self.now }
     {

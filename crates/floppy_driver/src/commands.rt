@@ -1,4 +1,4 @@
-// What a driver stands on.
+// The machine that a driver works on.
 ghost use Rattle.std.specs.Prelude.{◌≡◌, ◌≤◌, ◌<◌, ◌+◌, ◌-◌, ◌/◌, true, false, slice_index, Option, IsSome};
 ghost use Rattle.std.specs.Option.{option_map_or};
 ghost use Rattle.flop_base.specs.Bays.{in_bay};
@@ -17,10 +17,11 @@ use flop_base::{Chrn, Code, Rate};
 /// A machine with two diskette bays, command by command: a controller, a DMA channel, an interrupt line and two drives,
 /// or what behaves as they do.
 ///
-/// Each call ends with the controller idle. `bay` is 0 or 1. A data command needs a medium in the bay that turns at speed.
-/// How long a call lasts is counted in device steps, beside those of the gaps that its port accesses use up.
+/// Each call ends with the controller idle. `bay` is 0 or 1. A data command needs a medium in the bay that turns at
+/// speed. The time that a call lasts is counted in device steps, without those of the gaps that its port accesses use
+/// up.
 pub trait Commands: Drop {
-    /// All that the commands speak of.
+    /// The state that the contracts of the commands speak of.
     ghost rig: { Self → Rig };
 
     /// The controller is idle and as a driver has set it up.
@@ -32,7 +33,8 @@ pub trait Commands: Drop {
         ensures lasts { LastsFor 0 0 2 (rig self.old) (rig self.new) }
         ensures idle { is_idle self.new };
 
-    /// The change line of a drive (PC/AT): set from an exchange of the medium on, until a pulse with a medium in.
+    /// The change line of a drive (PC/AT). An exchange of the medium sets it, and it stays set until a pulse comes
+    /// while a medium is in.
     fn is_changed(&mut self, bay: u8) -> bool
         requires idle { is_idle self.old }
         requires bay { bay ≤ 1 }
@@ -62,7 +64,7 @@ pub trait Commands: Drop {
         ensures sound { IsSound (rig self.new) }
         ensures idle { is_idle self.new };
 
-    /// Steps outward until track 0; false where it wasn't reached in 79 pulses.
+    /// Steps outward to track 0. The answer is false if track 0 wasn't reached in 79 pulses.
     fn recalibrate(&mut self, bay: u8) -> bool
         requires idle { is_idle self.old }
         requires bay { bay ≤ 1 }
@@ -71,8 +73,8 @@ pub trait Commands: Drop {
         ensures sound { IsSound (rig self.new) }
         ensures idle { is_idle self.new };
 
-    /// Steps to a cylinder, from 0, with as many pulses as it is away by the controller's number. A lost pulse isn't
-    /// told, but counted as a fault.
+    /// Steps to a cylinder, counted from 0. It takes one pulse for each cylinder between the controller's number and
+    /// the target. A lost pulse isn't reported, but it is counted as a fault.
     fn seek(&mut self, bay: u8, target: u8)
         requires idle { is_idle self.old }
         requires bay { bay ≤ 1 }
@@ -93,8 +95,8 @@ pub trait Commands: Drop {
         ensures sound { IsSound (rig self.new) }
         ensures idle { is_idle self.new };
 
-    /// Reads the record of a key from the track under its head to user memory; true where it is marked deleted.
-    /// Refusals: `NoMark`, `NotFound`, `BadCrc` and `Overrun`.
+    /// Reads the record of a key from the track under its head to user memory. The answer is true if the record is
+    /// marked deleted. Refusals: `NoMark`, `NotFound`, `BadCrc` and `Overrun`.
     fn read(&mut self, bay: u8, key: Chrn, rate: Rate, address: u32) -> Result<bool, Code>
         requires idle { is_idle self.old }
         requires bay { bay ≤ 1 }
@@ -146,7 +148,7 @@ pub trait Commands: Drop {
         ensures idle { is_idle self.new };
 
     /// Formats the track under a head with the records of the rate, for this cylinder and head. Part of the driver's
-    /// page is written over. Refusals: `NoMark`, also where the layout doesn't fit, and `Overrun`.
+    /// page is overwritten. Refusals: `NoMark`, also if the layout doesn't fit, and `Overrun`.
     fn format(&mut self, bay: u8, c: u8, h: u8, rate: Rate, gap3: u8, fill: u8) -> Result<(), Code>
         requires idle { is_idle self.old }
         requires bay { bay ≤ 1 }

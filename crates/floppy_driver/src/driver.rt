@@ -16,12 +16,12 @@ pub(crate) struct Notes {
     /// The count of faults that the drive had when the bay was acknowledged.
     pub kept: u64,
     pub rate: Rate,
-    /// Where the heads stand, as steps from track 0 have it.
+    /// The cylinder where the heads should stand, by the steps since track 0.
     pub known: Option<u8>,
 }
 
 impl Notes {
-    /// Of a bay that isn't acknowledged.
+    /// The notes on a bay that isn't acknowledged.
     pub(crate) fn new() -> Notes
         ensures gate { result.gate ≡ false }
         ensures known { result.known ≡ None }
@@ -35,7 +35,7 @@ impl Notes {
     }
 }
 
-/// A driver of two bays. It holds no machine: each call is given the one that it was set up with.
+/// A driver of two bays. It holds no machine: each call gets the one that the driver was set up with.
 #[derive(Drop)]
 pub struct Driver {
     pub(crate) first: Notes,
@@ -52,7 +52,7 @@ impl Driver {
     ghost use Rattle.floppy_driver.specs.Rigs.{Rig, IsReset, LastsFor, OnlyAsks};
     ghost use Rattle.sector_model.specs.Calls.{RatesTo, SetsTries, TellsChange};
 
-    /// Sets a machine up, whose empty drives have their change lines set.
+    /// Sets a machine up. The change line of each empty drive must be set.
     pub fn set_up<C: Commands>(machine: &mut C) -> Driver
         requires empty { CanSetUp (C.rig machine.old) }
         ensures fresh { IsFreshDriver result }
@@ -110,7 +110,7 @@ impl Driver {
         notes.gate.is_acknowledged()
     }
 
-    /// Whether the medium was exchanged, or its bay not acknowledged.
+    /// Whether the medium was exchanged, or its bay isn't acknowledged.
     pub fn changed<C: Commands>(&mut self, machine: &mut C, bay: u8) -> bool
         requires idle { C.is_idle machine.old }
         requires bay { bay ≤ 1 }
@@ -126,7 +126,7 @@ impl Driver {
         !self.is_held(machine, bay)
     }
 
-    /// The rate that is noted of a bay, which is the bay's where it is acknowledged.
+    /// The rate that is noted of a bay. It is the bay's rate if the bay is acknowledged.
     pub fn rate(&self, bay: u8) -> Rate
         requires { bay ≤ 1 }
         ensures { result ≡ (notes_of self.now bay).rate }
@@ -134,7 +134,7 @@ impl Driver {
         self.notes(bay).rate
     }
 
-    /// Sets the rate of an acknowledged bay. Refusals: `BadRequest` where the bay is above 1, `Changed` where it isn't
+    /// Sets the rate of an acknowledged bay. Refusals: `BadRequest` if the bay is above 1, `Changed` if it isn't
     /// acknowledged.
     pub fn set_rate<C: Commands>(
         &mut self,
@@ -170,7 +170,7 @@ impl Driver {
         self.tries
     }
 
-    /// Sets the number of attempts of the calls after it.
+    /// Sets the number of attempts of later calls.
     pub fn set_tries(&mut self, tries: u8)
         requires least { 1 ≤ tries }
         requires most { tries ≤ 10 }

@@ -83,7 +83,7 @@ impl Driver {
         self.format_in_attempts(machine, bay, asked)
     }
 
-    /// The rate of a bay: the noted one where it is held.
+    /// The rate of a bay: the noted one if the bay is held, else R500.
     fn shown_rate(&self, bay: u8, held: bool) -> Rate
         ensures { result ≡ (if held then (notes_of self.now bay).rate else R500) }
     {
@@ -125,7 +125,7 @@ impl Driver {
         Err(last)
     }
 
-    /// One attempt, from track 0, since a format on a wrong track reads back well.
+    /// One attempt. It goes by track 0, since a format on a wrong track reads back well.
     fn format_once<C: Commands>(
         &mut self,
         machine: &mut C,
@@ -155,7 +155,7 @@ impl Driver {
     }
 }
 
-/// Whether a format of such a track of a drive can be asked for, with a gap 3 that isn't too short.
+/// Whether a format of this track of a drive can be asked for, with a gap 3 that isn't too short.
 fn is_asked(bay: u8, c: u8, h: u8, gap3: u8) -> bool
     ensures value { result ≡ (is_bay bay && is_place c h && nat_le 16 gap3) }
     ensures bay { IsTrue result → bay ≤ 1 }
@@ -169,7 +169,8 @@ fn is_asked(bay: u8, c: u8, h: u8, gap3: u8) -> bool
     gap3 >= LEAST_GAP
 }
 
-/// Reads each record of a formatted track back; the first that fails, or has another byte than the fill, is the answer.
+/// Reads each record of a formatted track back. The first record that fails, or has another byte than the fill, decides
+/// the answer.
 fn read_back_all<C: Commands>(machine: &mut C, bay: u8, asked: Asked) -> Result<(), Code>
     requires idle { C.is_idle machine.old }
     requires bay { bay ≤ 1 }
@@ -196,7 +197,7 @@ fn read_back_all<C: Commands>(machine: &mut C, bay: u8, asked: Asked) -> Result<
     Ok(())
 }
 
-/// Reads a record back; one that has another byte than the fill is damaged.
+/// Reads a record back. A record that has another byte than the fill counts as damaged.
 fn read_back_filled<C: Commands>(
     machine: &mut C,
     bay: u8,
@@ -224,7 +225,7 @@ fn read_back_filled<C: Commands>(
     }
 }
 
-/// Whether so many bytes of the driver's page are the fill byte.
+/// Whether the first `count` bytes of the driver's page are the fill byte.
 fn is_page_filled<C: Commands>(machine: &C, fill: u8, count: u16) -> bool
     ensures { IsTrue result ↔ IsFilled (C.rig machine.now).page count fill }
 {

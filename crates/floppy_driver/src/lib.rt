@@ -1,9 +1,9 @@
-//! The driver of two diskette bays: a read, a write, a format and an acknowledgement, each in a few attempts, over a machine
-//! that runs one command at a time (the trait `Commands`).
+//! The driver of two diskette bays. It has a read, a write, a format and an acknowledgement, each in a few attempts. It
+//! works on a machine that runs one command at a time (the trait `Commands`).
 //!
-//! Each call is a step of the sector model, whatever faults the drives have and however long requests wait. No call takes
-//! memory, and the machine's user memory changes through its commands alone. How often it tries and how it prepares an attempt, and
-//! what it keeps of the change line, are parts that stand alone.
+//! Each call is a step of the sector model, whatever faults the drives have and however long DMA requests wait. No call
+//! allocates memory, and only the machine's commands change its user memory. Two parts stand alone: how often the
+//! driver tries and how it prepares an attempt, and what it keeps of the change line.
 #![tactic(auto)]
 
 mod acknowledging;

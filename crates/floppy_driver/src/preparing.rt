@@ -8,7 +8,7 @@ use crate::Commands;
 use crate::driver::{Driver, Notes};
 use crate::retry_plan::Prepare;
 
-/// Steps outward to track 0, once more where the first time doesn't reach it; false where neither does.
+/// Steps outward to track 0, and once more if the first time doesn't reach it. The answer is false if neither does.
 pub(crate) fn go_to_track_0<C: Commands>(machine: &mut C, bay: u8) -> bool
     requires idle { C.is_idle machine.old }
     requires bay { bay ≤ 1 }
@@ -29,8 +29,8 @@ impl Driver {
     ghost use Rattle.floppy_driver.specs.Attached.{IsAttached};
     ghost use Rattle.floppy_driver.specs.Prepared.{IsPrepared};
 
-    /// Moves the heads of a held bay to a cylinder, by steps alone where the cylinder is known, or from track 0; false where
-    /// track 0 wasn't reached.
+    /// Moves the heads of a held bay to a cylinder, from track 0 or, if their cylinder is known, by steps alone. The
+    /// answer is false if track 0 wasn't reached.
     pub(crate) fn prepare<C: Commands>(
         &mut self,
         machine: &mut C,

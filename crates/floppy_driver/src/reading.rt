@@ -19,8 +19,8 @@ impl Driver {
     ghost use Rattle.sector_model.specs.Asked.{IsAsked};
     ghost use Rattle.sector_model.specs.Reads.{Reads, ReadsDrive};
 
-    /// Reads the sector of a key to user memory; true where it is marked deleted. Refusals are those of
-    /// `Station::read`.
+    /// Reads the sector of a key to user memory. The answer is true if the sector is marked deleted. Refusals are those
+    /// of `Station::read`.
     pub fn read<C: Commands>(
         &mut self,
         machine: &mut C,

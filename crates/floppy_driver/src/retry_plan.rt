@@ -1,19 +1,19 @@
 // How often a driver tries a command, and how it prepares each attempt.
 ghost use Rattle.std.specs.Prelude.{◌≡◌, ◌≤◌, ◌↔◌, IsTrue};
 
-/// The attempts at a command until another number is asked for.
+/// The number of attempts at a command, until another number is set.
 pub const START_TRIES: u8 = 3;
 
 /// What comes before the command of an attempt.
 #[derive(Clone, Copy, Debug, PartialEq, Eq)]
 pub enum Prepare {
-    /// Steps from the cylinder where the heads are known to be.
+    /// Steps from the cylinder where the heads are known to stand.
     Seek,
-    /// Steps outwards until track 0 is reached, and from there.
+    /// Steps outward until track 0 is reached, and then from there.
     RecalibrateAndSeek,
 }
 
-/// How to prepare an attempt, counted from 1, of so many. Steps alone are trusted only where the cylinder is
+/// How to prepare attempt number `attempt`, counted from 1, of `tries`. Steps alone are trusted only if the cylinder is
 /// known and a further attempt is left to recalibrate.
 pub fn preparation(tries: u8, attempt: u8, known: bool) -> Prepare
     requires some { 1 ≤ tries }

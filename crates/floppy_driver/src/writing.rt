@@ -126,7 +126,8 @@ impl Driver {
     }
 }
 
-/// Writes user memory to the record of a key on the track under its head, reads it back to the driver's page and compares.
+/// Writes user memory to the record of a key on the track under its head, reads it back to the driver's page and
+/// compares.
 fn write_checked<C: Commands>(
     machine: &mut C,
     bay: u8,
@@ -159,7 +160,7 @@ fn write_checked<C: Commands>(
     Ok(())
 }
 
-/// Whether the driver's page begins with so many bytes of user memory.
+/// Whether the driver's page begins with these `count` bytes of user memory.
 fn is_page_alike<C: Commands>(machine: &C, address: u32, count: u16) -> bool
     requires within { address + count ≤ user_bytes }
     ensures { IsTrue result ↔ AreBytesAlike (C.rig machine.now).page (C.rig machine.now).memory address count }

@@ -1,4 +1,4 @@
--- No form has a word that begins with a dash.
+-- No subcommand (form) has an argument (word) that begins with a dash.
 use Rattle.std.proofs.Common.{true≢false, ◌≡◌, ◌∙◌, ◌&&◌, ◌||◌, ℕ, Bool, true, false, not, List, [], ◌∷◌, Option, Some, None, Result, Ok, Err, refl, sym, ap, inl, inr, if◌then◌else◌}
 use Rattle.std.specs.Prelude.{◌⊎◌}
 use Rattle.std.specs.List.{list_any}
@@ -25,12 +25,12 @@ not_true : (a : Bool) → not a ≡ true → a ≡ false
 not_true true h = absurd cc
 not_true false h = refl
 
--- a name doesn't
+-- a name doesn't begin with a dash
 name_plain : (word name : List ℕ) → name_of word ≡ Some name → begins_with_dash word ≡ false
 unfolding name_of is_name_text
 name_plain word name e = not_true _ (and_right _ _ (and_left _ _ (some_true _ _ _ e)))
 
--- nor does a number
+-- a number doesn't begin with a dash, 45
 dash_count : (word : List ℕ) → cylinders_of (45 ∷ word) ≡ None
 unfolding cylinders_of number_of
 dash_count word = go _ _ _ _
@@ -72,7 +72,7 @@ verify_none [] e = refl
 verify_none (word ∷ []) e = let none = dash_name word (any_one _ e) in rw none refl
 verify_none (word ∷ next ∷ rest) e = refl
 
--- of two words one does
+-- if a test finds something among two words, it holds of one of them
 either_dash : (a b : Bool) → (a || (b || false)) ≡ true → (a ≡ true) ⊎ (b ≡ true)
 either_dash true b e = inl refl
 either_dash false true e = inr refl
@@ -91,7 +91,7 @@ copy_none (source ∷ target ∷ []) e = elim (either_dash _ _ e) [
 ]
 copy_none (source ∷ target ∷ next ∷ rest) e = refl
 
--- of three words one does
+-- if a test finds something among three words, it holds of one of them
 any_of_three : (a b c : Bool) → (a || (b || (c || false))) ≡ true → (a ≡ true) ⊎ ((b ≡ true) ⊎ (c ≡ true))
 any_of_three true b c e = inl refl
 any_of_three false true c e = inr (inl refl)
@@ -205,12 +205,12 @@ int13_none [] e = refl
 int13_none (word ∷ []) e = let none = dash_name word (any_one _ e) in rw none refl
 int13_none (word ∷ next ∷ rest) e = refl
 
--- one of two
+-- if one of two is true, it is the first or the second
 pub either_or : (a b : Bool) → (a || b) ≡ true → (a ≡ true) ⊎ (b ≡ true)
 either_or true b e = inl refl
 either_or false b e = inr e
 
--- a choice between what gives nothing
+-- if both parts of a choice give nothing, the choice gives nothing
 chosen_none : {X : Type 0} (b : Bool) (x y : Option X) → x ≡ None → y ≡ None → (if b then x else y) ≡ None
 chosen_none true x y e f = e
 chosen_none false x y e f = f
@@ -227,7 +227,7 @@ dash_none ((d ∷ rest) ∷ words) e = elim (either_or _ _ e) [
       (chosen_none _ _ _ (verify_none words behind) (chosen_none _ _ _ (fromimd_none words behind) (chosen_none _ _ _ (toimd_none words behind) (chosen_none _ _ _ (survey_none words behind) (chosen_none _ _ _ (remaster_none words behind) (chosen_none _ _ _ (import_none words behind) (chosen_none _ _ _ (export_none words behind) (chosen_none _ _ _ (exercise_none words behind) (chosen_none _ _ _ (int13_none words behind) (chosen_none _ _ _ (rescue_none words behind) refl)))))))))))))
 ]
 
--- so they are read as none
+-- such words are read as no form
 pub reads_none : (read : Result (Option Form) NoMemory) (words : List (List ℕ)) → Reads read (form_of words)
     → list_any begins_with_dash words ≡ true → read ≡ Ok None
 reads_none (Ok form) words reads dash = ap Ok (reads ∙ dash_none words dash)

@@ -17,7 +17,7 @@ two_names None target = refl
 two_names (Some from) None = refl
 two_names (Some from) (Some to) = refl
 
--- a copy's words are two names
+-- the arguments of a copy are two names
 pub copy_names : (words : List (List ℕ)) → copy_of words ≡ (names_of words >>= λ names. Some (form.Copy names.0 names.1))
 unfolding copy_of names_of
 copy_names [] = refl

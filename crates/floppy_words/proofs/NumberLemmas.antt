@@ -10,7 +10,7 @@ kept_is : (b : Bool) (v n : ℕ) → kept b v ≡ Some n → (b ≡ true) × (v 
 kept_is true v n e = (refl, cc)
 kept_is false v n e = absurd cc
 
--- a number that a word spells is one that may be spelled
+-- a number that a word spells is within its bounds
 pub number_least : (base fewest most least greatest : ℕ) (word : List ℕ) (n : ℕ)
     → number_of base fewest most least greatest word ≡ Some n → least ≤ n
 unfolding number_of

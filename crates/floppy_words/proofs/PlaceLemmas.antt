@@ -1,4 +1,4 @@
--- What clap makes of a command with places alone, behind `--`.
+-- What clap makes of a command that has only positional arguments (places), where its words come after `--`.
 use Rattle.std.proofs.Common.{◌≡◌, ◌∙◌, List, [], ◌∷◌, Option, Some, None, IsSome, true, codes, refl, ap, ap₂}
 use Rattle.clap.specs.Words.{App, HasMatchesOf, Row, Text, first_of, first_value, found_of, is_simple, matches_of, rows_of}
 use Rattle.floppy_words.specs.Places.{one_place, two_places, three_places}
@@ -46,11 +46,11 @@ pub three_third : (verb word next last : Text) → first_of (codes "THIRD") (mat
 unfolding clap_on_literals
 three_third verb word next last = refl
 
--- the first value of a place, as the rows of the matches have it
+-- the first value of a place, by the rows of the matches
 pub found : (f : Found) (id word : Text) (rows : List Row) → rows_of f ≡ rows → first_of id rows ≡ Some word → first_value f id ≡ Some word
 found f id word rows e first = first_value-rows f id ∙ ap (first_of id) e ∙ first
 
--- what a parse of words behind a verb finds
+-- what a parse of the words after a verb finds
 pub one_value : (verb word : Text) (a : App) (words : List Text) (m : ArgMatches) → a ≡ one_place verb → words ≡ behind verb (word ∷ [])
     → HasMatchesOf a words m → first_value (found_of m) (codes "FIRST") ≡ Some word
 one_value verb word a words m app_is words_are has =
@@ -73,11 +73,11 @@ three_values verb word next last a words m app_is words_are has =
       found (found_of m) _ last _ rows (three_third verb word next last),
     )
 
--- a place that has its word has a word
+-- a place that was read as this word has a word
 pub is_there : (read : Option Text) (word : Text) → read ≡ Some word → IsSome read
 is_there (Some text) word e = refl
 is_there None word e = absurd cc
 
--- and what is kept of it is that word
+-- and the word that is kept of the place is this one
 pub is_word : (read : Option Text) (text word : Text) → read ≡ Some word → read ≡ Some text → text ≡ word
 is_word read text word e same = cc

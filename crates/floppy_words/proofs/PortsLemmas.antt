@@ -8,7 +8,7 @@ use Rattle.flop_base.specs.declared.answers.NoMemory.{NoMemory}
 use Rattle.floppy_words.specs.Forms.{Reads, begins_with_dash, form_of, ports_file_of}
 use Rattle.floppy_words.proofs.DashLemmas.{dash_name, any_one, either_or}
 
--- a choice that gives something was its first part
+-- if a choice between a value and none gives something, its condition is true
 chosen : {X : Type 0} (b : Bool) (x : Option X) (y : X) → (if b then x else None) ≡ Some y → b ≡ true
 chosen true x y e = refl
 chosen false x y e = absurd cc
@@ -40,7 +40,7 @@ dash_none ((d ∷ letters) ∷ word ∷ []) e = elim (either_or _ _ e) [
     never false x = refl
 dash_none (verb ∷ word ∷ next ∷ rest) e = refl
 
--- so they are read as no text
+-- words of which one begins with a dash are read as naming no text
 pub reads_no_file : (read : Result (Option (List ℕ)) NoMemory) (words : List (List ℕ)) → Reads read (ports_file_of words)
     → list_any begins_with_dash words ≡ true → read ≡ Ok None
 reads_no_file (Ok file) words reads dash = ap Ok (reads ∙ dash_none words dash)

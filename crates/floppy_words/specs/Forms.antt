@@ -1,4 +1,4 @@
--- What the words of the command line spell: a verb, and the words behind it.
+-- What the words of the command line spell: a verb, and the words after it.
 use Rattle.std.specs.Prelude.{◌≡◌, ◌==◌, ℕ, Bool, slice_index, List, [], ◌∷◌, Option, Some, None, IsSome, Result, Ok, Err, codes, if◌then◌else◌}
 use Rattle.flop_base.specs.declared.answers.NoMemory.{NoMemory}
 use Rattle.std.specs.Str.{bytes_eq}
@@ -107,7 +107,7 @@ seed_of word = number_of 10 1 10 0 2147483647 word
 unfoldable pub count_of : List ℕ → Option ℕ
 count_of word = number_of 10 1 10 0 2000 word
 
--- the workload of a seed and a count
+-- the workload that a seed and a count spell
 unfoldable pub workload_of : List ℕ → List ℕ → Option Form
 workload_of seed count = do
   first ← seed_of seed
@@ -135,7 +135,7 @@ rescue_of (source ∷ target ∷ list ∷ []) = do
   Some (form.Rescue from to log)
 rescue_of _ = None
 
--- the form that the words spell, by the first of them
+-- the form that the words spell; the first word decides which
 unfoldable pub form_of : List (List ℕ) → Option Form
 form_of [] = None
 form_of (verb ∷ words) =
@@ -155,12 +155,12 @@ form_of (verb ∷ words) =
     else (if bytes_eq verb (codes "rescue") then rescue_of words
     else None)))))))))))))
 
--- ports FILE: a text of port accesses, which has no driver and is no form
+-- ports FILE: a text of port accesses. It has no driver, and is no form
 unfoldable pub ports_file_of : List (List ℕ) → Option (List ℕ)
 ports_file_of (verb ∷ word ∷ []) = if bytes_eq verb (codes "ports") then name_of word else None
 ports_file_of _ = None
 
--- the words were read as what they spell; memory can be wanted only where they spell one
+-- the words were read as what they spell; memory can run out only where they spell something
 abbrev pub Reads : {T : Type 0} → Result (Option T) NoMemory → Option T → Type 0
 Reads (Ok read) spelled = read ≡ spelled
 Reads (Err _) spelled = IsSome spelled

@@ -1,9 +1,9 @@
--- The commands that read the words behind a verb: simple ones, of places alone.
+-- The commands that read the words after a verb: simple commands, with positional arguments (places) alone.
 use Rattle.std.specs.Prelude.{Some, true, codes}
 use Rattle.clap.specs.Words.{App, Rule, Text, new_app, new_rule, with_rule}
 use Rattle.clap.specs.declared.builder.ArgAction.TheVariants.{Set}
 
--- a place that has to be there
+-- a place whose word is required
 abbrev pub place : Text → Rule
 place id = record (new_rule id) { required = true; action = Some Set }
 

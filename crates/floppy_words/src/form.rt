@@ -1,4 +1,4 @@
-// The forms of the program.
+// The subcommands (forms) of the program.
 
 use flop_base::Name;
 use std::marker::Model;
@@ -31,7 +31,7 @@ impl Cylinders {
         Cylinders { count }
     }
 
-    /// How many there are. The last is numbered one less.
+    /// How many cylinders there are. The last one's number is one less.
     pub fn count(&self) -> u8
         ensures value { result ≡ self.now }
         ensures some { 1 ≤ result }
@@ -70,6 +70,6 @@ pub enum Form {
     Exercise { seed: u32, count: u16 },
     /// Serves the calls of INT 13h in the text of this name.
     Int13 { calls: Name },
-    /// Writes what is read of a failing disk to another one, and logs what isn't.
+    /// Writes what can be read of a failing disk to another one, and logs what can't.
     Rescue { from: Name, to: Name, log: Name },
 }

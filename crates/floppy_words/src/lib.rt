@@ -1,4 +1,4 @@
-//! What the words of the command line ask for: one of the program's forms, a text of port accesses, or nothing.
+//! What the words of the command line ask for: a subcommand (form), a text of port accesses, or nothing.
 #![tactic(auto)]
 
 mod form;

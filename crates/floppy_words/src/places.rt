@@ -1,5 +1,5 @@
-// The words behind a verb, read by `clap`: each form is a simple command that has places alone. Behind `--` every word
-// goes to a place, whatever its letters are.
+// The words after a verb, read by `clap`. Each form is a simple command that has only positional arguments (places).
+// After `--` every word goes to a place, whatever its letters are.
 ghost use Rattle.std.specs.Prelude.{◌≡◌, IfOk, IsSome, Some, codes, false, map};
 ghost use Rattle.clap.specs.Words.{HasMatchesOf, app_of, first_value, found_of, rule_of};
 ghost use Rattle.floppy_words.specs.Places.{one_place as one_place_app, place as place_rule, three_places as three_places_app, two_places as two_places_app};
@@ -8,7 +8,7 @@ use clap::{Arg, ArgAction, ArgMatches, Command};
 use flop_base::{Name, NoMemory};
 use std::alloc::Global;
 
-/// A place that has to be there.
+/// A place whose word is required.
 fn place<'a>(alloc: Global, id: &'a str) -> Arg<'a>
     ensures rule { rule_of result ≡ place_rule id.entry.now }
     ensures local { result.global ≡ false }
@@ -65,7 +65,7 @@ fn two_named(alloc: Global, matches: &ArgMatches) -> Result<(Name, Name), NoMemo
     Ok((one, two))
 }
 
-/// The words of three.
+/// The words of three places that have one each.
 fn three_named(alloc: Global, matches: &ArgMatches) -> Result<(Name, Name, Name), NoMemory>
     requires first { IsSome (first_value (found_of matches.now) (codes "FIRST")) }
     requires second { IsSome (first_value (found_of matches.now) (codes "SECOND")) }

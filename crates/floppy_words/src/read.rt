@@ -10,8 +10,8 @@ use floppy_jobs::numbers::number;
 use floppy_jobs::{is_verb, name_text};
 use std::alloc::Global;
 
-/// The form that the words after the program's name spell; nothing where they are no form. The first word is the
-/// form's verb. Words that are no form are told without any memory.
+/// The form that the words after the program's name spell; nothing if they are no form. The first word is the form's
+/// verb. Finding that words are no form takes no memory.
 pub fn form_named(alloc: Global, words: &[String]) -> Result<Option<Form>, NoMemory>
     ensures form { Reads result (form_of (map string_bytes words.now)) }
     ensures no_dash { list_any begins_with_dash (map string_bytes words.now) ≡ true → result ≡ Ok None }
@@ -19,8 +19,8 @@ pub fn form_named(alloc: Global, words: &[String]) -> Result<Option<Form>, NoMem
     form(alloc, words)
 }
 
-/// The name of the text where the words after the program's name are `ports FILE`, which is no form: it has no driver. Other words
-/// are told without any memory.
+/// The name of the text, if the words after the program's name are `ports FILE`. This is no form: it has no driver.
+/// Finding that the words are others takes no memory.
 pub fn ports_file(alloc: Global, words: &[String]) -> Result<Option<Name>, NoMemory>
     ensures file { Reads result (ports_file_of (map string_bytes words.now)) }
     ensures no_dash { list_any begins_with_dash (map string_bytes words.now) ≡ true → result ≡ Ok None }

@@ -1,4 +1,4 @@
--- What is written of an image is read as that image.
+-- The file that is written of an image is read as that image.
 use Rattle.std.proofs.Common.{◌≡◌, ℕ, zero, suc, ◌+◌, ◌*◌, ◌^◌, ◌%◌, ◌≤◌, ◌<◌, Bool, true, false, not, ◌&&◌, eqb, ltb, cond, List, [], ◌∷◌, ◌++◌, length, get_or, replicate, Option, Some, None, Result, Ok, refl, sym, ap, ◌∙◌, append_assoc, length-append, arith, All}
 use Rattle.std.specs.Prelude.{IfSome}
 use Rattle.std.specs.List.{list_any, flat_map}
@@ -24,11 +24,11 @@ use Rattle.imagedisk.specs.Headers.{mode_byte, rate_of, cylinder_of, size_code_o
 use Rattle.imagedisk.specs.Reading.{map_at, key_at, kind_of, content_at, sector_at, sectors_at}
 use Rattle.imagedisk.specs.Writing.{part_of, map_of, differs, needed_map, head_byte, is_all, sector_bytes}
 
--- bytes from an offset on
+-- the bytes that are left, which begin at this offset
 abbrev pub left_at : ℕ → List ℕ → Rest
 left_at offset bytes = record { offset = offset; bytes = bytes }
 
--- from these bytes at any offset, whatever follows them, this is read, and they are used up
+-- Reading from these bytes gives this value and uses them up, at any offset, and whatever bytes follow.
 abbrev pub Reads : {A : Type 0} → (Rest → Result (A × Rest) ImageError) → List ℕ → A → Type 0
 Reads read bytes value = (offset : ℕ) (more : List ℕ) → (after : ℕ) × (read (left_at offset (bytes ++ more)) ≡ Ok (value, left_at after more))
 
@@ -56,7 +56,7 @@ filled_by (b ∷ bs) fill e =
       | false ↦ (λ other rest. absurd cc)
     ] refl e
 
--- the end of a sector whose type is read
+-- the rest of a sector is read, once its type was read
 typed : (key : Chrn) (type : ℕ) (kind : ImdKind) (body content : List ℕ) (offset after : ℕ) (more : List ℕ)
     → kind_of type ≡ Some kind → content_at type (128 * 2 ^ key.n) (left_at (offset + 1) (body ++ more)) ≡ Ok (content, left_at after more)
     → sector_at key (left_at offset ((type ∷ body) ++ more)) ≡ Ok (record { key = key; kind = kind; content = content }, left_at after more)
@@ -67,7 +67,7 @@ typed key type kind body content offset after more known read =
     (then (field offset (kind_of type)) (λ k. content_at type (128 * 2 ^ key.n) (left_at (offset + 1) (body ++ more)) >>= λ x. Ok (record { key = key; kind = k; content = x.0 }, x.1)) kind _ (field_again offset (kind_of type) kind known)
     (then (content_at type (128 * 2 ^ key.n) (left_at (offset + 1) (body ++ more))) (λ x. Ok (record { key = key; kind = kind; content = x.0 }, x.1)) (content, left_at after more) _ read refl))
 
--- a sector with data: by one byte where all are equal, else by all
+-- a sector with data is written with one byte if all its bytes are equal, and otherwise with all bytes
 with_data : (full : ℕ) (kind : ImdKind) (key : Chrn) (content : List ℕ) → eqb full 0 ≡ false → eqb (full % 2) 0 ≡ false → eqb (full + 1) 0 ≡ false → eqb ((full + 1) % 2) 0 ≡ true
     → kind_of full ≡ Some kind → kind_of (full + 1) ≡ Some kind → length content ≡ 128 * 2 ^ key.n
     → Reads (sector_at key) (cond (is_all (get_or content 0 0) content) ((full + 1) ∷ get_or content 0 0 ∷ []) (full ∷ content)) (record { key = key; kind = kind; content = content })
@@ -89,7 +89,7 @@ nothing_is : (content : List ℕ) → length content ≡ 0 → content ≡ []
 nothing_is [] e = refl
 nothing_is (b ∷ bs) e = absurd (omega arith)
 
--- a sector of this kind, key and content
+-- the sector with this kind, key and content
 abbrev made : Chrn → ImdKind → List ℕ → ImdSector
 made key kind content = record { key = key; kind = kind; content = content }
 
@@ -103,7 +103,7 @@ of_kind n key BadDeleted content coded len = with_data 7 BadDeleted key content 
 pub sector_again : (n : ℕ) (sector : ImdSector) → IsImdSector n sector → Reads (sector_at sector.key) (sector_bytes sector) sector
 sector_again n sector is = of_kind n sector.key sector.kind sector.content is.coded is.size
 
--- the keys of sectors, from number `first` on
+-- `key` gives the keys of these sectors, the first of which has number `first`
 abbrev pub KeysAre : (ℕ → Chrn) → ℕ → List ImdSector → Type 0
 KeysAre key first sectors = (i : ℕ) (d : ImdSector) → i < length sectors → key (first + i) ≡ (get_or sectors i d).key
 

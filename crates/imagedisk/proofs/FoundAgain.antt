@@ -1,4 +1,4 @@
--- The sectors of an image on the track that it makes.
+-- The sectors of an image are found on the track that the image makes.
 use Rattle.std.proofs.Common.{◌≡◌, ◌≢◌, ◌↔◌, ℕ, zero, suc, ◌+◌, ◌-◌, ◌/◌, ◌^◌, ◌≤◌, ◌<◌, Bool, true, false, List, [], ◌∷◌, length, get_or, replicate, refl, sym, ap, subst, ◌∙◌, arith, All, inl, inr}
 use Rattle.std.proofs.lemmas.Bool.{cases_lt}
 use Rattle.std.proofs.lemmas.List.{get_or-map, get_or-replicate, get_or_past, length-replicate}
@@ -67,7 +67,7 @@ put_well track p key Deleted content spaced here size bytes = let put = intact_p
 put_well track p key Bad content spaced here size bytes = damaged_put track p key false content spaced here size bytes
 put_well track p key BadDeleted content spaced here size bytes = damaged_put track p key true content spaced here size bytes
 
--- another sector's data stay
+-- what is found of another sector stays
 kept_found : (track after : List ℕ) (p q : ℕ) (key : Chrn) (kind : ImdKind) (content : List ℕ) → KeepsOthers track after p → q ≢ p → IsAddressAt track q key
     → IsFoundAs track q key.n kind content → IsFoundAs after q key.n kind content
 kept_found track after p q key Absent content kept other here found = (kept.looks q key NoData other here).0 found
@@ -83,7 +83,7 @@ kept_found track after p q key BadDeleted content kept other here found = (kept.
 place_before : (n gap3 i j : ℕ) → i < j → sector_place n gap3 i < sector_place n gap3 j
 place_before n gap3 i j lt = let before = laid_before j i n gap3 lt in omega (arith, before)
 
--- `after` is the track with the windows of these sectors, from number `first` on
+-- `after` is the track with the windows of these sectors put over it; the first sector has number `first`
 record IsPutOver (before after : List ℕ) (n gap3 first : ℕ) (sectors : List ImdSector) : Type 0 where
   addresses : (q : ℕ) (key : Chrn) → IsAddressAt before q key ↔ IsAddressAt after q key
   found : (i : ℕ) (d : ImdSector) → i < length sectors

@@ -1,4 +1,4 @@
--- What the looks at the address fields of a track give.
+-- What the looks at the address fields of a track find.
 use Rattle.std.proofs.Common.{◌≡◌, ℕ, ◌+◌, ◌*◌, ◌^◌, ◌<◌, Bool, List, [], ◌∷◌, ◌++◌, length, get_or, replicate, refl, sym, ap, subst, ◌∙◌, arith, Contains, inl, inr}
 use Rattle.std.proofs.lemmas.Bool.{cases_lt}
 use Rattle.std.proofs.lemmas.List.{get_or_append_left, get_or_default, get_or_past, get_or-replicate, length-replicate}
@@ -95,7 +95,7 @@ key_bytes track p key at = record {
 
 -- ---- the sectors of a track
 
--- the sectors of the first fields
+-- the sectors so far are those of the first fields
 abbrev pub AreSectorsBelow : List ℕ → List Field → List ImdSector → ℕ → Type 0
 AreSectorsBelow track fields sectors count = (i : ℕ) (d : Field) (e : ImdSector) → i < count → IsSectorAt track (get_or fields i d) (get_or sectors i e)
 

@@ -59,7 +59,7 @@ image_has disk image is = record {
   others = is.all;
 }
 
--- a track of this cylinder and head is among these, or none is
+-- no track of this cylinder and head is among these
 abbrev NoneAt : List ImdTrack → ℕ → ℕ → Type 0
 NoneAt tracks c h = (i : ℕ) (d : ImdTrack) → i < length tracks → (get_or tracks i d).c ≡ c → (get_or tracks i d).h ≡ h → ⊥
 

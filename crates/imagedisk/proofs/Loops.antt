@@ -1,4 +1,4 @@
--- Reading sectors and tracks one after the other, as loops do.
+-- Sectors and tracks are read one after the other, as the loops do.
 use Rattle.std.proofs.Common.{◌≡◌, ℕ, zero, suc, ◌-◌, ◌+◌, ◌≤◌, ◌<◌, Bool, true, false, eqb, List, [], ◌∷◌, ◌++◌, length, get_or, ◌&&◌, eq-eqb, Option, Some, None, Result, Ok, Err, refl, sym, ap, ◌∙◌, append_assoc, arith}
 use Rattle.std.proofs.lemmas.List.{append-nil}
 use Rattle.std.proofs.lemmas.Bool.{eqb-true}
@@ -17,7 +17,7 @@ use Rattle.imagedisk.specs.Headers.{has_track}
 use Rattle.imagedisk.specs.Left.{Rest}
 use Rattle.imagedisk.specs.Reading.{tracks_begin, sector_at, sectors_at, track_at, tracks_at, image_with, image_of}
 
--- ---- what fails, fails the whole
+-- ---- if a part fails, the whole fails
 
 pub fails : {A B : Type 0} (e : ImageError) (read : Result A ImageError) (f : A → Result B ImageError) → OrNoMemory e (read ≡ Err e) → OrNoMemory e ((read >>= f) ≡ Err e)
 fails NoMemory read f h = tt
@@ -35,7 +35,7 @@ or-same (Trailing offset) one two same h = sym same ∙ h
 
 -- ---- sectors
 
--- what was read before, and what is still read
+-- the sectors that were read before, followed by those that are still read
 abbrev pub with_front : List ImdSector → Result (List ImdSector × Rest) ImageError → Result (List ImdSector × Rest) ImageError
 with_front front read = read >>= λ x. Ok (front ++ x.0, x.1)
 
@@ -77,7 +77,8 @@ is_done key front count i rest total le so_far =
 
 -- ---- tracks
 
--- reading goes on behind these tracks to this answer, with more steps than there are bytes
+-- After these tracks came, reading goes on to this answer. It has at least as many steps left as there are bytes.
+-- bytes.
 pub record ComesTo (rate : Option Rate) (tracks : List ImdTrack) (rest : Rest) (total : Result ImdImage ImageError) : Type 0 where
   pub most : ℕ
   pub enough : length rest.bytes ≤ most

@@ -18,7 +18,7 @@ use Rattle.imagedisk.specs.Found.{IsFoundAs, HasSectors, HasImage}
 use Rattle.imagedisk.proofs.Imaged.{no_track}
 use Rattle.imagedisk.specs.Maps.{Entry, IsBare, IsMapFrom, entry_of, entries_of, sectors_on, HasMapOf}
 
--- fewer places before the first entry
+-- a map also begins at a lower place if nothing is found between the two places
 lower : (track : List ℕ) (low high : ℕ) (entries : List Entry) → low ≤ high → ((q : ℕ) → low ≤ q → q < high → IsBare track q) → IsMapFrom track high entries → IsMapFrom track low entries
 lower track low high [] le bare map = λ p from. elim (cases_lt p high) [
   | inl lt ↦ bare p from lt
@@ -35,14 +35,14 @@ lower track low high (entry ∷ entries) le bare map = (
   map.4,
 )
 
--- where the look is another, nothing is found
+-- if the look has another answer than Found, nothing is found there
 bare_by : (track : List ℕ) (p : ℕ) (key : Chrn) (look : Look) → IsAddressAt track p key → LookAt track p key.n look → ((deleted : Bool) (place : ℕ) → look ≡ Found deleted place → ⊥) → IsBare track p
 bare_by track p key look here is other entry at =
     let same = one_key track p key entry.key here at.address in
     let found = at.data_are in
     other entry.deleted found.0 (one_look_at track p key.n look (Found entry.deleted found.0) is (subst (λ (k : Chrn). LookAt track p k.n (Found entry.deleted found.0)) (sym same) found.1))
 
--- the sectors from place `low` on
+-- the sectors of the track from place `low` on
 record HasOn (track : List ℕ) (low : ℕ) (sectors : List ImdSector) : Type 0 where
   place : ℕ → ℕ
   from : (i : ℕ) → i < length sectors → low ≤ place i
@@ -68,7 +68,7 @@ behind track low sector sectors on = record {
           | suc i ↦ (λ lt e. (i, omega arith, e))
         ] found.1 found.2
 
--- nothing is found before the first
+-- nothing is found before the first of these sectors
 bare_before : (track : List ℕ) (low : ℕ) (sector : ImdSector) (sectors : List ImdSector) (on : HasOn track low (sector ∷ sectors)) (q : ℕ) → low ≤ q → q < on.place 0 → IsBare track q
 bare_before track low sector sectors on q from before entry at =
     let found = on.only q entry.key from at.address in
@@ -78,7 +78,7 @@ bare_before track low sector sectors on q from before entry at =
     wrong zero lt e = omega arith
     wrong (suc i) lt e = let later = on.ordered 0 (suc i) (omega arith) lt in omega (arith, later, e)
 
--- one place more before the first entry
+-- one more place is passed before the first entry
 skip : (track : List ℕ) (low p : ℕ) (entries : List Entry) → low ≤ p → ((q : ℕ) → low ≤ q → q < p → IsBare track q) → IsBare track p → IsMapFrom track (p + 1) entries → IsMapFrom track low entries
 skip track low p entries from before here map =
     lower track low (p + 1) entries (omega arith) (λ q since lt. elim (cases_lt q p) [
@@ -86,7 +86,7 @@ skip track low p entries from before here map =
       | inr past ↦ (let at : p ≡ q = omega arith in subst (λ (k : ℕ). IsBare track k) at here)
     ]) map
 
--- the map of a sector and those behind it
+-- the map of a sector and of those behind it on the track
 map_with : (track : List ℕ) (low p : ℕ) (key : Chrn) (kind : ImdKind) (content : List ℕ) (entries : List Entry) → low ≤ p → ((q : ℕ) → low ≤ q → q < p → IsBare track q)
     → IsAddressAt track p key → IsFoundAs track p key.n kind content → IsMapFrom track (p + 1) entries → IsMapFrom track low (entry_of key kind content ++ entries)
 map_with track low p key Good content entries from bare here found map = (p, from, bare, record { address = here; data_are = found }, map)
@@ -113,7 +113,7 @@ has_map track sectors has = mapped track 0 sectors (record {
 
 -- ---- the tracks of an image
 
--- the sectors on a cylinder and head are those of a track of the image, or there is no such track
+-- the sectors on a cylinder and head are those of the image's track there, or the image has no such track
 abbrev IsOn : List ImdTrack → ℕ → ℕ → Type 0
 IsOn tracks c h = (i : ℕ) × (i < length tracks) × ((d : ImdTrack) → ((get_or tracks i d).c ≡ c) × ((get_or tracks i d).h ≡ h) × (sectors_on tracks c h ≡ (get_or tracks i d).sectors))
 

@@ -1,4 +1,4 @@
--- The tracks of an image on its medium.
+-- The tracks of an image on the medium of the image.
 use Rattle.std.proofs.Common.{◌≡◌, ℕ, zero, suc, ◌+◌, ◌-◌, ◌*◌, ◌≤◌, ◌<◌, Bool, true, false, cond, eqb, List, [], ◌∷◌, ◌++◌, length, get_or, take, drop, replicate, Err, refl, sym, ap, subst, ◌∙◌, arith, eq-eqb, inl, inr}
 use Rattle.std.specs.Prelude.{max}
 use Rattle.std.specs.List.{list_any}
@@ -43,7 +43,7 @@ head_in tracks i d lt le =
 
 -- ---- tracks of a disk
 
--- a track ends inside the words of the disk
+-- a track lies wholly inside the words of the disk
 track_inside : (disk : Disk) (c h : ℕ) → (1 ≤ disk.heads) × (disk.heads ≤ 2) → HasTrack disk c h → track_start disk c h + disk.words_per_track ≤ disk.cylinders * disk.heads * disk.words_per_track
 track_inside disk c h one has =
     let less = last_number disk.heads disk.cylinders c h one has.0 has.1 in

@@ -63,7 +63,8 @@ none_taken disk = record {
 still_below : (disk : Disk) (limit : ℕ) (tracks : List ImdTrack) → All (IsTakenBelow disk limit) tracks → All (IsTakenBelow disk (limit + 1)) tracks
 still_below disk limit tracks each k d lt = let one = each k d lt in record { on = one.on; valid = one.valid; below = let less = one.below in omega (arith, less) }
 
--- what holds of each place below a number and of the place of that number holds of each below the next
+-- What holds of each place below a number, and of the place with that number, holds of each place below the next
+-- number.
 next_place : (disk : Disk) (P : ℕ → ℕ → Type 0) (c h : ℕ) → (1 ≤ disk.heads) × (disk.heads ≤ 2) → HasTrack disk c h → P c h
     → ((b g : ℕ) → HasTrack disk b g → b * disk.heads + g < c * disk.heads + h → P b g)
     → (b g : ℕ) → HasTrack disk b g → b * disk.heads + g < c * disk.heads + h + 1 → P b g
@@ -126,7 +127,7 @@ push_place disk limit tracks track one has number holds valid fit taken =
       fits = next_place disk (λ b g. IsFit (track_of disk b g)) track.c track.h one has fit before.fits;
     })
 
--- the first place that isn't fit
+-- this place is the first one that isn't fit
 pub first_unfit : (disk : Disk) (c h : ℕ) (tracks : List ImdTrack) → (1 ≤ disk.heads) × (disk.heads ≤ 2) → HasTrack disk c h → IsUnfit (track_of disk c h)
     → AreTakenBelow disk (c * disk.heads + h) tracks → IsFirstUnfit disk c h
 first_unfit disk c h tracks one has unfit taken = record {
@@ -167,7 +168,7 @@ all_taken disk limit tracks rate one all is taken = (
   },
 )
 
--- what is known of the place of a track
+-- what is known of the place of a track that is taken
 record IsPlaced (disk : Disk) (place : ℕ) (track : ImdTrack) (c h : ℕ) : Type 0 where
   has : HasTrack disk c h
   number : c * disk.heads + h ≡ place

@@ -1,4 +1,4 @@
--- The windows of sectors, and where they are put.
+-- The windows of sectors, and the places where they are put.
 use Rattle.std.proofs.Common.{◌≡◌, ℕ, suc, ◌+◌, ◌*◌, ◌≤◌, ◌<◌, Bool, true, false, List, [], ◌∷◌, ◌++◌, length, get_or, drop, refl, sym, ap, ◌∙◌, append_assoc, arith}
 use Rattle.std.proofs.lemmas.List.{append-nil, drop_more, drop_all}
 use Rattle.std.proofs.Math.Nat.{mul-le-mul_right}
@@ -17,7 +17,7 @@ use Rattle.imagedisk.specs.declared.sector.ImdSector.{ImdSector}
 use Rattle.imagedisk.specs.Images.{kept_size}
 use Rattle.imagedisk.specs.Made.{window_of, sector_window, with_sectors}
 
--- one byte more goes on
+-- one more byte was pushed, and the others go on from there
 pub pushed : (words more bytes : List ℕ) (last : Bool) (i cells : ℕ) → i < length bytes → more ≡ words ++ cells ∷ [] → cells ∷ [] ≡ legal last (get_or bytes i 0 ∷ [])
     → more ++ legal (last_bit (get_or bytes i 0)) (drop (i + 1) bytes) ≡ words ++ legal last (drop i bytes)
 pushed words more bytes last i cells lt e f =
@@ -40,7 +40,7 @@ window_length n Deleted content len = let size = length-window true content in o
 window_length n Bad content len = let size = damaged_all false content in omega (arith, size, len)
 window_length n BadDeleted content len = let size = damaged_all true content in omega (arith, size, len)
 
--- so many sectors before another one are inside what they take together
+-- the first sectors of a layout take no more room than all of them together
 pub laid_before : (count i n gap3 : ℕ) → i < count → laid_words i n gap3 + (62 + content_size n + gap3) ≤ laid_words count n gap3
 laid_before count i n gap3 lt =
     let sector = 62 + content_size n + gap3 in

@@ -12,8 +12,8 @@ use Rattle.imagedisk.specs.declared.image.ImdImage.{ImdImage}
 use Rattle.raw_image.specs.Disk.{Disk, HasTrack, track_of}
 use Rattle.imagedisk.specs.Taken.{HasTrackAt, HasNoAddress}
 
--- the look at the address field at p for data of this kind: good and deleted ones are found, bad ones are damaged, absent
--- ones aren't there
+-- The answer of the look at the address field at p, for data of this kind. Good and deleted data are found, bad data
+-- are found damaged, and of absent data nothing is found.
 abbrev pub IsFoundAs : List ℕ → ℕ → ℕ → ImdKind → List ℕ → Type 0
 IsFoundAs track p n Absent content = LookAt track p n NoData
 IsFoundAs track p n Good content = (place : ℕ) × LookAt track p n (Found false place) × (content ≡ content_at track place n)
@@ -21,7 +21,7 @@ IsFoundAs track p n Deleted content = (place : ℕ) × LookAt track p n (Found t
 IsFoundAs track p n Bad content = LookAt track p n BadCrc
 IsFoundAs track p n BadDeleted content = LookAt track p n BadCrc
 
--- the address fields of the track are those of the sectors, in their order, each with its data
+-- the address fields of the track are those of the sectors, in their order, and each has its data
 pub record HasSectors (track : List ℕ) (sectors : List ImdSector) : Type 0 where
   pub place : ℕ → ℕ
   pub ordered : (i j : ℕ) → i < j → j < length sectors → place i < place j
@@ -30,7 +30,8 @@ pub record HasSectors (track : List ℕ) (sectors : List ImdSector) : Type 0 whe
       → IsFoundAs track (place i) (slice_index_or sectors i d).key.n (slice_index_or sectors i d).kind (slice_index_or sectors i d).content
   pub only : (p : ℕ) (key : Chrn) → IsAddressAt track p key → (i : ℕ) × (i < length sectors) × (p ≡ place i)
 
--- the tracks of the image are on the diskette, each with its sectors, and elsewhere is no address field
+-- The tracks of the image are on the diskette, each with its sectors. All other tracks of the diskette have no address
+-- field.
 pub record HasImage (disk : Disk) (image : ImdImage) : Type 0 where
   pub there : All (λ (track : ImdTrack). HasTrack disk track.c track.h) image.tracks
   pub tracks : (i : ℕ) (d : ImdTrack) → i < length image.tracks
@@ -41,7 +42,7 @@ pub record HasImage (disk : Disk) (image : ImdImage) : Type 0 where
 abbrev pub HaveSameSectors : List ℕ → List ℕ → Type 0
 HaveSameSectors track other = (sectors : List ImdSector) × HasSectors track sectors × HasSectors other sectors
 
--- each track of the diskette with an address field is a track of the other one too, with the same sectors
+-- each track of the diskette that has an address field is also a track of the other diskette, with the same sectors
 abbrev pub SharesSectors : Disk → Disk → Type 0
 SharesSectors disk other = (c h : ℕ) → HasTrack disk c h
     → (HasTrack other c h × HaveSameSectors (track_of disk c h) (track_of other c h)) ⊎ HasNoAddress (track_of disk c h)

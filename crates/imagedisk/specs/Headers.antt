@@ -10,40 +10,42 @@ use Rattle.imagedisk.specs.declared.header.Header.{Header}
 use Rattle.imagedisk.specs.declared.track.ImdTrack.{ImdTrack}
 use Rattle.imagedisk.specs.Left.{Rest, part}
 
--- the mode of a rate, in MFM
+-- the mode byte of a rate, with MFM
 abbrev pub mode_byte : Rate → ℕ
 mode_byte R500 = 3
 mode_byte R250 = 5
 
--- the rate of a mode, which is the same in all tracks
+-- the rate that a mode byte tells, if the tracks before have the same rate
 abbrev pub rate_of : Option Rate → ℕ → Option Rate
 rate_of None mode = if mode == 3 then Some R500 else (if mode == 5 then Some R250 else None)
 rate_of (Some rate) mode = if mode == mode_byte rate then Some rate else None
 
--- cylinders go up to 79
+-- the cylinder, which is at most 79
 abbrev pub cylinder_of : ℕ → Option ℕ
 cylinder_of byte = if nat_le byte 79 then Some byte else None
 
--- size codes go from 1 to 6
+-- the size code, which is from 1 to 6
 abbrev pub size_code_of : ℕ → Option ℕ
 size_code_of byte = if nat_le 1 byte && nat_le byte 6 then Some byte else None
 
--- the head byte: bit 0 is the head, bits 7 and 6 say that a map of cylinders and a map of heads follow, no other is set
+-- The head byte. Bit 0 is the head. Bit 7 says that a map of cylinders follows, and bit 6 that a map of heads follows.
+-- All other bits are 0.
 abbrev pub head_of : ℕ → Option HeadByte
 head_of byte =
     if nat_le (byte % 64) 1
     then Some (record { has_cylinders = nat_le 128 byte; has_heads = nat_le 64 (byte % 128); head = byte % 64 })
     else None
 
--- a track of this cylinder and head came already
+-- whether a track of this cylinder and head came already
 abbrev pub has_track : List ImdTrack → ℕ → ℕ → Bool
 has_track tracks c h = list_any (λ (track : ImdTrack). (track.c == c) && (track.h == h)) tracks
 
--- the head byte of a track that didn't come yet
+-- the head byte, if it is valid and no track of this cylinder and head came already
 abbrev pub new_head_of : List ImdTrack → ℕ → ℕ → Option HeadByte
 new_head_of tracks c byte = if has_track tracks c (byte % 64) then None else head_of byte
 
--- the five bytes: mode, cylinder, head byte, count of sectors, size code; the first of them that can't stand there is bad
+-- The five bytes: mode, cylinder, head byte, count of sectors, size code. The answer is an error for the first of them
+-- that isn't allowed there.
 unfoldable pub header_at : Option Rate → List ImdTrack → Rest → Result (Header × Rest) ImageError
 header_at before tracks rest = do
   five ← part 5 rest

@@ -8,7 +8,7 @@ use Rattle.imagedisk.specs.declared.sector.ImdSector.{ImdSector}
 use Rattle.imagedisk.specs.declared.track.ImdTrack.{ImdTrack}
 use Rattle.imagedisk.specs.declared.image.ImdImage.{ImdImage}
 
--- how many bytes are there of a sector of size code n
+-- how many bytes an image keeps of a sector of this kind and size code n
 abbrev pub kept_size : ImdKind → ℕ → ℕ
 kept_size Absent n = 0
 kept_size Good n = 128 * 2 ^ n
@@ -20,7 +20,7 @@ kept_size BadDeleted n = 128 * 2 ^ n
 abbrev pub AreBytes : List ℕ → Type 0
 AreBytes content = (j : ℕ) → slice_index content j < 2 ^ 8
 
--- a sector of a track of size code n, of bytes
+-- a sector on a track of size code n, whose fields and content are bytes
 pub record IsImdSector (n : ℕ) (sector : ImdSector) : Type 0 where
   pub coded : sector.key.n ≡ n
   pub size : length sector.content ≡ kept_size sector.kind n
@@ -35,11 +35,12 @@ pub record IsImdTrack (track : ImdTrack) : Type 0 where
   pub count : length track.sectors ≤ 255
   pub sectors : All (IsImdSector track.n) track.sectors
 
--- the tracks are of different places
+-- the two tracks have different places
 abbrev pub AreApart : ImdTrack → ImdTrack → Type 0
 AreApart one two = one.c ≡ two.c → one.h ≡ two.h → ⊥
 
--- an image that an ImageDisk file holds: no cylinder and head come twice, and no track tells of no rate but 500 kbit/s
+-- An image that an ImageDisk file can hold. No cylinder and head come twice, and an image without tracks has the rate
+-- 500 kbit/s.
 pub record IsImdImage (image : ImdImage) : Type 0 where
   pub tracks : All IsImdTrack image.tracks
   pub apart : AllPairs AreApart image.tracks

@@ -23,7 +23,7 @@ use Rattle.imagedisk.specs.declared.error.ImdError.TheVariants.{Unfit, NoMemory}
 abbrev pub keys_of : List ImdSector → List Chrn
 keys_of sectors = map (λ (sector : ImdSector). sector.key) sectors
 
--- the words that stand for these data of a sector of size code n
+-- the words that are written for these data of a sector of size code n
 abbrev pub window_of : ℕ → ImdKind → List ℕ → List ℕ
 window_of n Absent content = empty_window n
 window_of n Good content = window false content
@@ -34,52 +34,54 @@ window_of n BadDeleted content = damaged_window true content
 abbrev pub sector_window : ℕ → ImdSector → List ℕ
 sector_window n sector = window_of n sector.kind sector.content
 
--- the track with the windows of these sectors, from number `first` on, at the places of a formatted track
+-- The track with the windows of these sectors, put at the places of a formatted track. The first sector has number
+-- `first`.
 unfoldable pub with_sectors : ℕ → ℕ → ℕ → List ImdSector → List ℕ → List ℕ
 with_sectors n gap3 first [] track = track
 with_sectors n gap3 first (sector ∷ sectors) track =
     with_sectors n gap3 (suc first) sectors (cut_of track (sector_place n gap3 first) (window_words n) (sector_window n sector))
 
--- a track of an image with this gap 3: formatted, and then each data field written over
+-- a track of an image, laid with this gap 3: the track is formatted, and then each data field is written over
 abbrev pub laid_track : Rate → ImdTrack → ℕ → List ℕ
 laid_track rate track gap3 =
     with_sectors track.n gap3 0 track.sectors (lay (keys_of track.sectors) track.n gap3 standard_fill (words_at rate))
 
--- nothing is recorded
+-- the words of a track on which nothing is recorded
 abbrev pub empty_words : Rate → List ℕ
 empty_words rate = replicate (words_at rate) 0
 
--- the words of a track of an image: nothing where it has no sectors, else these, laid with the largest gap that fits
+-- The words of a track of an image. If the track has no sectors, nothing is recorded. Otherwise its sectors are laid
+-- with the largest gap that suits them.
 abbrev pub IsMadeTrack : Rate → ImdTrack → List ℕ → Type 0
 IsMadeTrack rate track words =
     ((track.sectors ≡ []) × (words ≡ empty_words rate))
     ⊎ ((1 ≤ length track.sectors) × (gap3 : ℕ) × IsLargestGap track.n (length track.sectors) rate gap3 × (words ≡ laid_track rate track gap3))
 
--- no gap suits so many sectors
+-- no gap suits as many sectors as the track has
 abbrev pub IsCrowded : Rate → ImdTrack → Type 0
 IsCrowded rate track =
     (gap3 : ℕ) → 16 ≤ gap3 → gap3 ≤ gap_at rate → Suits track.n (length track.sectors) (words_at rate) gap3 → ⊥
 
--- what comes of a track
+-- what is made of a track, or why nothing is
 abbrev pub MakesTrack : Rate → ImdTrack → Result (Vec ℕ) ImdError → Type 0
 MakesTrack rate track (Ok words) = IsMadeTrack rate track words.items
 MakesTrack rate track (Err (Unfit c h)) = (c ≡ track.c) × (h ≡ track.h) × IsCrowded rate track
 MakesTrack rate track (Err NoMemory) = Unit {0}
 
--- one more than the greatest cylinder, and 1 where there is none
+-- one more than the greatest cylinder, or 1 if there is no track
 abbrev pub cylinder_count : List ImdTrack → ℕ
 cylinder_count [] = 1
 cylinder_count (track ∷ tracks) = max (track.c + 1) (cylinder_count tracks)
 
--- a track of head 1 is there
+-- whether there is a track of head 1
 abbrev pub has_other_side : List ImdTrack → Bool
 has_other_side tracks = list_any (λ (track : ImdTrack). track.h == 1) tracks
 
--- two heads where a track of head 1 is there, else one
+-- two heads if there is a track of head 1, and one head otherwise
 abbrev pub head_count : List ImdTrack → ℕ
 head_count tracks = if has_other_side tracks then 2 else 1
 
--- the diskette for an image, whatever its tracks hold
+-- the shape of the diskette for an image, whatever the diskette's tracks hold
 pub record HasShape (image : ImdImage) (disk : Disk) : Type 0 where
   pub valid : IsDisk disk
   pub protected : disk.protected ≡ false
@@ -88,11 +90,11 @@ pub record HasShape (image : ImdImage) (disk : Disk) : Type 0 where
   pub rate : disk.rate ≡ image.rate
   pub words_per_track : disk.words_per_track ≡ words_at image.rate
 
--- track i of the image is of this cylinder and head
+-- track i of the image has this cylinder and head
 abbrev pub IsAtPlace : ImdImage → ℕ → ImdTrack → ℕ → ℕ → Type 0
 IsAtPlace image i d c h = ((slice_index_or image.tracks i d).c ≡ c) × ((slice_index_or image.tracks i d).h ≡ h)
 
--- the first tracks of the image are on the diskette, and nothing is recorded elsewhere
+-- the first `count` tracks of the image are on the diskette, and nothing is recorded elsewhere
 pub record HasFirst (image : ImdImage) (disk : Disk) (count : ℕ) : Type 0 where
   pub shape : HasShape image disk
   pub made : (i : ℕ) (d : ImdTrack) → i < count
@@ -100,7 +102,7 @@ pub record HasFirst (image : ImdImage) (disk : Disk) (count : ℕ) : Type 0 wher
   pub others : (c h : ℕ) → HasTrack disk c h → ((i : ℕ) (d : ImdTrack) → i < count → IsAtPlace image i d c h → ⊥)
       → track_of disk c h ≡ empty_words image.rate
 
--- the diskette of an image: all its tracks, and nothing recorded elsewhere
+-- the diskette of an image has all the image's tracks, and nothing is recorded elsewhere
 abbrev pub IsMediumOf : ImdImage → Disk → Type 0
 IsMediumOf image disk = HasFirst image disk (length image.tracks)
 
@@ -115,13 +117,13 @@ pub record IsFirstCrowded (image : ImdImage) (c h i : ℕ) : Type 0 where
   pub crowded : (d : ImdTrack) → IsCrowded image.rate (slice_index_or image.tracks i d)
   pub roomy_before : (k : ℕ) (d : ImdTrack) → k < i → IsRoomy image.rate (slice_index_or image.tracks k d)
 
--- what comes of a track where those before it are on the diskette
+-- what putting a track on the diskette leads to, when the tracks before it are on the diskette
 abbrev pub PutsTrack : ImdImage → ℕ → Disk → Result (Unit {0}) ImdError → Type 0
 PutsTrack image i disk (Ok done) = HasFirst image disk (i + 1)
 PutsTrack image i disk (Err (Unfit c h)) = IsFirstCrowded image c h i
 PutsTrack image i disk (Err NoMemory) = Unit {0}
 
--- what comes of an image
+-- what making the diskette of an image leads to
 abbrev pub MakesDisk : ImdImage → Result Disk ImdError → Type 0
 MakesDisk image (Ok disk) = IsMediumOf image disk
 MakesDisk image (Err (Unfit c h)) = (i : ℕ) × IsFirstCrowded image c h i

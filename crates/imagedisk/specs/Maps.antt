@@ -1,4 +1,4 @@
--- The map of a diskette: its sectors that are found, by cylinder, head and place.
+-- The map of a diskette: the sectors that are found on it, by cylinder, head and place.
 use Rattle.std.specs.Prelude.{◌≡◌, ℕ, ◌+◌, ◌<◌, ◌≤◌, ◌&&◌, ◌==◌, Bool, true, false, List, [], ◌∷◌, ◌++◌, if◌then◌else◌}
 use Rattle.flop_base.specs.declared.key.Chrn.{Chrn}
 use Rattle.raw_image.specs.Disk.{Disk, HasTrack, track_of}
@@ -26,13 +26,13 @@ pub record IsEntryAt (track : List ℕ) (p : ℕ) (entry : Entry) : Type 0 where
 abbrev pub IsBare : List ℕ → ℕ → Type 0
 IsBare track p = (entry : Entry) → IsEntryAt track p entry → ⊥
 
--- the entries of the track from place `low` on, in order of place: these and no others
+-- these are all entries of the track from place `low` on, in order of place
 abbrev pub IsMapFrom : List ℕ → ℕ → List Entry → Type 0
 IsMapFrom track low [] = (p : ℕ) → low ≤ p → IsBare track p
 IsMapFrom track low (entry ∷ entries) =
     (p : ℕ) × (low ≤ p) × ((q : ℕ) → low ≤ q → q < p → IsBare track q) × IsEntryAt track p entry × IsMapFrom track (p + 1) entries
 
--- what the map has of a sector: good and deleted data
+-- the map's entries for a sector: one if its data are good or deleted, and none otherwise
 abbrev pub entry_of : Chrn → ImdKind → List ℕ → List Entry
 entry_of key Absent content = []
 entry_of key Good content = record { key = key; deleted = false; content = content } ∷ []
@@ -40,16 +40,16 @@ entry_of key Deleted content = record { key = key; deleted = true; content = con
 entry_of key Bad content = []
 entry_of key BadDeleted content = []
 
--- the good and deleted sectors in their order
+-- the entries for the good and deleted sectors, in the order of the sectors
 abbrev pub entries_of : List ImdSector → List Entry
 entries_of [] = []
 entries_of (sector ∷ sectors) = entry_of sector.key sector.kind sector.content ++ entries_of sectors
 
--- the sectors that an image has of a cylinder and head
+-- the sectors that an image has on a cylinder and head
 abbrev pub sectors_on : List ImdTrack → ℕ → ℕ → List ImdSector
 sectors_on [] c h = []
 sectors_on (track ∷ tracks) c h = if (track.c == c) && (track.h == h) then track.sectors else sectors_on tracks c h
 
--- the map of the diskette is that of the image: on each track the good and deleted sectors, in their order
+-- The map of the diskette is that of the image: on each track it has the good and deleted sectors, in their order.
 abbrev pub HasMapOf : Disk → ImdImage → Type 0
 HasMapOf disk image = (c h : ℕ) → HasTrack disk c h → IsMapFrom (track_of disk c h) 0 (entries_of (sectors_on image.tracks c h))

@@ -1,4 +1,4 @@
--- What an ImageDisk image has of a diskette.
+-- What an ImageDisk image takes from a diskette.
 use Rattle.std.specs.Prelude.{◌≡◌, ℕ, ◌+◌, ◌*◌, ◌<◌, ◌≤◌, Bool, true, false, List, [], length, slice_index_or, All, AllPairs, Option, Some, None, Result, Ok, Err, ◌⊎◌, if◌then◌else◌, ◌==◌}
 use Rattle.flop_base.specs.declared.answers.Rate.{Rate}
 use Rattle.flop_base.specs.declared.answers.Rate.TheVariants.{R500}
@@ -17,14 +17,15 @@ use Rattle.imagedisk.specs.Images.{IsImdTrack}
 use Rattle.imagedisk.specs.declared.error.ImdError.{ImdError}
 use Rattle.imagedisk.specs.declared.error.ImdError.TheVariants.{Unfit, NoMemory}
 
--- the kind of data whose check holds, and of data whose check fails
+-- the kind of data whose CRC is right, and below it the kind of data whose CRC is wrong
 abbrev pub intact_kind : Bool → ImdKind
 intact_kind deleted = if deleted then Deleted else Good
 
 abbrev pub damaged_kind : Bool → ImdKind
 damaged_kind deleted = if deleted then BadDeleted else Bad
 
--- the look at the address field at p finds these data; where their check fails they are what stands behind the first mark
+-- The look at the address field at p finds these data. If their CRC is wrong, they are the bytes behind the first data
+-- mark.
 abbrev pub Holds : List ℕ → ℕ → ℕ → ImdKind → List ℕ → Type 0
 Holds track p n Absent content = LookAt track p n NoData × (content ≡ [])
 Holds track p n Good content = (place : ℕ) × LookAt track p n (Found false place) × (content ≡ content_at track place n)
@@ -42,24 +43,24 @@ pub record AreSectorsAt (track : List ℕ) (fields : List Field) (sectors : List
   pub count : length sectors ≡ length fields
   pub each : (i : ℕ) (d : Field) (e : ImdSector) → i < length fields → IsSectorAt track (slice_index_or fields i d) (slice_index_or sectors i e)
 
--- a track of an image can have these address fields: at most 255, all of one size code from 1 to 6
+-- an image's track can have these address fields: there are at most 255, and all have the size code n, from 1 to 6
 pub record AreUniform (fields : List Field) (n : ℕ) : Type 0 where
   pub count : length fields ≤ 255
   pub coded : IsSizeCode n
   pub sizes : All (λ field. field.key.n ≡ n) fields
 
--- an image can have the track, or can't
+-- whether an image can have the track, and below it the opposite
 abbrev pub IsFit : List ℕ → Type 0
 IsFit track = (fields : List Field) × AreAddresses track fields × (n : ℕ) × AreUniform fields n
 
 abbrev pub IsUnfit : List ℕ → Type 0
 IsUnfit track = (fields : List Field) × AreAddresses track fields × ((n : ℕ) → AreUniform fields n → ⊥)
 
--- no address field is on the track
+-- the track has no address field
 abbrev pub HasNoAddress : List ℕ → Type 0
 HasNoAddress track = (p : ℕ) (key : Chrn) → IsAddressAt track p key → ⊥
 
--- the track of an image that a track of a diskette holds, which has an address field
+-- the image's track that a track of a diskette holds; the track has at least one address field
 pub record IsTrackOf (words : List ℕ) (c h : ℕ) (track : ImdTrack) : Type 0 where
   pub cylinder : track.c ≡ c
   pub head : track.h ≡ h
@@ -69,18 +70,18 @@ pub record IsTrackOf (words : List ℕ) (c h : ℕ) (track : ImdTrack) : Type 0 
   pub uniform : AreUniform fields track.n
   pub sectors : AreSectorsAt words fields track.sectors
 
--- what comes of a track
+-- what taking a track leads to
 abbrev pub TakesTrack : List ℕ → ℕ → ℕ → Result (Option ImdTrack) ImdError → Type 0
 TakesTrack words c h (Ok None) = HasNoAddress words × IsFit words
 TakesTrack words c h (Ok (Some track)) = IsTrackOf words c h track × IsImdTrack track
 TakesTrack words c h (Err (Unfit d g)) = (d ≡ c) × (g ≡ h) × IsUnfit words
 TakesTrack words c h (Err NoMemory) = Unit {0}
 
--- by cylinder, then head
+-- one place is before another: by cylinder, then head
 abbrev pub IsBefore : ℕ → ℕ → ℕ → ℕ → Type 0
 IsBefore c h d g = (c < d) ⊎ ((c ≡ d) × (h < g))
 
--- the track of an image at a place of the diskette
+-- the image's track that is on the diskette, at the track's own cylinder and head
 pub record IsTrackOn (disk : Disk) (track : ImdTrack) : Type 0 where
   pub there : HasTrack disk track.c track.h
   pub holds : IsTrackOf (track_of disk track.c track.h) track.c track.h track
@@ -89,11 +90,11 @@ pub record IsTrackOn (disk : Disk) (track : ImdTrack) : Type 0 where
 abbrev pub HasTrackAt : List ImdTrack → ℕ → ℕ → Type 0
 HasTrackAt tracks c h = (i : ℕ) × (i < length tracks) × ((d : ImdTrack) → ((slice_index_or tracks i d).c ≡ c) × ((slice_index_or tracks i d).h ≡ h))
 
--- the rate of the diskette, or 500 kbit/s where no track is taken
+-- the rate of the diskette, or 500 kbit/s if no track is taken
 abbrev pub told_rate : Disk → List ImdTrack → Rate
 told_rate disk tracks = if length tracks == 0 then R500 else disk.rate
 
--- the image has each track with an address field and no other, by cylinder, then head
+-- The image has exactly the tracks that have an address field, by cylinder, then head.
 pub record IsImageOf (disk : Disk) (image : ImdImage) : Type 0 where
   pub each : All (IsTrackOn disk) image.tracks
   pub ordered : AllPairs (λ a b. IsBefore a.c a.h b.c b.h) image.tracks
@@ -106,26 +107,26 @@ pub record IsFirstUnfit (disk : Disk) (c h : ℕ) : Type 0 where
   pub unfit : IsUnfit (track_of disk c h)
   pub fits_before : (b g : ℕ) → HasTrack disk b g → IsBefore b g c h → IsFit (track_of disk b g)
 
--- a track of the image, from a place below this number
+-- a track of the image that was taken from a place with a number below this one
 pub record IsTakenBelow (disk : Disk) (limit : ℕ) (track : ImdTrack) : Type 0 where
   pub on : IsTrackOn disk track
   pub valid : IsImdTrack track
   pub below : track.c * disk.heads + track.h < limit
 
--- the tracks from the places below this number, as they are to be
+-- these are the tracks taken from the places with numbers below this one, in order
 pub record AreTakenBelow (disk : Disk) (limit : ℕ) (tracks : List ImdTrack) : Type 0 where
   pub each : All (IsTakenBelow disk limit) tracks
   pub ordered : AllPairs (λ a b. IsBefore a.c a.h b.c b.h) tracks
   pub all : (c h : ℕ) → HasTrack disk c h → c * disk.heads + h < limit → HasTrackAt tracks c h ⊎ HasNoAddress (track_of disk c h)
   pub fits : (c h : ℕ) → HasTrack disk c h → c * disk.heads + h < limit → IsFit (track_of disk c h)
 
--- what comes of the place of this number, where those below it are taken
+-- what taking the place with this number leads to, when the places before it were taken
 abbrev pub TakesPlace : Disk → ℕ → List ImdTrack → Result (Unit {0}) ImdError → Type 0
 TakesPlace disk place tracks (Ok done) = AreTakenBelow disk (place + 1) tracks
 TakesPlace disk place tracks (Err (Unfit c h)) = IsFirstUnfit disk c h
 TakesPlace disk place tracks (Err NoMemory) = Unit {0}
 
--- what comes of a diskette
+-- what taking an image of a diskette leads to
 abbrev pub TakesDisk : Disk → Result ImdImage ImdError → Type 0
 TakesDisk disk (Ok image) = IsImageOf disk image × ((c h : ℕ) → HasTrack disk c h → IsFit (track_of disk c h))
 TakesDisk disk (Err (Unfit c h)) = IsFirstUnfit disk c h

@@ -1,4 +1,4 @@
--- The one spelling of an image.
+-- The one file that is written of an image.
 use Rattle.std.specs.Prelude.{ℕ, ◌+◌, Bool, not, List, [], ◌∷◌, ◌++◌, length, map, ◌==◌, codes, slice_index, if◌then◌else◌}
 use Rattle.std.specs.List.{list_any, list_all, flat_map}
 use Rattle.flop_base.specs.declared.answers.Rate.{Rate}
@@ -12,7 +12,7 @@ use Rattle.imagedisk.specs.declared.writing.KeyPart.{KeyPart}
 use Rattle.imagedisk.specs.declared.writing.KeyPart.TheVariants.{Cylinder, Head, Number}
 use Rattle.imagedisk.specs.Headers.{mode_byte}
 
--- the text of each file
+-- the text that each file begins with
 abbrev pub text : List ℕ
 text = codes "IMD 1.18: 01/01/2000 00:00:00" ++ 0x0D ∷ 0x0A ∷ 0x1A ∷ []
 
@@ -26,20 +26,20 @@ part_of Number key = key.r
 abbrev pub map_of : KeyPart → List ImdSector → List ℕ
 map_of wanted sectors = map (λ (sector : ImdSector). part_of wanted sector.key) sectors
 
--- this part of some sector's key is another than the track's
+-- whether this part of some sector's key differs from the track's
 abbrev pub differs : KeyPart → ℕ → List ImdSector → Bool
 differs wanted value sectors = list_any (λ (sector : ImdSector). not (part_of wanted sector.key == value)) sectors
 
--- the map where one is needed
+-- the map, if one is needed, or no bytes
 abbrev pub needed_map : KeyPart → ℕ → List ImdSector → List ℕ
 needed_map wanted value sectors = if differs wanted value sectors then map_of wanted sectors else []
 
--- the head, with bits 7 and 6 where maps follow
+-- the head, with bits 7 and 6 set if maps follow
 abbrev pub head_byte : ImdTrack → ℕ
 head_byte track =
     track.h + (if differs Cylinder track.c track.sectors then 128 else 0) + (if differs Head track.h track.sectors then 64 else 0)
 
--- the type of a sector with all its bytes
+-- the type of a sector that is written with all its bytes
 abbrev pub full_type : ImdKind → ℕ
 full_type Absent = 0
 full_type Good = 1
@@ -47,18 +47,18 @@ full_type Deleted = 3
 full_type Bad = 5
 full_type BadDeleted = 7
 
--- all bytes are this one
+-- whether all bytes are this one
 abbrev pub is_all : ℕ → List ℕ → Bool
 is_all fill content = list_all (λ byte. byte == fill) content
 
--- a sector: its type and its data, which are one byte where all are equal
+-- a sector, written as its type and its data; the data are one byte if all bytes are equal
 abbrev pub sector_bytes : ImdSector → List ℕ
 sector_bytes sector =
     if full_type sector.kind == 0 then 0 ∷ []
     else (if is_all (slice_index sector.content 0) sector.content then (full_type sector.kind + 1) ∷ slice_index sector.content 0 ∷ []
     else full_type sector.kind ∷ sector.content)
 
--- a track: the five bytes, the maps, the sectors
+-- a track, written as the five bytes, the maps and the sectors
 abbrev pub track_bytes : Rate → ImdTrack → List ℕ
 track_bytes rate track =
     (mode_byte rate ∷ track.c ∷ head_byte track ∷ length track.sectors ∷ track.n ∷ [])

@@ -1,4 +1,4 @@
-// The sectors of a track as its address fields and the data behind them.
+// The sectors of a track: its address fields and the data behind them.
 ghost use Rattle.std.specs.Prelude.{◌≡◌, ◌+◌, ◌*◌, ◌<◌, ◌≤◌, ℕ, List, All, OnOk, IfOk, MatchOption, length};
 ghost use Rattle.flop_base.specs.declared.key.Chrn.{Chrn};
 ghost use Rattle.track_model.specs.Cells.{IsTrackSized, IsInside};
@@ -13,7 +13,7 @@ use flop_base::{Bytes, NoMemory, sector_size};
 use sector_map::{Field, Look, content_byte, data_at, look_at};
 use std::alloc::Global;
 
-/// The size code that all address fields have, if it is one from 1 to 6 and they aren't too many for a track.
+/// The size code of all address fields, if they all have the same one, from 1 to 6, and aren't too many for a track.
 pub(crate) fn size_code_of(fields: &[Field]) -> Option<u8>
     requires { 0 < length fields.now }
     ensures { MatchOption result ((n : ℕ) → AreUniform fields.now n → ⊥) (λ n. AreUniform fields.now n) }
@@ -66,7 +66,7 @@ fn damaged_kind(deleted: bool) -> ImdKind
     }
 }
 
-/// The bytes behind the first data mark of an address field whose data are damaged.
+/// The bytes behind the first data mark of an address field whose data field is damaged.
 fn damaged_data(alloc: Global, words: &[u16], field: Field) -> Result<(ImdKind, Bytes), NoMemory>
     requires sized { IsTrackSized words.now }
     requires address { IsAddressAt words.now field.place field.key }
@@ -79,12 +79,12 @@ fn damaged_data(alloc: Global, words: &[u16], field: Field) -> Result<(ImdKind, 
             let content = content_bytes(alloc, words, place, field.key.n)?;
             Ok((damaged_kind(deleted), content))
         }
-        // A damaged data field has a mark.
+        // A damaged data field always has a mark.
         None => Err(NoMemory),
     }
 }
 
-/// The data of an address field, and what was found of them.
+/// What was found of an address field's data: their kind and their bytes.
 fn data_of(alloc: Global, words: &[u16], field: Field) -> Result<(ImdKind, Bytes), NoMemory>
     requires sized { IsTrackSized words.now }
     requires address { IsAddressAt words.now field.place field.key }

@@ -34,7 +34,7 @@ pub(crate) struct Header {
     pub n: u8,
 }
 
-/// The mode of MFM at a rate.
+/// The mode byte of MFM at a rate.
 pub(crate) fn mode_byte(rate: Rate) -> u8
     ensures { result ≡ mode_byte rate }
 {
@@ -44,7 +44,7 @@ pub(crate) fn mode_byte(rate: Rate) -> u8
     }
 }
 
-/// The rate of a mode, where the tracks before are of the rate `before`.
+/// The rate of a mode byte, if the tracks before have the rate `before`.
 fn rate_of(before: Option<Rate>, mode: u8) -> Option<Rate>
     ensures { result ≡ rate_of before mode }
 {
@@ -87,7 +87,7 @@ fn has_track(tracks: &[ImdTrack], c: u8, h: u8) -> bool
     tracks.iter().any(|track| track.c == c && track.h == h)
 }
 
-/// The head byte of a track that isn't among these.
+/// The head byte of a track, if no track of its cylinder and head is among these.
 fn new_head_of(tracks: &[ImdTrack], c: u8, byte: u8) -> Option<HeadByte>
     ensures { result ≡ new_head_of tracks.now c byte }
 {
@@ -98,7 +98,7 @@ fn new_head_of(tracks: &[ImdTrack], c: u8, byte: u8) -> Option<HeadByte>
     }
 }
 
-/// Reads the five bytes of a track behind these.
+/// Reads the five bytes of a track. `tracks` are the tracks that came before it.
 #[tactic(auto, unfolding(crate::specs::Headers::header_at))]
 pub(crate) fn read_header<'a>(
     before: Option<Rate>,

@@ -22,7 +22,7 @@ impl Model for ImdTracks {
 }
 
 impl ImdTracks {
-    /// No track yet.
+    /// A list without tracks.
     pub fn new(alloc: Global) -> ImdTracks
         ensures { result ≡ [] }
     {
@@ -31,7 +31,7 @@ impl ImdTracks {
         }
     }
 
-    /// Adds a track behind the others. The error is want of memory.
+    /// Adds a track after the others. It fails if memory runs out.
     pub fn push(&mut self, item: ImdTrack) -> Result<(), NoMemory>
         ensures pushed { OnOk result (self.new ≡ self.old ++ item ∷ []) }
         ensures kept { OnErr result (self.new ≡ self.old) }
@@ -48,10 +48,10 @@ impl ImdTracks {
     }
 }
 
-/// The tracks of a diskette with the rate of all of them.
+/// The tracks of a diskette and the rate that all of them have.
 #[derive(Drop)]
 pub struct ImdImage {
-    /// 500 kbit/s where there is no track.
+    /// The rate. It is 500 kbit/s if there is no track.
     pub rate: Rate,
     pub tracks: ImdTracks,
 }

@@ -9,29 +9,30 @@ use crate::{ImdImage, ImdTrack};
 use flop_base::Rate;
 use raw_image::Medium;
 
-/// A law: on a track that an image makes are the address fields of its sectors and no others, in their order. Good and
-/// deleted data are found, with their content; bad data fail their check; absent data aren't there.
+/// A law: a track that an image makes has the address fields of the image's sectors and no others, in their order. Good
+/// and deleted data are found, with their content. Bad data have a wrong CRC. Of absent data nothing is found.
 pub fn made_is_found(_rate: Rate, _track: &ImdTrack, _words: &[u16])
     requires valid { IsImdTrack _track.now }
     requires made { IsMadeTrack _rate _track.now _words.now }
     ensures { HasSectors _words.now _track.now.sectors }
 {}
 
-/// A law: the diskette of an image has the image's tracks, each with its sectors, and no other address field.
+/// A law: the diskette of an image has the image's tracks, each with its sectors, and has no other address field.
 pub fn medium_has_image(_image: &ImdImage, _medium: &Medium)
     requires valid { IsImdImage _image.now }
     requires made { IsMediumOf _image.now _medium.now }
     ensures { HasImage _medium.now _image.now }
 {}
 
-/// A law: so has the diskette of which an image was taken.
+/// A law: the diskette that an image was taken of has the image's tracks, each with its sectors, and no other address
+/// field.
 pub fn image_has_medium(_image: &ImdImage, _medium: &Medium)
     requires { IsImageOf _medium.now _image.now }
     ensures { HasImage _medium.now _image.now }
 {}
 
-/// A law: a diskette that is taken to an image and made again has the same sectors, track by track and in the same order, and
-/// no others.
+/// A law: an image is taken of a diskette, and a diskette is made of that image. The new diskette has the same sectors
+/// as the old one, track by track and in the same order, and no others.
 pub fn made_again_is_same(_old: &Medium, _image: &ImdImage, _new: &Medium)
     requires taken { IsImageOf _old.now _image.now }
     requires valid { IsImdImage _image.now }
@@ -40,8 +41,8 @@ pub fn made_again_is_same(_old: &Medium, _image: &ImdImage, _new: &Medium)
     ensures no_more { SharesSectors _new.now _old.now }
 {}
 
-/// A law: the map of a diskette that has the sectors of an image is the list of the image's good and deleted sectors, by
-/// cylinder, head and place. So two diskettes that have the sectors of one image have one map.
+/// A law: the map of a diskette that has the sectors of an image is the list of the image's good and deleted sectors,
+/// by cylinder, head and place. Two diskettes that have the sectors of one image therefore have the same map.
 pub fn image_is_map(_image: &ImdImage, _medium: &Medium)
     requires { HasImage _medium.now _image.now }
     ensures { HasMapOf _medium.now _image.now }

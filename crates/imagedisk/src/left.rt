@@ -15,7 +15,7 @@ impl<'a> Left<'a> {
     ghost use Rattle.std.specs.Prelude.{◌≡◌, ◌≤◌, IfOk};
     ghost use Rattle.imagedisk.specs.Left.{Rest, rest_of, part, Gives};
 
-    /// The next part, of `count` bytes, and what is left behind it.
+    /// The next part, of `count` bytes, and what is left after it.
     pub fn part(self, count: usize) -> Result<(&'a [u8], Left<'a>), ImageError>
         requires { count ≤ 8192 }
         ensures read { Gives (λ x. (x.0.now, rest_of x.1)) result (part count (rest_of self.entry)) }

@@ -1,12 +1,12 @@
-//! ImageDisk files (`.IMD`): diskettes as such images, and such images as diskettes.
+//! ImageDisk files (`.IMD`): their images are taken of diskettes, and diskettes are made of them.
 //!
-//! A file is a text up to the byte 1A and then tracks. A track tells its mode, its cylinder and head, how many sectors of
-//! which size it has, the record numbers in the order on the track, where they differ from the track's the cylinders and
-//! heads of the keys, and then each sector's data (the ImageDisk format by Dave Dunfield). Modes other than MFM at 500
-//! and 250 kbit/s, sectors of 128 bytes and tracks of mixed sizes are left out.
+//! A file is a text up to the byte 1A, and then tracks (the ImageDisk format by Dave Dunfield). A track tells its mode,
+//! its cylinder and head, and the number and size of its sectors. The record numbers follow, in the order on the track.
+//! If the cylinders or heads of the keys differ from the track's, a map of them follows. Then come the data of each
+//! sector. Modes other than MFM at 500 and 250 kbit/s, sectors of 128 bytes and tracks of mixed sizes aren't supported.
 //!
-//! A diskette is read as it stands: the address fields of each track in order of place, and for each what a look at it
-//! finds. An image is laid out as a formatted track, each of whose data fields is then written over, damaged or wiped.
+//! A diskette is read as it is: the address fields of each track in order of place, and for each field what a look at
+//! it finds. An image is made into formatted tracks. Each data field is then written over, damaged or wiped.
 #![tactic(auto)]
 
 mod error;

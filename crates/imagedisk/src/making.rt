@@ -26,7 +26,7 @@ fn cylinder_count(tracks: &[ImdTrack]) -> u8
     count
 }
 
-/// Whether a track of head 1 is there.
+/// Whether there is a track of head 1.
 fn has_other_side(tracks: &[ImdTrack]) -> bool
     ensures { result ≡ has_other_side tracks.now }
 {
@@ -42,7 +42,7 @@ fn head_count(tracks: &[ImdTrack]) -> u8
     if has_other_side(tracks) { 2 } else { 1 }
 }
 
-/// A medium for the image on which nothing is recorded.
+/// A medium for the image, on which nothing is recorded yet.
 fn blank_medium(alloc: Global, image: &ImdImage) -> Result<Medium, NoMemory>
     requires { IsImdImage image.now }
     ensures { IfOk result (λ medium. HasFirst image.now medium 0) }
@@ -51,7 +51,7 @@ fn blank_medium(alloc: Global, image: &ImdImage) -> Result<Medium, NoMemory>
     let cylinders = cylinder_count(tracks);
     let heads = head_count(tracks);
     let medium = Medium::blank_at(alloc, cylinders, heads, image.rate.words(), image.rate)?;
-    // A medium that is read is known to be valid.
+    // Reading the medium makes known that it is valid.
     let _length = medium.words();
     Ok(medium)
 }
@@ -78,8 +78,9 @@ fn put_track(alloc: Global, medium: &mut Medium, image: &ImdImage, i: usize) -> 
     Ok(())
 }
 
-/// The diskette of an image, not protected: its tracks as they are formatted, each data field written over by what the
-/// image has of the sector. A track is unfit whose sectors have no room, so that each could be written over.
+/// The diskette of an image. It isn't protected. Its tracks are formatted, and then each data field is written over
+/// with what the image has of the sector. A track is unfit if it has no room for its sectors, each so that it could be
+/// written over.
 pub fn to_medium(alloc: Global, image: &ImdImage) -> Result<Medium, ImdError>
     requires { IsImdImage image.now }
     ensures made { MakesDisk image.now result }

@@ -17,7 +17,7 @@ use std::alloc::Global;
 /// The byte that ends the text before the tracks.
 pub(crate) const TEXT_END: u8 = 0x1A;
 
-/// The maps of a track: a byte for each sector, or none where there is no map.
+/// The maps of a track. A map has one byte for each sector, or is empty if the track has no such map.
 #[derive(Clone, Copy)]
 struct Maps<'a> {
     numbers: &'a [u8],
@@ -33,7 +33,7 @@ fn text_end(bytes: &[u8]) -> Option<usize>
     bytes.iter().position(|byte| *byte == TEXT_END)
 }
 
-/// What follows the text.
+/// What follows the text of a file.
 fn tracks_begin(bytes: &[u8]) -> Result<Left<'_>, ImageError>
     ensures { Gives rest_of result (tracks_begin bytes.now) }
 {
@@ -50,7 +50,7 @@ fn tracks_begin(bytes: &[u8]) -> Result<Left<'_>, ImageError>
     })
 }
 
-/// A map of the track, empty where there is none.
+/// A map of the track. It is empty if the track has none.
 fn read_map<'a>(
     is_there: bool,
     count: u8,
@@ -66,7 +66,7 @@ fn read_map<'a>(
     }
 }
 
-/// The byte of a map for sector `i`, or `default` where there is no map.
+/// The byte of a map for sector `i`, or `default` if there is no map.
 fn byte_or(map: &[u8], i: u8, default: u8) -> u8
     ensures { result ≡ slice_index_or map.now i default }
 {
@@ -98,7 +98,7 @@ fn kind_of(type_byte: u8) -> Option<ImdKind>
     }
 }
 
-/// A copy of a part of the file, of which it is known that it is bytes.
+/// A copy of a part of the file. The copy is known to consist of bytes.
 fn copy_part(alloc: Global, part: &[u8]) -> Result<Bytes, NoMemory>
     ensures same { IfOk result (λ copy. copy ≡ part.now) }
     ensures bytes { IfOk result AreBytes }
@@ -130,7 +130,7 @@ fn read_content<'a>(
     Ok((copy_part(alloc, content)?, after))
 }
 
-/// Reads a sector of this key.
+/// Reads a sector. It has this key.
 #[tactic(auto, unfolding(crate::specs::Reading::sector_at))]
 fn read_sector<'a>(
     alloc: Global,
@@ -176,7 +176,7 @@ fn read_sectors<'a>(
     Ok((sectors, rest))
 }
 
-/// Reads a track behind these, and its rate.
+/// Reads a track and its rate. `tracks` are the tracks that came before it.
 #[tactic(auto, unfolding(crate::specs::Reading::track_at))]
 fn read_track<'a>(
     alloc: Global,
@@ -209,8 +209,8 @@ fn read_track<'a>(
     Ok((header.rate, track, after))
 }
 
-/// The image that an ImageDisk file holds. An error is the first thing that is wrong, part by part; offsets count bytes
-/// from the beginning of the file.
+/// The image that an ImageDisk file holds. An error is the first thing that is wrong with the file, part by part.
+/// Offsets count bytes from the beginning of the file.
 pub fn read_imd(alloc: Global, bytes: &[u8]) -> Result<ImdImage, ImageError>
     ensures exact { Gives (λ image. image) result (image_of bytes.now) }
     ensures valid { IfOk result IsImdImage }

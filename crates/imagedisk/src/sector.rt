@@ -8,19 +8,19 @@ use std::marker::Model;
 /// What was found of a sector's data when the diskette was read (the ImageDisk format, sector types 0 to 8).
 #[derive(Clone, Copy, Debug, PartialEq, Eq)]
 pub enum ImdKind {
-    /// No data.
+    /// There are no data.
     Absent,
-    /// Whole, with the mark FB.
+    /// The data are whole, with the mark FB.
     Good,
-    /// Marked as deleted.
+    /// The data are whole, and marked as deleted.
     Deleted,
-    /// With a data error.
+    /// The data have an error.
     Bad,
-    /// Marked as deleted, with a data error.
+    /// The data have an error, and are marked as deleted.
     BadDeleted,
 }
 
-/// A sector: its key, and its data, which are empty where it is absent.
+/// A sector: its key and its data. The data are empty if they are absent.
 #[derive(Drop)]
 pub struct ImdSector {
     pub key: Chrn,
@@ -44,7 +44,7 @@ impl Model for ImdSectors {
 }
 
 impl ImdSectors {
-    /// No sector yet.
+    /// A list without sectors.
     pub fn new(alloc: Global) -> ImdSectors
         ensures { result ≡ [] }
     {
@@ -53,7 +53,7 @@ impl ImdSectors {
         }
     }
 
-    /// Adds a sector behind the others. The error is want of memory.
+    /// Adds a sector after the others. It fails if memory runs out.
     pub fn push(&mut self, item: ImdSector) -> Result<(), NoMemory>
         ensures pushed { OnOk result (self.new ≡ self.old ++ item ∷ []) }
         ensures kept { OnErr result (self.new ≡ self.old) }

@@ -14,7 +14,7 @@ use raw_image::Medium;
 use sector_map::list_fields;
 use std::alloc::Global;
 
-/// The track of an image that the words of a track hold, if they have an address field.
+/// The image's track that these words of a track give, if they have an address field.
 fn take_track(alloc: Global, words: &[u16], c: u8, h: u8) -> Result<Option<ImdTrack>, ImdError>
     requires sized { IsTrackSized words.now }
     requires cylinder { c ≤ 79 }
@@ -35,7 +35,7 @@ fn take_track(alloc: Global, words: &[u16], c: u8, h: u8) -> Result<Option<ImdTr
     }
 }
 
-/// The track of an image that a track of a diskette holds, if it has an address field.
+/// The image's track that a track of a diskette gives, if it has an address field.
 fn take_at(alloc: Global, medium: &Medium, c: u8, h: u8) -> Result<Option<ImdTrack>, ImdError>
     requires { HasTrack medium.now c h }
     ensures { TakesTrack (track_of medium.now c h) c h result }
@@ -46,7 +46,7 @@ fn take_at(alloc: Global, medium: &Medium, c: u8, h: u8) -> Result<Option<ImdTra
     }
 }
 
-/// Adds the track of the place of this number, counted by cylinder, then head, if it has an address field.
+/// Takes the place with this number, counted by cylinder, then head. Adds its track if the track has an address field.
 fn take_place(
     alloc: Global,
     medium: &Medium,
@@ -67,7 +67,7 @@ fn take_place(
     }
 }
 
-/// The rate that an image of these tracks tells.
+/// The rate of an image with these tracks.
 fn told_rate(medium: &Medium, tracks: &[ImdTrack]) -> Rate
     ensures { result ≡ told_rate medium.now tracks.now }
 {
@@ -78,8 +78,8 @@ fn told_rate(medium: &Medium, tracks: &[ImdTrack]) -> Rate
     }
 }
 
-/// The image of a diskette: each track with an address field, by cylinder, then head. A track is unfit whose address
-/// fields have different size codes, or others than 1 to 6, or are more than 255.
+/// The image of a diskette. It has each track with an address field, by cylinder, then head. A track is unfit if its
+/// address fields have different size codes, or others than 1 to 6, or are more than 255.
 pub fn from_medium(alloc: Global, medium: &Medium) -> Result<ImdImage, ImdError>
     ensures taken { TakesDisk medium.now result }
     ensures valid { IfOk result IsImdImage }

@@ -1,7 +1,8 @@
 // A track of an ImageDisk file.
 use crate::sector::ImdSectors;
 
-/// A track: its cylinder and head as the drive stood, the size code of its sectors, and these in their order.
+/// A track: the cylinder and head at which the drive stood, the size code of its sectors, and the sectors in their
+/// order.
 #[derive(Drop)]
 pub struct ImdTrack {
     /// The cylinder, 0 to 79.
@@ -10,6 +11,6 @@ pub struct ImdTrack {
     pub h: u8,
     /// The size code, 1 to 6.
     pub n: u8,
-    /// At most 255.
+    /// The sectors, at most 255.
     pub sectors: ImdSectors,
 }

@@ -19,7 +19,7 @@ use sector_map::place_window;
 use std::alloc::Global;
 use track_format::{choose_gap, layout};
 
-/// The words before the first sector of a formatted track.
+/// The words of a formatted track before its first sector.
 const START_WORDS: usize = 146;
 
 /// The words of a sector of a formatted track without its content and gap 3.
@@ -35,7 +35,7 @@ fn keys_of(alloc: Global, sectors: &[ImdSector]) -> Result<Vec<Chrn>, NoMemory>
     Ok(sectors.iter().map(|sector| sector.key).collect(alloc)?)
 }
 
-/// The track of these sectors as it is formatted.
+/// The track with these sectors, as it is formatted.
 fn formatted(alloc: Global, rate: Rate, track: &ImdTrack, gap3: u8) -> Result<Vec<u16>, NoMemory>
     requires valid { IsImdTrack track.now }
     requires fits { Fits (keys_of track.now.sectors) track.now.n gap3 (words_at rate) }
@@ -105,7 +105,7 @@ fn put_sectors(
     Ok(())
 }
 
-/// The track of an image that has room for its sectors with this gap.
+/// The track of an image, laid with this gap, which leaves room for its sectors.
 fn laid_track(alloc: Global, rate: Rate, track: &ImdTrack, gap3: u8) -> Result<Vec<u16>, NoMemory>
     requires valid { IsImdTrack track.now }
     requires gap { IsLargestGap track.now.n (length track.now.sectors) rate gap3 }
@@ -117,7 +117,7 @@ fn laid_track(alloc: Global, rate: Rate, track: &ImdTrack, gap3: u8) -> Result<V
     Ok(words)
 }
 
-/// The words of a track of an image: nothing where it has no sectors.
+/// The words of a track of an image. They hold no recording if the track has no sectors.
 pub(crate) fn track_words(alloc: Global, rate: Rate, track: &ImdTrack) -> Result<Vec<u16>, ImdError>
     requires { IsImdTrack track.now }
     ensures made { MakesTrack rate track.now result }

@@ -17,10 +17,10 @@ const WINDOW_WORDS: usize = 18;
 /// The byte 4E as it is recorded after a bit 0.
 const GAP_WORD: u16 = 0x9254;
 
-/// A byte A1 with a lost clock.
+/// A byte A1 with one clock cell lost.
 const MARK: u16 = 0x4489;
 
-/// Adds the cells of the bytes after a bit `last`.
+/// Adds the cells of the bytes. `last` is the bit in front of them.
 fn push_cells(words: &mut Vec<u16>, last: bool, bytes: &[u8]) -> Result<(), NoMemory>
     ensures { OnOk result (words.new.items ≡ words.old.items ++ legal last bytes.now) }
 {
@@ -32,7 +32,7 @@ fn push_cells(words: &mut Vec<u16>, last: bool, bytes: &[u8]) -> Result<(), NoMe
     Ok(())
 }
 
-/// A field as `field_words` makes it, but with a check whose last bit is wrong.
+/// A data field as `field_words` makes it, but with a CRC whose last bit is wrong.
 fn damaged_words(alloc: Global, deleted: bool, content: &[u8]) -> Result<Vec<u16>, NoMemory>
     ensures { IfOk result (λ words. words.items ≡ damaged_window deleted content.now) }
 {
@@ -48,7 +48,7 @@ fn damaged_words(alloc: Global, deleted: bool, content: &[u8]) -> Result<Vec<u16
     Ok(words)
 }
 
-/// The words that stand for the data of a sector.
+/// The words that are written for the data of a sector.
 pub(crate) fn sector_window(alloc: Global, n: u8, sector: &ImdSector) -> Result<Vec<u16>, NoMemory>
     requires at_least { 1 ≤ n }
     requires at_most { n ≤ 6 }

@@ -12,7 +12,7 @@ use crate::track::ImdTrack;
 use flop_base::{Chrn, NoMemory, Rate};
 use std::alloc::Global;
 
-/// A part of a key that a map has a byte of for each sector.
+/// A part of a key. A map has one byte of such a part for each sector.
 #[derive(Clone, Copy)]
 enum KeyPart {
     Cylinder,
@@ -49,7 +49,7 @@ fn put_map(out: &mut Vec<u8>, part: KeyPart, sectors: &[ImdSector]) -> Result<()
     Ok(())
 }
 
-/// The type of a sector of which all bytes are there.
+/// The type of a sector that is written with all its bytes.
 fn full_type(kind: ImdKind) -> u8
     ensures value { result ≡ full_type kind }
     ensures most { result ≤ 7 }
@@ -149,12 +149,12 @@ fn put_track(out: &mut Vec<u8>, rate: Rate, track: &ImdTrack) -> Result<(), NoMe
     put_sectors(out, sectors)
 }
 
-/// The ImageDisk file of an image: sectors of one byte are written by that byte alone, maps only where they are needed.
-/// The error is want of memory.
+/// The ImageDisk file of an image. A sector whose bytes are all equal is written with that byte alone, and a map is
+/// written only if it is needed. It fails if memory runs out.
 pub fn write_imd(alloc: Global, image: &ImdImage) -> Result<Vec<u8>, NoMemory>
     requires { IsImdImage image.now }
     ensures spelled { IfOk result (λ bytes. bytes.items ≡ file_of image.now) }
-    // Reading it gives the image.
+    // Reading the file gives the image again.
     ensures again { IfOk result (λ bytes. image_of bytes.items ≡ Ok image.now) }
 {
     let mut out = Vec::new(alloc);

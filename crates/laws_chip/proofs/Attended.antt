@@ -39,9 +39,9 @@ use Rattle.laws_chip.proofs.Singles.{format_executes, id_executes}
 use Rattle.laws_chip.proofs.SoundParts.{IsBasis, basis_busy, basis_rests, basis_same, is_busy}
 use Rattle.laws_chip.proofs.Standing.{Stands, heads_stand}
 
--- ---- nothing is done behind
+-- ---- ---- the inner controller does nothing
 
--- the front, the count and the order stay
+-- the front, the count of bytes and the order stay
 pub record StaysBut (old new : ChipState) : Type 0 where
   pub front : new.front ≡ old.front
   pub count : new.count ≡ old.count
@@ -97,13 +97,13 @@ asks_sound unit old new basis stands asks =
     let still = basis_same old set basis base (ap (λ (chip : ChipState). chip.count) rest) (ap (λ (chip : ChipState). chip.order) rest) in
     done_sound set (record set { stage = Telling (answer.Byte (value_outside 0x3F5 asks.sent.front)) 0 }) new still rests (record { front = refl; count = refl; order = refl }) refl asks.told_is
 
--- the heads move
+-- the heads move, and the chip stays sound
 moved_sound : (old new : ChipState) → IsBasis old → KeepsRest (ready old) new → RestsBehind new.front → IsBase old.front.adapter.controller new.front.adapter.controller → IsSound new
 moved_sound old new basis rest rests base =
     basis_rests new Ready (basis_same old new basis base (ap (λ (chip : ChipState). chip.count) rest) (ap (λ (chip : ChipState). chip.order) rest)) rests
     (ap (λ (chip : ChipState). chip.stage) rest) refl
 
--- a SEEK or a RECALIBRATE is given behind
+-- the inner controller is given a SEEK or a RECALIBRATE
 pub given_moves : (unit : ℕ) (goal : Option ℕ) (start new : Front) → Stands start → Sends (moving unit goal) start new → RestsBehind new × IsBase start.adapter.controller new.adapter.controller
 given_moves unit (Some target) start new stands sends =
     let obeyed = seek_obeyed unit target start new stands sends in
@@ -126,7 +126,7 @@ given_moves unit None start new stands sends =
       record { dor = ap (λ (fdc : Fdc). fdc.dor) is; non_dma = ap (λ (fdc : Fdc). fdc.non_dma) is; command = ap (λ (fdc : Fdc). fdc.command) is },
     )
 
--- or a RECALIBRATE that gives so many pulses at most
+-- the inner controller begins a RECALIBRATE that gives at most so many pulses
 within_rests : (b : Bool) (unit pulses : ℕ) (front : Front) → Stands front
     → (let fdc = front.adapter.controller in let new = (if b then record fdc { seeks = with_motion fdc.seeks (unit % 4) (Outward (pulses_within pulses)) } else fdc) in
     RestsBehind (record front { adapter = with_controller new front.adapter }) × IsBase fdc new)
@@ -143,7 +143,7 @@ recalibrated_rests unit pulses front stands =
     subst (λ (f : Front). RestsBehind f × IsBase fdc f.adapter.controller) (sym (ap (λ stage. recalibrated_at stage unit pulses front) stands.through))
     (within_rests (is_idle fdc && (seek_bits fdc.seeks == 0)) unit pulses front stands)
 
--- or its pulses are to come in time
+-- the inner controller moves the heads, or their pulses are to come in the time that SPECIFY sets
 moves_sound : (b : Bool) (goal : Option ℕ) (old new : ChipState) → IsBasis old → RestsBehind old.front → Stands old.front → MovesIf b goal old new → IsSound new
 moves_sound true goal old new basis rests stands is = done_sound old _ new basis rests (record { front = refl; count = refl; order = refl }) refl is
 moves_sound false goal old new basis rests stands (sends, rest) =
@@ -156,7 +156,7 @@ configure_sound old new basis stands (sends, rest) =
     basis_rests new Ready (basis_same old new basis base (ap (λ (chip : ChipState). chip.count) rest) (ap (λ (chip : ChipState). chip.order) rest)) (stands_rests new.front still)
     (ap (λ (chip : ChipState). chip.stage) rest) refl
 
--- ---- a command that is executed behind
+-- ---- ---- a command that the inner controller executes
 
 busy_sound : (what : Task) (bytes : List ℕ) (old new : ChipState) → IsBasis old → (sent : IsSent what bytes old new) → IsBusyWith what new.front → IsBase sent.set.adapter.controller new.front.adapter.controller → IsSound new
 busy_sound what bytes old new basis sent busy base =
@@ -174,7 +174,7 @@ read_id_sound : (mfm : Bool) (old new : ChipState) → IsBasis old → Stands ol
 read_id_sound true old new basis stands begins = id_sound task.Sent old.order.unit old new basis stands (λ executes. inr executes) begins
 read_id_sound false old new basis stands begins = id_sound (task.Refused old.order.unit no_key false) old.order.unit old new basis stands (λ executes. executes) begins
 
--- what DUMPREG gives is noted
+-- what DUMPREG reports is noted
 noted_basis : (last_sector : ℕ) (old : ChipState) → IsBasis old → IsBasis (with_last last_sector old)
 noted_basis last_sector old basis = record { by_dma = basis.by_dma; whole = basis.whole; free = basis.free; none = basis.none; gated = basis.gated; code = basis.code }
 
@@ -264,7 +264,7 @@ attends_by : (b : Bool) (code : Code) (old new : ChipState) → IsBasis old → 
 attends_by true code old new basis rests found moves is = done_sound old _ new basis rests (record { front = refl; count = refl; order = refl }) refl is
 attends_by false code old new basis rests found free obeys = obeys_sound code old new basis rests found free obeys
 
--- a whole command, or what isn't one
+-- a whole command is attended to, or bytes that aren't one
 pub attended_sound : (found : Option Code) (old new : ChipState) → IsBasis old → RestsBehind old.front → code_of old.order.code ≡ found → AttendsTo found old new → IsSound new
 attended_sound None old new basis rests is told = done_sound old _ new basis rests (record { front = refl; count = refl; order = refl }) refl told
 attended_sound (Some code) old new basis rests is attends =

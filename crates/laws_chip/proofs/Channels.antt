@@ -1,4 +1,4 @@
--- What is executed behind, through the channel, the terminal count, ports and media.
+-- What the inner controller executes, through the channel, the terminal count, ports and media.
 use Rattle.std.proofs.Common.{◌≡◌, ◌⊎◌, inl, inr, ℕ, ◌-◌, Bool, true, false, ◌==◌, if◌then◌else◌, Option, Some, None, [], refl, sym, ◌∙◌, ap, subst}
 use Rattle.std.proofs.lemmas.Bool.{eqb-true, false≢true}
 use Rattle.fdc_commands.specs.Seeking.{seek_bits}
@@ -37,7 +37,7 @@ use Rattle.laws_chip.proofs.UnderWay.{clash, counts_under, either_way, gives_und
 abbrev pub IsOverBehind : Front → Type 0
 IsOverBehind front = TellsBehind front ⊎ WaitsBehind front
 
--- what is executed for a task stays so, where both kinds of it do
+-- what is executed for a task goes on, if both kinds of it do
 keep_at : (place : Place) (old new : Front) → (ServesBehind old → ServesBehind new) → (ExecutesBehind old → ExecutesBehind new) → IsBusyAt place old → IsBusyAt place new
 keep_at Index old new serves executes busy = serves busy
 keep_at Address old new serves executes busy = executes busy
@@ -53,7 +53,7 @@ keep_with (chip.Track track) old new serves executes busy = keep_at track.place 
 
 -- ---- the controller
 
--- it is as it was, as far as what is executed is known by it
+-- the controller is as it was, in all on which our knowledge of what it executes depends
 pub record IsAlike (old new : Fdc) : Type 0 where
   pub phase : new.phase ≡ old.phase
   pub seeks : new.seeks ≡ old.seeks
@@ -83,7 +83,7 @@ told_base old none = record { dor = refl; non_dma = refl; command = none }
 
 -- ---- where each access is the controller's
 
--- a command of its own goes on
+-- a command of the controller's own goes on
 executes_alike : (old new : Front) → new.stage ≡ old.stage → IsAlike old.adapter.controller new.adapter.controller → ExecutesBehind old → ExecutesBehind new
 executes_alike old new stage alike was =
     record {
@@ -93,7 +93,7 @@ executes_alike old new stage alike was =
       rests = ap seek_bits alike.seeks ∙ was.rests;
     }
 
--- and its results wait on
+-- the results of a command of the controller's own go on waiting
 waits_alike : (old new : Front) → new.stage ≡ old.stage → IsAlike old.adapter.controller new.adapter.controller → WaitsBehind old → WaitsBehind new
 waits_alike old new stage alike was =
     record { through = stage ∙ was.through; ending = was.ending; results = was.results; at = alike.phase ∙ was.at; rests = ap seek_bits alike.seeks ∙ was.rests }
@@ -265,7 +265,7 @@ gives_front_base byte old was new none gives = gives_base old.stage byte was old
 pub counts_front_base : (old new : Front) → old.adapter.controller.command ≡ [] → new ≡ told_front old → IsBase old.adapter.controller new.adapter.controller
 counts_front_base old new none is = counts_base old.stage old new none is
 
--- ---- and results are as they were
+-- ---- ---- results stay as they were
 
 tells_same : (old new : Front) → new ≡ old → TellsBehind old → TellsBehind new
 tells_same old new is was = subst TellsBehind (sym is) was
@@ -282,7 +282,7 @@ counts_over old new is (inr was) =
 
 -- ---- ports
 
--- a write that doesn't reset leaves this of the controller, and doesn't hold it in reset
+-- a write that doesn't reset leaves these parts of the controller, and doesn't hold it in reset
 pub record IsLeft (old new : Fdc) : Type 0 where
   pub phase : new.phase ≡ old.phase
   pub seeks : new.seeks ≡ old.seeks

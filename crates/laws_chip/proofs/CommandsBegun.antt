@@ -1,4 +1,5 @@
--- How the chip begins a command behind: it is free for it, what LOCK kept is told again, and the command's bytes are given.
+-- How the chip begins a command in the inner controller: the inner controller is free for it, what LOCK kept is given
+-- again, and the command's bytes are given.
 use Rattle.std.proofs.Common.{◌≡◌, ℕ, ◌<◌, Bool, true, false, not, ◌||◌, Option, Some, List, [], ◌∷◌, ◌++◌, is_some, bit_and, refl, sym, ◌∙◌, ap, subst}
 use Rattle.std.proofs.lemmas.Bool.{agree_below_at}
 use Rattle.fdc_commands.specs.declared.results.Results.{Results}
@@ -34,12 +35,12 @@ use Rattle.laws_chip.proofs.PassedOn.{all_passed}
 use Rattle.laws_chip.proofs.Sending.{IsObeyed, configure_obeyed}
 use Rattle.laws_chip.proofs.Standing.{Stands, stands_free}
 
--- ---- what stands behind goes on standing
+-- ---- ---- the inner controller goes on standing free
 
 pub same_base : (front : Front) → Stands front → IsBase front.adapter.controller front.adapter.controller
 same_base front stands = record { dor = refl; non_dma = refl; command = stands.none }
 
--- behind a CONFIGURE
+-- after a CONFIGURE the inner controller still stands free
 pub configured_stands : (options precompensation : ℕ) (start new : Front) → Stands start → IsObeyed (Configure 0 options precompensation) start new
     → Stands new × IsBase start.adapter.controller new.adapter.controller
 configured_stands options precompensation start new stands obeyed =
@@ -55,7 +56,7 @@ configured_stands options precompensation start new stands obeyed =
       record { dor = ap (λ (fdc : Fdc). fdc.dor) is; non_dma = ap (λ (fdc : Fdc). fdc.non_dma) is; command = ap (λ (fdc : Fdc). fdc.command) is },
     )
 
--- whether seeks are implied or not
+-- the strap for implied seeks may be on or off
 pub strapped_stands : (on : Bool) (front : Front) → Stands front → Stands (record front { strapped = on })
 strapped_stands on front stands =
     record { through = stands.through; takes = stands.takes; none = stands.none; free = stands.free; rests = stands.rests; by_dma = stands.by_dma }
@@ -66,7 +67,7 @@ unsought_stands front stands =
 
 -- ---- a command begins
 
--- these bytes were given behind for this task
+-- the inner controller was given these bytes for this task
 pub record IsSent (task : Task) (bytes : List ℕ) (old new : ChipState) : Type 0 where
   pub set : Front
   pub stands : Stands set
@@ -76,7 +77,7 @@ pub record IsSent (task : Task) (bytes : List ℕ) (old new : ChipState) : Type 
   pub count : new.count ≡ old.count
   pub order : new.order ≡ old.order
 
--- what LOCK kept was told, or nothing was to be
+-- what LOCK kept was given to the inner controller, if there was anything to give
 record IsSet (old new : ChipState) : Type 0 where
   stands : Stands new.front
   base : IsBase old.front.adapter.controller new.front.adapter.controller
@@ -128,7 +129,7 @@ is_transfer _ = false
 abbrev is_served : ℕ → Bool
 is_served code = not (is_transfer (code_of code)) || is_some (opcode_of code)
 
--- each is one that the sequencer serves
+-- each of these codes is one that the sequencer serves
 pub codes_served : (code : ℕ) → code < 256 → code_of code ≡ Some (TransferCode true) → is_some (opcode_of code) ≡ true
 codes_served code few is =
     sym (ap (λ found. not (is_transfer found) || is_some (opcode_of code)) is) ∙ agree_below_at is_served (λ _. true) 256 code refl few
@@ -144,7 +145,7 @@ transfer_begun opcode old new is size free obeys =
     let (serves, carried, starts) = order_begins opcode old.order sent.set new.front sent.stands is size sent.sends in
     record { begins = serves; serving = record { sent = sent.stage; under_way = carried.under_way } }
 
--- from there to its results
+-- what passes from the beginning of the command to its results
 pub transfer_served : (first : Transfer) (calls : List Call) (begun last new : ChipState) (served : AreServed calls begun last) (step : StepsChip last new) (results : Results)
     → IsBegun first begun → step.between.stage ≡ behind.Telling results 0 → IsServed first calls begun last new served step results
 transfer_served first calls begun last new served step results is told =

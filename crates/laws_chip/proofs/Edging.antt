@@ -1,4 +1,4 @@
--- INT behind the calls of a chip.
+-- INT after the calls of a chip.
 use Rattle.std.proofs.Common.{◌≡◌, ℕ, ◌+◌, Bool, true, false, not, ◌&&◌, ◌||◌, ◌==◌, nat_le, nat_lt, if◌then◌else◌, Option, Some, None, is_some, List, length, slice_index, refl, sym, ◌∙◌, ap, subst}
 use Rattle.std.specs.Option.{option_map_or}
 use Rattle.std.specs.Prelude.{option_map, slice_set}
@@ -40,7 +40,7 @@ or_none : (b : Bool) → (b || false) ≡ b
 or_none true = refl
 or_none false = refl
 
--- it goes by the line, where no byte passes at the data port
+-- INT goes by the line, where no byte passes at the data port
 abbrev by_line : ChipState → Bool
 by_line chip = chip.gated && (chip.interrupts.line || shows_behind chip.stage chip.front)
 
@@ -54,7 +54,7 @@ no_bytes : (chip : ChipState) → passes_at chip.stage ≡ false → interrupts_
 no_bytes chip none =
     no_port chip (and_right (is_by_port chip.settings) (passes chip) (and_left (passes_at chip.stage) (not (is_format chip.order && chip.keys == 0)) none))
 
--- nothing of what stands behind shows while a command is executed
+-- while a command is executed, INT of the inner controller doesn't show
 shows_none : (stage : Stage) (behind_it : Front) → passes_at stage ≡ true → shows_behind stage behind_it ≡ false
 shows_none Ready behind_it passing = absurd (false≢true passing)
 shows_none Held behind_it passing = refl
@@ -72,7 +72,7 @@ busy_line chip dma passing = by_dma chip dma ∙ line_alone chip (shows_none chi
 int_same : (old new : ChipState) → new ≡ old → interrupts_chip new ≡ interrupts_chip old
 int_same old new is = ap (λ (chip : ChipState). interrupts_chip chip) is
 
--- with so many bytes of keys left, and another front behind
+-- the chip with so many bytes of sector IDs left, and with another front
 abbrev with_parts : ChipState → ℕ → Front → ChipState
 with_parts old keys behind_it = record old { keys = keys; front = behind_it }
 
@@ -106,14 +106,14 @@ channel_leaves (call.StrapsSteps on) old new is does = absurd (false≢true is)
 
 -- ---- the terminal count
 
--- at a task INT goes by the line, whatever stands behind
+-- while a task is executed INT goes by the line, whatever front there is
 abbrev at_task : ChipState → Task → Front → ChipState
 at_task chip what behind_it = record chip { stage = Busy what; front = behind_it }
 
 task_line : (chip : ChipState) (what : Task) (behind_it : Front) → is_by_port chip.settings ≡ false → interrupts_chip (at_task chip what behind_it) ≡ (chip.gated && chip.interrupts.line)
 task_line chip what behind_it dma = by_dma (at_task chip what behind_it) dma ∙ ap (λ b. chip.gated && b) (or_none chip.interrupts.line)
 
--- with the count told or not, and another task
+-- the terminal count was given or not, and the task may be another
 task_told : (b : Bool) (chip : ChipState) (one other : Task) → is_by_port chip.settings ≡ false
     → interrupts_chip (counted_if b (at_task chip other chip.front)) ≡ interrupts_chip (at_task chip one chip.front)
 task_told true chip one other dma = task_line chip other (told_front chip.front) dma ∙ sym (task_line chip one chip.front dma)
@@ -140,7 +140,7 @@ count_leaves chip dma = stage_told chip.stage chip dma
 unmoved : (old new : ChipState) → new ≡ old → interrupts_chip old ≡ false → interrupts_chip new ≡ true → EndsAnswer old new
 unmoved old new is down up = clash (interrupts_chip old) down (sym (int_same old new is) ∙ up)
 
--- no byte is there, where none is asked for
+-- no byte is taken where none is asked for
 adapter_none : (byte : Option ℕ) (old new : Fdc) → asks old ≡ false → Takes old byte new → new ≡ old
 adapter_none (Some byte) old new quiet (up, byte_is, is) = clash (asks old) quiet (and_parts (asks old) (to_memory_of old) up).0
 adapter_none None old new quiet (none, is) = is
@@ -157,7 +157,7 @@ takes_none (behind.Collecting opcode) byte old new quiet (none, is) = is
 takes_none (behind.Seeking transfer counted) byte old new quiet (none, is) = is
 takes_none (behind.Telling results read) byte old new quiet (none, is) = is
 
--- INT that DOR lets out goes by the request, where bytes pass at the data port
+-- where bytes pass at the data port, INT that DOR lets out goes by the request
 asks_none : (gate asked : Bool) → gate ≡ true → (gate && asked) ≡ false → asked ≡ false
 asks_none true asked out down = down
 asks_none false asked out down = absurd (false≢true out)
@@ -165,7 +165,7 @@ asks_none false asked out down = absurd (false≢true out)
 shut_in : (chip : ChipState) → chip.gated ≡ false → interrupts_chip chip ≡ false
 shut_in chip gate = ap (λ b. b && (if passes_by_port chip then asks_outside chip.front else (chip.interrupts.line || shows_behind chip.stage chip.front))) gate
 
--- a byte of the command in execution
+-- a byte of the command in execution is read
 port_read : (b : Bool) (old : ChipState) (value : ℕ) (new : ChipState) → passes_by_port old ≡ b → ReadsIf b old value new → interrupts_chip old ≡ false → interrupts_chip new ≡ true → EndsAnswer old new
 port_read true old value new passing out down up = either_way old.gated
     (λ gate.
@@ -176,7 +176,7 @@ port_read true old value new passing out down up = either_way old.gated
     (λ gate. clash (interrupts_chip new) (shut_in new (ap (λ (chip : ChipState). chip.gated) out.rest ∙ gate)) up)
 port_read false old value new passing (value_is, is) down up = unmoved old new is down up
 
--- a byte of an answer was read, which lets the line fall or not, and this is then under way
+-- a byte of an answer was read. The line falls or doesn't, and the chip is then at this stage
 abbrev told_at : Bool → Stage → ChipState → ChipState
 told_at first stage old = record (quieted_if first old) { stage = stage }
 
@@ -189,7 +189,7 @@ front_stays : (first : Bool) (stage : Stage) (old : ChipState) → (told_at firs
 front_stays true stage old = refl
 front_stays false stage old = refl
 
--- what rises then is what stands behind
+-- if INT rises then, it is INT of the inner controller
 shown : (gate line other : Bool) → (gate && line) ≡ false → (gate && (line || other)) ≡ true → other ≡ true
 shown true true other down up = absurd (false≢true (sym down))
 shown true false other down up = up
@@ -203,7 +203,7 @@ answer_down : (told : Answer) (read : ℕ) (old : ChipState) → old.stage ≡ T
 answer_down told read old tells down =
     sym (no_bytes old (ap passes_at tells) ∙ line_alone old (ap (λ stage. shows_behind stage old.front) tells)) ∙ down
 
--- behind it what stands behind shows, or nothing does
+-- if INT rises after the byte of an answer, INT of the inner controller shows
 rises : (first : Bool) (stage : Stage) (old new : ChipState) → new ≡ told_at first stage old → passes_at stage ≡ false → (old.gated && old.interrupts.line) ≡ false → interrupts_chip new ≡ true
     → shows_behind stage old.front ≡ true
 rises first stage old new is none down up =
@@ -253,7 +253,7 @@ sense_down status cylinder old is =
     no_bytes (sensing old) refl
     ∙ (ap (λ b. old.gated && (b || false)) (line_down (first_pending old.interrupts) old.interrupts status cylinder is) ∙ and_right old.gated false refl)
 
--- a command of a task begins with DMA, and INT is down
+-- a command begins for a task with DMA, and INT is down
 record IsDown (what : Task) (chip : ChipState) : Type 0 where
   dma : is_by_port chip.settings ≡ false
   line : chip.interrupts.line ≡ false

@@ -1,4 +1,5 @@
--- A sector of a command of several sectors begins behind, or the seek before it: what that leaves of the controller.
+-- A sector of a command of several sectors begins, or the seek before it: what the beginning leaves of the inner
+-- controller.
 use Rattle.std.proofs.Common.{◌≡◌, ℕ, nat_le, Bool, true, false, not, ◌&&◌, if◌then◌else◌, [], refl, sym, ◌∙◌, ap, subst}
 use Rattle.std.proofs.lemmas.Bool.{and_from, and_parts, le-leb}
 use Rattle.flop_base.specs.declared.key.Chrn.{Chrn}
@@ -31,7 +32,7 @@ use Rattle.laws_chip.specs.Sound.{WaitsForHeads}
 
 -- ---- what every command leaves
 
--- DOR and what SPECIFY set, and no byte of a command waits
+-- DOR and what SPECIFY set stay, and no byte of a command waits
 pub record IsBase (old new : Fdc) : Type 0 where
   pub dor : new.dor ≡ old.dor
   pub non_dma : new.non_dma ≡ old.non_dma
@@ -82,7 +83,7 @@ module _ (head_drive : ℕ) (key : Chrn) (last_sector gap length_code : ℕ) (li
   base_by (Write false) takes = write_base (obeyed (WriteData head_drive key last_sector gap length_code) takes)
   base_by (Write true) takes = deleted_base (obeyed (WriteDeleted head_drive key last_sector gap length_code) takes)
 
--- ---- it is then under way
+-- ---- ---- the sector is then under way
 
 pub record IsCarried (old new : Front) : Type 0 where
   pub under_way : is_under_way new.stage ≡ true

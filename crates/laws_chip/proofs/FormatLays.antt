@@ -1,4 +1,4 @@
--- FORMAT TRACK over a medium at speed: the keys that were given are laid.
+-- FORMAT TRACK over a medium at speed: the sector IDs that were given are laid.
 use Rattle.std.proofs.Common.{◌≡◌, inl, inr, ℕ, zero, suc, ◌+◌, ◌%◌, ◌≤◌, nat_le, Bool, true, false, not, ◌&&◌, ◌==◌, if◌then◌else◌, Option, Some, None, List, [], ◌∷◌, ◌++◌, length, refl, sym, ◌∙◌, ap, subst, arith, length-append}
 use Rattle.std.proofs.lemmas.Bool.{and_parts, eqb-true, false≢true, leb-true}
 use Rattle.raw_image.specs.Disk.{IsDisk}
@@ -139,7 +139,7 @@ abbrev is_stopped : WordTime → Bool
 is_stopped Stopped = true
 is_stopped _ = false
 
--- ---- its word time
+-- ---- ---- the word time of a FORMAT
 
 module _ (outset : Outset) (unit : ℕ) (numbers : Numbers) (past : Past) (drive after : DriveState) (polls between : Fdc) (steps : ℕ) (formatting : Formatting) (fifo handed : List ℕ)
     (valid : IsDisk outset.disk) (was : IsAtDrive outset past true drive) (head_drive : ℕ) (on : IsFormattingOn past unit numbers head_drive formatting steps fifo handed) where
@@ -189,7 +189,7 @@ record IsFormattingAt (outset : Outset) (bay unit : ℕ) (numbers : Numbers) (gi
   selects : selected_at front.adapter ≡ bay
   rate : front.adapter.controller.rate ≡ outset.rate
 
--- after a device step, and over or not
+-- what is known after a device step, whether the FORMAT is over or not
 record Stepped (outset : Outset) (unit : ℕ) (numbers : Numbers) (given : List ℕ) (new : Fdc) (drive : DriveState) : Type 0 where
   past : Past
   known : MayFormat past unit numbers new
@@ -283,7 +283,7 @@ stepped_lays outset unit numbers given new drive is = record {
   tells = format_tells is.past unit numbers new is.known;
 }
 
--- where the chip is busy after the step too, it goes on
+-- if the chip is busy after the step too, the FORMAT goes on
 still_executes : (old new : ChipState) (step : StepsChip old new) → IsSound old → old.stage ≡ Busy Sent → new.stage ≡ Busy Sent → ExecutesBehind old.front → ExecutesBehind step.between
 still_executes old new step sound at stays was =
     let (goes, base) = executes_step old.front step.between step.steps sound.whole was in
@@ -324,7 +324,7 @@ module _ (outset : Outset) (bay unit : ℕ) (numbers : Numbers) where
           let reads = reads_none was.past unit numbers fdc.phase fdc.asking fdc.fifo was.known in
           absurd (false≢true (sym reads ∙ (and_parts (asks fdc) (to_memory_of fdc) up).1))
 
-  -- a byte of a key is given, or not
+  -- a byte of a sector ID is given, or not
   gives_going : (given : List ℕ) (byte : ℕ) (taken : Bool) (old new : Front) → GivesFront byte old taken new → Going given old → Going (given ++ passed_in taken byte) new
   gives_going given byte taken old new gives was = by_taken taken gives (subst (λ s. GivesAt s byte old taken new) was.executes.through gives)
     where
@@ -370,7 +370,7 @@ module _ (outset : Outset) (bay unit : ℕ) (numbers : Numbers) where
 
   -- ---- the chip
 
-  -- what a call gave besides
+  -- the bytes that a call gave are added to those given before
   abbrev Given : Call → ChipState → ChipState → List ℕ → Type 0
   Given call old new given = (bytes : List ℕ) × GivesAs call old new bytes × Going (given ++ bytes) new.front
 
@@ -443,7 +443,7 @@ module _ (outset : Outset) (bay unit : ℕ) (numbers : Numbers) where
   call_on (made.Straps on) given old new few valid head lets sound at stays does was = ([], refl, none_given given old new (ap (λ (chip : ChipState). chip.front) does) was)
   call_on (made.StrapsSteps on) given old new few valid head lets sound at stays does was = ([], refl, none_given given old new (ap (λ (chip : ChipState). chip.front) does) was)
 
-  -- all of them
+  -- the same of all calls
   record AllGiven (given : List ℕ) (calls : List Call) (old new : ChipState) (at : AreAt (Busy Sent) calls old new) : Type 0 where
     bytes : List ℕ
     give : GiveAll (Busy Sent) calls old new at bytes
@@ -462,7 +462,7 @@ module _ (outset : Outset) (bay unit : ℕ) (numbers : Numbers) where
       let all = calls_on calls (given ++ first) between new rest few valid head more (call_sound call old between does byte sound) stays going in
       record { bytes = first ++ all.bytes; give = (first, all.bytes, gave, all.give, refl); going = subst (λ bytes. Going bytes new.front) (joined given first all.bytes) all.going }
 
--- ---- it begins
+-- ---- ---- how the FORMAT begins
 
 begun_known : (unit : ℕ) (numbers : Numbers) (chosen : Task) (on : Bool) (threshold : ℕ) → IsFormattingTrack unit numbers chosen
     → MayFormatIn new_past unit numbers (Execute (record { head_drive = unit; steps = 0; task = chosen })) (task_asks chosen false (emptied on threshold)) (emptied on threshold)

@@ -43,7 +43,7 @@ neighbour_left cylinder target false is differs = grind (arith, nat_tests)
 outward_left : (pulses left : ℕ) → (pulses == 0) ≡ false → pulses + 1 ≤ left + 1 → pulses - 1 + 1 ≤ left
 outward_left pulses left some few = grind (arith, nat_tests)
 
--- it goes on, one step nearer, or ends
+-- the seek goes on, one step nearer, or ends
 abbrev OnOrEnds : ℕ → ℕ → Option ℕ → Bool → Seeking → Seeking → Type 0
 OnOrEnds left drive goal track0 old new =
     ((on : Motion) × (new ≡ with_motion old drive on) × GoesTo goal on × (steps_left on ≤ left)) ⊎ (new ≡ ended old drive (unwrap_or goal 0) (status_at_end goal drive track0))
@@ -106,7 +106,7 @@ fdc_steps left drive goal motion track0 old new takes none seek goes few rests =
           (and_from (is_seeking old.seeks) (not (is_seeking (stepped old.seeks track0))) ran (ap (λ s. not (is_seeking s)) (sym (ap (λ (fdc : Fdc). fdc.seeks) is) ∙ ends)));
     }
 
--- by the line of the selected drive
+-- where DOR selects no drive that is there, the track 0 line is low
 no_line : (selected : ℕ) (first second : DriveState) → 2 ≤ selected → (lines_of_selected selected first second).track0 ≡ false
 no_line selected first second many =
     let not_first : (selected == 0) ≡ false = grind (arith, nat_tests) in
@@ -186,7 +186,7 @@ front_steps left drive goal old new step was =
 
 -- ---- results that are taken over
 
--- there is none
+-- no result is pending
 abbrev pub bare : List ℕ → Option DriveSeek → Bool → Bool → ChipState → ChipState
 bare cylinders seek due up chip = record chip { front = build chip.front Through Taking [] (record { cylinders = cylinders; seek = seek; pending = none_pending }) due up }
 
@@ -207,7 +207,7 @@ going_drained left drive goal chip is =
     ap (λ (f : Front). record chip { front = f }) (built chip.front Through Taking [] (record { cylinders = s.cylinders; seek = s.seek; pending = none_pending }) fdc.poll_due fdc.interrupt is.through is.takes is.whole seeks refl refl) in
     ap drained same ∙ (bare_drained s.cylinders s.seek fdc.poll_due fdc.interrupt chip is.free ∙ sym same)
 
--- that of the seek that has ended is the only one: the heads stand
+-- the result of the seek that has ended is the only one, and the heads stand
 abbrev ending : ℕ → ℕ → List ℕ → ChipState → ChipState
 ending drive status cylinders chip = record chip {
   front = build chip.front Through Taking [] (record { cylinders = cylinders; seek = Some (record { drive = drive; motion = Ended }); pending = slice_set none_pending drive (Some status) }) false true;
@@ -216,7 +216,7 @@ ending drive status cylinders chip = record chip {
 abbrev pub stood : ℕ → ℕ → List ℕ → ChipState → ChipState
 stood status cylinder cylinders chip = record (bare cylinders None false false chip) { interrupts = with_result status cylinder chip.interrupts }
 
--- it is told, where no pulses come in the time that SPECIFY sets
+-- the result is reported where no pulses come in the time that SPECIFY sets
 unpaced_told : (pace : Option Pace) (status : ℕ) → pace ≡ None → is_told pace status ≡ true
 unpaced_told pace status none = ap (λ p. is_told p status) none ∙ or_right (bit_and status seek_end == 0) true refl
 
@@ -236,7 +236,7 @@ ends_drained drive status cylinders chip few free unpaced =
     let same : drained_one after ≡ after = bare_one cylinders None false false after free in
     ap (λ c. drained_one (drained_one (drained_one c))) (ends_one drive status cylinders chip few free (unpaced_told chip.pace status unpaced)) ∙ (ap (λ c. drained_one (drained_one c)) same ∙ (ap drained_one same ∙ same))
 
--- the number that is told is where the heads went
+-- the cylinder number that is reported is where the heads went
 told_at : (drive target : ℕ) (cylinders : List ℕ) → drive ≤ 3 → length cylinders ≡ 4 → slice_index (slice_set cylinders drive target) drive ≡ target
 told_at zero target (a ∷ b ∷ c ∷ d ∷ []) few four = refl
 told_at (suc zero) target (a ∷ b ∷ c ∷ d ∷ []) few four = refl

@@ -1,4 +1,4 @@
--- READ ID over a medium that stays in: what it heard, and the key that it tells.
+-- READ ID over a medium that stays in: what it heard, and the sector ID that it reports.
 use Rattle.std.proofs.Common.{◌≡◌, ◌⊎◌, inl, inr, ℕ, zero, suc, ◌+◌, ◌*◌, ◌<◌, ◌≤◌, Bool, true, false, not, ◌&&◌, ◌||◌, ◌==◌, Option, Some, List, [], ◌∷◌, bit_and, refl, sym, ◌∙◌, ap, subst, arith}
 use Rattle.std.proofs.lemmas.Bool.{agree_below_at, false≢true, eqb-true}
 use Rattle.flop_base.specs.declared.key.Chrn.{Chrn}
@@ -77,7 +77,7 @@ use Rattle.laws_chip.proofs.SoundParts.{sound_basis}
 use Rattle.laws_chip.proofs.Standing.{stands_free}
 use Rattle.laws_chip.proofs.UnderWay.{either_way}
 
--- the head that listens, as that of a sector is told
+-- the head that listens, in the form that it has for a sector
 abbrev id_at : ℕ → Transfer
 id_at unit = record {
   opcode = record { operation = Read false false; multitrack = false };
@@ -88,7 +88,7 @@ id_at unit = record {
   length = 0;
 }
 
--- ---- it is executed
+-- ---- ---- READ ID is executed
 
 record Identifying (place : Place) (unit : ℕ) (chip : ChipState) : Type 0 where
   stage : chip.stage ≡ Busy Sent
@@ -98,7 +98,7 @@ record Identifying (place : Place) (unit : ℕ) (chip : ChipState) : Type 0 wher
   known : MayReadIdIn past unit chip.front.adapter.controller.phase
   hearing : IsHearingAt place (id_at unit) past (drive_at chip.front.adapter place.bay)
 
--- it begins
+-- READ ID begins
 begun_known : (unit : ℕ) (chosen : PhaseTask) → IsReadingId unit chosen → MayReadIdIn new_past unit (Execute (record { head_drive = unit; steps = 0; task = chosen }))
 begun_known unit chosen is = is
 
@@ -118,7 +118,7 @@ begun_identifies place unit chip is at =
 
 -- ---- a device step hears a word
 
--- what was executed sees it under its head
+-- the command in execution sees the word under its head
 record HearsWord (past : Past) (unit : ℕ) (phase : Phase) (rate : DataRate) (before : DriveState) (word : ℕ) (after : DriveState) : Type 0 where
   sees : SeesUnder rate (head_of unit) before word after
   passes : Becomes (let_pass before) before after
@@ -140,7 +140,7 @@ phase_hears past unit (Execute execution) rate polls before word after single kn
     let (saw, passed) = task_hears past unit execution.head_drive execution.steps execution.task rate before word after known sees moves in
     record { sees = saw; passes = passed; executing = refl }
 
--- what is then known
+-- what is known after the device step
 record HeardMore (place : Place) (unit : ℕ) (between : AdapterState) : Type 0 where
   past : Past
   known : MayReadIdIn past unit between.controller.phase
@@ -160,7 +160,7 @@ works_hear place unit past old before new after valid rate single known (from, s
       (from, since, hearing_led (outset_at place (id_at unit) from since) past before after reads.word valid led (subst (λ r. SeesUnder r (head_of unit) before reads.word after) rate hears.sees) hears.passes, began),
     )
 
--- in the bay that is selected
+-- the drive in the selected bay is heard
 bay_hears : (place : Place) (unit bay : ℕ) (past : Past) (old new : AdapterState) → bay ≤ 1 → selected_at old ≡ bay → IsDisk place.disk → old.controller.rate ≡ place.rate → executes_single old.controller.phase ≡ true
     → MayReadIdIn past unit old.controller.phase → IsHearingAt place (id_at unit) past (drive_at old bay) → StepsAdapter old new
     → (now : Past) × MayReadIdIn now unit new.controller.phase × IsHearingAt place (id_at unit) now (drive_at new bay)
@@ -176,7 +176,7 @@ step_hears place unit chip new step was at =
     let is = through_step chip.front new step was.executes.through in
     subst (λ (front : Front). HeardMore place unit front.adapter) (sym is) (record { past = heard_now.0; known = heard_now.1; hearing = heard_now.2 })
 
--- ---- what comes of it
+-- ---- ---- what the device step leads to
 
 free_of : (chip : ChipState) → IsSound chip → chip.stage ≡ Busy Sent → is_held chip.front.adapter.controller ≡ false
 free_of chip sound at = (sound_basis chip (ap parts.is_ready at) sound).free
@@ -191,11 +191,11 @@ abbrev is_telling : Stage → Bool
 is_telling (Telling told read) = true
 is_telling _ = false
 
--- READ ID has no key, and so no cylinder is looked for
+-- READ ID asks for no sector ID, and so the chip doesn't look which cylinder passes
 no_look : (order : Order) (results : Results) → is_read_id order ≡ true → looks_for_cylinder order results ≡ false
 no_look order results is = ap (λ b. not b && is_not_found results) is
 
--- it goes on, or its results are told
+-- READ ID goes on, or its results are given
 record TellsId (place : Place) (unit : ℕ) (between : Front) (new : ChipState) : Type 0 where
   ending : Ending
   results : Results
@@ -237,7 +237,7 @@ step_identifies place unit old new step sound was at stays = elim (step_goes pla
 
 -- ---- other calls
 
--- what is executed goes on, and the medium turns on
+-- READ ID goes on, and the medium turns on
 record KeepsId (place : Place) (old new : Front) : Type 0 where
   executes : ExecutesBehind new
   known : (past : Past) (unit : ℕ) → MayReadIdIn past unit old.adapter.controller.phase → MayReadIdIn past unit new.adapter.controller.phase
@@ -300,7 +300,7 @@ port_keeps place port value old new writes no_data quiet was = record {
   turns = λ at. adapter_turns place (id_at 0) false false refl port value place.bay old.adapter new.adapter (writes.others no_data).0 at.motor;
 }
 
--- the chip besides
+-- the same of the chip: its order stays too
 record KeepsOn (place : Place) (old new : ChipState) : Type 0 where
   front : KeepsId place old.front new.front
   order : new.order ≡ old.order
@@ -383,7 +383,7 @@ call_identifies place unit call old new does turns sound was at after stays = ei
       hearing = kept_hearing place new.front (id_at unit) was.past (drive_at old.front.adapter place.bay) after (keeps.front.turns after) was.hearing;
     })
 
--- ---- all of them
+-- ---- ---- all calls
 
 calls_identify : (place : Place) (unit : ℕ) (calls : List Call) (old new : ChipState) (at : AreAt (Busy Sent) calls old new) → IsSound old → StaysUnder place (Busy Sent) calls old new at → Identifying place unit old
     → IsSound new × Identifying place unit new × IsAt place new.front
@@ -396,9 +396,9 @@ calls_identify place unit (call ∷ calls) old new (between, does, few, stays, r
     first_under place [] old new at is = is
     first_under place (call ∷ calls) old new at is = is.0
 
--- ---- the key that is told
+-- ---- ---- the sector ID in the results
 
--- where nothing is wrong an address field was found
+-- if the results report no error, an address field was found
 found_key : (unit : ℕ) (past : Past) (ending : Ending) (results : Results) → results ≡ results_of ending unit (key_met ending results.key) → HasIdentified past results.key ending → results.st1.0 ≡ 0
     → HasAddress past results.key
 found_key unit past (Done deleted) results are has none = has
@@ -458,9 +458,9 @@ id_tells place unit calls begun last new results at sound is under step tells no
     first_of [] old new at is = is
     first_of (call ∷ calls) old new at is = is.0
 
--- ---- it begins
+-- ---- ---- how READ ID begins
 
--- its code says so
+-- the code of the command is that of READ ID
 abbrev is_id : Option Code → Bool
 is_id (Some (code.ReadId mfm)) = true
 is_id _ = false

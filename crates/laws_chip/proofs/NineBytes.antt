@@ -1,4 +1,5 @@
--- The nine bytes of a command of several sectors, given behind one by one: with the last it is served.
+-- The nine bytes of a command of several sectors, given to the sequencer one by one: with the last byte it serves the
+-- command.
 use Rattle.std.proofs.Common.{◌≡◌, ℕ, ◌≤◌, nat_le, true, false, ◌||◌, if◌then◌else◌, Some, None, List, [], ◌∷◌, ◌++◌, refl, sym, ◌∙◌, ap, subst}
 use Rattle.std.proofs.lemmas.Bool.{and_parts, leb-true}
 use Rattle.track_model.specs.Fields.{IsSizeCode}
@@ -27,7 +28,7 @@ use Rattle.laws_chip.proofs.UnderWay.{not_through}
 
 -- ---- the bytes
 
--- what the controller's own command for the first sector is spelled by
+-- the bytes spell the controller's own command for the first sector
 record IsSpelled (code : ℕ) (order : Order) (command : Command) : Type 0 where
   unit : answer (code ∷ order.unit ∷ []) ≡ More
   c : answer (code ∷ order.unit ∷ order.key.c ∷ []) ≡ More
@@ -57,9 +58,9 @@ transfer_is opcode (Read deleted skip) order = refl
 transfer_is opcode (Write false) order = refl
 transfer_is opcode (Write true) order = refl
 
--- ---- they come
+-- ---- ---- the bytes come
 
--- the bytes so far are kept in front
+-- the front keeps the bytes that have come so far
 abbrev collected : Opcode → List ℕ → Front → Front
 collected opcode bytes start = record start { stage = Collecting opcode; bytes = bytes }
 

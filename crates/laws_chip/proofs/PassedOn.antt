@@ -33,7 +33,7 @@ taken_over : (b : Bool) (results : Results) (old new : ChipState) → EndsSent b
 taken_over true results old new (sends, rest) sent = false≢true (sym (ap (λ (chip : ChipState). is_sent chip.stage) rest) ∙ ap is_sent sent)
 taken_over false results old new is sent = false≢true (sym (ap (λ (chip : ChipState). is_sent chip.stage) is) ∙ ap is_sent sent)
 
--- so the chip is as it was
+-- while the command is still served, the chip has changed only in its front
 pub step_same : (old new : ChipState) (step : StepsChip old new) → old.stage ≡ Busy Sent → new.stage ≡ Busy Sent → new ≡ with_front step.between old
 step_same old new step sent still = by_end (has_results step.between) (subst (λ stage. Follows stage (with_front step.between old) new) sent step.follows)
   where
@@ -42,7 +42,7 @@ step_same old new step sent still = by_end (has_results step.between) (subst (λ
         absurd (taken_over (looks_for_cylinder old.order (results_behind step.between)) (results_behind step.between) (with_front (results_taken step.between) old) new ends still)
     by_end false is = is
 
--- so no results wait
+-- while the command is still served, no results wait
 pub no_results : (old new : ChipState) (step : StepsChip old new) → old.stage ≡ Busy Sent → new.stage ≡ Busy Sent → has_results step.between ≡ true → ⊥
 no_results old new step sent still shown =
     taken_over (looks_for_cylinder old.order (results_behind step.between)) (results_behind step.between) (with_front (results_taken step.between) old) new
@@ -85,7 +85,7 @@ counts_as old new sent is = subst (λ stage. new ≡ count_told stage old) sent 
 
 -- ---- reads
 
--- it is the sequencer's read, which gives nothing
+-- the read is the sequencer's, and changes nothing
 read_behind : (port value : ℕ) (old new : ChipState) → IsServing old → is_data_access port old ≡ false → new ≡ old → IsPassedOn (made.Reads port value) old new
 read_behind port value old new was quiet is =
     let same : new.front ≡ old.front = ap (λ chip. chip.front) is in
@@ -177,7 +177,7 @@ one_passed made.Changes old new was does serving = record {
 one_passed (made.Straps on) old new was does serving = record { calls = []; makes = refl; within = ap (λ chip. chip.front) does }
 one_passed (made.StrapsSteps on) old new was does serving = record { calls = []; makes = refl; within = ap (λ chip. chip.front) does }
 
--- device steps are device steps
+-- of the calls that a call comes to, only a device step counts as one
 only_steps : (b : Bool) (call : behind.Call) → lasting.steps_of call ≡ 0 → lasting.steps_in (only_if b call) ≡ 0
 only_steps true call none = ap (λ n. n + 0) none
 only_steps false call none = refl
@@ -215,7 +215,7 @@ all_passed (call ∷ calls) old new (between, does, serving, served) was =
 
 -- ---- it goes on
 
--- with another front the stage is the same
+-- if only the front changes, the stage stays
 same_stage : (old new : ChipState) → new ≡ with_front new.front old → old.stage ≡ Busy Sent → new.stage ≡ Busy Sent
 same_stage old new rest sent = ap (λ chip. chip.stage) rest ∙ sent
 

@@ -46,7 +46,7 @@ record IsFresh (due : Bool) (fdc : Fdc) : Type 0 where
   poll : fdc.poll_due ≡ due
   down : fdc.interrupt ≡ false
 
--- no poll comes in it
+-- no poll comes in the device step
 stays_fresh : (due track0 : Bool) (old new : Fdc) → IsFresh due old → (old.poll_due && not (is_held old)) ≡ false → Rests track0 (polled old) new → IsFresh due new
 stays_fresh due track0 old new was quiet rests =
     let same : polled old ≡ old = ap (λ b. if b then record old { poll_due = false; interrupt = true; seeks = with_polls old.seeks } else old) quiet in
@@ -81,7 +81,7 @@ polls_now track0 old new was free rests =
       up = ap (λ (fdc : Fdc). fdc.interrupt) is;
     }
 
--- what is true of the controller whatever drive is selected
+-- whatever drive is selected, this holds of the controller
 by_drive : (P : Fdc → Type 0) (old new : AdapterState) → StepsAdapter old new → ((track0 : Bool) → Rests track0 (polled old.controller) new.controller → P new.controller) → P new.controller
 by_drive P old new steps of = elim (which_drive (selected_at old)) [
   | inl at ↦ of (old.first.cylinder == 0) (steps.at_first at).0.rests
@@ -92,7 +92,7 @@ by_drive P old new steps of = elim (which_drive (selected_at old)) [
 fresh_of : (due : Bool) (front : Front) → IsFreshBehind due front → IsFresh due front.adapter.controller
 fresh_of due front is = record { takes = is.takes; whole = is.whole; seeks = is.seeks; poll = is.poll; down = is.down }
 
--- the front in it
+-- the front in a device step without a poll
 record StaysFresh (due : Bool) (old new : Front) : Type 0 where
   fresh : IsFreshBehind due new
   held : is_held new.adapter.controller ≡ is_held old.adapter.controller
@@ -116,7 +116,7 @@ fresh_down due front is = let fdc = front.adapter.controller in
 
 -- ---- a device step of the chip
 
--- where no command is under way, nor pulses that come in time
+-- a device step where no command is under way, and no pulses are to come in the time that SPECIFY sets
 pub ready_step : (old new : ChipState) (step : StepsChip old new) → old.stage ≡ Ready → old.pace ≡ None
     → new ≡ (if interrupts_outside step.between then drained (with_front step.between old) else with_front step.between old)
 ready_step old new step at unpaced =
@@ -154,7 +154,7 @@ built front stage phase command seeks due up a b c d e f =
     ∙ (ap (λ x. build front stage phase command seeks x fdc.interrupt) e
     ∙ ap (λ x. build front stage phase command seeks due x) f))))
 
--- those of the drives below this one were
+-- the results of the drives below this one were taken over
 abbrev taken_at : ℕ → ℕ → Option ℕ
 taken_at first drive = if nat_lt drive first then Some (0xC0 + drive) else None
 
@@ -183,7 +183,7 @@ drains old front free =
     ∙ (ap (λ chip. drained_one (drained_one chip)) (drains_second old front free)
     ∙ (ap drained_one (drains_third old front free) ∙ drains_fourth old front free))
 
--- INT is up, and so it is with all results
+-- the results of all drives are pending, and INT is up
 record ArePolled (new : ChipState) : Type 0 where
   polls : HasPolls 0 Ready new
   line : new.interrupts.line ≡ true
@@ -232,7 +232,7 @@ pub and_true : (b : Bool) → (b && true) ≡ b
 and_true true = refl
 and_true false = refl
 
--- where nothing is under way it is that of results, or of the inner controller
+-- where nothing is under way, INT is that of the results, or that of the inner controller
 pub ready_interrupts : (chip : ChipState) → chip.stage ≡ Ready → interrupts_chip chip ≡ (chip.gated && (chip.interrupts.line || interrupts_outside chip.front))
 ready_interrupts chip at =
     ap (λ b. chip.gated && (if b then asks_outside chip.front else (chip.interrupts.line || shows_behind chip.stage chip.front))) (and_right (is_by_port chip.settings) (passes chip) (no_passes chip at))
@@ -336,7 +336,7 @@ call_awaits (made.StrapsSteps on) old new was does other free =
 
 -- ---- SENSE INTERRUPT
 
--- the chip that has the results from this drive on
+-- the chip whose results from this drive on are pending
 abbrev polling : ℕ → Stage → ChipState → ChipState
 polling first stage chip = record chip {
   front = build chip.front Through Taking [] seeking.at_rest false false;
@@ -367,14 +367,14 @@ as_polling first stage chip is =
     ∙ (ap (λ x. chip_of front stage 0 (polls_from first) x chip.pace chip) is.cylinders
     ∙ ap (λ x. chip_of front stage 0 (polls_from first) (0 ∷ 0 ∷ 0 ∷ 0 ∷ []) x chip) is.unpaced))))
 
--- the result of the lowest drive is told, and INT is down
+-- the result of the lowest drive is given, and INT is down
 abbrev sensing_from : ℕ → ChipState → ChipState
 sensing_from drive old = record (polling (drive + 1) (telling_poll drive 0) old) {
   order = with_byte 0 8 old.order;
   interrupts = record { pending = polls_from (drive + 1); cylinders = 0 ∷ 0 ∷ 0 ∷ 0 ∷ []; line = false };
 }
 
--- nothing is to be taken over
+-- the chip with no result left to take over
 abbrev calm : ChipState → ChipState
 calm chip = record chip { front = build chip.front Through Taking [] seeking.at_rest false false }
 
@@ -416,7 +416,7 @@ poll_sends drive old new few was writes =
       behind = record { through = refl; takes = refl; whole = refl; seeks = refl; poll = refl; down = refl };
     })
 
--- its bytes are read
+-- the bytes of the answer are read
 read_on : (first : ℕ) (old : ChipState) (stage next : Stage) → HasPolls first stage old → HasPolls first next (record old { stage = next })
 read_on first old stage next was = record { at = refl; count = was.count; pending = was.pending; cylinders = was.cylinders; unpaced = was.unpaced; free = was.free; behind = was.behind }
 
@@ -430,7 +430,7 @@ poll_cylinder drive first value old new was reads =
     let (value_is, is) = subst (λ stage. ReadsAt stage old value new) was.at (reads.byte refl) in
     (value_is, subst (HasPolls first Ready) (sym is) (read_on first old (telling_poll drive 1) Ready was))
 
--- device steps between
+-- device steps pass in between
 polls_on : (first : ℕ) (stage : Stage) (old : ChipState) (front : Front) → HasPolls first stage old → StaysFresh false old.front front → HasPolls first stage (with_front front old)
 polls_on first stage old front was goes = record {
   at = was.at;

@@ -109,7 +109,7 @@ fetched before ended fifo low = let n = length fifo.bytes in
       | inr few ↦ let fewer = below (worth_fetching fifo) n few in let most = worth_few fifo in omega arith
     ]
 
--- and a write has a byte
+-- a write has a byte
 filled : (counted before : Bool) (fifo : Fifo) → counted ≡ false → wants false before counted fifo ≡ false → 1 ≤ length fifo.bytes
 filled counted before fifo none low = let n = length fifo.bytes in
     elim (fill_low counted (n == room_of fifo.on) before (nat_le n (low_level fifo)) none low) [
@@ -328,7 +328,7 @@ counts_fed (Telling results read) old new at under is fed = absurd (false≢true
 
 -- ---- ports and media
 
--- what it goes by stays
+-- what the rule depends on stays
 alike_fed : (stage : Stage) (old new : Front) → new.stage ≡ old.stage → old.stage ≡ stage → new.adapter.controller.phase ≡ old.adapter.controller.phase → new.adapter.controller.asking ≡ old.adapter.controller.asking
     → new.adapter.controller.fifo ≡ old.adapter.controller.fifo → IsFedFront old → IsFedFront new
 alike_fed (Moving moving) old new stays at phase asking fifo fed =
@@ -350,7 +350,7 @@ port_fed port value old new writes no_data quiet fed =
 
 -- ---- a device step
 
--- the rule goes on, and no byte was too late
+-- DRQ goes by the FIFO's rule again, and no byte came too late
 record IsCalmStep (old new : Fdc) : Type 0 where
   rule : GoesByRule new
   no_overrun : is_overrun new.phase ≡ false
@@ -377,7 +377,7 @@ and_low : (first second : Bool) → first ≡ true → (first && second) ≡ fal
 and_low true second is low = low
 and_low false second is low = absurd (false≢true is)
 
--- there is time for it
+-- the controller can wait for one more device step
 moving_waits : (moving : MovingSector) (fdc : Fdc) → IsFed moving fdc → transfers fdc.phase ≡ true → is_gated fdc ≡ true → asks_at (Moving moving) fdc ≡ false → PhaseWaits 1 fdc.phase fdc.fifo
 moving_waits moving fdc fed kind gated low = either_way (nat_lt 0 moving.left)
     (λ some.
@@ -472,7 +472,7 @@ ends_calm NoCount moving old new results calm is tells = as_told _ results old n
 ends_calm Protected moving old new results calm is tells = as_told _ results old new (told_calm Protected moving.transfer.head_drive moving.transfer.key moving.passed_over calm) is tells
 ends_calm Late moving old new results calm is tells = as_told _ results old new (told_calm Late moving.transfer.head_drive moving.transfer.key moving.passed_over calm) is tells
 
--- the controller's ending isn't OR, nor is it as it is judged
+-- the controller's ending isn't OR, and it isn't OR as the front judges it
 same_ending : (one other : Ending) → Some one ≡ Some other → one ≡ other
 same_ending one other is = cc
 

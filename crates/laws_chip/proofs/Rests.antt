@@ -94,7 +94,7 @@ sensed_four old few = by_first (first_pending old)
 some_pow : (drive : ℕ) → 2 ^ drive ≡ 0 → ⊥
 some_pow drive none = let some = pow_pos drive in absurd (omega arith)
 
--- where no seek bit is set none is
+-- if no seek bit is set, no seek runs
 pub none_four : (seek : Option Seek) → option_map_or (λ (s : Seek). 2 ^ s.drive) seek 0 ≡ 0 → IsOfFour seek
 none_four None none = tt
 none_four (Some seek) none = absurd (some_pow seek.drive none)
@@ -104,7 +104,7 @@ stands_rests front stands = record { through = stands.through; takes = stands.ta
 
 -- ---- a device step
 
--- it goes on doing nothing
+-- the controller goes on doing nothing
 record GoesResting (new : Fdc) : Type 0 where
   takes : new.phase ≡ Taking
   seek : IsOfFour new.seeks.seek
@@ -152,7 +152,7 @@ front_rests old new step none rests =
 
 -- ---- results that are taken over
 
--- nothing is done behind, and the chip's stage and the bytes that came are as they were
+-- the inner controller does nothing, and the chip's stage and the bytes that came are as they were
 pub record IsResting (old new : ChipState) : Type 0 where
   pub rests : RestsBehind new.front
   pub base : IsBase old.front.adapter.controller new.front.adapter.controller

@@ -41,7 +41,7 @@ use Rattle.laws_chip.proofs.WholeTransfers.{attending, byte_attends, drained_fro
 abbrev none_pending : List (Option ℕ)
 none_pending = None ∷ None ∷ None ∷ None ∷ []
 
--- that of the lowest drive is
+-- the pending results without that of the lowest drive
 abbrev without_first : List (Option ℕ) → List (Option ℕ)
 without_first pending = option_map_or (λ p. slice_set pending p None) (position is_some pending) pending
 
@@ -78,7 +78,7 @@ record IsIdleAt (front : Front) : Type 0 where
   whole : front.adapter.controller.command ≡ []
   free : is_held front.adapter.controller ≡ false
 
--- and so it does once a result was taken
+-- the controller takes commands once a result was taken
 record IsTaken (old new : Fdc) : Type 0 where
   takes : new.phase ≡ Taking
   whole : new.command ≡ []
@@ -108,7 +108,7 @@ idle_takes front idle =
     let fdc = front.adapter.controller in
     and_from (is_taking fdc) (not (is_begun fdc.command)) (ap (λ phase. takes_in phase (is_held fdc)) idle.takes ∙ ap not idle.free) (ap (λ command. not (is_begun command)) idle.whole)
 
--- so many were
+-- results were taken
 record AreTaken (old new : Front) : Type 0 where
   idle : IsIdleAt new
   poll : new.adapter.controller.poll_due ≡ old.adapter.controller.poll_due
@@ -127,7 +127,7 @@ one_taken chip idle =
       taken.pending,
     )
 
--- all of them
+-- all results were taken
 record AreAllTaken (old new : Front) : Type 0 where
   taken : AreTaken old new
   pending : new.adapter.controller.seeks.pending ≡ none_pending
@@ -147,7 +147,7 @@ all_taken chip idle four =
       pending = d ∙ (ap without_first c ∙ (ap (λ p. without_first (without_first p)) b ∙ (ap (λ p. without_first (without_first (without_first p))) a ∙ four_clear chip.front.adapter.controller.seeks.pending four)));
     }
 
--- what they leave of the chip is by its front and what was kept of them
+-- what taking over leaves of the chip's interrupts depends only on its pace, its interrupts and the result
 kept_interrupts : (result : Option (ℕ × ℕ)) (one other : ChipState) → one.pace ≡ other.pace → one.interrupts ≡ other.interrupts
     → (kept result one).interrupts ≡ (kept result other).interrupts
 kept_interrupts None one other pace same = same

@@ -1,4 +1,5 @@
--- A command that is held while heads go: it is held through other calls, and begins in the device step in which they stand.
+-- A command that is held while heads move: it is held through other calls, and begins in the device step in which they
+-- stand.
 use Rattle.std.proofs.Common.{◌≡◌, ◌⊎◌, inl, inr, ℕ, zero, suc, ◌+◌, ◌<◌, ◌≤◌, ◌^◌, true, false, not, ◌&&◌, ◌==◌, Option, Some, is_some, length, slice_set, unwrap_or, bit_and, bit_or, refl, sym, ◌∙◌, ap, subst, arith}
 use Rattle.std.specs.Option.{option_map_or}
 use Rattle.std.proofs.lemmas.Bool.{and_from, and_right, false≢true, or_from, or_right}
@@ -152,7 +153,7 @@ comes_held left drive goal code byte old new sound few heads completes was write
       record { at = refl; unpaced = was.unpaced; few = was.few; going = was.going },
     )
 
--- ---- a device step of it
+-- ---- ---- a device step of a held command
 
 pub held_step : (left drive : ℕ) (goal : Option ℕ) (code : Code) (order : Order) (old new : ChipState) → IsSound old → IsHeldFor order old → code_of order.code ≡ Some code → needs_heads code ≡ true
     → HeadsGo (left + 1) drive goal Held old → StepsChip old new → (IsHeldFor order new × HeadsGo left drive goal Held new) ⊎ IsDoneFree code order new

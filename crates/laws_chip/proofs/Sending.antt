@@ -1,4 +1,4 @@
--- The bytes of a command of the controller's own, given behind one by one.
+-- The bytes of a command of the controller's own, given to it one by one.
 use Rattle.std.proofs.Common.{◌≡◌, ◌≤◌, ℕ, Bool, true, false, not, if◌then◌else◌, None, List, [], ◌∷◌, ◌++◌, refl, sym, ◌∙◌, ap, subst}
 use Rattle.std.proofs.lemmas.Bool.{and_right}
 use Rattle.fdc_commands.specs.Table.{answer, is_begun, kept}
@@ -62,7 +62,7 @@ first_plain byte start none = by_idle (is_idle start.adapter.controller)
     by_idle true = none
     by_idle false = refl
 
--- and those behind it
+-- the bytes after the first one
 later_plain : (first : ℕ) (rest : List ℕ) (byte : ℕ) (start old : Front) → Comes (first ∷ rest) start old → begins_with byte old.adapter.controller ≡ None
 later_plain first rest byte start old comes =
     let fdc = old.adapter.controller in
@@ -101,7 +101,7 @@ module _ (start : Front) (stands : Stands start) (bytes : List ℕ) (byte : ℕ)
     ),
   )
 
--- it is obeyed behind its bytes
+-- the controller obeys the command after its bytes
 pub record IsObeyed (command : Command) (start new : Front) : Type 0 where
   pub through : new.stage ≡ Through
   pub lines : Lines
@@ -109,7 +109,7 @@ pub record IsObeyed (command : Command) (start new : Front) : Type 0 where
 
 -- ---- commands
 
--- one byte behind others, or the first
+-- one byte after others
 next_comes : (first : ℕ) (rest : List ℕ) (byte : ℕ) (start old new : Front) → Stands start → Comes (first ∷ rest) start old → answer ((first ∷ rest) ++ byte ∷ []) ≡ More → WritesFront 0x3F5 byte old new
     → Comes ((first ∷ rest) ++ byte ∷ []) start new
 next_comes first rest byte start old new stands comes more writes =
@@ -124,13 +124,13 @@ last_comes command first rest byte start old between new stands comes ready writ
     let (through, (lines, obeys)) = comes_whole start stands (first ∷ rest) byte old between comes (later_plain first rest byte start old comes) writes command ready in
     subst (IsObeyed command start) (sym is) (record { through = through; lines = lines; obeys = obeys })
 
--- two bytes
+-- a command of two bytes
 two_obeyed : (command : Command) (code byte : ℕ) (start new : Front) → Stands start → opcode_of code ≡ None → answer (code ∷ []) ≡ More → answer (code ∷ byte ∷ []) ≡ Ready command
     → Sends (code ∷ byte ∷ []) start new → IsObeyed command start new
 two_obeyed command code byte start new stands none more ready (one, first, (two, second, is)) =
     last_comes command code [] byte start one two new stands (first_comes code start one stands none more first) ready second is
 
--- three
+-- a command of three bytes
 three_obeyed : (command : Command) (code second third : ℕ) (start new : Front) → Stands start → opcode_of code ≡ None → answer (code ∷ []) ≡ More → answer (code ∷ second ∷ []) ≡ More
     → answer (code ∷ second ∷ third ∷ []) ≡ Ready command → Sends (code ∷ second ∷ third ∷ []) start new → IsObeyed command start new
 three_obeyed command code second third start new stands none more again ready (one, writes_one, (two, writes_two, (three, writes_three, is))) =

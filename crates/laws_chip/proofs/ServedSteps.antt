@@ -1,4 +1,5 @@
--- A command of several sectors that is served behind: it begins, goes on through device steps, and its results are told.
+-- A command of several sectors that the sequencer serves: it begins, goes on through device steps, and its results are
+-- given.
 use Rattle.std.proofs.Common.{◌≡◌, ◌⊎◌, inl, inr, Bool, true, false, if◌then◌else◌, Option, Some, None, [], refl, sym, ◌∙◌, ap, subst}
 use Rattle.std.proofs.lemmas.Bool.{false≢true}
 use Rattle.track_model.specs.Fields.{IsSizeCode}
@@ -55,19 +56,19 @@ order_serves opcode order start new stands is size sends =
 
 -- ---- a device step
 
--- its results are told, and the controller takes commands
+-- the results of the command are given, and the controller takes commands
 pub record TellsBehind (front : Front) : Type 0 where
   pub results : Results
   pub told : front.stage ≡ Telling results 0
   pub takes : front.adapter.controller.phase ≡ Taking
   pub rests : seek_bits front.adapter.controller.seeks ≡ 0
 
--- it goes on with what it may be under way, or its results are told
+-- the command goes on with whatever is under way, or its results are given
 data Goes (old : Fdc) (new : Front) : Type 0 where
   on : is_under_way new.stage ≡ true → WaitsForHeads new.stage new.adapter.controller.phase → IsBase old new.adapter.controller → Goes old new
   over : TellsBehind new → IsBase old new.adapter.controller → Goes old new
 
--- where it is served still, so it is
+-- the command is still served, or its results are given
 goes_served : (old new : Front) (step : StepsFront old new) → ServesBehind old → Goes old.adapter.controller new → (ServesBehind new ⊎ TellsBehind new) × IsBase old.adapter.controller new.adapter.controller
 goes_served old new step was (over tells base) = (inr tells, base)
 goes_served old new step was (on under waits base) = elim (steps_serve old new step was.first was.history was.serves) [
@@ -101,7 +102,7 @@ seeks_go false at counted old front new stage_is takes ended sized clear base is
 
 -- ---- a sector is moved
 
--- another sector begins, or results are told
+-- another sector begins, or results are given
 next_or : (ending : Ending) (moving : MovingSector) (old new : Front) → EndsSector moving ending old new
     → ((results : Results) × (new ≡ record old { stage = Telling results 0 })) ⊎ ((met : Bool) × BeginsSector (next_of moving.transfer) false met old new)
 next_or (Done marked) moving old new ends = by_next (goes_on moving marked) ends

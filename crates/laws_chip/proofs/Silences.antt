@@ -1,4 +1,4 @@
--- What a chip that is busy comes to: it is busy, or tells results.
+-- What becomes of a chip that is busy: it is still busy, or it gives results.
 use Rattle.std.proofs.Common.{◌≡◌, inl, inr, ℕ, Bool, true, false, not, ◌&&◌, ◌==◌, Option, bit_and, refl, ◌∙◌, ap, subst}
 use Rattle.std.proofs.lemmas.Bool.{eqb-true}
 use Rattle.fdc_registers.specs.St1.{missing_mark}

@@ -1,4 +1,4 @@
--- A READ ID or a FORMAT TRACK behind: it begins, goes on through device steps, and its results wait.
+-- A READ ID or a FORMAT TRACK of the inner controller: it begins, goes on through device steps, and its results wait.
 use Rattle.std.proofs.Common.{◌≡◌, ◌⊎◌, inl, inr, ℕ, ◌+◌, ◌<◌, ◌==◌, Bool, true, false, not, ◌&&◌, if◌then◌else◌, [], bit_and, bit_or, refl, sym, ◌∙◌, ap, subst, arith}
 use Rattle.std.proofs.lemmas.Bool.{false≢true}
 use Rattle.flop_base.specs.declared.key.Chrn.{Chrn}
@@ -94,7 +94,7 @@ format_executes unit n sectors gap fill start new stands obeyed =
 abbrev HasLong : Phase → Type 0
 HasLong phase = (ending : Ending) × (results : Results) × (phase ≡ Result (Long ending results 0))
 
--- no seek changes, and it goes on or has ended
+-- no seek changes, and the command goes on or has ended
 record GoesSingly (polls new : Fdc) : Type 0 where
   seeks : new.seeks ≡ polls.seeks
   now : (executes_single new.phase ≡ true) ⊎ HasLong new.phase
@@ -180,7 +180,7 @@ polled_bits old = by_poll (old.poll_due && not (is_held old))
     by_poll true = refl
     by_poll false = refl
 
--- each device step leaves fewer
+-- each device step leaves fewer device steps
 pub adapter_ends : (old new : AdapterState) → StepsAdapter old new → EndsIn old.controller.phase new.controller.phase
 adapter_ends old new steps = elim (which_drive (selected_at old)) [
   | inl at ↦ (steps.at_first at).0.ends
@@ -193,7 +193,7 @@ single_fewer Taking new single ends = absurd (false≢true single)
 single_fewer (Result ended) new single ends = absurd (false≢true single)
 single_fewer (Execute execution) new single ends = ends
 
--- its results wait to be read
+-- the results of the command wait to be read
 pub record WaitsBehind (front : Front) : Type 0 where
   pub through : front.stage ≡ Through
   pub ending : Ending
@@ -217,7 +217,7 @@ executes_step old new step none was =
       adapter_base old.adapter step.between step.steps none,
     )
 
--- ---- what MSR shows of it
+-- ---- ---- what MSR shows of the command
 
 free_status : (fdc : Fdc) (bits : ℕ) → is_held fdc ≡ false → phase_bits (is_begun fdc.command) fdc.phase ≡ bits → seek_bits fdc.seeks ≡ 0 → main_status fdc ≡ bit_or bits 0
 free_status fdc bits free phase rests =
@@ -243,7 +243,7 @@ waits_shown front free waits =
     let fdc = front.adapter.controller in
     shown_by front 0xD0 waits.through (free_status fdc 0xD0 free (ap (phase_bits (is_begun fdc.command)) waits.at) waits.rests)
 
--- once all seven were read the controller takes commands
+-- once all seven result bytes were read the controller takes commands
 pub waits_taken : (front : Front) → is_held front.adapter.controller ≡ false → front.adapter.controller.command ≡ [] → front.adapter.controller.non_dma ≡ false → WaitsBehind front
     → Stands (results_taken front) × IsBase front.adapter.controller (results_taken front).adapter.controller
 waits_taken front free none by_dma waits =

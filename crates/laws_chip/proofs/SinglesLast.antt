@@ -1,4 +1,4 @@
--- A READ ID or a FORMAT TRACK behind ends: each device step leaves fewer.
+-- A READ ID or a FORMAT TRACK of the inner controller ends: each device step leaves fewer.
 use Rattle.std.proofs.Common.{◌≡◌, inl, inr, ℕ, ◌+◌, ◌-◌, ◌<◌, ◌≤◌, Bool, true, false, not, ◌&&◌, ◌==◌, Option, List, [], ◌∷◌, bit_and, refl, sym, ◌∙◌, ap, subst, arith}
 use Rattle.std.proofs.lemmas.Bool.{eqb-false, eqb-true, false≢true}
 use Rattle.fdc_registers.specs.St1.{missing_mark}
@@ -42,7 +42,7 @@ place_kind Index = 4
 place_kind Address = 5
 place_kind Data = 6
 
--- what a task does, but for what is left of it and the count
+-- what a task does, except for what is left of it and the terminal count
 abbrev pub kind_of : Task → ℕ
 kind_of task.Sent = 0
 kind_of (task.Sought first) = 1
@@ -54,11 +54,12 @@ abbrev pub stage_kind : Stage → ℕ
 stage_kind (Busy what) = kind_of what
 stage_kind _ = 7
 
--- it is another then
+-- the stage is then another one
 other_kind : (n m : ℕ) (new : ChipState) → (n == m) ≡ false → stage_kind new.stage ≡ n → stage_kind new.stage ≡ m → ⊥
 other_kind n m new other is same = eqb-false n m other (sym is ∙ same)
 
--- a command that was sent is neither looked for nor told
+-- once a command that was sent has ended, the chip looks which cylinder passes or gives results, and its stage is no
+-- other
 sent_leaves : (b : Bool) (n : ℕ) (results : Results) (old new : ChipState) → (1 == n) ≡ false → (7 == n) ≡ false → EndsSent b results old new → stage_kind new.stage ≡ n → ⊥
 sent_leaves true n results old new looked told (sends, rest) same = other_kind 1 n new looked (ap (λ (chip : ChipState). stage_kind chip.stage) rest) same
 sent_leaves false n results old new looked told is same = other_kind 7 n new told (ap (λ (chip : ChipState). stage_kind chip.stage) is) same
@@ -94,7 +95,7 @@ ends_leave (task.Track track) results old new ends same = place_leaves track.pla
 
 -- ---- one call
 
--- it is executed still, and fewer device steps are left by so many
+-- the command is still executed, and at least so many fewer device steps are left
 pub record StaysSingle (n : ℕ) (old new : Front) : Type 0 where
   pub executes : ExecutesBehind new
   pub left : steps_left new.adapter.controller.phase + n ≤ steps_left old.adapter.controller.phase
@@ -140,7 +141,7 @@ may_single what old between new basis step was may same =
           absurd (ends_leave what (results_behind between) (with_front (results_taken between) old) new (subst (λ b. EndsIf b what (with_front between old) new) shown may) same)
     ]
 
--- a VERIFY executes none
+-- for a VERIFY the inner controller executes neither READ ID nor FORMAT TRACK
 not_verify : {A : Type 0} (left : ℕ) (old : ChipState) → IsSound old → old.stage ≡ Busy (task.Verify left) → ExecutesBehind old.front → A
 not_verify left old sound at was = absurd (not_through old.front (busy_at old (task.Verify left) at sound).under_way was.through)
 
@@ -202,7 +203,7 @@ told_single (task.Refused unit key mfm) old new is was = same_single old.front n
 told_single (task.Verify left) old new is was = same_single old.front new.front (ap (λ (chip : ChipState). chip.front) is) was
 told_single (task.Track track) old new is was = counted_single (is_data track.place) old (record old { stage = Busy (task.Track (record track { counted = true })) }) new refl is was
 
--- ports: a reset leaves the stage
+-- ports, where a reset leaves the stage
 other_read : (port value : ℕ) (old new : ChipState) → (port == 0x3F5) ≡ false → ReadsChip port old value new → new ≡ old
 other_read port value old new no_data reads = either_way (port == 0x3F4)
     (λ status. (reads.status (eqb-true port 0x3F4 status)).1)
@@ -235,7 +236,7 @@ single_call made.Changes what old new sound at was does still same =
 single_call (made.Straps on) what old new sound at was does still same = same_single old.front new.front (ap (λ (chip : ChipState). chip.front) does) was
 single_call (made.StrapsSteps on) what old new sound at was does still same = same_single old.front new.front (ap (λ (chip : ChipState). chip.front) does) was
 
--- ---- calls one behind the other
+-- ---- ---- calls one after the other
 
 pub left_some : (phase : Phase) → executes_single phase ≡ true → IsCounted phase → 1 ≤ steps_left phase
 left_some Taking single counted = absurd (false≢true single)

@@ -43,13 +43,13 @@ use Rattle.laws_chip.proofs.UnderWay.{clash, either_way, port_stage}
 
 -- ---- bytes of what is executed
 
--- while it is, its front may change
+-- while a command is executed, the front may change
 busy_sound : (what : Task) (old new : ChipState) → old.stage ≡ Busy what → IsSound old → new ≡ with_front new.front old → IsBusyWith what new.front → IsBase old.front.adapter.controller new.front.adapter.controller → IsSound new
 busy_sound what old new at sound rest busy base =
     basis_busy new what (basis_same old new (sound_basis old (ap parts.is_ready at) sound) base (ap (λ (chip : ChipState). chip.count) rest) (ap (λ (chip : ChipState). chip.order) rest)) busy
     (ap (λ (chip : ChipState). chip.stage) rest ∙ at)
 
--- of a FORMAT TRACK one byte fewer is left
+-- one byte fewer of a FORMAT TRACK is left
 given_sound : (was : Bool) (old : ChipState) → IsSound old → IsSound (given_one was old)
 given_sound was old sound = record { by_dma = sound.by_dma; whole = sound.whole; held = sound.held; lets_out = sound.lets_out; comes = sound.comes; code = sound.code; now = sound.now }
 
@@ -79,7 +79,7 @@ write_sound false value old new shown sound is = same_sound old new is sound
 
 -- ---- the terminal count
 
--- it is told behind, or not
+-- the inner controller is given the terminal count, or isn't
 counted_sound : (b : Bool) (under : Task) (set new : ChipState) → IsBasis set → IsBusyWith under set.front → set.stage ≡ Busy under → new ≡ counted_if b set → IsSound new
 counted_sound true under set new basis busy stage is =
     let counted = fronts.told_front set.front in
@@ -144,7 +144,7 @@ reads_sound port value old new sound reads = either_way (port == 0x3F5)
 
 -- ---- a byte of a command
 
--- its code is a byte
+-- the code of a command is a byte
 pub code_few : (place byte : ℕ) (order : Order) → byte < 256 → order.code < 256 → (with_byte place byte order).code < 256
 code_few place byte order few was = by_place (place == 0) (place == 1) (place == 2) (place == 3) (place == 4) (place == 5) (place == 6) (place == 7)
   where
@@ -167,7 +167,7 @@ code_few place byte order few was = by_place (place == 0) (place == 1) (place ==
     by_place false false false false false false false true = was
     by_place false false false false false false false false = was
 
--- where one comes the controller isn't held in reset
+-- where a byte of a command may come the controller isn't held in reset
 pub comes_free : (old : ChipState) → IsSound old → may_come old ≡ true → is_held old.front.adapter.controller ≡ false
 comes_free old sound comes = elim (or_cases (not (old.count == 0)) (senses.is_ready old.front) comes) [
   | inl begun ↦ either_way (is_held old.front.adapter.controller)
@@ -249,7 +249,7 @@ front_anew port value old new writes no_byte anew =
       ap (λ (front : Front). front.stage) (subst (λ b. new ≡ record (fronts.reset_if b old) { adapter = new.adapter }) anew is),
     )
 
--- DOR is told to let INT and DRQ out, whatever is written
+-- the inner DOR lets INT and DRQ out, whatever is written, unless it holds the controller in reset
 abbrev LetsOut : Fdc → Type 0
 LetsOut fdc = is_held fdc ≡ false → is_gated fdc ≡ true
 
@@ -395,7 +395,7 @@ new_sound bay0 bay1 new is =
       });
     }
 
--- and one that was used
+-- a chip that was used
 pub used_sound : (bay0 bay1 : DriveState) (calls : List Call) (start new : ChipState) → IsNewChip bay0 bay1 start → AreMade calls start new → IsSound new
 used_sound bay0 bay1 calls start new is all = on calls start new all (new_sound bay0 bay1 start is)
   where

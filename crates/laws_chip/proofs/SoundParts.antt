@@ -1,4 +1,4 @@
--- What makes a chip sound, from what it was.
+-- What makes a chip sound, from what the chip was.
 use Rattle.std.proofs.Common.{◌≡◌, ◌<◌, Bool, true, false, not, ◌&&◌, ◌==◌, [], refl, sym, ◌∙◌, ap, subst}
 use Rattle.std.proofs.lemmas.Bool.{and_parts, eqb-true, false≢true}
 use Rattle.fdc_core.specs.State.{is_gated, is_held}
@@ -38,7 +38,7 @@ passing_at (Telling answer read) passes = absurd (false≢true passes)
 pub passing_of : (chip : ChipState) → passes chip ≡ true → (task : Task) × (chip.stage ≡ Busy task)
 passing_of chip is = passing_at chip.stage (and_parts (passes_at chip.stage) (not (is_format chip.order && (chip.keys == 0))) is).0
 
--- ---- what stands behind at a stage
+-- ---- ---- the inner controller at a stage
 
 pub rests_at : (stage : Stage) (front : Front) → is_busy stage ≡ false → RestsBehind front → IsSoundAt stage front
 rests_at Ready front idle rests = rests
@@ -65,7 +65,7 @@ pub record IsBasis (chip : ChipState) : Type 0 where
   pub gated : is_gated chip.front.adapter.controller ≡ true
   pub code : chip.order.code < 256
 
--- so it is where something is under way
+-- the chip is of this kind where something is under way
 pub sound_basis : (chip : ChipState) → is_ready chip.stage ≡ false → IsSound chip → IsBasis chip
 sound_basis chip other sound = let unheld : is_held chip.front.adapter.controller ≡ false = either_way (is_held chip.front.adapter.controller) (λ held. absurd (not_ready chip.stage other (sound.held held).0)) (λ free. free) in record {
   by_dma = sound.by_dma;
@@ -76,7 +76,7 @@ sound_basis chip other sound = let unheld : is_held chip.front.adapter.controlle
   code = sound.code;
 }
 
--- with another front
+-- the same chip with another front
 pub basis_front : (front : Front) (old : ChipState) → IsBasis old → IsBase old.front.adapter.controller front.adapter.controller → IsBasis (with_front front old)
 basis_front front old basis base = record {
   by_dma = base.non_dma ∙ basis.by_dma;
@@ -132,6 +132,6 @@ stays_sound old new sound base stage count order now = record {
 pub same_sound : (old new : ChipState) → new ≡ old → IsSound old → IsSound new
 same_sound old new is sound = subst IsSound (sym is) sound
 
--- what stands is free for the next command
+-- an inner controller that stands free rests, and is free for the next command
 pub basis_stands : (chip : ChipState) → IsBasis chip → Stands chip.front → RestsBehind chip.front
 basis_stands chip basis stands = stands_rests chip.front stands

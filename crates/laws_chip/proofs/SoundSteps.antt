@@ -39,12 +39,12 @@ use Rattle.laws_chip.proofs.Standing.{Stands, heads_stand, ready_free}
 
 -- ---- what comes of results
 
--- they are told
+-- the results are given
 told_sound : (results : Results) (old new : ChipState) → IsBasis old → Stands old.front → new ≡ told_results results old → IsSound new
 told_sound results old new basis stands is =
     done_sound old (told_results results old) new basis (stands_rests old.front stands) (record { front = refl; count = refl; order = refl }) refl is
 
--- READ ID is given behind, or a READ DATA of one sector
+-- the inner controller is given READ ID, or a READ DATA of one sector
 id_given : (what : Task) (unit : ℕ) (set new : ChipState) → IsBasis set → Stands set.front → set.stage ≡ Busy what → (ExecutesBehind new.front → IsBusyWith what new.front) → SendsOn (identifying unit) set new → IsSound new
 id_given what unit set new basis stands at busy (sends, rest) =
     let obeyed = id_obeyed unit set.front new.front stands sends in
@@ -60,7 +60,7 @@ sector_given what unit key gap length set new basis stands at sized busy (sends,
     basis_busy new what (basis_same set new basis base (ap (λ (chip : ChipState). chip.count) rest) (ap (λ (chip : ChipState). chip.order) rest)) (busy serves)
     (ap (λ (chip : ChipState). chip.stage) rest ∙ at)
 
--- what is then under way
+-- the chip with what is then under way
 set_basis : (stage : Stage) (old : ChipState) → IsBasis old → IsBasis (record old { stage = stage })
 set_basis stage old basis = record { by_dma = basis.by_dma; whole = basis.whole; free = basis.free; none = basis.none; gated = basis.gated; code = basis.code }
 
@@ -113,9 +113,9 @@ ends_sound (task.Verify left) results old new basis stands ends =
     let told = verified old.order results in sent_sound (looks_for_cylinder old.order told) told old new basis stands ends
 ends_sound (task.Track track) results old new basis stands ends = place_sound track.place track results old new basis stands ends
 
--- ---- what may wait behind a step
+-- ---- ---- what may wait after a step
 
--- what is executed for this task, or its results
+-- what is executed for this task, or the results of that
 abbrev IsAtStep : Task → Front → Type 0
 IsAtStep what front = IsBusyWith what front ⊎ IsOverBehind front
 
@@ -152,7 +152,7 @@ may_end_sound what under chip new basis at (inr (inr waits)) may =
 
 -- ---- what the front's step leaves
 
--- it is at such a step, and the controller's base is this
+-- after the step the front is in such a state, and the controller's base stays
 record IsStepped (what : Task) (old new : Front) : Type 0 where
   at : IsAtStep what new
   base : IsBase old.adapter.controller new.adapter.controller
@@ -242,14 +242,14 @@ busy_step (task.Track track) old between new at basis was may =
 
 -- ---- of any chip
 
--- its front rests, and the chip is as it was but for that
+-- the front rests, and nothing else of the chip has changed
 stage_rests : (old new : ChipState) → IsSound old → is_busy old.stage ≡ false → RestsBehind new.front → IsBase old.front.adapter.controller new.front.adapter.controller → new.stage ≡ old.stage → new.count ≡ old.count
     → new.order ≡ old.order → IsSound new
 stage_rests old new sound idle rests base stage count order = stays_sound old new sound base stage count order (rests_at old.stage new.front idle rests)
 
--- ---- a seek whose pulses come in time
+-- ---- ---- a seek whose pulses come in the time that SPECIFY sets
 
--- a command of it is given behind
+-- the inner controller is given a command of that seek
 gives_rests : (unit : ℕ) (goal : Option ℕ) (old set new : ChipState) → Stands old.front → set.front ≡ old.front → set.stage ≡ old.stage → set.count ≡ old.count → set.order ≡ old.order
     → SendsOn (moving unit goal) set new → IsResting old new
 gives_rests unit goal old set new stands front stage count order (sends, rest) =
@@ -291,7 +291,7 @@ goes_rests true pace old new by_dma none rests due pulses =
 goes_rests false pace old new by_dma none rests due is =
     subst (IsResting old) (sym is) (record { rests = rests; base = base_same old.front.adapter.controller none; stage = refl; count = refl; order = refl })
 
--- what stands behind rests still
+-- the inner controller still rests
 paces_rest : (pace : Option Pace) (old new : ChipState) → old.front.adapter.controller.non_dma ≡ false → old.front.adapter.controller.command ≡ [] → RestsBehind old.front → Paces pace old new → IsResting old new
 paces_rest None old new by_dma none rests is =
     subst (IsResting old) (sym is) (record { rests = rests; base = base_same old.front.adapter.controller none; stage = refl; count = refl; order = refl })

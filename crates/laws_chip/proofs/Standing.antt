@@ -18,7 +18,8 @@ use Rattle.fdc_sequencer.specs.declared.stage.Stage.TheVariants.{Through, Collec
 use Rattle.fdc_chip.specs.Doing.{moves_heads}
 use Rattle.laws_chip.specs.Beginning.{IsFreeBehind, IsOfFour}
 
--- it takes the first byte of a command, and executes what comes: no seek bit is set, and SPECIFY's ND isn't
+-- the controller takes the first byte of a command, and executes what comes: no seek bit is set, and SPECIFY didn't set
+-- ND
 pub record Stands (front : Front) : Type 0 where
   pub through : front.stage ≡ Through
   pub takes : front.adapter.controller.phase ≡ Taking
@@ -27,7 +28,7 @@ pub record Stands (front : Front) : Type 0 where
   pub rests : seek_bits front.adapter.controller.seeks ≡ 0
   pub by_dma : front.adapter.controller.non_dma ≡ false
 
--- ---- what it is seen by
+-- ---- ---- by what this is seen
 
 taking_phase : (phase : Phase) (held : Bool) → takes_in phase held ≡ true → (phase ≡ Taking) × (held ≡ false)
 taking_phase Taking held is = (refl, not-true held is)
@@ -86,7 +87,7 @@ stands_free front free =
       by_dma = free.by_dma;
     }
 
--- it isn't held in reset
+-- the controller isn't held in reset
 pub ready_free : (front : Front) → is_ready front ≡ true → is_held front.adapter.controller ≡ false
 ready_free front ready =
     let fdc = front.adapter.controller in

@@ -1,4 +1,4 @@
--- What the sequencer tells, read by the chip in the step in which it comes.
+-- The results that the sequencer gives, read by the chip in the step in which they come.
 use Rattle.std.proofs.Common.{◌≡◌, inl, inr, ℕ, Bool, true, false, not, ◌&&◌, ◌||◌, ◌==◌, if◌then◌else◌, bit_and, bit_or, refl, sym, ◌∙◌, ap, subst}
 use Rattle.std.proofs.lemmas.Bool.{and_left, and_right}
 use Rattle.std.proofs.lemmas.Nat.{or_comm}
@@ -15,7 +15,7 @@ use Rattle.fdc_chip.specs.declared.stage.Stage.TheVariants.{Busy}
 use Rattle.fdc_chip.specs.declared.stage.Task.TheVariants.{Sent, Sought}
 use Rattle.laws_chip.specs.Told.{AddsCylinder, AreOfCylinder, LooksFor, LooksOrTells, Tells}
 
--- ---- the results of a front that tells them
+-- ---- ---- the results of a front that gives them
 
 pub results_wait : (front : Front) (results : Results) → front.stage ≡ behind.Telling results 0 → has_results front ≡ true
 results_wait front results is = ap (λ stage. bit_and (status_at stage front.adapter.controller) 0xC0 == 0xC0) is
@@ -23,7 +23,7 @@ results_wait front results is = ap (λ stage. bit_and (status_at stage front.ada
 pub results_are : (front : Front) (results : Results) → front.stage ≡ behind.Telling results 0 → results_behind front ≡ results
 results_are front results is = ap (λ stage. results_behind (record front { stage = stage })) is
 
--- once all seven were read each access is the controller's again
+-- once all seven result bytes were read each access is the controller's again
 pub taken_is : (front : Front) (results : Results) → front.stage ≡ behind.Telling results 0 → results_taken front ≡ record front { stage = behind.Through }
 taken_is front results is = ap (λ stage. results_taken (record front { stage = stage })) is
 

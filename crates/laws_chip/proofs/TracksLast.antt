@@ -49,7 +49,8 @@ use Rattle.laws_chip.proofs.VerifiesLast.{IsWithin, none_within, one_within}
 
 -- ---- how many device steps are left
 
--- of the search for the index and all sectors; of READ ID, its sector and those behind that; or of a sector and those behind
+-- the device steps left at each place: the search for the index and all sectors; READ ID, its sector and those after
+-- it; or a sector and those after it
 abbrev LeavesAt : Place → ℕ → ℕ → Front → Type 0
 LeavesAt Index n left front = (here : ℕ) × Lasts here front × (here + 131328 * left ≤ n)
 LeavesAt Address n left front = steps_left front.adapter.controller.phase + (65792 + 131328 * left) ≤ n + 131328
@@ -61,7 +62,7 @@ record Leaves (n : ℕ) (chip : ChipState) : Type 0 where
   some : 1 ≤ track.left
   leaves : LeavesAt track.place n track.left chip.front
 
--- a device step was made, and so many are left
+-- a device step was made, and so many device steps are left
 abbrev SpentAt : Place → ℕ → ℕ → Type 0
 SpentAt Index n left = 131328 * left ≤ n - 1
 SpentAt Address n left = 65792 + 131328 * left ≤ n - 1 + 131328
@@ -76,7 +77,7 @@ address_spent here n left one some few = omega arith
 data_spent : (here n left : ℕ) → 1 ≤ here → 1 ≤ left → here + 131328 * left ≤ n + 131328 → 131328 * left ≤ n - 1 + 131328
 data_spent here n left one some few = omega arith
 
--- while a sector is served a device step is left
+-- while a sector is served at least one device step is left
 some_here : (here : ℕ) (front : Front) → ServesBehind front → Lasts here front → 1 ≤ here
 some_here here front serves lasts = lasts_some here front.stage serves.first serves.history front.adapter.controller serves.serves.now lasts serves.under_way
 
@@ -86,7 +87,7 @@ spent_at Address n left front executes some few =
     let phase = front.adapter.controller.phase in address_spent (steps_left phase) n left (left_some phase executes.executes executes.counted) some few
 spent_at Data n left front serves some (here, lasts, few) = data_spent here n left (some_here here front serves lasts) some few
 
--- ---- it goes on
+-- ---- ---- the command goes on
 
 index_on : (here n left : ℕ) → 1 ≤ here → here + 131328 * left ≤ n → here - 1 + 131328 * left ≤ n - 1
 index_on here n left one few = omega arith
@@ -97,7 +98,7 @@ address_on now was n left fewer some few = omega arith
 data_on : (here n left : ℕ) → 1 ≤ here → 1 ≤ left → here + 131328 * left ≤ n + 131328 → here - 1 + 131328 * left ≤ n - 1 + 131328
 data_on here n left one some few = omega arith
 
--- the front's device step, behind which no results wait
+-- the front's device step, after which no results wait
 module _ (old between : Front) (step : StepsFront old between) (none : old.adapter.controller.command ≡ []) (clear : old.adapter.controller.non_dma ≡ false) (silent : has_results between ≡ false) where
   serves_on : (here : ℕ) → ServesBehind old → Lasts here old → Lasts (here - 1) between
   serves_on here was lasts = elim (serves_step old between step none clear was).0 [
@@ -111,19 +112,19 @@ module _ (old between : Front) (step : StepsFront old between) (none : old.adapt
       address_on (steps_left between.adapter.controller.phase) (steps_left old.adapter.controller.phase) n left (step_fewer old between step was) some few
   leaves_on Data n left was some (here, lasts, few) = (here - 1, serves_on here was lasts, data_on here n left (some_here here old was lasts) some few)
 
--- ---- a sector is given behind
+-- ---- ---- the sequencer is given a sector
 
 abbrev read_one : Opcode
 read_one = record { operation = Read false false; multitrack = false }
 
--- its command is of one sector
+-- the command for it is of one sector
 same_record : (r : ℕ) → r + 256 - r ≡ 256
 same_record r = omega arith
 
 one_sector : (unit : ℕ) (key : Chrn) (gap length : ℕ) → most_steps (transfer_sent read_one (one_order unit key gap length)) ≡ 65792
 one_sector unit key gap length = ap (λ (n : ℕ). 256 + 65536 * ((n % 256 + 1) + 0)) (same_record key.r)
 
--- and no sector comes after it
+-- no sector comes after it
 same_number : (n : ℕ) → (n == n) ≡ true
 same_number n = either_way (n == n) (λ same. same) (λ other. absurd (eqb-false n n other refl))
 
@@ -133,7 +134,7 @@ one_last unit key gap length = ap (λ b. b && true) (same_number key.r)
 one_records : (unit : ℕ) (key : Chrn) (gap length : ℕ) → HasRecords (transfer_sent read_one (one_order unit key gap length))
 one_records unit key gap length = λ more. clash (is_last (transfer_sent read_one (one_order unit key gap length))) more (one_last unit key gap length)
 
--- the first, for which a seek may be implied
+-- the first sector, for which a seek may be implied
 first_sector : (unit : ℕ) (key : Chrn) (gap length : ℕ) (set new : Front) → Stands set → is_size key.n ≡ true → Sends (reading_one unit key gap length) set new → IsInRange new.adapter.controller → Lasts 65792 new
 first_sector unit key gap length set new stands sized sends range =
     let order = one_order unit key gap length in
@@ -141,7 +142,7 @@ first_sector unit key gap length set new stands sized sends range =
     let first = transfer_sent read_one order in
     subst (λ n. Lasts n new) (one_sector unit key gap length) (first_lasts begins.byte first begins.start new begins.last (one_records unit key gap length) begins.writes begins.stays range)
 
--- one for which none is
+-- a sector for which no seek is implied
 sector_lasts : (unit : ℕ) (key : Chrn) (gap length : ℕ) (set new : Front) → Stands set → (set.strapped || set.configured) ≡ false → is_size key.n ≡ true → Sends (reading_one unit key gap length) set new → Lasts 65792 new
 sector_lasts unit key gap length set new stands none sized sends =
     let order = one_order unit key gap length in
@@ -165,7 +166,7 @@ looks_leave n track old new some spent (sends, rest) =
       leaves = looks_left (steps_left phase) n track.left (left_most phase) spent;
     }
 
--- its sector is read
+-- the sector of the address field is read
 reads_leave : (n : ℕ) (track : Track) (key : Chrn) (old new : ChipState) → Stands old.front → is_size key.n ≡ true → 1 ≤ track.left → SpentAt Address n track.left → IsTracking new → ReadsOn track key old new → Leaves (n - 1) new
 reads_leave n track key old new stands sized some spent tracks (sends, rest) = record {
   track = met_key key track;
@@ -178,7 +179,7 @@ reads_leave n track key old new stands sized some spent tracks (sends, rest) = r
   );
 }
 
--- a command that tells its results isn't under way
+-- a command that gives its results isn't under way
 told_none : {A : Type 0} (new : ChipState) → IsTracking new → is_busy new.stage ≡ false → A
 told_none new tracks told = absurd (false≢true (sym told ∙ ap is_busy tracks.reads))
 
@@ -196,7 +197,7 @@ address_leaves : (b : Bool) (n : ℕ) (results : Results) (track : Track) (old n
 address_leaves true n results track old new stands some spent tracks is = told_none new tracks (ap (λ (chip : ChipState). is_busy chip.stage) is)
 address_leaves false n results track old new stands some spent tracks ends = met_leaves ((results.st1.0 == 0) && is_size results.key.n) n results track old new stands some spent tracks refl ends
 
--- the sector was one of those that were left, and not the last
+-- the sector was one of those that were left, and it isn't the last
 one_fewer : (n left : ℕ) → 1 ≤ left → 131328 * left ≤ n - 1 + 131328 → 131328 * (left - 1) ≤ n - 1
 one_fewer n left some spent = omega arith
 
@@ -218,7 +219,7 @@ data_leaves false n results track old new some spent tracks over looks =
 
 -- ---- a device step
 
--- what stands behind is free once the results of READ ID were taken
+-- the inner controller is free once the results of READ ID were taken
 free_taken : (old : ChipState) (between : Front) → IsBasis old → StepsFront old.front between → IsBusyAt Address old.front → has_results between ≡ true → Stands (results_taken between)
 free_taken old between basis step executes waits =
     let (goes, base) = executes_step old.front between step basis.whole executes in
@@ -258,7 +259,7 @@ step_leaves n old new sound was step tracks =
       leaves = leaves_on old.front step.between step.steps basis.whole basis.by_dma silent was.track.place n was.track.left busy was.some was.leaves;
     })
 
--- ---- other calls: the track is where it was, but for the terminal count
+-- ---- ---- other calls: the track is where it was, except for the terminal count
 
 record IsKept (track : Track) (new : ChipState) : Type 0 where
   now : Track
@@ -272,7 +273,7 @@ kept_at track old new at same = record { now = track; at = same ∙ at; place = 
 kept_same : (track : Track) (old new : ChipState) → old.stage ≡ Busy (task.Track track) → new ≡ old → IsKept track new
 kept_same track old new at is = kept_at track old new at (ap (λ (chip : ChipState). chip.stage) is)
 
--- and what stands behind did one call, or none
+-- the track is kept, and the front made one call, or none
 record IsPassing (track : Track) (old new : ChipState) : Type 0 where
   kept : IsKept track new
   within : is_under_way new.front.stage ≡ true → IsWithin 0 old.front new.front
@@ -347,7 +348,7 @@ call_passes (made.StrapsSteps on) track old new at does other tracks = record {
   within = λ under. none_within old.front new.front (ap (λ (chip : ChipState). chip.front) does);
 }
 
--- as many are left
+-- as many device steps are left
 none_off : (here steps : ℕ) → steps ≡ 0 → here - steps ≡ here
 none_off here steps none = omega arith
 
@@ -397,7 +398,7 @@ other_leaves call n old new sound still was does other tracks =
       leaves = subst (λ place. LeavesAt place n kept.now.left new.front) (sym kept.place) (subst (λ left. LeavesAt track.place n left new.front) (sym kept.left) leaves);
     }
 
--- ---- calls one behind the other
+-- ---- ---- calls one after the other
 
 off_none : (n : ℕ) → n ≡ n - 0
 off_none n = omega arith
@@ -442,7 +443,7 @@ tracks_last (call ∷ calls) n old new sound was (between, does, writes, tracks,
     steps_less (steps_of call) (steps_in calls) n
     (tracks_last calls (n - steps_of call) between new still (call_leaves call n old between sound still was does tracks) rest)
 
--- ---- it begins
+-- ---- ---- how the command begins
 
 all_left : (last : ℕ) → 1 ≤ (if last == 0 then 256 else last)
 all_left last = by_none (last == 0) refl

@@ -17,7 +17,7 @@ either_way false set clear = clear refl
 pub not_through : (front : Front) → is_under_way front.stage ≡ true → front.stage ≡ Through → ⊥
 not_through front under is = false≢true (sym (ap is_under_way is) ∙ under)
 
--- all of it stays
+-- the whole front stays
 pub same_under : (old new : Front) → new ≡ old → is_under_way old.stage ≡ true → is_under_way new.stage ≡ true
 same_under old new is under = ap (λ front. is_under_way front.stage) is ∙ under
 
@@ -79,14 +79,14 @@ ignores (Telling results read) byte front under = absurd (false≢true under)
 ignores (Seeking transfer counted) byte front under = refl
 ignores (Moving moving) byte front under = refl
 
--- a byte to the data port is such a write
+-- a byte that is written to the data port is ignored in this way
 pub ignored_write : (port byte : ℕ) (front : Front) → (port == 0x3F5) ≡ true → is_under_way front.stage ≡ true → WritesFront port byte front front
 ignored_write port byte front here under = record {
   bytes = λ is. ignores front.stage byte front under;
   others = λ no. clash (port == 0x3F5) no here;
 }
 
--- a write of another port that doesn't reset leaves what is done in front
+-- a write of another port that doesn't reset leaves the stage
 pub port_stage : (port value : ℕ) (old new : Front) → WritesFront port value old new → (port == 0x3F5) ≡ false → resets port value ≡ false → new.stage ≡ old.stage
 port_stage port value old new writes no_byte no_reset =
     let (wrote, is) = writes.others no_byte in

@@ -1,4 +1,5 @@
--- A VERIFY is a READ DATA behind whose bytes go nowhere, and ends as that does; so does a transfer.
+-- A VERIFY is a READ DATA of the sequencer, whose bytes go nowhere, and it ends as that READ DATA does. So does a
+-- transfer.
 use Rattle.std.proofs.Common.{◌≡◌, ℕ, zero, suc, ◌+◌, ◌*◌, ◌<◌, Bool, true, false, not, ◌&&◌, ◌==◌, if◌then◌else◌, Option, Some, None, List, [], ◌∷◌, ◌++◌, refl, sym, ◌∙◌, ap, subst}
 use Rattle.std.proofs.lemmas.Bool.{and_left, and_right, eqb-true, false≢true}
 use Rattle.fdc_commands.specs.declared.results.Results.{Results}
@@ -73,7 +74,7 @@ verify_verifies opcode old new is size free obeys = (verify_sent opcode old new 
 
 -- ---- each call is the sequencer's, or none
 
--- in so many device steps
+-- the sequencer's calls from one front to the other have so many device steps
 pub record IsWithin (steps : ℕ) (old new : Front) : Type 0 where
   pub calls : List behind.Call
   pub within : behind.AreWithin calls old new
@@ -92,9 +93,9 @@ then_within first second old between new one two = record {
   steps_are = steps_both one.calls two.calls ∙ (ap (λ n. n + lasting.steps_in two.calls) one.steps_are ∙ ap (λ n. first + n) two.steps_are);
 }
 
--- ---- its bytes
+-- ---- ---- the bytes of a VERIFY
 
--- where a command is under way behind a byte it was before
+-- if a command is under way after a byte, it was under way before
 takes_back : (stage : FrontStage) (byte : Option ℕ) (old new : Front) → old.stage ≡ stage → is_under_way new.stage ≡ true → TakesAt stage old byte new → is_under_way stage ≡ true
 takes_back Through byte old new at under (adapter, is) = sym (ap is_under_way (ap (λ (front : Front). front.stage) is ∙ at)) ∙ under
 takes_back (Collecting opcode) byte old new at under (none, is) = sym (ap is_under_way (ap (λ (front : Front). front.stage) is ∙ at)) ∙ under
@@ -109,7 +110,7 @@ counts_back (Telling results read) old new at under is = sym (ap is_under_way (a
 counts_back (Seeking transfer counted) old new at under is = refl
 counts_back (Moving moving) old new at under is = refl
 
--- a byte goes nowhere, and behind the last the count is told
+-- a byte goes nowhere, and after the last byte the terminal count is given
 record SwallowsWithin (old new : Front) : Type 0 where
   before : is_under_way old.stage ≡ true
   within : IsWithin 0 old new
@@ -165,7 +166,7 @@ step_within left old new at step still =
     let one = one_within behind.Steps old.front step.between step.steps swallows.before in
     subst (IsWithin 1 old.front) (sym front) (then_within 1 0 old.front step.between all.front one swallows.within)
 
--- ---- other calls: no byte of it is the host's
+-- ---- ---- other calls: no byte of a VERIFY is the host's
 
 none_passes : (left : ℕ) (old : ChipState) → old.stage ≡ Busy (Verify left) → passes old ≡ false
 none_passes left old at = and_left (passes_at old.stage) (not (is_format old.order && (old.keys == 0))) (ap passes_at at)
@@ -214,7 +215,7 @@ call_within made.Changes left old new at does still = one_within behind.Changes 
 call_within (made.Straps on) left old new at does still = none_within old.front new.front (ap (λ (chip : ChipState). chip.front) does)
 call_within (made.StrapsSteps on) left old new at does still = none_within old.front new.front (ap (λ (chip : ChipState). chip.front) does)
 
--- ---- calls one behind the other
+-- ---- ---- calls one after the other
 
 record AreWithin (calls : List Call) (old new : Front) : Type 0 where
   under_way : is_under_way new.stage ≡ true

@@ -1,4 +1,4 @@
--- The last byte of a command: what stands behind is free for it, and it begins; or it is held until heads stand.
+-- The last byte of a command: the inner controller is free for it, and it begins; or it is held until heads stand.
 use Rattle.std.proofs.Common.{if◌then◌else◌, ◌≡◌, ℕ, zero, suc, ◌+◌, ◌%◌, ◌<◌, nat_le, Bool, true, false, not, ◌||◌, ◌==◌, Option, Some, None, is_some, refl, sym, ◌∙◌, ap, subst}
 use Rattle.std.proofs.lemmas.Bool.{and_from, and_right, eqb-true, false≢true, or_parts}
 use Rattle.fdc_sequencer.specs.Fronts.{Front}
@@ -31,7 +31,7 @@ use Rattle.laws_chip.proofs.SoundSteps.{stepped_rests}
 use Rattle.laws_chip.proofs.Standing.{Stands, stands_idle}
 use Rattle.laws_chip.proofs.UnderWay.{either_way}
 
--- ---- results that are taken over leave what stands behind by what it was
+-- ---- ---- results that are taken over leave the inner controller in a state that follows from the one before
 
 pub kept_front : (result : Option (ℕ × ℕ)) (old : ChipState) → (kept result old).front ≡ old.front
 kept_front None old = refl
@@ -73,7 +73,7 @@ same_moves one other same paced =
 
 -- ---- a whole command
 
--- it is attended to by a chip where nothing is under way
+-- a chip where nothing is under way attends to the command
 pub record IsAttended (code : Code) (set new : ChipState) : Type 0 where
   pub basis : IsBasis set
   pub rests : RestsBehind set.front
@@ -114,13 +114,13 @@ attended_begins false opcode old new still whole attended =
     let size : is_size done.set.order.key.n ≡ true = ap (λ (order : Order). is_size order.key.n) done.order_is ∙ whole.size in
     subst (λ order. IsBegun (transfer_sent opcode order) new) done.order_is (transfer_begun opcode done.set new served size done.free done.obeys)
 
--- ---- its last byte
+-- ---- ---- the last byte of a command
 
--- the chip that attends to it: none of its bytes waits
+-- the chip that attends to the command: none of its bytes waits
 abbrev pub attending : ℕ → ChipState → ChipState
 attending byte old = record (with_next byte old) { count = 0 }
 
--- it isn't the first byte, and no more are wanted
+-- the byte isn't the first one, and no more are wanted
 last_bytes : (code : Code) → needs_heads code ≡ true → ((parameters code == 0) ≡ false) × (nat_le (parameters code + 1) ((parameters code + 1) % 256) ≡ true)
 last_bytes Specify heads = absurd (false≢true heads)
 last_bytes SenseInterrupt heads = absurd (false≢true heads)
@@ -175,7 +175,7 @@ byte_begins opcode byte old new sound few completes writes =
     let last : Completes (Transfer true) byte old = record { others = completes.eight; whole = completes.whole.code } in
     attended_begins (still_moves old) opcode (attending byte old) new (same_moves (attending byte old) old refl refl) completes.whole (byte_attends (Transfer true) byte old new sound few refl last writes)
 
--- ---- a device step of one that is held
+-- ---- ---- a device step of a held command
 
 pub step_attends : (code : Code) (old paced new : ChipState) → IsSound old → old.stage ≡ Held → code_of old.order.code ≡ Some code → IsResting old paced → AttendsTo (code_of paced.order.code) paced new → IsAttended code paced new
 step_attends code old paced new sound at is was attends = record {
@@ -184,7 +184,7 @@ step_attends code old paced new sound at is was attends = record {
   attends = subst (λ (found : Option Code). AttendsTo found paced new) (ap (λ (order : Order). code_of order.code) was.order ∙ is) attends;
 }
 
--- what follows it
+-- what the chip does after the device step
 pub follows_held : (old new : ChipState) (step : StepsChip old new) → old.stage ≡ Held → Follows Held (with_front step.between old) new
 follows_held old new step at = subst (λ stage. Follows stage (with_front step.between old) new) at step.follows
 
@@ -216,7 +216,7 @@ step_begins opcode order old new step sound held whole =
           (attended_begins (still_moves paced) opcode paced new refl (subst (IsTransferOf opcode) (sym same) whole) attended),
     )
 
--- ---- it is held through each other call
+-- ---- ---- the command is held through each other call
 
 front_held : (order : Order) (old new : ChipState) → new ≡ with_front new.front old → IsHeldFor order old → IsHeldFor order new
 front_held order old new rest was =

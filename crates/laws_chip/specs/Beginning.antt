@@ -23,12 +23,12 @@ use Rattle.fdc_chip.specs.declared.order.Order.{Order}
 use Rattle.fdc_chip.specs.declared.stage.Stage.TheVariants.{Held}
 use Rattle.laws_chip.specs.Calls.{AreServed, Call, IsServing, MakesAll}
 
--- a seek is of one of four drives
+-- if a seek runs, it is of one of four drives
 abbrev pub IsOfFour : Option Seek → Type 0
 IsOfFour None = Unit {0}
 IsOfFour (Some seek) = seek.drive < 4
 
--- what stands behind takes commands, its heads stand, and SPECIFY's ND isn't set there
+-- the inner controller takes commands, its heads stand, and SPECIFY's ND isn't set in it
 pub record IsFreeBehind (front : Front) : Type 0 where
   pub ready : is_ready front ≡ true
   pub stands : moves_heads front ≡ false
@@ -39,7 +39,7 @@ pub record IsFreeBehind (front : Front) : Type 0 where
 abbrev pub transfer_sent : Opcode → Order → Transfer
 transfer_sent opcode order = transfer_with opcode order.unit order.key order.last_sector order.gap order.length
 
--- with this byte the command is whole behind, and it is served from then on: nothing has passed of it
+-- with this byte the sequencer has the whole command, and serves it from then on. Nothing of it has passed yet
 pub record BeginsBehind (first : Transfer) (front : Front) : Type 0 where
   pub byte : ℕ
   pub start : Front
@@ -53,7 +53,8 @@ pub record IsBegun (first : Transfer) (new : ChipState) : Type 0 where
   pub begins : BeginsBehind first new.front
   pub serving : IsServing new
 
--- from its beginning to the step in which the sequencer has these results: the sequencer's calls, and what passed in them
+-- from the command's beginning to the step in which the sequencer has these results: the sequencer's calls, and what
+-- passed in them
 pub record IsServed (first : Transfer) (calls : List Call) (begun last new : ChipState) (served : AreServed calls begun last) (step : StepsChip last new) (results : Results) : Type 0 where
   pub all : List behind.Call
   pub makes : MakesAll calls begun last served all
@@ -62,11 +63,11 @@ pub record IsServed (first : Transfer) (calls : List Call) (begun last new : Chi
 
 -- ---- the last byte of a command
 
--- what came of it, with this byte
+-- the order, with this byte added
 abbrev pub completed : ℕ → ChipState → Order
 completed byte chip = with_byte chip.count byte chip.order
 
--- as many bytes came as follow its code, and this is the last
+-- all bytes of the command but one have come, and this is the last
 pub record Completes (code : Code) (byte : ℕ) (old : ChipState) : Type 0 where
   pub others : old.count ≡ parameters code
   pub whole : code_of (completed byte old).code ≡ Some code
@@ -77,26 +78,26 @@ pub record IsTransferOf (opcode : Opcode) (order : Order) : Type 0 where
   pub served : opcode_of order.code ≡ Some opcode
   pub size : is_size order.key.n ≡ true
 
--- eight bytes of one came, and this is the ninth
+-- eight bytes of such a command came, and this is the ninth
 pub record CompletesTransfer (opcode : Opcode) (byte : ℕ) (old : ChipState) : Type 0 where
   pub eight : old.count ≡ 8
   pub whole : IsTransferOf opcode (completed byte old)
 
--- heads move, once results of seeks were taken over
+-- heads move, after results of seeks were taken over
 abbrev pub still_moves : ChipState → Bool
 still_moves chip = is_moving (drained chip)
 
--- a whole command is held while they do
+-- a whole command is held while heads move
 pub record IsHeldFor (order : Order) (chip : ChipState) : Type 0 where
   pub held : chip.stage ≡ Held
   pub order_is : chip.order ≡ order
 
--- it is, or it begins
+-- the command is held, or it begins
 abbrev pub BeginsUnless : Bool → Opcode → Order → ChipState → Type 0
 BeginsUnless true opcode order new = IsHeldFor order new
 BeginsUnless false opcode order new = IsBegun (transfer_sent opcode order) new
 
--- a command is done by a chip behind which it is free
+-- a chip does a command while its inner controller is free
 pub record IsDoneFree (code : Code) (order : Order) (new : ChipState) : Type 0 where
   pub set : ChipState
   pub order_is : set.order ≡ order

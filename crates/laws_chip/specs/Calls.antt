@@ -1,4 +1,4 @@
--- Calls of a chip, one after the other, and the calls of the sequencer behind that they come to.
+-- Calls of a chip, one after the other, and the calls of its sequencer that they come to.
 use Rattle.std.specs.Prelude.{◌≡◌, ℕ, ◌+◌, ◌<◌, Bool, true, false, ◌&&◌, ◌==◌, Option, List, [], ◌∷◌, ◌++◌, unwrap_or}
 use Rattle.fdc_core.specs.Ports.{resets}
 use Rattle.fdc_chip.specs.Chips.{ChipState, KeepsChip, passes_by_channel, passes_by_port}
@@ -10,9 +10,15 @@ use Rattle.laws_sequencer.specs.Calls as behind
 use Rattle.laws_sequencer.specs.Lasting as lasting
 use Rattle.laws_sequencer.specs.Lasting.{is_under_way}
 
--- a call: a device step; the channel takes a byte or finds none; it gives one, which is taken or not; it tells the terminal
--- count; a port is read, which gives a value, or written; a medium is put in, taken out or exchanged, its tab is moved, or a drive is put
--- in place of another; the strap for implied seeks is set or not, or that for the time of step pulses
+-- one call, which does one of these things:
+-- - a device step passes;
+-- - the channel takes a byte or finds none;
+-- - the channel gives a byte, which is taken or not;
+-- - the channel gives the terminal count;
+-- - a port is read, which gives a value, or written;
+-- - a medium is put in, taken out or exchanged, its tab is moved, or a drive is put in place of another;
+-- - the strap for implied seeks is set or not;
+-- - the strap for the time of step pulses is set or not.
 pub data Call : Type 0 where
   Steps : Call
   Takes : Option ℕ → Call
@@ -24,7 +30,7 @@ pub data Call : Type 0 where
   Straps : Bool → Call
   StrapsSteps : Bool → Call
 
--- what it does
+-- what a call does
 abbrev pub Does : Call → ChipState → ChipState → Type 0
 Does Steps old new = StepsChip old new
 Does (Takes byte) old new = TakesChip old byte new
@@ -40,7 +46,7 @@ abbrev pub is_step : Call → Bool
 is_step Steps = true
 is_step _ = false
 
--- it resets the controller, by what it gives behind
+-- the call resets the controller, by the byte that it gives to the inner controller
 abbrev pub is_reset : Call → Bool
 is_reset (Writes port value) = resets port (value_behind port value)
 is_reset _ = false
@@ -50,7 +56,7 @@ abbrev pub WritesByte : Call → Type 0
 WritesByte (Writes port value) = value < 256
 WritesByte _ = Unit {0}
 
--- these calls, one behind the other
+-- these calls, one after the other
 abbrev pub AreMade : List Call → ChipState → ChipState → Type 0
 AreMade [] old new = new ≡ old
 AreMade (made ∷ calls) old new = (between : ChipState) × Does made old between × WritesByte made × AreMade calls between new
@@ -66,7 +72,7 @@ steps_in (call ∷ calls) = steps_of call + steps_in calls
 
 -- ---- while the sequencer serves a command that was sent
 
--- that command is under way behind
+-- the command that was sent is under way in the sequencer
 pub record IsServing (chip : ChipState) : Type 0 where
   pub sent : chip.stage ≡ Busy Sent
   pub under_way : is_under_way chip.front.stage ≡ true
@@ -75,21 +81,22 @@ abbrev pub only_if : Bool → behind.Call → List behind.Call
 only_if true call = call ∷ []
 only_if false call = []
 
--- a read of the data port takes a byte of the command, where these pass there; else each read is the sequencer's
+-- a read of the data port takes a byte of the command, if its bytes pass there. Any other read is the sequencer's
 abbrev pub MakesRead : Bool → ℕ → ℕ → List behind.Call → Type 0
 MakesRead true port value calls = (byte : Option ℕ) × (value ≡ unwrap_or byte 0xFF) × (calls ≡ behind.Takes byte ∷ [])
 MakesRead false port value calls = calls ≡ behind.Reads port ∷ []
 
--- and a write of it gives one
+-- a write of the data port gives a byte of the command, if its bytes pass there
 abbrev pub MakesWrite : Bool → ℕ → ℕ → List behind.Call → Type 0
 MakesWrite true port value calls = (was : Bool) × (calls ≡ behind.Gives value was ∷ [])
 MakesWrite false port value calls = calls ≡ behind.Writes port (value_behind port value) ∷ []
 
--- bytes pass there, and it is the data port
+-- bytes of the command pass at the data port, and this is that port
 abbrev pub is_data_access : ℕ → ChipState → Bool
 is_data_access port chip = passes_by_port chip && (port == 0x3F5)
 
--- the calls of the sequencer that a call comes to: the channel's where bytes pass by it, and none where a strap is set
+-- the calls of the sequencer that a call comes to: those of the channel where bytes pass by it, and none where a strap
+-- is set
 abbrev pub Makes : Call → ChipState → List behind.Call → Type 0
 Makes Steps old calls = calls ≡ behind.Steps ∷ []
 Makes (Takes byte) old calls = calls ≡ only_if (passes_by_channel old) (behind.Takes byte)
@@ -101,24 +108,24 @@ Makes Changes old calls = calls ≡ behind.Changes ∷ []
 Makes (Straps on) old calls = calls ≡ []
 Makes (StrapsSteps on) old calls = calls ≡ []
 
--- a call is those of the sequencer
+-- the call is passed on as these calls of the sequencer
 pub record IsPassedOn (made : Call) (old new : ChipState) : Type 0 where
   pub calls : List behind.Call
   pub makes : Makes made old calls
   pub within : behind.AreWithin calls old.front new.front
 
--- these calls, behind each of which the command is under way
+-- these calls, after each of which the command is under way
 abbrev pub AreServed : List Call → ChipState → ChipState → Type 0
 AreServed [] old new = new ≡ old
 AreServed (made ∷ calls) old new = (between : ChipState) × Does made old between × IsServing between × AreServed calls between new
 
--- the calls of the sequencer that they come to, one behind the other
+-- the calls of the sequencer that these calls come to, one after the other
 abbrev pub MakesAll : (calls : List Call) (old new : ChipState) → AreServed calls old new → List behind.Call → Type 0
 MakesAll [] old new same all = all ≡ []
 MakesAll (made ∷ calls) old new served all =
     (first : List behind.Call) × (rest : List behind.Call) × Makes made old first × MakesAll calls served.0 new served.3 rest × (all ≡ first ++ rest)
 
--- they are those of the sequencer, in as many device steps
+-- the calls are passed on as calls of the sequencer, in as many device steps
 pub record ArePassedOn (calls : List Call) (old new : ChipState) (served : AreServed calls old new) : Type 0 where
   pub all : List behind.Call
   pub makes : MakesAll calls old new served all

@@ -13,7 +13,7 @@ is_of_channel (call.Takes _) = true
 is_of_channel (call.Gives _ _) = true
 is_of_channel _ = false
 
--- the last byte of an answer was read, and behind stands INT of a seek or poll that ended meanwhile
+-- the last byte of an answer was read, and INT of the inner controller is up, because a seek or poll ended meanwhile
 pub record EndsAnswer (old new : ChipState) : Type 0 where
   pub answer : Answer
   pub read : ℕ

@@ -22,18 +22,19 @@ use Rattle.laws_chip.specs.Calls as call
 use Rattle.laws_chip.specs.Calls.{Call}
 use Rattle.laws_chip.specs.Lasting.{AreAt}
 
--- its size code is the third byte, its sectors the fourth, gap 3 the fifth, and the filler the sixth
+-- the size code is the third byte of the command, the count of sectors the fourth, gap 3 the fifth, and the filler the
+-- sixth
 abbrev pub numbers_of : Order → Numbers
 numbers_of order = record { n = order.key.c; sectors = order.key.h; gap3 = order.key.r; fill = order.key.n }
 
--- the inner controller, which was free, executes that of a head and drive
+-- the inner controller, which was free, executes a FORMAT of this head and drive
 pub record IsFormatBegun (unit : ℕ) (numbers : Numbers) (new : ChipState) : Type 0 where
   pub sized : is_size numbers.n ≡ true
   pub set : ChipState
   pub free : IsFreeBehind set.front
   pub begins : Begins Sent false (0x4D ∷ unit ∷ numbers.n ∷ numbers.sectors ∷ numbers.gap3 ∷ numbers.fill ∷ []) set new
 
--- ---- the bytes of the keys
+-- ---- ---- the bytes of the sector IDs
 
 -- a byte at the data port is taken, or not
 abbrev pub GivesByte : Bool → ℕ → ChipState → ChipState → List ℕ → Type 0
@@ -46,7 +47,7 @@ GivesAs (call.Gives byte was) old new bytes = bytes ≡ passed_in was byte
 GivesAs (call.Writes port value) old new bytes = GivesByte (passes_by_port old) value old new bytes
 GivesAs _ old new bytes = bytes ≡ []
 
--- and all of them, in order
+-- all bytes that the calls gave, in order
 abbrev pub GiveAll : (stage : Stage) (calls : List Call) (old new : ChipState) → AreAt stage calls old new → List ℕ → Type 0
 GiveAll stage [] old new same bytes = bytes ≡ []
 GiveAll stage (made ∷ calls) old new at bytes =
@@ -54,7 +55,7 @@ GiveAll stage (made ∷ calls) old new at bytes =
 
 -- ---- the medium
 
--- it isn't changed by hand, and no port is written but the data port
+-- the call doesn't change a medium by hand, and writes no port but the data port
 abbrev pub lets_drives : Call → Bool
 lets_drives call.Changes = false
 lets_drives (call.Writes port value) = port == 0x3F5
@@ -64,7 +65,7 @@ abbrev pub LetDrives : List Call → Type 0
 LetDrives [] = Unit {0}
 LetDrives (made ∷ calls) = (lets_drives made ≡ true) × LetDrives calls
 
--- DOR selects the bay, and the drive there turns at speed, as it is told by this outset
+-- DOR selects the bay, and the drive there turns at speed, in the state that the outset has
 pub record TurnsAtSpeed (outset : Outset) (bay unit : ℕ) (chip : ChipState) : Type 0 where
   pub bay_is : bay ≤ 1
   pub selects : selected_at chip.front.adapter ≡ bay
@@ -79,8 +80,9 @@ pub record TurnsAtSpeed (outset : Outset) (bay unit : ℕ) (chip : ChipState) : 
   pub faults : (drive_at chip.front.adapter bay).faults ≡ outset.faults
   pub inside : outset.from + 1 ≤ outset.disk.words_per_track
 
--- the words that were written are the first of the layout of keys whose bytes begin with those that were given. They stand on the track
--- under the head, and nothing else of the medium changed. Results with IC 00 say that all words of the layout were written
+-- the words that were written are the first of the layout of sector IDs whose bytes begin with those that were given.
+-- They stand on the track under the head, and nothing else of the medium changed. Results with IC 00 say that all words
+-- of the layout were written
 pub record LaysKeys (outset : Outset) (unit : ℕ) (numbers : Numbers) (given : List ℕ) (fdc : Fdc) (drive : DriveState) : Type 0 where
   pub past : Past
   pub taken : past.taken ≡ given

@@ -17,14 +17,14 @@ use Rattle.laws_chip.specs.Lasting.{AreAt}
 abbrev pub is_read_id : Order → Bool
 is_read_id order = bit_and order.code 0x1F == 0x0A
 
--- the inner controller, which was free, executes that of a head and drive
+-- the inner controller, which was free, executes a READ ID of this head and drive
 pub record IsIdBegun (unit : ℕ) (new : ChipState) : Type 0 where
   pub order : is_read_id new.order ≡ true
   pub set : ChipState
   pub free : IsFreeBehind set.front
   pub begins : Begins Sent false (identifying unit) set new
 
--- the same medium turns on, where another one is put in or taken out
+-- the same medium turns on where another one is put in or taken out
 abbrev pub TurnsOnBy : Call → DriveState → DriveState → Type 0
 TurnsOnBy call.Changes old new = TurnsOn old new
 TurnsOnBy _ old new = Unit {0}

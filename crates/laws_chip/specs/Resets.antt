@@ -13,7 +13,8 @@ use Rattle.fdc_chip.specs.declared.stage.Stage.TheVariants.{Ready, Telling}
 use Rattle.laws_chip.specs.Calls as call
 use Rattle.laws_chip.specs.Calls.{Call}
 
--- the inner controller does nothing, each drive counts as at cylinder 0 and has no result, and the poll of a reset is to come, or not
+-- the inner controller does nothing, and each drive counts as at cylinder 0 and has no result. The poll of a reset is
+-- to come, or not
 pub record IsFreshBehind (due : Bool) (front : Front) : Type 0 where
   pub through : front.stage ≡ Through
   pub takes : front.adapter.controller.phase ≡ Taking
@@ -30,7 +31,7 @@ pub record AwaitsPoll (chip : ChipState) : Type 0 where
   pub unpaced : chip.pace ≡ None
   pub behind : IsFreshBehind true chip.front
 
--- it reads or writes the data port
+-- the call reads or writes the data port
 abbrev pub is_of_data_port : Call → Bool
 is_of_data_port (call.Reads port value) = port == 0x3F5
 is_of_data_port (call.Writes port value) = port == 0x3F5
@@ -38,14 +39,14 @@ is_of_data_port _ = false
 
 -- ---- the results of the poll
 
--- ST0 of the poll of each drive is C0 and its number; those of the drives below this one were taken
+-- ST0 of the poll of each drive is C0 and its number. The results of the drives below this one were taken
 abbrev pub poll_from : ℕ → ℕ → Option ℕ
 poll_from first drive = if nat_lt drive first then None else Some (0xC0 + drive)
 
 abbrev pub polls_from : ℕ → List (Option ℕ)
 polls_from first = poll_from first 0 ∷ poll_from first 1 ∷ poll_from first 2 ∷ poll_from first 3 ∷ []
 
--- they are pending, each drive counts as at cylinder 0, and nothing else is under way
+-- the results of the poll are pending, each drive counts as at cylinder 0, and nothing else is under way
 pub record HasPolls (first : ℕ) (stage : Stage) (chip : ChipState) : Type 0 where
   pub at : chip.stage ≡ stage
   pub count : chip.count ≡ 0
@@ -55,6 +56,6 @@ pub record HasPolls (first : ℕ) (stage : Stage) (chip : ChipState) : Type 0 wh
   pub free : is_held chip.front.adapter.controller ≡ false
   pub behind : IsFreshBehind false chip.front
 
--- so many bytes were read of what SENSE INTERRUPT tells of a drive: ST0 and the cylinder
+-- so many bytes were read of what SENSE INTERRUPT reports of a drive: ST0 and the cylinder
 abbrev pub telling_poll : ℕ → ℕ → Stage
 telling_poll drive read = Telling (Sensed (0xC0 + drive) 0) read

@@ -19,14 +19,15 @@ use Rattle.fdc_chip.specs.declared.stage.Stage.{Stage}
 use Rattle.fdc_chip.specs.declared.stage.Stage.TheVariants.{Ready, Held}
 use Rattle.laws_chip.specs.Sound.{IsSound}
 
--- a sound chip, with numbers in the controller that its registers hold
+-- a sound chip, whose controller has numbers that its registers hold
 pub record IsSoundInRange (chip : ChipState) : Type 0 where
   pub sound : IsSound chip
   pub range : IsInRange chip.front.adapter.controller
 
 -- ---- where heads go
 
--- a RECALIBRATE, or the cylinder of a SEEK or RELATIVE SEEK, with these cylinder numbers
+-- where a command moves the heads: a RECALIBRATE to track 0, and a SEEK or RELATIVE SEEK to a cylinder, which may
+-- depend on these cylinder numbers
 abbrev pub goal_of : Code → Order → Interrupting → Option (Option ℕ)
 goal_of Recalibrate order interrupts = Some None
 goal_of Seek order interrupts = Some (Some order.key.c)
@@ -38,23 +39,25 @@ GoesTo None (Outward pulses) = Unit {0}
 GoesTo (Some target) (Toward cylinder to) = to ≡ target
 GoesTo _ _ = ⊥
 
--- the device steps that it still takes at most
+-- the device steps that a motion still takes at most
 abbrev pub steps_left : Motion → ℕ
 steps_left (Outward pulses) = pulses + 1
 steps_left (Toward cylinder target) = (cylinder - target) + (target - cylinder) + 1
 steps_left Ended = 0
 
--- and those of a whole one: 79 pulses of a RECALIBRATE, or those over 255 cylinders, and one step more
+-- the device steps that a whole motion takes at most: 79 pulses of a RECALIBRATE, or those over 255 cylinders, and one
+-- step more
 abbrev pub most_of : Option ℕ → ℕ
 most_of None = 80
 most_of (Some target) = 256
 
--- ST0 at its end, by the track 0 line: 20 with the drive, and 70 for a RECALIBRATE that doesn't reach track 0
+-- ST0 at the end of the motion, by the track 0 line: 20 with the drive, or 70 for a RECALIBRATE that doesn't reach
+-- track 0
 abbrev pub status_at_end : Option ℕ → ℕ → Bool → ℕ
 status_at_end None drive track0 = recalibrated drive track0
 status_at_end (Some target) drive track0 = sought drive
 
--- ---- while they go
+-- ---- ---- while heads move
 
 -- no command is under way, or one is held
 abbrev pub waits_for_heads : Stage → Bool
@@ -62,8 +65,8 @@ waits_for_heads Ready = true
 waits_for_heads Held = true
 waits_for_heads _ = false
 
--- nothing but a seek of this drive is under way in the inner controller, of so many device steps more at most; no result is pending there, and no poll is
--- to come
+-- nothing but a seek of this drive is under way in the inner controller, for at most so many device steps more. No
+-- result is pending there, and no poll is to come
 pub record SeeksBehind (left drive : ℕ) (goal : Option ℕ) (front : Front) : Type 0 where
   pub through : front.stage ≡ Through
   pub takes : front.adapter.controller.phase ≡ Taking
@@ -77,14 +80,14 @@ pub record SeeksBehind (left drive : ℕ) (goal : Option ℕ) (front : Front) : 
   pub pending : front.adapter.controller.seeks.pending ≡ None ∷ None ∷ None ∷ None ∷ []
   pub four : length front.adapter.controller.seeks.cylinders ≡ 4
 
--- and the chip is at this stage, with no pulses that come in the time that SPECIFY sets
+-- such a seek is under way, and the chip is at this stage, with no pulses that come in the time that SPECIFY sets
 pub record HeadsGo (left drive : ℕ) (goal : Option ℕ) (stage : Stage) (chip : ChipState) : Type 0 where
   pub at : chip.stage ≡ stage
   pub unpaced : chip.pace ≡ None
   pub few : drive ≤ 3
   pub going : SeeksBehind left drive goal chip.front
 
--- ---- they stand
+-- ---- ---- heads stand
 
 -- nothing is under way in the inner controller, and heads stand
 pub record HeadsStand (front : Front) : Type 0 where
@@ -95,7 +98,7 @@ pub record HeadsStand (front : Front) : Type 0 where
   pub seek : front.adapter.controller.seeks.seek ≡ None
   pub stand : moves_heads front ≡ false
 
--- their seek ended in a device step: its result is pending, in place of an older one of the drive, and INT is up
+-- the seek ended in a device step. Its result is pending, in place of an older one of the drive, and INT is up
 pub record EndsBySignal (drive : ℕ) (goal : Option ℕ) (old new : ChipState) : Type 0 where
   pub stage : new.stage ≡ old.stage
   pub unpaced : new.pace ≡ None

@@ -22,9 +22,9 @@ use Rattle.fdc_chip.specs.declared.stage.Task.{Task as ChipTask}
 use Rattle.fdc_chip.specs.declared.stage.Task.TheVariants as task
 use Rattle.laws_chip.specs.Beginning.{IsOfFour}
 
--- ---- what stands behind
+-- ---- ---- the inner controller
 
--- nothing is done there: the controller takes commands, or is held in reset
+-- the inner controller does nothing: it takes commands, or is held in reset
 pub record RestsBehind (front : Front) : Type 0 where
   pub through : front.stage ≡ Through
   pub takes : front.adapter.controller.phase ≡ Taking
@@ -40,14 +40,15 @@ abbrev pub executes_single : Phase → Bool
 executes_single (Execute execution) = is_single execution.task
 executes_single _ = false
 
--- the controller executes a READ ID or a FORMAT TRACK, of which fewer than 65,536 device steps were made, and no seek bit is set
+-- the controller executes a READ ID or a FORMAT TRACK. Fewer than 65,536 of its device steps were made, and no seek bit
+-- is set
 pub record ExecutesBehind (front : Front) : Type 0 where
   pub through : front.stage ≡ Through
   pub executes : executes_single front.adapter.controller.phase ≡ true
   pub counted : IsCounted front.adapter.controller.phase
   pub rests : seek_bits front.adapter.controller.seeks ≡ 0
 
--- while the heads seek first the controller executes nothing
+-- as long as heads seek before the first sector, the controller executes nothing
 abbrev pub WaitsForHeads : Stage → Phase → Type 0
 WaitsForHeads (Seeking _ _) phase = phase ≡ Taking
 WaitsForHeads _ phase = Unit {0}
@@ -67,7 +68,7 @@ abbrev pub IsBusyAt : Place → Front → Type 0
 IsBusyAt Address front = ExecutesBehind front
 IsBusyAt _ front = ServesBehind front
 
--- what is executed behind for a task
+-- what the inner controller or the sequencer executes for a task
 abbrev pub IsBusyWith : ChipTask → Front → Type 0
 IsBusyWith task.Sent front = ServesBehind front ⊎ ExecutesBehind front
 IsBusyWith (task.Sought _) front = ExecutesBehind front
@@ -75,22 +76,22 @@ IsBusyWith (task.Refused _ _ _) front = ExecutesBehind front
 IsBusyWith (task.Verify _) front = ServesBehind front
 IsBusyWith (task.Track track) front = IsBusyAt track.place front
 
--- where it is busy that is executed, and else nothing is
+-- if the chip is busy, what its task needs is executed. Otherwise nothing is executed
 abbrev pub IsSoundAt : ChipStage → Front → Type 0
 IsSoundAt (Busy what) front = IsBusyWith what front
 IsSoundAt _ front = RestsBehind front
 
 pub record IsSound (chip : ChipState) : Type 0 where
-  -- SPECIFY's ND is never set behind
+  -- SPECIFY's ND is never set in the inner controller
   pub by_dma : chip.front.adapter.controller.non_dma ≡ false
-  -- no byte of a command waits there
+  -- no byte of a command waits in the inner controller
   pub whole : chip.front.adapter.controller.command ≡ []
-  -- held in reset nothing is under way, and no byte of a command came
+  -- while the chip is held in reset nothing is under way, and no byte of a command came
   pub held : is_held chip.front.adapter.controller ≡ true → (chip.stage ≡ Ready) × (chip.count ≡ 0)
-  -- where DOR doesn't, the inner controller lets INT and DRQ out
+  -- if DOR doesn't hold it in reset, the inner controller lets INT and DRQ out
   pub lets_out : is_held chip.front.adapter.controller ≡ false → is_gated chip.front.adapter.controller ≡ true
   -- bytes of a command come while nothing is under way
   pub comes : (chip.count == 0) ≡ false → chip.stage ≡ Ready
-  -- its code is a byte
+  -- the code of the command is a byte
   pub code : chip.order.code < 256
   pub now : IsSoundAt chip.stage chip.front

@@ -1,4 +1,4 @@
--- What is told behind a command.
+-- What the chip reports after a command.
 use Rattle.std.specs.Prelude.{◌≡◌, ◌⊎◌, ℕ, true}
 use Rattle.std.specs.Int.RustNames.{bit_or}
 use Rattle.fdc_registers.specs.St2.{wrong_cylinder, bad_cylinder}
@@ -17,7 +17,7 @@ pub record Tells (results : Results) (chip : ChipState) : Type 0 where
   pub stage : chip.stage ≡ Telling (answer.Results results) 0
   pub line : chip.interrupts.line ≡ true
 
--- once these results were read behind, READ ID looks which cylinder passes
+-- once the chip has read these results from the front, READ ID looks which cylinder passes
 pub record LooksFor (results : Results) (told : Front) (new : ChipState) : Type 0 where
   pub stage : new.stage ≡ Busy (Sought results)
   pub sends : Sends (identifying (unit_of results)) (results_taken told) new.front
@@ -32,11 +32,11 @@ pub record AddsCylinder (first told : Results) : Type 0 where
   pub among : AreOfCylinder bits
   pub told_is : told ≡ record first { st2 = record { 0 = bit_or first.st2.0 bits } }
 
--- it goes on looking, or the results are told with these bits added
+-- the chip goes on looking, or the results are given with these bits added
 abbrev pub LooksOrTells : Results → ChipState → Type 0
 LooksOrTells first new =
     (new.stage ≡ Busy (Sought first)) ⊎ ((told : Results) × AddsCylinder first told × Tells told new)
 
--- a command is executed, or its results are told
+-- a command is executed, or its results are given
 abbrev pub IsBusyOrTells : ChipState → Type 0
 IsBusyOrTells chip = ((task : Task) × (chip.stage ≡ Busy task)) ⊎ ((results : Results) × Tells results chip)

@@ -1,5 +1,5 @@
-// INT from call to call: whoever looks at it behind each one sees each edge. A run of device steps stops at the first. The bodies
-// are empty: the contracts say what follows from what each call does.
+// INT from call to call: whoever looks at INT after each call sees each edge. A run of device steps stops at the first
+// edge. The bodies are empty: the contracts say what follows from what each call does.
 ghost use Rattle.std.specs.Prelude.{◌≡◌, ℕ, Bool, true, false, Some, List};
 ghost use Rattle.fdc_commands.specs.declared.results.Results.{Results};
 ghost use Rattle.fdc_chip.specs.Chips.{ChipState, interrupts_chip};
@@ -18,13 +18,14 @@ pub fn the_channel_leaves_int()
     ensures count { (chip : ChipState) → is_by_port chip.settings ≡ false → interrupts_chip (told_chip chip) ≡ interrupts_chip chip }
 {}
 
-/// A read of a port lets INT rise with the last byte of an answer alone, where a seek or a poll has ended behind meanwhile.
+/// A read of a port lets INT rise only with the last byte of an answer, if a seek or a poll has ended meanwhile in the
+/// inner controller.
 pub fn a_read_raises_int_with_an_answer()
     ensures { (port value : ℕ) (old new : ChipState) → ReadsChip port old value new → interrupts_chip old ≡ false → interrupts_chip new ≡ true → EndsAnswer old new }
 {}
 
-/// Behind each call that takes an interrupt INT is down: a data command's first result byte is read; SENSE INTERRUPT finds a result;
-/// with DMA, a data command begins. So it can't have risen again unseen.
+/// After each call that takes an interrupt INT is down: the first result byte of a data command is read; SENSE
+/// INTERRUPT finds a result; with DMA, a data command begins. So INT can't have risen again unseen.
 pub fn a_taken_interrupt_is_seen()
     ensures results { (results : Results) (old : ChipState) → interrupts_chip (byte_told (answer.Results results) 0 old) ≡ false }
     ensures sense { (status cylinder : ℕ) (old : ChipState) → sensed old.interrupts ≡ Some (status, cylinder) → interrupts_chip (sensing old) ≡ false }

@@ -1,4 +1,5 @@
-// How long a command lasts. `ranges` tells of a chip at each time what is asked of numbers here. The bodies are empty: the contracts say what follows from what each call does.
+// How long a command lasts. `ranges` says of a chip at each time what is assumed of numbers here. The bodies are empty:
+// the contracts say what follows from what each call does.
 ghost use Rattle.std.specs.Prelude.{◌≡◌, ◌<◌, ℕ, true, Some, List};
 ghost use Rattle.fdc_core.specs.Ranges.{IsInRange};
 ghost use Rattle.fdc_sequencer.specs.Opcodes.{opcode_of};
@@ -15,9 +16,10 @@ ghost use Rattle.laws_chip.specs.Calls.{AreServed, Call, steps_in};
 ghost use Rattle.laws_chip.specs.Lasting.{AreAt, AreTracked, AreVerified, IsVerifying, most_track_steps};
 ghost use Rattle.laws_chip.specs.Sound.{ExecutesBehind, IsSound};
 
-/// A READ ID or a FORMAT TRACK that is executed behind, also to look which cylinder passes or in place of a command that this medium
-/// can't have, ends in 65,536 device steps, whatever calls come between. A command of several sectors ends in 256 for an implied seek
-/// and 65,536 for each of its sectors.
+/// A READ ID or a FORMAT TRACK that the inner controller executes ends within 65,536 device steps, whatever calls come
+/// between. This holds too where READ ID looks which cylinder passes, or stands for a command that this medium can't
+/// have. A command of several sectors ends within 256 device steps for an implied seek and 65,536 for each of its
+/// sectors.
 pub fn each_command_ends()
     ensures single { (task : Task) (calls : List Call) (old new : ChipState) → IsSound old → old.stage ≡ Busy task → ExecutesBehind old.front → AreAt (Busy task) calls old new
         → steps_in calls < 65536 }
@@ -25,8 +27,8 @@ pub fn each_command_ends()
         → AreServed calls begun new → steps_in calls < most_steps first }
 {}
 
-/// A VERIFY that this medium can have begins behind as the READ DATA of its sectors, where what stands behind is free, and ends as soon
-/// as such a one.
+/// A VERIFY that this medium can have begins in the sequencer as the READ DATA of its sectors, if the inner controller
+/// is free. It ends as soon as such a READ DATA.
 pub fn a_verify_ends()
     ensures begins { (opcode : Opcode) (old new : ChipState) → opcode_of (verifying old.order).code ≡ Some opcode → is_size old.order.key.n ≡ true → IsFreeBehind old.front
         → Obeys (VerifyCode true) old new → BeginsBehind (transfer_sent opcode (verifying old.order)) new.front }
@@ -36,8 +38,8 @@ pub fn a_verify_ends()
         → IsInRange begun.front.adapter.controller → AreVerified calls begun new → steps_in calls < most_steps first }
 {}
 
-/// A READ TRACK ends in 65,792 device steps for the index, and 131,328 for each of its sectors, READ ID before it among them, whatever
-/// calls come between.
+/// A READ TRACK ends within 65,792 device steps for the index, and 131,328 for each of its sectors, including the READ
+/// ID before it, whatever calls come between.
 pub fn a_read_track_ends()
     ensures { (calls : List Call) (old begun new : ChipState) → is_size old.order.key.n ≡ true → IsFreeBehind old.front → Obeys (ReadTrack true) old begun → IsSound begun → IsInRange begun.front.adapter.controller
         → AreTracked calls begun new → steps_in calls < most_track_steps old.order }

@@ -1,4 +1,5 @@
-// What FORMAT TRACK leaves of the medium. The bodies are empty: the contracts say what follows from what each call does.
+// What FORMAT TRACK leaves of the medium. The bodies are empty: the contracts say what follows from what each call
+// does.
 ghost use Rattle.std.specs.Prelude.{◌≡◌, ℕ, true, List};
 ghost use Rattle.fdc_stages.specs.Formats.{Numbers};
 ghost use Rattle.fdc_core.specs.Drives.Hearing.{Outset};
@@ -15,9 +16,10 @@ ghost use Rattle.laws_chip.specs.FormatTracks.{GiveAll, IsFormatBegun, LaysKeys,
 ghost use Rattle.laws_chip.specs.Lasting.{AreAt};
 ghost use Rattle.laws_chip.specs.Sound.{IsSound};
 
-/// A FORMAT TRACK that this medium can have begins where the inner controller is free. Take one over a medium at speed that nobody
-/// touches. At each time while it is executed, and after the device step that ends it, the words written are the first of a layout: of
-/// the keys that the channel or the data port gave. They stand on the track under its head, and nothing else of the medium changes.
+/// A FORMAT TRACK that this medium can have begins if the inner controller is free. Take one over a medium at speed
+/// that nobody touches. While it is executed, and after the device step that ends it, the words written are the first
+/// of a layout. This is the layout of the sector IDs that the channel or the data port gave. The words stand on the
+/// track under its head, and nothing else of the medium changes.
 pub fn a_format_lays_the_keys_given()
     ensures begins { (old new : ChipState) → is_size old.order.key.c ≡ true → IsFreeBehind old.front → Obeys (FormatTrack true) old new
         → IsFormatBegun old.order.unit (numbers_of old.order) new }

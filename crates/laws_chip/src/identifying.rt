@@ -1,4 +1,4 @@
-// What READ ID tells of the medium. The bodies are empty: the contracts say what follows from what each call does.
+// What READ ID reports of the medium. The bodies are empty: the contracts say what follows from what each call does.
 ghost use Rattle.std.specs.Prelude.{◌≡◌, ℕ, true, Some, List};
 ghost use Rattle.track_model.specs.Fields.{IsAddressAt};
 ghost use Rattle.fdc_commands.specs.declared.results.Results.{Results};
@@ -18,8 +18,8 @@ ghost use Rattle.laws_chip.specs.Lasting.{AreAt};
 ghost use Rattle.laws_chip.specs.Sound.{IsSound};
 ghost use Rattle.laws_chip.specs.Told.{Tells};
 
-/// A READ ID begins where the inner controller is free. Where it tells results in which nothing is wrong, and a medium stayed in from its
-/// last byte on, the key that they tell stands in an address field of the track under its head.
+/// A READ ID begins if the inner controller is free. Suppose that its results report no error, and that a medium stayed
+/// in from its last byte on. Then the sector ID in the results stands in an address field of the track under its head.
 pub fn a_read_id_tells_a_key_of_the_track()
     ensures begins { (old new : ChipState) → IsSound new → code_of old.order.code ≡ Some (ReadId true) → IsFreeBehind old.front → Obeys (ReadId true) old new
         → IsIdBegun old.order.unit new }

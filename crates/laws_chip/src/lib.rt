@@ -1,5 +1,5 @@
-//! What the whole chip makes of the sequencer's laws: a command that is sent is one that the sequencer serves, call by call; what
-//! that tells is told; the chip's parts agree at each time; and each command ends.
+//! What the whole chip makes of the sequencer's laws. A command that is sent is one that the sequencer serves, call by
+//! call. What the sequencer reports, the chip reports. The chip's parts agree at each time, and each command ends.
 #![tactic(auto)]
 
 pub mod edges;

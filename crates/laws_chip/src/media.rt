@@ -1,5 +1,5 @@
-// A command of several sectors and the medium under it. The bodies are empty: the contracts say what follows from what each call
-// does.
+// A command of several sectors and the medium under it. The bodies are empty: the contracts say what follows from what
+// each call does.
 ghost use Rattle.std.specs.Prelude.{◌≡◌, ◌++◌, ◌∷◌, [], Bool, Some, List};
 ghost use Rattle.fdc_adapter.specs.Adapters.{drive_at};
 ghost use Rattle.fdc_commands.specs.declared.results.Results.{Results};
@@ -14,7 +14,7 @@ ghost use Rattle.fdc_chip.specs.Steps.{StepsChip};
 ghost use Rattle.laws_chip.specs.Beginning.{IsBegun, IsServed};
 ghost use Rattle.laws_chip.specs.Calls.{AreServed, Call};
 
-/// What a read gives, from its last byte to its results, while a medium stays in is what stands on that medium under its heads.
+/// What a read gives, from its last byte to its results, stands on the medium under its heads, if the medium stays in.
 pub fn what_is_read_stands_on_the_medium()
     ensures { (place : Place) (wanted skip : Bool) (first : Transfer) (calls : List Call) (begun last new : ChipState) (served : AreServed calls begun last) (step : StepsChip last new)
         (results : Results) → first.opcode.operation ≡ Read wanted skip → IsBegun first begun → step.between.stage ≡ behind.Telling results 0
@@ -22,7 +22,8 @@ pub fn what_is_read_stands_on_the_medium()
         → IsReadFrom place first moves.moved.history }
 {}
 
-/// What a write takes stands on it then: of each sector that is over, in order, and of the last one. Nothing else of it changes.
+/// What a write takes then stands on the medium: of each sector that is over, in order, and of the last one. Nothing
+/// else of the medium changes.
 pub fn what_is_written_stands_on_the_medium()
     ensures { (place : Place) (deleted : Bool) (first : Transfer) (calls : List Call) (begun last new : ChipState) (served : AreServed calls begun last) (step : StepsChip last new)
         (results : Results) → first.opcode.operation ≡ Write deleted → IsBegun first begun → step.between.stage ≡ behind.Telling results 0

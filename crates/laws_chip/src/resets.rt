@@ -1,4 +1,5 @@
-// A reset, and what the host reads after it. The bodies are empty: the contracts say what follows from what each call does.
+// A reset, and what the host reads after it. The bodies are empty: the contracts say what follows from what each call
+// does.
 ghost use Rattle.std.specs.Prelude.{◌≡◌, ◌⊎◌, ◌+◌, ◌<◌, ℕ, true, false};
 ghost use Rattle.fdc_core.specs.Ports.{resets};
 ghost use Rattle.fdc_core.specs.State.{is_held};
@@ -12,8 +13,8 @@ ghost use Rattle.laws_chip.specs.Calls.{Call, Does, is_step};
 ghost use Rattle.laws_chip.specs.Resets.{AwaitsPoll, HasPolls, is_of_data_port, telling_poll};
 ghost use Rattle.laws_chip.specs.Sound.{IsSound};
 
-/// A reset by DOR or DSR forgets what was under way, and its poll is to come. INT is down until then, through all calls that
-/// don't access the data port, and through device steps while DOR holds the controller.
+/// A reset by DOR or DSR forgets what was under way, and its poll is to come. Until then INT is down, through all calls
+/// that don't access the data port, and through device steps while DOR holds the controller in reset.
 pub fn a_reset_awaits_its_poll()
     ensures resets { (port value : ℕ) (old new : ChipState) → WritesChip port value old new → resets port (value_behind port value) ≡ true → AwaitsPoll new }
     ensures stays { (made : Call) (old new : ChipState) → AwaitsPoll old → Does made old new → is_of_data_port made ≡ false
@@ -21,16 +22,16 @@ pub fn a_reset_awaits_its_poll()
     ensures down { (chip : ChipState) → AwaitsPoll chip → interrupts_chip chip ≡ false }
 {}
 
-/// In the first device step in which DOR doesn't hold the controller the poll comes: INT rises, where DOR lets it out, and the results of
-/// all four drives are pending.
+/// The poll comes in the first device step in which DOR doesn't hold the controller in reset. INT then rises, where DOR
+/// lets it out, and the results of all four drives are pending.
 pub fn a_reset_comes_to_its_poll()
     ensures polls { (old new : ChipState) → IsSound old → AwaitsPoll old → is_held old.front.adapter.controller ≡ false → StepsChip old new → HasPolls 0 Ready new }
     ensures interrupt { (old new : ChipState) → IsSound old → AwaitsPoll old → is_held old.front.adapter.controller ≡ false → StepsChip old new
         → interrupts_chip new ≡ new.gated }
 {}
 
-/// Four SENSE INTERRUPTs then tell C0, C1, C2 and C3, each with cylinder 0: the byte 08, and two bytes that are read, between which any
-/// device steps may be made.
+/// Four SENSE INTERRUPTs then report C0, C1, C2 and C3, each with cylinder 0. Each is the byte 08, and then two bytes
+/// that are read. Any device steps may be made in between.
 pub fn four_polls_are_sensed()
     ensures sends { (drive : ℕ) (old new : ChipState) → drive < 4 → HasPolls drive Ready old → WritesChip 0x3F5 8 old new → HasPolls (drive + 1) (telling_poll drive 0) new }
     ensures status { (drive first value : ℕ) (old new : ChipState) → HasPolls first (telling_poll drive 0) old → ReadsChip 0x3F5 old value new

@@ -15,8 +15,9 @@ ghost use Rattle.laws_chip.specs.Resets.{is_of_data_port};
 ghost use Rattle.laws_chip.specs.Seeks.{EndsBySignal, HeadsGo, IsSoundInRange, goal_of, most_of, waits_for_heads};
 ghost use Rattle.laws_chip.specs.Sound.{IsSound};
 
-/// The last byte of a SEEK, RECALIBRATE or RELATIVE SEEK lets the heads of its drive go, for 256 device steps at most, and 80 of a RECALIBRATE, where heads stand and the
-/// strap for the time of step pulses is off. They go on through all other calls but a reset, also while a command is held.
+/// The last byte of a SEEK, RECALIBRATE or RELATIVE SEEK starts the heads of its drive, if heads stand and the strap
+/// for the time of step pulses is off. They move for at most 256 device steps, and at most 80 of a RECALIBRATE. They go
+/// on through all other calls except a reset, even while a command is held.
 pub fn a_seek_begins()
     ensures comes { (code : Code) (goal : Option ℕ) (byte : ℕ) (old new : ChipState) → IsSoundInRange old → IsSoundInRange new → byte < 256 → Completes code byte old → goal_of code (completed byte old) (drained old).interrupts ≡ Some goal
         → WritesChip 0x3F5 byte old new → still_moves old ≡ false → old.paced ≡ false → old.front.adapter.controller.poll_due ≡ false
@@ -25,8 +26,9 @@ pub fn a_seek_begins()
         → Does made old new → is_step made ≡ false → is_reset made ≡ false → is_of_data_port made ≡ false → HeadsGo left drive goal stage new }
 {}
 
-/// While heads go, a pulse in each device step, each brings them a step nearer, or their seek ends in it: ST0 is 20 with the drive, or 70 for a
-/// RECALIBRATE that doesn't reach track 0, with the cylinder where they went; and INT rises, where DOR lets it out.
+/// While heads move with a pulse in each device step, each step brings them one cylinder nearer, or their seek ends in
+/// it. ST0 is then 20 with the drive, or 70 for a RECALIBRATE that doesn't reach track 0. The cylinder is where the
+/// heads went, and INT rises, where DOR lets it out.
 pub fn a_seek_ends_by_int()
     ensures steps { (left drive : ℕ) (goal : Option ℕ) (old new : ChipState) → IsSound old → HeadsGo (left + 1) drive goal Ready old → StepsChip old new
         → HeadsGo left drive goal Ready new ⊎ EndsBySignal drive goal old new }
@@ -34,8 +36,8 @@ pub fn a_seek_ends_by_int()
     ensures interrupt { (drive : ℕ) (goal : Option ℕ) (old new : ChipState) → old.stage ≡ Ready → EndsBySignal drive goal old new → interrupts_chip new ≡ new.gated }
 {}
 
-/// A command that needs the inner controller is held where heads go, through as many device steps as these take at most; in that in which they stand
-/// it is done, by a chip whose inner controller is free.
+/// A command that needs the inner controller is held while heads move, for at most as many device steps as they still
+/// take. It is done in the device step in which they stand, by a chip whose inner controller is free.
 pub fn a_held_command_starts()
     ensures comes { (left drive : ℕ) (goal : Option ℕ) (code : Code) (byte : ℕ) (old new : ChipState) → IsSound old → byte < 256 → needs_heads code ≡ true
         → Completes code byte old → HeadsGo left drive goal Ready old → WritesChip 0x3F5 byte old new

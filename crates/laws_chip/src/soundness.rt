@@ -18,9 +18,9 @@ ghost use Rattle.laws_chip.specs.Calls.{AreMade, Call, Does, WritesByte, is_rese
 ghost use Rattle.laws_chip.specs.Sound.{IsSound};
 ghost use Rattle.laws_chip.specs.Told.{IsBusyOrTells};
 
-/// The parts of a chip agree, from the beginning on: where it is busy something is executed behind, which no results wait of, and
-/// else nothing is. A run is as many device steps. So it is with a chip that was made new and used by any calls, and behind the reset
-/// pin.
+/// The parts of a chip agree, from the beginning on. If the chip is busy, its inner controller or its sequencer
+/// executes something, of which no results wait. Otherwise they execute nothing. A run is as many device steps. The
+/// parts also agree in a chip that was made new and used by any calls, and after a pulse on the reset pin.
 pub fn a_chip_stays_sound()
     ensures begins { (bay0 bay1 : DriveState) (new : ChipState) → IsNewChip bay0 bay1 new → IsSound new }
     ensures calls { (made : Call) (old new : ChipState) → Does made old new → WritesByte made → IsSound old → IsSound new }
@@ -29,8 +29,8 @@ pub fn a_chip_stays_sound()
     ensures pin { (old new : ChipState) → ResetsByPin old new → IsSound old → IsSound new }
 {}
 
-/// With the last byte of a command that needs what stands behind, or in the device step in which heads stand for one that was held,
-/// what stands behind is free, and the command is done. What a step does to pulses that come in time comes first.
+/// A command that needs the inner controller is done with its last byte, or, if it was held, in the device step in
+/// which heads stand. The inner controller is then free. What the step does to pulses that come in time comes first.
 pub fn what_stands_behind_is_free()
     ensures comes { (code : Code) (byte : ℕ) (old new : ChipState) → IsSound old → byte < 256 → needs_heads code ≡ true → Completes code byte old
         → WritesChip 0x3F5 byte old new → still_moves old ≡ false → IsDoneFree code (completed byte old) new }
@@ -38,8 +38,8 @@ pub fn what_stands_behind_is_free()
         → (paced : ChipState) × Paces old.pace (with_front step.between old) paced × (still_moves paced ≡ false → IsDoneFree code old.order new) }
 {}
 
-/// A command of sectors that this medium can have begins with its ninth byte; where heads move then it is held, through all calls but a
-/// reset, up to the device step in which they stand, and begins in that.
+/// A command of sectors that this medium can have begins with its ninth byte. If heads move then, the command is held,
+/// through all calls except a reset, up to the device step in which they stand. It begins in that step.
 pub fn a_whole_transfer_begins()
     ensures comes { (opcode : Opcode) (byte : ℕ) (old new : ChipState) → IsSound old → byte < 256 → CompletesTransfer opcode byte old
         → WritesChip 0x3F5 byte old new → BeginsUnless (still_moves old) opcode (completed byte old) new }
@@ -49,7 +49,7 @@ pub fn a_whole_transfer_begins()
         → (paced : ChipState) × Paces old.pace (with_front step.between old) paced × BeginsUnless (still_moves paced) opcode order new }
 {}
 
-/// A chip that is busy is so until it tells results, and INT with them; or until it is reset.
+/// A chip that is busy stays busy until it gives results, and INT with them, or until it is reset.
 pub fn no_command_is_silent()
     ensures { (made : Call) (task : Task) (old new : ChipState) → Does made old new → old.stage ≡ Busy task → is_reset made ≡ false → IsBusyOrTells new }
 {}

@@ -1,4 +1,5 @@
-// A host that serves each request in time. The bodies are empty: the contracts say what follows from what each call does.
+// A host that serves each request in time. The bodies are empty: the contracts say what follows from what each call
+// does.
 ghost use Rattle.std.specs.Prelude.{◌≡◌, true, List, bit_and};
 ghost use Rattle.fdc_registers.specs.St1.{overrun};
 ghost use Rattle.fdc_commands.specs.declared.results.Results.{Results};
@@ -12,8 +13,9 @@ ghost use Rattle.laws_chip.specs.Calls.{Call};
 ghost use Rattle.laws_chip.specs.InTime.{AreInTime, IsPrompt};
 ghost use Rattle.laws_chip.specs.Sound.{IsSound};
 
-/// A host that makes a device step only where no byte is asked for, and so takes or gives each before the next step, never gets OR in a transfer,
-/// however the FIFO is set. By the channel a byte is asked for while DRQ is up; by the data port, while INT is.
+/// Suppose that a host makes a device step only while no byte is asked for and DOR selects one of the two drives. It
+/// thus takes or gives each byte before the next step. Then it never gets OR in a transfer, however the FIFO is set. By
+/// the channel a byte is asked for while DRQ is up, and by the data port while INT is up.
 pub fn a_host_in_time_gets_no_overrun()
     ensures channel { (chip : ChipState) → passes_by_channel chip ≡ true → asks_chip chip ≡ asks_outside chip.front }
     ensures port { (chip : ChipState) → passes_by_port chip ≡ true → chip.gated ≡ true → interrupts_chip chip ≡ asks_outside chip.front }

@@ -1,5 +1,5 @@
-// A command of several sectors, from its last byte to what the host reads. The bodies are empty: the contracts say what follows
-// from what each call does.
+// A command of several sectors, from its last byte to what the host reads. The bodies are empty: the contracts say what
+// follows from what each call does.
 ghost use Rattle.std.specs.Prelude.{◌≡◌, ◌<◌, ℕ, true, false, IsSome, Some, List};
 ghost use Rattle.fdc_commands.specs.declared.results.Results.{Results};
 ghost use Rattle.fdc_sequencer.specs.Opcodes.{opcode_of};
@@ -19,29 +19,31 @@ ghost use Rattle.laws_chip.specs.Beginning.{IsBegun, IsFreeBehind, IsServed, tra
 ghost use Rattle.laws_chip.specs.Calls.{AreServed, ArePassedOn, Call, Does, IsPassedOn, IsServing, is_reset, is_step};
 ghost use Rattle.laws_chip.specs.Told.{LooksFor, LooksOrTells, Tells};
 
-/// A command of sectors that this medium can have begins behind with its nine bytes, where what stands behind is free: it is served
-/// from then on, and nothing has passed of it. The code of each such command is one that the sequencer serves.
+/// A command of sectors that this medium can have begins in the sequencer with its nine bytes, if the inner controller
+/// is free. It is served from then on, and nothing of it has passed yet. The code of each such command is one that the
+/// sequencer serves.
 pub fn a_transfer_is_begun()
     ensures codes { (code : ℕ) → code < 256 → code_of code ≡ Some (TransferCode true) → IsSome (opcode_of code) }
     ensures begins { (opcode : Opcode) (old new : ChipState) → opcode_of old.order.code ≡ Some opcode → is_size old.order.key.n ≡ true
         → IsFreeBehind old.front → Obeys (TransferCode true) old new → IsBegun (transfer_sent opcode old.order) new }
 {}
 
-/// While it is under way each call of the chip is the sequencer's: a device step, each byte, by the channel or by the data port, and the
-/// terminal count. So are calls one behind the other, in as many device steps.
+/// While the command is under way each call of the chip is the sequencer's: a device step, each byte, by the channel or
+/// by the data port, and the terminal count. The same holds of calls one after the other, in as many device steps.
 pub fn calls_are_passed_on()
     ensures one { (made : Call) (old new : ChipState) → IsServing old → Does made old new → IsServing new → IsPassedOn made old new }
     ensures all { (calls : List Call) (old new : ChipState) (served : AreServed calls old new) → IsServing old → ArePassedOn calls old new served }
 {}
 
-/// It goes on through each call but a reset, and through each device step behind which it is under way.
+/// The command goes on through each call except a reset, and through each device step after which it is under way.
 pub fn a_served_chip_goes_on()
     ensures steps { (old new : ChipState) (step : StepsChip old new) → IsServing old → is_under_way step.between.stage ≡ true → new ≡ with_front step.between old }
     ensures calls { (made : Call) (old new : ChipState) → IsServing old → Does made old new → is_step made ≡ false → is_reset made ≡ false → IsServing new }
 {}
 
-/// In the step in which the sequencer has results these are told; or READ ID looks which cylinder passes, where they are ND alone and
-/// the command has a key, and they are told once that ended, with nothing but WC and BC added.
+/// In the step in which the sequencer has results the chip gives them to the host. There is one exception: if the only
+/// error is ND and the command has a sector ID, READ ID first looks which cylinder passes. The chip gives the results
+/// once READ ID ended, with nothing but WC and BC added.
 pub fn what_the_sequencer_tells_is_told()
     ensures told { (results : Results) (old new : ChipState) (step : StepsChip old new) → old.stage ≡ Busy Sent → step.between.stage ≡ behind.Telling results 0
         → looks_for_cylinder old.order results ≡ false → Tells results new }
@@ -52,8 +54,8 @@ pub fn what_the_sequencer_tells_is_told()
     ensures request { (results : Results) (chip : ChipState) → Tells results chip → asks_chip chip ≡ false }
 {}
 
-/// From its last byte to the sequencer's results the bytes that pass are those of its sectors, in order, and the results say of them
-/// how it ended.
+/// From the last byte of a command to the sequencer's results, the bytes that pass are those of the command's sectors,
+/// in order. The results say of the sectors how the command ended.
 pub fn a_transfer_moves_its_sectors()
     ensures { (first : Transfer) (calls : List Call) (begun last new : ChipState) (served : AreServed calls begun last) (step : StepsChip last new) (results : Results)
         → IsBegun first begun → step.between.stage ≡ behind.Telling results 0 → IsServed first calls begun last new served step results }

@@ -42,7 +42,8 @@ told_busy Command = refl
 told_busy (Result answer) = refl
 told_busy (Execute execution) = refl
 
--- a flag of the phase that is down where commands are taken and in short results, and in long ones whatever was taken, stays down where the data port is read
+-- a flag of the phase that is down where commands are taken and in short results, and in long ones whatever was taken;
+-- it stays down when the data port is read
 pub given_down : (flag : Phase → Bool) → flag Command ≡ false → ((next : ℕ) (last : Option ℕ) → flag (Result (Short next last)) ≡ false)
     → ((ending : Ending) (results : Results) (taken : ℕ) → flag (Result (Long ending results (taken + 1))) ≡ flag (Result (Long ending results taken)))
     → (phase : Phase) → flag phase ≡ false → flag (phase_after phase) ≡ false

@@ -20,7 +20,7 @@ reached : (refusal : Option Code) (bay : ℕ) (key : Chrn) (old : StationState) 
 reached None bay key old deleted new reads = reads.found
 reached (Some code) bay key old deleted new refused = let none = refused.refused in absurd cc
 
--- a read that was refused hands nothing out
+-- a read that was refused gives no content
 pub none_had : (P : Bool → Type 0) (answer : Result Bool Code) → is_err answer ≡ true → IfOk answer P
 none_had P (Ok deleted) is = absurd (false≢true is)
 none_had P (Err code) is = tt

@@ -1,4 +1,4 @@
--- The files of a shelf in memory: look-ups and stores in its tree map are those of the told files.
+-- The files of a shelf in memory: look-ups and stores in its tree map are those of the files that it reports.
 use Rattle.std.proofs.Common.{◌≡◌, ℕ, true, false, List, [], ◌∷◌, map, Some, Vec, String, string_bytes, cond, refl, sym, ap, ◌∙◌}
 use Rattle.std.specs.declared.alloc.Global.{Global}
 use Rattle.std.specs.declared.cmp.Ordering.TheVariants.{Less, Equal, Greater}

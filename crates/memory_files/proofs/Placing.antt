@@ -11,14 +11,14 @@ use Rattle.track_model.proofs.Splices.{length-with_items, with_items_at}
 use Rattle.memory_files.specs.Desks.{sector_place}
 use Rattle.memory_files.specs.Sectors.{Places}
 
--- no byte is put yet
+-- no byte has been put yet
 pub places_none : (old : StationState) (bytes : List ℕ) → Places (take 0 bytes) old old
 places_none old bytes = record {
   becomes = ap (λ (memory : List ℕ). let station : StationState = record old { memory = memory } in station) (sym (with_items-nil old.memory sector_place));
   access = record { accesses = omega arith; no_commands = refl; no_steps = omega arith };
 }
 
--- a byte behind those that were put
+-- one more byte after those that were put
 pub places_more : (old mid new : StationState) (bytes : List ℕ) (i : ℕ) → i < length bytes → length bytes ≤ 8192 → length old.memory ≡ user_bytes → Places (take i bytes) old mid
     → SetsMemory (sector_place + i) (get_or bytes i 0) mid new → Places (take (i + 1) bytes) old new
 places_more old mid new bytes i below few size placed sets =

@@ -1,4 +1,4 @@
--- What a station owes itself between calls, from there being a proof of it.
+-- What has to hold of a station between calls, obtained from the mere existence of a proof of it.
 use Rattle.std.proofs.Common.{◌≡◌, refl, ap, ◌∙◌, arith, Option, Some, None, ⊎_elim}
 use mathlib.Core.HLevel.{⊥_prop}
 use mathlib.Core.Logic.{∥∥₁_elim, ∥∥₁_map}

@@ -5,10 +5,10 @@ use Rattle.sector_model.specs.Stations.{StationState}
 use Rattle.machine_commands.specs.StationShown.{station_shown}
 use Rattle.memory_files.specs.declared.desk.SectorDesk.{SectorDesk}
 
--- its station, as the sector model sees it
+-- the station of a desk, as the sector model sees it
 abbrev pub station_of : SectorDesk → StationState
 station_of desk = station_shown plain_state desk.station
 
--- where in user memory the bytes of a sector lie on their way
+-- where in user memory the bytes of a sector lie while they are transferred
 abbrev pub sector_place : ℕ
 sector_place = 0x10000

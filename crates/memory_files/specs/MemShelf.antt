@@ -9,7 +9,7 @@ use Rattle.memory_files.specs.declared.memory.MemShelf.{MemShelf}
 abbrev pub file_of : String Global × Vec ℕ Global → List ℕ × List ℕ
 file_of entry = (string_bytes entry.0, entry.1.items)
 
--- its files; it keeps no list of the stores that were made
+-- the files of the shelf; it keeps no list of the stores that were made
 abbrev pub files_of : MemShelf → Files
 files_of shelf = record { held = fin.from_entries (map file_of shelf.files.entries); stores = None }
 
@@ -21,6 +21,6 @@ calls_of shelf = shelf.calls
 abbrev pub failing_of : MemShelf → List ℕ
 failing_of shelf = shelf.failing.items
 
--- how many of them failed
+-- how many calls failed
 abbrev pub faults_of : MemShelf → ℕ
 faults_of shelf = shelf.faults

@@ -3,7 +3,7 @@ use Rattle.std.specs.Prelude.{ℕ, List}
 use Rattle.memory_files.specs.Lines.{lines_in}
 use Rattle.memory_files.specs.declared.memory.MemSink.{MemSink}
 
--- the lines put, each by one call
+-- the printed lines, each by one call
 abbrev pub lines_of : MemSink → List (List ℕ)
 lines_of sink = lines_in sink.lines.bytes.items sink.lines.lengths.items
 
@@ -15,6 +15,6 @@ calls_of sink = sink.calls
 abbrev pub failing_of : MemSink → List ℕ
 failing_of sink = sink.failing.items
 
--- how many of them failed
+-- how many calls failed
 abbrev pub faults_of : MemSink → ℕ
 faults_of sink = sink.faults

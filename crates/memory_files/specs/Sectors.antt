@@ -16,7 +16,7 @@ pub record Places (bytes : List ℕ) (old new : StationState) : Type 0 where
   pub becomes : Becomes (record old { memory = with_items old.memory sector_place bytes }) new
   pub access : IsPastDriver (length bytes) old.counters new.counters
 
--- a sector is read, and the content of its field is handed out; where the read is refused, the buffer stays
+-- a sector is read, and the buffer gets the content of its field; if the read is refused, the buffer stays as it was
 pub record ReadsSector (bay : ℕ) (key : Chrn) (old : StationState) (answer : Result Bool Code) (before content : List ℕ) (new : StationState) : Type 0 where
   pub step : Reads bay key sector_place old answer new
   pub had : IfOk answer (λ deleted. (field : IsRead bay key sector_place old deleted new) × (content ≡ field.content))

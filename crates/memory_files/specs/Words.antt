@@ -1,4 +1,4 @@
--- Words in one text.
+-- Arguments in one text.
 use Rattle.std.specs.Prelude.{ℕ, ◌==◌, List}
 use Rattle.std.specs.List.{slice_split}
 

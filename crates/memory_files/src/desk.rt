@@ -22,7 +22,7 @@ pub struct SectorDesk {
     ghost quiet: { stalls_due (station_shown plain_state station).counters ≡ 0 },
 }
 
-/// Nothing delays a machine at this pace.
+/// The timing of a machine that nothing delays.
 fn no_delays(alloc: Global) -> Pace
     ensures { result.holds.items ≡ [] }
 {
@@ -50,7 +50,7 @@ impl SectorDesk {
         Ok(SectorDesk { station })
     }
 
-    /// Puts a medium into a bay. Where one is in already, the new one is given back.
+    /// Puts a medium into a bay. If one is in already, the new one is given back.
     pub fn insert(&mut self, bay: u8, medium: Medium) -> Result<(), Medium>
         requires { bay ≤ 1 }
         ensures { Inserts bay medium (station_of self.old) result (station_of self.new) }
@@ -66,7 +66,8 @@ impl SectorDesk {
         self.station.eject(bay)
     }
 
-    /// Acknowledges the medium that was put into a bay, and finds its rate. The refusal is `NotReady`, where none is in.
+    /// Acknowledges the medium that was put into a bay, and finds its rate. The refusal is `NotReady`, if no medium is
+    /// in.
     pub fn acknowledge(&mut self, bay: u8) -> Result<(), Code>
         requires { bay ≤ 1 }
         ensures step { Acks bay (station_of self.old) result (station_of self.new) }

@@ -1,8 +1,8 @@
-//! Files and printed lines in memory, which tell what they hold, with the program on them; a session over a machine, request by
-//! request; and a desk for single sectors.
+//! Files and printed lines in memory, which report what they hold, with the program running on them. The crate also has
+//! a session over a machine, request by request, and a desk for single sectors.
 //!
-//! A desk is a station with two drives that have no faults. Media go into its bays, and each call reads, writes or formats there: a
-//! step of the sector model, which nothing disturbs.
+//! A desk is a station with two drives that have no faults. Media go into its bays, and each call reads, writes or
+//! formats there. Each call is a step of the sector model, which nothing disturbs.
 #![tactic(auto)]
 
 mod desk;

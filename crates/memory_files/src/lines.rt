@@ -1,4 +1,4 @@
-// Lines, one behind the other.
+// Lines, one after the other.
 ghost use Rattle.std.specs.Prelude.{◌≡◌, ◌++◌, ◌∷◌, [], length, map, sum, OnOk, OnErr};
 ghost use Rattle.flop_base.specs.Sink.{joined};
 ghost use Rattle.memory_files.specs.Lines.{lines_in};
@@ -25,7 +25,7 @@ impl Lines {
         }
     }
 
-    /// The lines, one behind the other.
+    /// The lines, one after the other.
     pub(crate) fn bytes(&self) -> &[u8]
         ensures { result.now ≡ joined (lines_in self.now.bytes.items self.now.lengths.items) }
     {
@@ -39,7 +39,7 @@ impl Lines {
         self.lengths.as_slice()
     }
 
-    /// Puts a line behind the others.
+    /// Appends a line to the others.
     pub(crate) fn push(&mut self, line: &[u8]) -> Result<(), NoMemory>
         ensures ok { OnOk result (lines_in self.new.bytes.items self.new.lengths.items
             ≡ lines_in self.old.bytes.items self.old.lengths.items ++ line.now ∷ []) }

@@ -1,4 +1,4 @@
-// A shelf and a sink in memory, whose calls fail where their maker says so.
+// A shelf and a sink in memory. Whoever makes them says which of their calls fail.
 ghost use Rattle.std.specs.Prelude.{◌≡◌, ◌≢◌, ◌≤◌, ◌+◌, ◌++◌, ◌∷◌, ◌↔◌, [], min, length, map, Some, Err, Contains, IsTrue, IfOk, OnOk, OnErr, IsErrOf, option_copied};
 ghost use Rattle.std.specs.Bool.{OnTrue, OnFalse};
 ghost use Rattle.flop_base.specs.Counts.{RoseOnce, last_count};
@@ -10,7 +10,7 @@ use flop_base::{LoadError, NoMemory, PutError, Shelf, Sink, StoreError};
 use std::alloc::Global;
 use std::collections::BTreeMap;
 
-/// Files in memory. Its calls of `load` and `store` are numbered from 1.
+/// Files in memory. The calls of `load` and `store` are numbered from 1.
 #[derive(Drop)]
 pub struct MemShelf {
     alloc: Global,
@@ -38,7 +38,7 @@ impl MemShelf {
         }
     }
 
-    /// Places a file. This is no call of `store`.
+    /// Places a file. This doesn't count as a call of `store`.
     pub fn put_file(&mut self, name: &str, bytes: &[u8]) -> Result<(), NoMemory>
         ensures ok { OnOk result (Some (files_of self.new)
             ≡ stored (Some (files_of self.old)) name.now bytes.now) }
@@ -53,7 +53,7 @@ impl MemShelf {
         Ok(())
     }
 
-    /// A file's bytes; nothing where no file has the name. This is no call of `load`.
+    /// A file's bytes, or nothing if no file has the name. This doesn't count as a call of `load`.
     pub fn file(&self, name: &str) -> Option<&[u8]>
         ensures { option_copied result ≡ file_at (files_of self.now) name.now }
     {
@@ -63,7 +63,7 @@ impl MemShelf {
         }
     }
 
-    // Counts a call, and tells whether it is one that fails.
+    // Counts a call. The answer says whether it is one that fails.
     fn call_fails(&mut self) -> bool
         ensures files { files_of self.new ≡ files_of self.old }
         ensures failing { failing_of self.new ≡ failing_of self.old }
@@ -143,7 +143,7 @@ impl Shelf for MemShelf {
     }
 }
 
-/// Printed lines in memory. Its calls of `put` are numbered from 1.
+/// Printed lines in memory. The calls of `put` are numbered from 1.
 #[derive(Drop)]
 pub struct MemSink {
     lines: Lines,
@@ -155,7 +155,7 @@ pub struct MemSink {
 impl MemSink {
     ghost use Rattle.memory_files.specs.MemSink.{lines_of, calls_of, failing_of, faults_of};
 
-    /// An empty sink, whose calls with the numbers in `failing` fail and put nothing.
+    /// An empty sink, whose calls with the numbers in `failing` fail and print nothing.
     pub fn new(alloc: Global, failing: Vec<u64>) -> MemSink
         ensures empty { lines_of result ≡ [] }
         ensures failing { failing_of result ≡ failing.items }
@@ -169,14 +169,14 @@ impl MemSink {
         }
     }
 
-    /// The bytes put: the lines, one behind the other.
+    /// The printed bytes: the lines, one after the other.
     pub fn bytes(&self) -> &[u8]
         ensures { result.now ≡ joined (lines_of self.now) }
     {
         self.lines.bytes()
     }
 
-    /// How long each line is, in bytes. Each call of `put` that didn't fail put one.
+    /// How long each line is, in bytes. Each call of `put` that didn't fail printed one line.
     pub fn lengths(&self) -> &[usize]
         ensures { result.now ≡ map length (lines_of self.now) }
     {

@@ -1,10 +1,10 @@
-// Single sectors. Their bytes lie at the desk's place in user memory on their way.
+// Single sectors. While their bytes are transferred, they lie at the desk's place in user memory.
 use crate::SectorDesk;
 use flop_base::standard::FILL;
 use flop_base::{Chrn, Code};
 use sector_model::Station;
 
-/// Where the bytes of a sector lie in user memory. The range of no sector crosses a page from there on.
+/// Where the bytes of a sector lie in user memory. No sector that begins there crosses a page.
 const PLACE: u32 = 0x10000;
 
 impl SectorDesk {
@@ -18,9 +18,9 @@ impl SectorDesk {
     ghost use Rattle.memory_files.specs.Quiet.{IsCalm};
     ghost use Rattle.memory_files.specs.Sectors.{Places, ReadsSector, WritesSector};
 
-    /// Reads the sector of a key to a buffer of its size; true where it is marked deleted. Where the read is refused the buffer is
-    /// left. Refusals: `BadRequest` for a place that no drive has or a record 0, `Changed` where the bay isn't acknowledged, and then
-    /// the drive's.
+    /// Reads the sector of a key to a buffer of its size. The answer is true if the sector is marked deleted. If the
+    /// read is refused, the buffer stays as it was. Refusals: `BadRequest` for a place that no drive has or a record 0,
+    /// `Changed` if the bay isn't acknowledged, and then the drive's.
     pub fn read(&mut self, bay: u8, key: Chrn, content: &mut [u8]) -> Result<bool, Code>
         requires bay { bay ≤ 1 }
         requires coded { IsSizeCode key.n }
@@ -28,7 +28,7 @@ impl SectorDesk {
         requires most { length content.old ≤ 8192 }
         ensures { ReadsSector bay key (station_of self.old) result content.old content.new (station_of self.new) }
     {
-        // What it tells of memory is its size.
+        // The contract of this call says how large memory is.
         let _byte = self.station.memory(PLACE);
         let answer = self.station.read(bay, key, PLACE);
         if answer.is_err() {
@@ -38,8 +38,8 @@ impl SectorDesk {
         answer
     }
 
-    /// Writes these bytes to the sector of a key, marked deleted or not, and reads them back. Refusals: those of `read`, with
-    /// `Protected` before the drive's.
+    /// Writes these bytes to the sector of a key, marked deleted or not, and reads them back. Refusals: those of
+    /// `read`, with `Protected` before the drive's.
     pub fn write(&mut self, bay: u8, key: Chrn, content: &[u8], deleted: bool) -> Result<(), Code>
         requires bay { bay ≤ 1 }
         requires coded { IsSizeCode key.n }
@@ -62,7 +62,7 @@ impl SectorDesk {
         self.station.format(bay, c, h, gap3, FILL)
     }
 
-    /// Copies the bytes at the place.
+    /// Copies the bytes at the desk's place.
     fn fetch(&self, content: &mut [u8])
         requires { length content.old ≤ 8192 }
         ensures { content.new ≡ bytes_from (station_of self.now).memory sector_place (length content.old) }
@@ -72,13 +72,13 @@ impl SectorDesk {
         }
     }
 
-    /// Puts these bytes to the place.
+    /// Puts these bytes to the desk's place.
     fn put(&mut self, content: &[u8])
         requires { length content.now ≤ 8192 }
         ensures places { Places content.now (station_of self.old) (station_of self.new) }
         ensures there { bytes_from (station_of self.new).memory sector_place (length content.now) ≡ content.now }
     {
-        // What it tells of memory is its size.
+        // The contract of this call says how large memory is.
         let _byte = self.station.memory(PLACE);
         for i in 0..content.len() {
             self.station.set_memory(PLACE + i as u32, content[i]);

@@ -21,7 +21,7 @@ use sector_model::{Reply, Stop};
 use std::alloc::Global;
 use std::marker::Model;
 
-/// A session over a machine, whose driver runs requests one after the other. To a contract it is its state.
+/// A session over a machine, whose driver runs requests one after the other. Contracts see the session as its state.
 #[derive(Drop)]
 pub struct Session<D: Drive> {
     over: StationSession<MachineStation<D>>,
@@ -38,8 +38,8 @@ impl<D: Drive> Model for Session<D> {
 impl<D: Drive> Session<D> {
     ghost use Rattle.floppy_tools.specs.Machines.{IsSetUp};
 
-    /// Sets the driver up on a machine that is as it was made. The first of the spare drives is taken first. The session keeps
-    /// the allocator for `run`, and takes no memory itself.
+    /// Sets the driver up on a machine that is as it was made. The first of the spare drives is taken first. The
+    /// session keeps the allocator for `run`, and allocates no memory here.
     pub fn new(alloc: Global, machine: MachineOf<D>, spare: Vec<D>) -> Session<D>
         requires machine { IsFreshBoard (board D.state machine) }
         requires spare { All (λ drive. IsEmpty (D.state drive)) spare.items }
@@ -50,7 +50,7 @@ impl<D: Drive> Session<D> {
         }
     }
 
-    /// Runs one request. A refusal is a reply, and the next request may follow; an error is what stops the whole run.
+    /// Runs one request. A refusal is a reply, and the next request may follow. An error stops the whole run.
     pub fn run<S: Shelf>(&mut self, shelf: &mut S, request: &Request) -> Result<Reply, Stop>
         requires { HasTries request.now }
         ensures step { IfOk result (λ reply. Step request.now self.old (S.told shelf.old) reply self.new (S.told shelf.new)) }
@@ -61,7 +61,7 @@ impl<D: Drive> Session<D> {
     }
 
     /// Ends a run: the medium of bay 0, and then that of bay 1, is taken out and stored under its name. An error drops
-    /// the medium that wasn't stored; where it was bay 0's, bay 1 stays as it is.
+    /// the medium that wasn't stored. If that was the medium of bay 0, bay 1 stays as it is.
     pub fn end<S: Shelf>(&mut self, shelf: &mut S) -> Result<(), Stop>
         ensures ends { OnOk result (Ends self.old (S.told shelf.old) self.new (S.told shelf.new)) }
         ensures stop { IfErr result (λ stop. IsEndStop stop × EndStopsAt self.old (S.told shelf.old)
@@ -71,7 +71,7 @@ impl<D: Drive> Session<D> {
         self.over.end(shelf)
     }
 
-    /// Serves a call of INT 13h (PC/AT), with the service that keeps the status. It takes no memory.
+    /// Serves a call of INT 13h (PC/AT), with the service that keeps the status. It allocates no memory.
     pub fn int13(&mut self, front: &mut Int13, regs: Regs) -> Regs
         ensures { (told : Option Files) → (course : List Taken) × Serves front.old regs
             self.old told result front.new course self.new }
@@ -79,7 +79,7 @@ impl<D: Drive> Session<D> {
         self.over.int13(front, regs)
     }
 
-    /// The machine, which shows what was counted.
+    /// The machine, which has the counts.
     pub fn machine(&self) -> &MachineOf<D>
         ensures { ShowsStation (board D.state result.now) self.now.station }
     {

@@ -9,7 +9,7 @@ use flop_base::{NoMemory, Status};
 use floppy_tools::{Ended, run_plain};
 use std::alloc::Global;
 
-/// Files in memory, and what runs on them printed.
+/// Files in memory, and what the program printed when it ran on them.
 #[derive(Drop)]
 pub struct RunShelf {
     shelf: MemShelf,
@@ -28,7 +28,7 @@ impl RunShelf {
         }
     }
 
-    /// Places a file, in place of one of that name.
+    /// Places a file, in place of one that has the name.
     pub fn put(&mut self, name: &str, bytes: &[u8]) -> Result<(), NoMemory>
         ensures ok { OnOk result ((outside_in self.new).files ≡ stored (outside_in self.old).files name.now bytes.now) }
         ensures err { OnErr result (files_in self.new ≡ files_in self.old) }
@@ -37,14 +37,14 @@ impl RunShelf {
         self.shelf.put_file(name, bytes)
     }
 
-    /// A file's bytes; nothing where no file has the name.
+    /// A file's bytes, or nothing if no file has the name.
     pub fn file(&self, name: &str) -> Option<&[u8]>
         ensures { option_copied result ≡ file_at (files_in self.now) name.now }
     {
         self.shelf.file(name)
     }
 
-    /// What was printed, and not forgotten: its lines, one behind the other.
+    /// What was printed, and not forgotten: the lines, one after the other.
     pub fn report(&self) -> &[u8]
         ensures { result.now ≡ joined (report_in self.now) }
     {
@@ -59,8 +59,8 @@ impl RunShelf {
         self.sink = MemSink::new(alloc, Vec::new(alloc));
     }
 
-    /// Runs the program with these words on a new machine, whose drives have no faults and which nothing delays. Nothing
-    /// is run where memory for the machine couldn't be had.
+    /// Runs the program with these arguments on a new machine, whose drives have no faults and which nothing delays.
+    /// Nothing is run if memory for the machine couldn't be allocated.
     pub fn run(&mut self, alloc: Global, words: &[String]) -> Option<Status>
         ensures { MatchOption result (outside_in self.new ≡ outside_in self.old)
             (λ status. RanPlain (map string_bytes words.now) (outside_in self.old) (outside_in self.new) status) }

@@ -1,4 +1,4 @@
-// The words of a run in one text.
+// The arguments of a run in one text.
 ghost use Rattle.std.specs.Prelude.{◌≡◌, ◌==◌, [], ◌∷◌, ◌++◌, map, string_bytes, IfOk, OnOk, IsErrOf, All};
 ghost use Rattle.std.specs.Str.{IsUtf8};
 ghost use Rattle.memory_files.specs.Words.{words_in};
@@ -7,13 +7,13 @@ ghost use Rattle.memory_files.specs.declared.words.WordsError.TheVariants.{NotTe
 use std::alloc::{AllocError, Global};
 use thiserror::Error;
 
-/// Why the words of a text weren't had.
+/// Why the words of a text weren't given.
 #[derive(Clone, Copy, Debug, PartialEq, Eq, Error)]
 pub enum WordsError {
     /// Some word isn't UTF-8.
     #[error("word is not UTF-8")]
     NotText,
-    /// Memory couldn't be had. This says nothing of the text.
+    /// Memory couldn't be allocated. This says nothing of the text.
     #[error("out of memory")]
     NoMemory,
 }

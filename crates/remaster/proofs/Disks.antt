@@ -7,7 +7,7 @@ use Rattle.remaster.specs.declared.error.RemasterError.TheVariants.{Unfit, NoMem
 use Rattle.remaster.specs.Fit.{IsFitTrack, IsUnfitTrack}
 use Rattle.remaster.specs.Remastered.{IsTrackRemaster, IsDone, IsTrackError, IsUnfitIn, Remasters}
 
--- what is done stays done where the track stays
+-- a track that is done stays done if it stays as it is
 pub done_still : (disk old new : Disk) (c h : ℕ) → track_of new c h ≡ track_of old c h → IsDone disk old c h → IsDone disk new c h
 done_still disk old new c h same done = subst (IsTrackRemaster disk.rate c h (track_of disk c h)) (sym same) done
 
@@ -15,7 +15,7 @@ done_still disk old new c h same done = subst (IsTrackRemaster disk.rate c h (tr
 pub done_fit : (disk after : Disk) (c h : ℕ) → IsDone disk after c h → IsFitTrack disk.rate c h (track_of disk c h)
 done_fit disk after c h done = (done.sectors, done.old, done.fit)
 
--- an error that goes on as it came
+-- an error that is passed on as it came
 pub err_goes_on : {A : Type 0} (P : RemasterError → Type 0) (result : Result A RemasterError) (error y : RemasterError) → result ≡ Err y → y ≡ error → P error → IfErr result P
 err_goes_on P result error y is same holds = subst (λ r. IfErr r P) (sym is) (subst P (sym same) holds)
 

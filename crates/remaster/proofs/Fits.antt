@@ -34,7 +34,7 @@ distinct_all sectors i past distinct = subst Distinct (take_all i sectors past) 
 
 -- ---- fit
 
--- some sector, for reads past a list's end
+-- any sector, which stands for reads past the end of a list
 abbrev pub blank_sector : Sector
 blank_sector = sector_of (record { c = 0; h = 0; r = 0; n = 0 }) false []
 
@@ -49,7 +49,7 @@ module _ (rate : Rate) (c h n : ℕ) (sectors : List Sector) (some : 0 < length 
   pub fit_shares : IsFit rate c h sectors → MayShare n c h sectors
   fit_shares fit = record { distinct = fit.distinct; own = fit.own; one_size = same_size fit; few = fit.few }
 
-  -- a gap for the size of each
+  -- the gap suits the size of each sector
   gaps : (gap3 : ℕ) → IsLargestGap n (length sectors) rate gap3 → MayShare n c h sectors → IsFit rate c h sectors
   gaps gap3 gap share = record {
     distinct = share.distinct;

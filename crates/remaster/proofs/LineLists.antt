@@ -19,7 +19,7 @@ lines-append disk (track ∷ tracks) more lines others (looked, rest, exact, is,
   lines-append disk tracks more rest others tail b,
 )
 
--- some lines were added, those of these tracks
+-- lines were added to a list: the lines of these tracks
 pub record HasAdded (disk : Disk) (tracks : List TrackNumber) (start items : List SurveyLine) : Type 0 where
   pub more : List SurveyLine
   pub items_are : items ≡ start ++ more
@@ -43,7 +43,7 @@ added_more disk tracks others all start items after more so_far lines e f = reco
 pub one_track : (disk : Disk) (track : TrackNumber) (looked : List LookedField) → AreLooked (track_of disk track.cylinder track.head) looked → AreLines disk (track ∷ []) (map (line_on track) looked)
 one_track disk track looked exact = (looked, [], exact, sym (append-nil (map (line_on track) looked)), refl)
 
--- ---- the tracks of one number more
+-- ---- the tracks of one more number
 
 pub cylinder_tracks-more : (h c : ℕ) → cylinder_tracks (h + 1) c ≡ cylinder_tracks h c ++ track_number c h ∷ []
 unfolding cylinder_tracks
@@ -77,7 +77,7 @@ pub tracks_below-none : (heads : ℕ) → tracks_below heads 0 ≡ []
 unfolding tracks_below
 tracks_below-none heads = refl
 
--- all were added
+-- the lines of all tracks were added
 pub added_all : (disk : Disk) (c : ℕ) (items : List SurveyLine) → c ≡ disk.cylinders → HasAdded disk (tracks_below disk.heads c) [] items → AreLines disk (tracks_of disk) items
 unfolding tracks_below tracks_of
 added_all disk c items e added =

@@ -1,4 +1,4 @@
--- A track has one list of address fields, and one list of sectors.
+-- A track has only one list of address fields, and only one list of sectors.
 use Rattle.std.proofs.Common.{◌≡◌, ◌⊎◌, ℕ, zero, suc, ◌<◌, List, [], ◌∷◌, length, map, drop, get_or, All, Contains, sym, ap, subst, ◌∙◌, refl, arith, inl, inr}
 use Rattle.std.specs.List.{flat_map, AllPairs}
 use Rattle.flop_base.specs.declared.answers.Rate.{Rate}
@@ -16,7 +16,7 @@ use Rattle.remaster.specs.Fit.{IsFit, IsFitTrack, IsUnfitTrack}
 abbrev Rising : List Field → Type 0
 Rising fields = AllPairs (λ (a b : Field). a.place < b.place) fields
 
--- each of the one list is among the other
+-- each field of the one list is in the other list
 abbrev Within : List Field → List Field → Type 0
 Within some all = All (λ field. Contains all field) some
 
@@ -27,7 +27,7 @@ first_or_later x z xs (suc k, lt, is) = inr (k, omega arith, is)
 rising_rest : (x : Field) (xs : List Field) → Rising (x ∷ xs) → Rising xs
 rising_rest x xs rising = λ i j d lower within. rising (suc i) (suc j) d (omega arith) (omega arith)
 
--- the first is below each other
+-- the first field is at a lower place than each later one
 below_later : (x z : Field) (xs : List Field) → Rising (x ∷ xs) → Contains xs z → x.place < z.place
 below_later x z xs rising (k, lt, is) =
     subst (λ (field : Field). x.place < field.place) is (rising 0 (suc k) z (omega arith) (omega arith))
@@ -35,7 +35,7 @@ below_later x z xs rising (k, lt, is) =
 within_first : (x : Field) (xs all : List Field) → Within (x ∷ xs) all → Contains all x
 within_first x xs all within = within 0 x (omega arith)
 
--- with the same first, the others are among the others
+-- if the first fields are the same, the later fields of the one list are among the later fields of the other
 within_rest : (x y : Field) (xs ys : List Field) → x ≡ y → Rising (x ∷ xs) → Within (x ∷ xs) (y ∷ ys) → Within xs ys
 within_rest x y xs ys same rising within = λ k d lt.
     let z = get_or xs k d in
@@ -57,7 +57,7 @@ same_first x y xs ys rising other within back =
           ]
     ]
 
--- two rising lists with the same fields are one
+-- two rising lists with the same fields are the same list
 pub one_rising : (xs ys : List Field) → Rising xs → Rising ys → Within xs ys → Within ys xs → xs ≡ ys
 one_rising [] [] rising other within back = refl
 one_rising [] (y ∷ ys) rising other within back = let found = back 0 y (omega arith) in absurd (omega (arith, found.1))
@@ -71,7 +71,7 @@ one_fields : (track : List ℕ) (xs ys : List Field) → AreAddresses track xs �
 one_fields track xs ys a b =
     one_rising xs ys a.ordered b.ordered (λ k d lt. b.all (get_or xs k d) (a.each k d lt)) (λ k d lt. a.all (get_or ys k d) (b.each k d lt))
 
--- the same fields with their looks are the same
+-- lists with the same fields and the looks at them are the same list
 one_looks : (track : List ℕ) (xs ys : List LookedField) → map field_of xs ≡ map field_of ys → All (HasLook track) xs → All (HasLook track) ys → xs ≡ ys
 one_looks track [] [] e a b = refl
 one_looks track [] (y ∷ ys) e a b = let long : 0 ≡ length (map field_of (y ∷ ys)) = ap length e in absurd (omega (arith, long))

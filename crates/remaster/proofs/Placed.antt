@@ -33,7 +33,7 @@ module _ (track : List ℕ) (place : ℕ) (sector : Sector) (here : IsAddressAt 
         content = content ∙ ap (λ t. content_at t (window_place place + 256) sector.key.n) same;
       }
 
--- a write elsewhere leaves it there
+-- a write at another address field leaves the sector as it is
 pub holds_still : (track after : List ℕ) (place other : ℕ) (sector : Sector) → KeepsOthers track after other → place ≢ other → HoldsSector track place sector → HoldsSector after place sector
 holds_still track after place other sector keeps apart holds = record {
   address = (keeps.addresses place sector.key).0 holds.address;

@@ -1,4 +1,4 @@
--- A formatted track while its sectors are written one after the other.
+-- A formatted track, while its sectors are written one after the other.
 use Rattle.std.proofs.Common.{◌≡◌, ◌≢◌, ℕ, zero, suc, ◌+◌, ◌<◌, List, [], ◌∷◌, length, map, drop, get_or, All, sym, ap, subst, ◌∙◌, arith, refl, inl, inr}
 use Rattle.std.specs.List.{flat_map, AllPairs}
 use Rattle.std.proofs.lemmas.Bool.{cases_lt}
@@ -28,7 +28,7 @@ use Rattle.remaster.specs.Relaid.{key_of, with_sectors, laid_with, HoldsSector}
 use Rattle.remaster.proofs.Fits.{blank_sector}
 use Rattle.remaster.proofs.Placed.{holds_still}
 
--- the places of the layout come one after the other
+-- the places of the layout rise with the number of the sector
 pub places_rise : (n gap3 i j : ℕ) → i < j → sector_place n gap3 i < sector_place n gap3 j
 places_rise n gap3 i j lower =
     let width = 62 + content_size n + gap3 in
@@ -91,7 +91,7 @@ module _ (rate : Rate) (c h n gap3 : ℕ) (sectors : List Sector) where
           left = ap (with_sectors n gap3 0 sectors) (is ∙ ap (λ ks. lay ks n gap3 standard_fill words) keys_are ∙ ap (lay (map key_of sectors) n gap3 standard_fill) words_are);
         }
 
-  -- ---- one sector more
+  -- ---- one more sector
 
   module _ (i : ℕ) (track : List ℕ) (so_far : AreWritten rate c h n gap3 sectors i track) where
     pub spaced_still : IsSpaced track
@@ -114,7 +114,7 @@ module _ (rate : Rate) (c h n gap3 : ℕ) (sectors : List Sector) where
       left = ap (with_sectors n gap3 (i + 1) (drop (i + 1) sectors)) is ∙ sym (ap (λ rest. with_sectors n gap3 i rest track) (drop_more sectors i d within)) ∙ so_far.left;
     }
 
-    -- the same, as the code has it
+    -- the same fact in the form in which the code has it
     pub one_more : (sector : Sector) (place : ℕ) (old new after : List ℕ) → i < length sectors → old ≡ track → place ≡ sector_place n gap3 i → sector ≡ get_or sectors i sector → after ≡ new → length new ≡ length old → new ≡ with_window old place sector.deleted sector.content → KeepsOthers old new place → HoldsSector new place sector → AreWritten rate c h n gap3 sectors (i + 1) after
     one_more sector place old new after within old_is place_is sector_is after_is same_length written keeps holds =
         let kept : KeepsOthers track new (sector_place n gap3 i) = subst (KeepsOthers track new) place_is (subst (λ t. KeepsOthers t new place) old_is keeps) in
@@ -127,7 +127,7 @@ module _ (rate : Rate) (c h n gap3 : ℕ) (sectors : List Sector) where
 
   -- ---- all
 
-  -- the look at the k-th address field
+  -- the k-th address field with the look at it
   abbrev look_at_place : ℕ → Sector → LookedField
   look_at_place k sector = record {
     field = record { place = sector_place n gap3 k; key = sector.key };

@@ -18,7 +18,7 @@ use Rattle.remaster.specs.Looked.{HasLook}
 use Rattle.remaster.specs.Sectors.{sector_of, found_by, found_at}
 use Rattle.remaster.specs.Fit.{HasSize}
 
--- what is found has a size and is inside the track, with its check
+-- data that are found have a size code, and are inside the track together with their CRC
 pub found_coded : (track : List ℕ) (p n : ℕ) (deleted : Bool) (place : ℕ) → LookAt track p n (Found deleted place) → IsSizeCode n
 found_coded track p n deleted place look = look.1.coded
 
@@ -28,7 +28,7 @@ found_inside track p n deleted place look =
     let there : place ≡ look.0 + 64 = look.2 in
     omega (arith, inside, there)
 
--- one byte more of a content
+-- one more byte of a content
 pub content_more : (track : List ℕ) (place i : ℕ) (bytes after : List ℕ) (byte : ℕ) → after ≡ bytes ++ byte ∷ [] → bytes ≡ bytes_at track place i → byte ≡ byte_at track (place + 16 * i) → after ≡ bytes_at track place (i + 1)
 content_more track place i bytes after byte e so_far is =
     e ∙ ap (λ bs. bs ++ byte ∷ []) so_far ∙ ap (λ (b : ℕ). bytes_at track place i ++ b ∷ []) is ∙ sym (bytes_at-more track place i)

@@ -1,4 +1,4 @@
--- When the sectors of a track can be laid out anew, each so that it can be written over.
+-- When the sectors of a track can be laid out anew, so that each can be written over.
 use Rattle.std.specs.Prelude.{◌≡◌, ◌≢◌, ℕ, ◌<◌, ◌≤◌, ◌⊎◌, List, length, All, AllPairs}
 use Rattle.flop_base.specs.Standard.{gap_at, words_at}
 use Rattle.flop_base.specs.declared.key.Chrn.{Chrn}
@@ -13,12 +13,12 @@ use Rattle.remaster.specs.Sectors.{AreSectors}
 abbrev pub IsOwnKey : ℕ → ℕ → Chrn → Type 0
 IsOwnKey c h key = (key.c ≡ c) × (key.h ≡ h)
 
--- some gap 3 suits so many sectors of size code n
+-- some gap 3 suits this many sectors of size code n
 abbrev pub HasGap : Rate → ℕ → ℕ → Type 0
 HasGap rate n sectors = (gap3 : ℕ) × (16 ≤ gap3) × (gap3 ≤ gap_at rate) × Suits n sectors (words_at rate) gap3
 
--- the sectors of the track of a cylinder and a head have keys of their own, that name the track, and one size; there are
--- 255 at most, and some gap suits them
+-- The sectors of the track of a cylinder and a head are fit. No two have the same key, each key names this track, and
+-- all have one size. There are at most 255, and some gap suits them.
 pub record IsFit (rate : Rate) (c h : ℕ) (sectors : List Sector) : Type 0 where
   pub distinct : AllPairs (λ a b. a.key ≢ b.key) sectors
   pub own : All (λ sector. IsOwnKey c h sector.key) sectors
@@ -30,7 +30,7 @@ pub record IsFit (rate : Rate) (c h : ℕ) (sectors : List Sector) : Type 0 wher
 abbrev pub IsFitTrack : Rate → ℕ → ℕ → List ℕ → Type 0
 IsFitTrack rate c h track = (sectors : List Sector) × AreSectors track sectors × IsFit rate c h sectors
 
--- they aren't
+-- the sectors of the track of a cylinder and a head aren't fit
 abbrev pub IsUnfitTrack : Rate → ℕ → ℕ → List ℕ → Type 0
 IsUnfitTrack rate c h track = (sectors : List Sector) × AreSectors track sectors × (IsFit rate c h sectors → ⊥)
 
@@ -49,12 +49,12 @@ pub record HasSize (sector : Sector) : Type 0 where
   pub coded : IsSizeCode sector.key.n
   pub size : length sector.content ≡ content_size sector.key.n
 
--- the sector's size code
+-- the sector has this size code
 abbrev pub HasSizeCode : ℕ → Sector → Type 0
 HasSizeCode n sector = sector.key.n ≡ n
 
--- sectors can stand on one track, apart from the room: they have keys of their own, that name the track, and this size code,
--- and there are 255 at most
+-- Sectors may be on one track together, if it has room for them. No two have the same key, each key names this track,
+-- and all have this size code. There are at most 255.
 pub record MayShare (n c h : ℕ) (sectors : List Sector) : Type 0 where
   pub distinct : AllPairs (λ a b. a.key ≢ b.key) sectors
   pub own : All (λ sector. IsOwnKey c h sector.key) sectors

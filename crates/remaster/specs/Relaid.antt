@@ -14,29 +14,29 @@ use Rattle.track_model.specs.Laid.{with_window}
 use Rattle.track_format.specs.Gaps.{IsLargestGap}
 use Rattle.remaster.specs.declared.sectors.Sector.{Sector}
 
--- a sector's key
+-- the key of a sector
 abbrev pub key_of : Sector → Chrn
 key_of sector = sector.key
 
--- the track with these sectors written one after the other, from the i-th place of the layout on
+-- the track after these sectors were written one after the other, from the i-th place of the layout on
 abbrev pub with_sectors : ℕ → ℕ → ℕ → List Sector → List ℕ → List ℕ
 with_sectors n gap3 i [] track = track
 with_sectors n gap3 i (sector ∷ rest) track =
     with_sectors n gap3 (i + 1) rest (with_window track (sector_place n gap3 i) sector.deleted sector.content)
 
--- a formatted track with these sectors written
+-- a formatted track on which these sectors were written
 abbrev pub laid_with : Rate → ℕ → ℕ → List Sector → List ℕ
 laid_with rate n gap3 sectors =
     with_sectors n gap3 0 sectors (lay (map key_of sectors) n gap3 standard_fill (words_at rate))
 
--- the track of these sectors: words 0000 where there are none; else formatted with their keys, in this order, with the largest
--- gap that suits them, and each written
+-- The track of these sectors. If there are none, it has words 0000. Otherwise it is formatted with their keys, in this
+-- order, with the largest gap that suits them, and then each sector is written.
 abbrev pub IsRelaid : Rate → List Sector → List ℕ → Type 0
 IsRelaid rate [] track = track ≡ unrecorded (words_at rate)
 IsRelaid rate (first ∷ rest) track =
     (gap3 : ℕ) × IsLargestGap first.key.n (length (first ∷ rest)) rate gap3 × (track ≡ laid_with rate first.key.n gap3 (first ∷ rest))
 
--- the sector is found at the address field at p, where its window stands
+-- the sector is found at the address field at p, in the place of that field's window
 pub record HoldsSector (track : List ℕ) (p : ℕ) (sector : Sector) : Type 0 where
   pub address : IsAddressAt track p sector.key
   pub look : LookAt track p sector.key.n (Found sector.deleted (window_place p + 256))

@@ -1,4 +1,4 @@
--- What a medium becomes that is laid out anew.
+-- What a medium becomes when it is laid out anew.
 use Rattle.std.specs.Prelude.{◌≡◌, ℕ, ◌<◌, List, Result, Ok, Err}
 use Rattle.flop_base.specs.Standard.{words_at}
 use Rattle.flop_base.specs.declared.answers.Rate.{Rate}
@@ -12,7 +12,8 @@ use Rattle.remaster.specs.Sectors.{AreSectors}
 use Rattle.remaster.specs.Fit.{IsFit, IsFitTrack, IsUnfitTrack, IsFirstUnfit}
 use Rattle.remaster.specs.Relaid.{IsRelaid}
 
--- the disk `after` has the protection, cylinders, heads and rate of this one, and as many words a track as pass in a turn
+-- The disk `after` has the protection, cylinders, heads and rate of this one. A track of it has as many words as pass
+-- in one revolution.
 pub record HasShapeOf (disk after : Disk) : Type 0 where
   pub protected : after.protected ≡ disk.protected
   pub cylinders : after.cylinders ≡ disk.cylinders
@@ -20,7 +21,8 @@ pub record HasShapeOf (disk after : Disk) : Type 0 where
   pub rate : after.rate ≡ disk.rate
   pub words_per_track : after.words_per_track ≡ words_at disk.rate
 
--- the track `after` is the track of this cylinder and head laid out anew: it is regular and has the same sectors in the same order
+-- The track `after` is the track of this cylinder and head, laid out anew. It is regular, and has the same sectors in
+-- the same order.
 pub record IsTrackRemaster (rate : Rate) (c h : ℕ) (track after : List ℕ) : Type 0 where
   pub sectors : List Sector
   pub old : AreSectors track sectors
@@ -36,13 +38,13 @@ pub record IsRemaster (disk after : Disk) : Type 0 where
   pub regular : IsRegularDisk after
   pub tracks : (c h : ℕ) → HasTrack disk c h → IsTrackRemaster disk.rate c h (track_of disk c h) (track_of after c h)
 
--- the answer on a disk: the disk laid out anew, or its first track that isn't fit
+-- the answer for a disk: the disk laid out anew, or its first track that isn't fit
 abbrev pub Remasters : Disk → Result Disk RemasterError → Type 0
 Remasters disk (Ok after) = IsRemaster disk after
 Remasters disk (Err (Unfit c h)) = IsFirstUnfit disk c h
 Remasters disk (Err NoMemory) = Unit {0}
 
--- why a track wasn't laid out anew
+-- why a track wasn't laid out anew: it isn't fit, or memory ran out
 abbrev pub IsTrackError : Rate → ℕ → ℕ → List ℕ → RemasterError → Type 0
 IsTrackError rate c h track (Unfit b g) =
     (b ≡ c) × (g ≡ h) × IsUnfitTrack rate c h track
@@ -52,7 +54,8 @@ IsTrackError rate c h track NoMemory = Unit {0}
 abbrev pub IsDone : Disk → Disk → ℕ → ℕ → Type 0
 IsDone disk after c h = IsTrackRemaster disk.rate c h (track_of disk c h) (track_of after c h)
 
--- why the tracks of a cylinder weren't: one is the first of them that isn't fit
+-- Why the tracks of a cylinder weren't laid out anew. The error names the first of them that isn't fit, or memory ran
+-- out.
 abbrev pub IsUnfitIn : Disk → ℕ → RemasterError → Type 0
 IsUnfitIn disk c (Unfit b g) = (b ≡ c) × (g < disk.heads) × IsUnfitTrack disk.rate c g (track_of disk c g)
     × ((k : ℕ) → k < g → IsFitTrack disk.rate c k (track_of disk c k))

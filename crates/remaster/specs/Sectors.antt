@@ -1,4 +1,4 @@
--- The sectors of a track, apart from where they lie.
+-- The sectors of a track, whatever their places are.
 use Rattle.std.specs.Prelude.{◌≡◌, ℕ, Bool, List, [], ◌∷◌}
 use Rattle.std.specs.List.{flat_map}
 use Rattle.flop_base.specs.declared.key.Chrn.{Chrn}
@@ -9,7 +9,7 @@ use Rattle.remaster.specs.declared.looked.LookedField.{LookedField}
 use Rattle.remaster.specs.declared.sectors.Sector.{Sector}
 use Rattle.remaster.specs.Looked.{AreLooked}
 
--- a sector
+-- a sector with this key, mark and content
 abbrev pub sector_of : Chrn → Bool → List ℕ → Sector
 sector_of key deleted content = record { key = key; deleted = deleted; content = content }
 
@@ -25,7 +25,7 @@ found_by track key BadCrc = []
 abbrev pub found_at : List ℕ → LookedField → List Sector
 found_at track one = found_by track one.field.key one.look
 
--- the sectors of the track in order of place: what is found behind its address fields
+-- the sectors of the track, in order of place: what is found behind its address fields
 pub record AreSectors (track : List ℕ) (sectors : List Sector) : Type 0 where
   pub looked : List LookedField
   pub exact : AreLooked track looked

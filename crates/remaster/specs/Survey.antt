@@ -1,4 +1,4 @@
--- A survey: a line for each address field of a disk.
+-- A survey, which has a line for each address field of a disk.
 use Rattle.std.specs.Prelude.{◌≡◌, ℕ, Bool, true, false, List, [], ◌∷◌, ◌++◌, map, codes, if◌then◌else◌, nat_le, ◌&&◌}
 use Rattle.std.specs.Fmt.{decimal}
 use Rattle.std.specs.List.{range_with_len, flat_map, join_with_byte}
@@ -9,7 +9,7 @@ use Rattle.remaster.specs.declared.looked.LookedField.{LookedField}
 use Rattle.remaster.specs.declared.lines.SurveyLine.{SurveyLine}
 use Rattle.remaster.specs.Looked.{AreLooked}
 
--- a track by its numbers
+-- a track, given by its numbers
 pub record TrackNumber : Type 0 where
   pub cylinder : ℕ
   pub head : ℕ
@@ -29,7 +29,8 @@ tracks_of disk = flat_map (cylinder_tracks disk.heads) (range_with_len 0 disk.cy
 abbrev pub line_on : TrackNumber → LookedField → SurveyLine
 line_on track one = record { cylinder = track.cylinder; head = track.head; field = one.field; look = one.look }
 
--- the lines of these tracks one after the other: for each exactly its address fields, in order of place, with the looks
+-- The lines of these tracks, one track after the other. For each track they are exactly its address fields, in order of
+-- place, with the looks at them.
 abbrev pub AreLines : Disk → List TrackNumber → List SurveyLine → Type 0
 AreLines disk [] lines = lines ≡ []
 AreLines disk (track ∷ tracks) lines =
@@ -42,11 +43,11 @@ IsSurvey disk lines = AreLines disk (tracks_of disk) lines
 
 -- ---- printed
 
--- a size code names a size
+-- whether a size code names a size
 abbrev pub names_size : ℕ → Bool
 names_size n = nat_le 1 n && nat_le n 6
 
--- what a look is called: by the status code of INT 13h, where the data isn't had
+-- the word for a look; if the data aren't found, it is the status code of INT 13h
 abbrev pub look_text : Look → List ℕ
 look_text (Found false place) = codes "ok"
 look_text (Found true place) = codes "deleted"
@@ -59,13 +60,13 @@ look_text BadCrc = codes "10"
 abbrev pub word_text : ℕ → Look → List ℕ
 word_text n look = if names_size n then look_text look else codes "size"
 
--- a line without its line feed: cylinder, head, the first cell of the field, its key, and what was found
+-- a line without its line feed: cylinder, head, the first cell of the field, its key, and what was found there
 unfoldable pub line_text : SurveyLine → List ℕ
 line_text line =
     join_with_byte 32 (decimal line.cylinder ∷ decimal line.head ∷ decimal line.field.place
     ∷ decimal line.field.key.c ∷ decimal line.field.key.h ∷ decimal line.field.key.r ∷ decimal line.field.key.n
     ∷ word_text line.field.key.n line.look ∷ [])
 
--- the last line, without its line feed: how many there were
+-- the last line, without its line feed: how many address fields there were
 unfoldable pub end_text : ℕ → List ℕ
 end_text count = codes "survey " ++ decimal count

@@ -13,7 +13,7 @@ use flop_base::{NoMemory, Rate};
 use raw_image::{Medium, read_image, write_image};
 use std::alloc::Global;
 
-/// Where an image file has its flags, of which bit 0 is the protection.
+/// Where an image file has its flags. Bit 0 of the flags is the protection.
 const FLAGS: usize = 8;
 
 /// The same medium, protected.
@@ -21,17 +21,18 @@ fn protect(alloc: Global, medium: &Medium) -> Result<Medium, NoMemory>
     ensures { IfOk result (λ after. after ≡ record medium.now { protected = true }) }
 {
     let mut image = write_image(alloc, medium)?;
-    // A medium that is read is known to be valid.
+    // Reading the medium makes known that it is valid.
     let _words = medium.words();
     image[FLAGS] = 1;
     match read_image(alloc, &image) {
         Ok(after) => Ok(after),
-        // It is an image, so only memory can be wanting.
+        // The bytes are an image, so the only possible failure is that memory runs out.
         Err(_) => Err(NoMemory),
     }
 }
 
-/// A blank medium of the same protection, cylinders, heads and rate, with as many words a track as pass in a turn.
+/// A blank medium of the same protection, cylinders, heads and rate. A track of it has as many words as pass in one
+/// revolution.
 fn blank_like(alloc: Global, medium: &Medium) -> Result<Medium, NoMemory>
     ensures { IfOk result (λ blank. HasShapeOf medium.now blank) }
 {
@@ -82,7 +83,7 @@ fn put_track(medium: &mut Medium, c: u8, h: u8, track: &[u16])
     medium.set_words(c, h, 0, track);
 }
 
-/// Lays the track of a cylinder and a head out anew on another medium.
+/// Lays out the track of a cylinder and a head anew, on another medium.
 fn remaster_on(
     alloc: Global,
     medium: &Medium,
@@ -105,7 +106,7 @@ fn remaster_on(
     Ok(())
 }
 
-/// Lays the tracks of a cylinder out anew on another medium, by head.
+/// Lays out the tracks of a cylinder anew, on another medium, by head.
 fn remaster_cylinder(
     alloc: Global,
     medium: &Medium,
@@ -126,10 +127,10 @@ fn remaster_cylinder(
     Ok(())
 }
 
-/// The medium laid out anew: a regular disk with the same sectors. Each track is formatted with the keys that were found on
-/// it in order of place, the largest gap 3 and the fill F6, and each sector is written with its mark and content. A track on
-/// which no sector was found becomes words 0000. Tracks have as many words as pass in a turn: 12,500 at 500 kbit/s, 6,250 at
-/// 250 kbit/s.
+/// The medium laid out anew: a regular disk with the same sectors. Each track is formatted with the keys that were
+/// found on it, in order of place, with the largest gap 3 and the fill F6. Then each sector is written with its mark
+/// and content. A track on which no sector was found becomes words 0000. A track has as many words as pass in one
+/// revolution: 12,500 at 500 kbit/s, and 6,250 at 250 kbit/s.
 pub fn remaster(alloc: Global, medium: &Medium) -> Result<Medium, RemasterError>
     ensures { Remasters medium.now result }
 {
@@ -137,7 +138,7 @@ pub fn remaster(alloc: Global, medium: &Medium) -> Result<Medium, RemasterError>
     for c in 0..medium.cylinders() {
         remaster_cylinder(alloc, medium, &mut after, c)?;
     }
-    // A medium that is read is known to be valid.
+    // Reading the medium makes known that it is valid.
     let _words = after.words();
     Ok(after)
 }

@@ -9,11 +9,11 @@ use thiserror::Error;
 /// Why a medium wasn't laid out anew.
 #[derive(Clone, Copy, Debug, PartialEq, Eq, Error)]
 pub enum RemasterError {
-    /// The first track, by cylinder, then head, whose sectors can't be laid out anew: two have one key, one names another
-    /// cylinder or head, their sizes differ, there are more than 255, or no gap suits them.
+    /// The first track, by cylinder, then head, whose sectors can't be laid out anew. Two of them have the same key,
+    /// one names another cylinder or head, their sizes differ, there are more than 255, or no gap suits them.
     #[error("track {c} {h} can't be laid out anew")]
     Unfit { c: u8, h: u8 },
-    /// Memory couldn't be had.
+    /// Memory ran out.
     #[error("no memory")]
     NoMemory,
 }

@@ -8,7 +8,7 @@ use crate::sectors::Sector;
 use flop_base::{Chrn, Rate};
 use track_format::choose_gap;
 
-/// The most sectors of a track.
+/// The most sectors that a track may have.
 const MOST_SECTORS: usize = 255;
 
 /// Whether none of the sectors has the key.
@@ -23,7 +23,7 @@ fn is_new_key(sectors: &[Sector], key: Chrn) -> bool
     true
 }
 
-/// Whether each sector has a key of its own.
+/// Whether no two of the sectors have the same key.
 fn has_distinct_keys(sectors: &[Sector]) -> bool
     ensures { IsTrue result ↔ AllPairs (λ a b. a.key ≢ b.key) sectors.now }
 {
@@ -59,8 +59,8 @@ fn has_one_size(sectors: &[Sector], n: u8) -> bool
     true
 }
 
-/// Whether the sectors can stand on one track, apart from the room: at most 255 with keys of their own that name the track,
-/// and with this size code.
+/// Whether the sectors may be on one track together, if it has room for them. They are at most 255, no two have the
+/// same key, each key names the track, and all have this size code.
 fn may_share(sectors: &[Sector], n: u8, c: u8, h: u8) -> bool
     ensures { IsTrue result ↔ MayShare n c h sectors.now }
 {
@@ -70,7 +70,8 @@ fn may_share(sectors: &[Sector], n: u8, c: u8, h: u8) -> bool
         && has_distinct_keys(sectors)
 }
 
-/// The largest gap 3 for the sectors of a track, where they can be laid out anew. `n` is the size code of the first.
+/// The largest gap 3 for the sectors of a track, if they can be laid out anew. `n` is the size code of the first
+/// sector.
 pub(crate) fn fitting_gap(sectors: &[Sector], n: u8, rate: Rate, c: u8, h: u8) -> Option<u8>
     requires some { 0 < length sectors.now }
     requires first { (d : Sector) → HasSizeCode n (slice_index_or sectors.now 0 d) }

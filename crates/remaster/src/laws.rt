@@ -1,4 +1,4 @@
-// What is known of a track's lists.
+// What is known of the lists of a track.
 ghost use Rattle.std.specs.Prelude.{◌≡◌, ℕ, List};
 ghost use Rattle.flop_base.specs.declared.answers.Rate.{Rate};
 ghost use Rattle.remaster.specs.declared.looked.LookedField.{LookedField};
@@ -7,8 +7,8 @@ ghost use Rattle.remaster.specs.Looked.{AreLooked};
 ghost use Rattle.remaster.specs.Sectors.{AreSectors};
 ghost use Rattle.remaster.specs.Fit.{IsFitTrack, IsUnfitTrack};
 
-/// A law: a track has one list of address fields with their looks, and one list of sectors. So a track that is fit isn't
-/// unfit.
+/// A law: a track has only one list of address fields with their looks, and only one list of sectors. A track that is
+/// fit is therefore not unfit.
 pub fn sectors_are_one(_words: &[u16])
     ensures looked { (a b : List LookedField) → AreLooked _words.now a → AreLooked _words.now b
         → a ≡ b }

@@ -1,4 +1,4 @@
-//! A medium listed field by field, and laid out anew.
+//! A medium is listed field by field, or laid out anew.
 #![tactic(auto)]
 
 mod disk;

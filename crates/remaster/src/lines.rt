@@ -13,27 +13,27 @@ use sector_map::{Field, Look};
 use std::alloc::Global;
 use std::fmt;
 
-/// An address field of a medium, shown as `CYLINDER HEAD PLACE C H R N WORD`: decimal numbers, the place by the first
-/// cell of the field's marks, and what was found behind it.
+/// An address field of a medium, shown as `CYLINDER HEAD PLACE C H R N WORD`. The numbers are decimal. PLACE is the
+/// first cell of the field's marks, and WORD is what was found behind the field.
 #[derive(Clone, Copy, Debug, PartialEq, Eq)]
 pub struct SurveyLine {
-    /// The cylinder of the track, from 0.
+    /// The cylinder of the track, counted from 0.
     pub cylinder: u8,
-    /// The head of the track, from 0.
+    /// The head of the track, counted from 0.
     pub head: u8,
     pub field: Field,
-    /// `NoData` where the size code names no size.
+    /// The look at the field. It is `NoData` if the size code names no size.
     pub look: Look,
 }
 
-/// The last line of a survey of so many address fields, shown as `survey COUNT`.
+/// The last line of a survey of `count` address fields, shown as `survey COUNT`.
 #[derive(Clone, Copy, Debug, PartialEq, Eq)]
 pub struct SurveyEnd {
     pub count: usize,
 }
 
-/// What a look is called: `ok` or `deleted` where the data is had, else the status code of INT 13h (PC/AT). The look at an
-/// address field is never `NoMark` or `NoSector`.
+/// The word for a look: `ok` or `deleted` if the data are found, and otherwise the status code of INT 13h (PC/AT). The
+/// look at an address field is never `NoMark` or `NoSector`.
 fn look_word(look: Look) -> &'static str
     ensures { result.now ≡ look_text look }
 {
@@ -46,7 +46,7 @@ fn look_word(look: Look) -> &'static str
     }
 }
 
-/// The last word of a line: `size` where the size code names no size.
+/// The last word of a line. It is `size` if the size code names no size.
 fn word_of(n: u8, look: Look) -> &'static str
     ensures { result.now ≡ word_text n look }
 {

@@ -13,7 +13,7 @@ use std::alloc::Global;
 #[derive(Clone, Copy, Debug, PartialEq, Eq)]
 pub struct LookedField {
     pub field: Field,
-    /// `NoData` where the size code names no size.
+    /// The look at the field. It is `NoData` if the size code names no size.
     pub look: Look,
 }
 

@@ -35,7 +35,7 @@ fn place_of(n: u8, gap3: u8, i: usize) -> usize
     16 * (FIRST_FIELD + i * (SECTOR_WORDS + sector_size(n) + usize::from(gap3)))
 }
 
-/// A key, of which it is known that it is bytes.
+/// A key. Its parts are made known to be bytes.
 fn bytes_of(key: Chrn) -> Chrn
     ensures same { result ≡ key }
     ensures bytes { IsKey result }
@@ -77,7 +77,7 @@ fn write_sector(
     Ok(())
 }
 
-/// The track of these sectors: formatted with their keys, and each written.
+/// The track of these sectors. It is formatted with their keys, and then each sector is written.
 pub(crate) fn relay(
     alloc: Global,
     sectors: &[Sector],

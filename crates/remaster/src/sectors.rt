@@ -34,7 +34,7 @@ fn copy_content(alloc: Global, words: &[u16], place: usize, n: u8) -> Result<Byt
     Ok(Bytes::of(bytes))
 }
 
-/// Adds what was found behind an address field.
+/// Adds what was found behind an address field, if it is a sector.
 fn push_found(
     sectors: &mut Vec<Sector>,
     alloc: Global,
@@ -60,7 +60,7 @@ fn push_found(
     Ok(())
 }
 
-/// The sectors of a track in order of place: those of its address fields whose data is whole.
+/// The sectors of a track in order of place. They are those of its address fields whose data are whole.
 pub fn list_sectors(alloc: Global, words: &[u16]) -> Result<Vec<Sector>, NoMemory>
     requires { IsTrackSized words.now }
     ensures exact { IfOk result (λ sectors. AreSectors words.now sectors.items) }

@@ -1,4 +1,4 @@
--- The records of one number, one head or one cylinder more.
+-- The records of a diskette, with one more record, head or cylinder at a time.
 use Rattle.std.proofs.Common.{◌≡◌, ℕ, zero, suc, ◌+◌, ◌-◌, ◌≤◌, List, [], ◌∷◌, ◌++◌, map, sym, ap, ◌∙◌, append_assoc, refl, arith}
 use Rattle.std.specs.List.{range_with_len, flat_map}
 use Rattle.std.proofs.lemmas.List.{append-nil, flat_map_more}
@@ -50,7 +50,7 @@ pub standard-none : (rate : Rate) (heads : ℕ) → standard_keys rate 0 heads �
 unfolding standard_keys
 standard-none rate heads = refl
 
--- what was added, and then more
+-- to what stood there some items were added, and then more: together they are all items
 pub added : {T : Type 0} (start so_far items more after all : List T) → items ≡ start ++ so_far → after ≡ items ++ more → all ≡ so_far ++ more → after ≡ start ++ all
 added start so_far items more after all e f g =
     f ∙ ap (λ l. l ++ more) e ∙ append_assoc start so_far more ∙ ap (λ l. start ++ l) (sym g)

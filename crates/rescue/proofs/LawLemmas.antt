@@ -1,4 +1,4 @@
--- A log's text is that of no other log, and has no bad line.
+-- A log's text is the text of no other log, and has no bad line.
 use Rattle.std.proofs.Common.{◌≡◌, ℕ, ◌<◌, List, [], ◌∷◌, ◌++◌, length, get_or, refl, sym, ap, ◌∙◌, subst, arith, append_assoc, length-append}
 use Rattle.std.proofs.lemmas.List.{get_or_append_left, append-nil, append_cancel_left}
 use Rattle.std.proofs.lemmas.List.Elements.{recursion_from_All}
@@ -82,7 +82,7 @@ not_bad sectors front lines (m ∷ ms) rest log is text some bad =
     let regrouped : lines ≡ (front ++ m ∷ []) ++ ms = is ∙ sym (append_assoc front (m ∷ []) ms) in
     bad m (log_text ms) (text ∙ text_cons m ms) (beginning sectors (front ++ m ∷ []) ms (subst (IsLog sectors) regrouped log))
 
--- and none of its lines is bad
+-- no line of a log's text is bad
 pub understood : (sectors n : ℕ) (lines : List LogLine) → sectors < 256 → IsLog sectors lines → IsFirstBadLine sectors (log_text lines) n → ⊥
 understood sectors n lines small log b =
     let behind = longer sectors b.lines lines b.rest small (valid sectors b.lines b.good) (valid sectors lines log) b.begins in

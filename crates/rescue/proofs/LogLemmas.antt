@@ -14,7 +14,7 @@ use Rattle.rescue.specs.Fields.{BeginsWith}
 use Rattle.rescue.specs.Log.{line_text, log_text, IsLogLine, IsBefore, IsLog, IsAfterLast, IsFirstBadLine}
 use Rattle.rescue.specs.declared.line.LogLine.{LogLine}
 
--- one line before another
+-- the record of one line is before that of another
 abbrev pub Before : LogLine → LogLine → Type 0
 Before a b = IsBefore a.key b.key
 
@@ -27,7 +27,7 @@ at_last lines d some = slice_get-get_or lines (length lines - 1) d (omega arith)
 after_last : (lines : List LogLine) (line d : LogLine) → 0 < length lines → IsAfterLast lines line → Before (get_or lines (length lines - 1) d) line
 after_last lines line d some after = rw (at_last lines d some) at after
 
--- each line is before one that is behind the last
+-- if a line's record is after the last one, it is after each
 earlier : (lines : List LogLine) (line : LogLine) → AllPairs Before lines → IsAfterLast lines line
     → (k : ℕ) (d : LogLine) → k < length lines → Before (get_or lines k d) line
 earlier lines line rising after k d inside = by_test (eqb k (length lines - 1)) refl
@@ -41,7 +41,7 @@ earlier lines line rising after k d inside = by_test (eqb k (length lines - 1)) 
         before_trans (get_or lines k d).key (get_or lines (length lines - 1) d).key line.key
         (rising k (length lines - 1) d (omega (arith, other)) (omega arith)) (after_last lines line d (omega arith) after)
 
--- a line that may stand behind a log makes a log
+-- a log, and a line that may follow it, are a log
 pub log_more : (sectors : ℕ) (lines : List LogLine) (line : LogLine) → IsLog sectors lines → IsLogLine sectors line → IsAfterLast lines line
     → IsLog sectors (lines ++ line ∷ [])
 log_more sectors lines line log valid after = record {
@@ -49,7 +49,7 @@ log_more sectors lines line log valid after = record {
   rising = all_pairs_push Before lines line log.rising (earlier lines line log.rising after);
 }
 
--- and the last line of a log is such a line
+-- the last line of a log is such a line
 pub last_valid : (sectors : ℕ) (lines : List LogLine) (line : LogLine) → IsLog sectors (lines ++ line ∷ []) → IsLogLine sectors line
 last_valid sectors lines line log =
     subst (IsLogLine sectors) (get_or-append_seam lines line [] line)
@@ -83,7 +83,7 @@ text_upto lines i d inside =
     rw (take_more lines i d inside, flat_map-append (λ (l : LogLine). line_text l ++ 10 ∷ []) (take i lines) (get_or lines i d ∷ []))
     (ap (λ (end : List ℕ). log_text (take i lines) ++ end) (append-nil (line_text (get_or lines i d) ++ 10 ∷ [])))
 
--- a line whose record isn't behind the last is bad
+-- a line whose record isn't after the last one is bad
 pub first_bad_order : (sectors : ℕ) (text rest others : List ℕ) (lines : List LogLine) (line : LogLine) → sectors < 256 → text ≡ log_text lines ++ rest
     → IsLog sectors lines → 0 < length rest → BeginsWith sectors rest line others → (IsAfterLast lines line → ⊥) → IsFirstBadLine sectors text (length lines + 1)
 first_bad_order sectors text rest others lines line small begins good more next out = record {
@@ -98,6 +98,6 @@ first_bad_order sectors text rest others lines line small begins good more next 
       out (subst (IsAfterLast lines) same (last_after sectors lines other log));
 }
 
--- less is left behind a line
+-- less is left after a line
 pub less_left : (rest text others : List ℕ) → rest ≡ text ++ (10 ∷ others) → length others + 1 ≤ length rest
 less_left rest text others h = omega (arith, ap length h, length-append text (10 ∷ others))

@@ -1,4 +1,4 @@
--- The records of the standard format rise.
+-- The records of the standard format are in rising order.
 use Rattle.std.proofs.Common.{◌≡◌, ℕ, zero, suc, ◌+◌, ◌<◌, ◌≤◌, inl, inr, List, [], ◌∷◌, ◌++◌, length, get_or, map, refl, sym, ap, ◌∙◌, subst, arith}
 use Rattle.std.proofs.lemmas.List.{flat_map_more, get_or-map, length-map}
 use Rattle.std.proofs.lemmas.List.Elements.{All-from_recursion}
@@ -16,7 +16,7 @@ use Rattle.rescue.specs.Course.{standard_keys, logged_keys}
 use Rattle.rescue.specs.Log.{IsBefore, IsLog}
 use Rattle.rescue.specs.declared.line.LogLine.{LogLine}
 
--- each record is before all behind it
+-- each record is before all later ones
 abbrev Rises : List Chrn → Type 0
 Rises [] = ⊤
 Rises (k ∷ ks) = AllByRecursion (IsBefore k) ks × Rises ks
@@ -37,7 +37,7 @@ rises-append : (xs ys : List Chrn) → Rises xs → Rises ys → AllByRecursion 
 rises-append [] ys h k c = k
 rises-append (x ∷ xs) ys h k c = (all-append (IsBefore x) xs ys h.0 c.0, rises-append xs ys h.1 k c.1)
 
--- lists of records by a number that is a part of their keys, where the parts above agree
+-- a list of records for each number, which is one part of their sector IDs; the parts above it are the same in all
 record IsLevel (f : ℕ → List Chrn) (part : Chrn → ℕ) (Above : Chrn → Type 0) : Type 0 where
   pub rising : (n : ℕ) → Rises (f n)
   pub placed : (n : ℕ) → AllByRecursion (λ k. (part k ≡ n) × Above k) (f n)
@@ -126,13 +126,13 @@ cylinder_level sectors heads = record {
   ordered = λ a b above above' less. inl less;
 }
 
--- all records of a diskette rise
+-- the records of a diskette are in rising order
 pub standard_rises : (rate : Rate) (cylinders heads : ℕ) → AllPairs IsBefore (standard_keys rate cylinders heads)
 unfolding standard_keys
 standard_rises rate cylinders heads =
     pairs_rise _ (level_rises (cylinder_keys (sectors_at rate) heads) (λ k. k.c) (λ k. ⊤) cylinders (cylinder_level (sectors_at rate) heads))
 
--- and so do those of a log
+-- the records of a log are in rising order
 pub logged_rises : (sectors : ℕ) (lines : List LogLine) → IsLog sectors lines → AllPairs IsBefore (logged_keys lines)
 logged_rises sectors lines log i j d order inside =
     let none : LogLine = record { key = d; code = BadRequest } in

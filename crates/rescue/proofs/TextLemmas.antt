@@ -1,4 +1,4 @@
--- Lines are cut at spaces and at line feeds as they were joined.
+-- Cutting a text at spaces and at line feeds gives the words and lines from which it was joined.
 use Rattle.std.proofs.Common.{◌≡◌, ℕ, ◌+◌, ◌<◌, ◌≤◌, Bool, false, List, [], ◌∷◌, ◌++◌, length, take, drop, get_or, nat_lt, eqb, cond, Some, None, refl, sym, ap, ◌∙◌, subst, arith, lit<, lit≤}
 use Rattle.std.proofs.lemmas.Bool.{eqb-true}
 use Rattle.std.proofs.lemmas.Bool.Decides.{nat_tests}
@@ -19,7 +19,7 @@ use Rattle.rescue.specs.Fields.{line_of, words_of, pieces_of, BeginsWith, Begins
 use Rattle.rescue.specs.Log.{code_text, line_words, line_text, IsLogLine}
 use Rattle.rescue.specs.declared.line.LogLine.{LogLine}
 
--- each byte is m at least
+-- each number is m or more
 abbrev AllFrom : ℕ → List ℕ → Type 0
 AllFrom m bytes = AllByRecursion (λ b. m ≤ b) bytes
 
@@ -31,7 +31,7 @@ weaker : (m n : ℕ) (xs : List ℕ) → n ≤ m → AllFrom m xs → AllFrom n 
 weaker m n [] low h = tt
 weaker m n (x ∷ xs) low h = (omega (arith, h.0), weaker m n xs low h.1)
 
--- a byte that is less than all stands nowhere
+-- a number below m isn't among numbers from m on
 none_is : (m c : ℕ) (xs : List ℕ) → c < m → AllFrom m xs → AllByRecursion (λ b. eqb b c ≡ false) xs
 none_is m c [] low h = tt
 none_is m c (x ∷ xs) low h =
@@ -95,11 +95,11 @@ pieces_of-line sectors line others small h =
     slice_split_at (λ b. eqb b 10) (line_text line) 10 others
     (All-from_recursion _ (line_text line) (none_is 32 10 (line_text line) (lit< tt) (line_from sectors line small h))) refl
 
--- a text is read as the line that it is
+-- the text of a line is read as that line
 pub read_as : (sectors : ℕ) (line : LogLine) → sectors < 256 → IsLogLine sectors line → line_of sectors (words_of (line_text line)) ≡ Some line
 read_as sectors line small h = ap (line_of sectors) (words_of-line sectors line small h) ∙ line_of-words sectors line small h
 
--- and what was read is the text
+-- what was read as a line is the text of that line
 pub is_text : (sectors : ℕ) (text : List ℕ) (line : LogLine) → sectors < 256 → line_of sectors (words_of text) ≡ Some line → text ≡ line_text line
 is_text sectors text line small h =
     sym (join_with_byte-slice_split 32 text) ∙ ap (join_with_byte 32) (line_of-read sectors (words_of text) line small h).0
@@ -134,7 +134,7 @@ begins_unread sectors text piece others small split unread line more b =
     let read = ap (λ (p : List ℕ). line_of sectors (words_of p)) same ∙ read_as sectors line small b.valid in
     absurd (cc (read, unread))
 
--- a text begins with one line at most
+-- a text begins with at most one line
 pub begins_with_one : (sectors : ℕ) (text : List ℕ) (line line' : LogLine) (others others' : List ℕ) → sectors < 256
     → BeginsWith sectors text line others → BeginsWith sectors text line' others' → line ≡ line'
 begins_with_one sectors text line line' others others' small b b' =
@@ -161,7 +161,7 @@ pieces_of-whole text h =
     let none = none_found (position_or_len feed text) (length text) h in
     slice_split_none feed text (λ k d inside. fails_before_first feed text k d (omega (arith, none)))
 
--- what stands before and behind the first line feed
+-- what stands before the first line feed and after it
 pub first_piece : (text line rest others : List ℕ) (end : ℕ) → position feed text ≡ Some end → line ≡ take end text → rest ≡ drop end text → others ≡ drop 1 rest
     → (pieces_of text ≡ line ∷ pieces_of others) × (text ≡ line ++ (10 ∷ others))
 first_piece text line rest others end h front back behind =

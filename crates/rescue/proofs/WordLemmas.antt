@@ -1,4 +1,4 @@
--- The words of a line spell it, and no others do.
+-- The words of a line spell it, and no other words do.
 use Rattle.std.proofs.Common.{◌≡◌, ℕ, ◌/◌, ◌%◌, ◌<◌, ◌≤◌, Bool, true, false, ◌&&◌, cond, List, [], ◌∷◌, length, get_or, zero, suc, nat_le, nat_lt, eqb, Option, Some, None, option_and_then, refl, sym, ap, ◌∙◌, subst, arith, lit<, le-leb, lt-ltb, leb-true, ltb-true}
 use Rattle.std.proofs.lemmas.Bool.Decides.{nat_tests}
 use Rattle.std.proofs.lemmas.Fmt.{decimal_is_IsNumeral, length-decimal-le, decimal-digits_value, first_decimal, decimal_digit, hex_one_digit}
@@ -30,7 +30,7 @@ and_from : (a b : Bool) → a ≡ true → b ≡ true → (a && b) ≡ true
 and_from true b h k = k
 and_from false b h k = h
 
--- an answer that was given by a test
+-- if a choice between a value and none gave something, the test held and this is the value
 given : {T : Type 0} (t : Bool) (v n : T) → cond t (Some v) None ≡ Some n → (t ≡ true) × (v ≡ n)
 given true v n h = (refl, cc)
 given false v n h = absurd (cc)
@@ -55,7 +55,7 @@ digits_tested : (ds : List ℕ) → AllDigits 10 ds → all_digits 10 ds ≡ tru
 digits_tested [] h = refl
 digits_tested (c ∷ cs) h = and_from _ _ (lt-ltb (digit_value c) 10 h.0) (digits_tested cs h.1)
 
--- what a number that was read is
+-- what is known of a number that was read
 record IsRead (least greatest : ℕ) (word : List ℕ) (n : ℕ) : Type 0 where
   pub some : 1 ≤ length word
   pub digits : AllDigits 10 word
@@ -103,7 +103,7 @@ plain_decimal (suc n) h =
     let first = first_decimal (suc n) (omega arith) (omega arith) in
     grind (arith, nat_tests)
 
--- and each number's spelling is read
+-- the spelling of each number is read as that number
 pub plain_of-decimal : (least greatest n : ℕ) → greatest < 256 → least ≤ n → n ≤ greatest → plain_of least greatest (decimal n) ≡ Some n
 unfolding plain_of
 plain_of-decimal least greatest n small low high =
@@ -166,7 +166,7 @@ code_of-read word code h =
     code_tested (codes "10") word BadCrc code _ (sym (code_text-is BadCrc)) tt h3 (λ h4.
     code_tested (codes "40") word Seek code _ (sym (code_text-is Seek)) tt h4 (λ h5. absurd (cc (h5)))))))
 
--- and the spelling of each refusal of a drive is read
+-- the spelling of each refusal of a drive is read as that refusal
 pub code_of-text : (code : Code) → IsDeviceRefusal code → code_of (code_text code) ≡ Some code
 unfolding code_of
 code_of-text BadRequest h = absurd h
@@ -216,7 +216,7 @@ line_of-read sectors (c ∷ d ∷ r ∷ []) line small h = absurd (cc)
 line_of-read sectors (c ∷ d ∷ r ∷ e ∷ []) line small h = fields_read sectors c d r e line small h
 line_of-read sectors (c ∷ d ∷ r ∷ e ∷ f ∷ fs) line small h = absurd (cc)
 
--- and the words of each line are read
+-- the words of each line are read as that line
 pub line_of-words : (sectors : ℕ) (line : LogLine) → sectors < 256 → IsLogLine sectors line → line_of sectors (line_words line) ≡ Some line
 unfolding line_of
 line_of-words sectors line small h =

@@ -29,16 +29,16 @@ logged_keys lines = map (λ line. line.key) lines
 abbrev pub read_of : Chrn → Request
 read_of key = Read 0 key 0x10000
 
--- and written from there to the diskette in bay 1, with its mark
+-- the record is written from there to the diskette in bay 1, with its mark
 abbrev pub write_of : Chrn → Bool → Request
 write_of key false = Write 1 key 0x10000
 write_of key true = WriteDeleted 1 key 0x10000
 
--- a line of the new log
+-- the refused record gets a line of the new log
 abbrev pub logged : Chrn → Code → AfterRead
 logged key code = next.Log (record { key = key; code = code })
 
--- refusals of the drive go to the log, and all others stop the rescue
+-- a refusal of the drive goes to the log, and any other refusal stops the rescue
 abbrev pub after_refusal : Chrn → Code → AfterRead
 after_refusal key NoMark = logged key NoMark
 after_refusal key NotFound = logged key NotFound
@@ -47,7 +47,7 @@ after_refusal key BadCrc = logged key BadCrc
 after_refusal key Seek = logged key Seek
 after_refusal key other = next.Stop other
 
--- what follows the read of a record; true where it is marked deleted
+-- what follows the read of a record; `true` says that the record is marked deleted
 abbrev pub after_read : Chrn → Result Bool Code → AfterRead
 after_read key (Ok deleted) = next.Write (write_of key deleted)
 after_read key (Err code) = after_refusal key code
@@ -56,6 +56,6 @@ after_read key (Err code) = after_refusal key code
 abbrev pub outcome_text : Outcome → List ℕ
 outcome_text outcome = codes "rescue " ++ (decimal outcome.written ++ (codes " of " ++ decimal outcome.asked))
 
--- some record was not read
+-- the status, by whether some record wasn't read
 abbrev pub outcome_status : Outcome → Status
 outcome_status outcome = if nat_lt outcome.written outcome.asked then SomeRefused else AllOk

@@ -14,7 +14,7 @@ unfoldable pub plain_of : ℕ → ℕ → List ℕ → Option ℕ
 plain_of least greatest word =
     if nat_lt 1 (length word) && (slice_index word 0 == 48) then None else number_of 10 1 3 least greatest word
 
--- the refusals of a drive
+-- the refusal of a drive that a word spells
 unfoldable pub code_of : List ℕ → Option Code
 code_of word =
     if bytes_eq word (codes "02") then Some NoMark
@@ -46,6 +46,6 @@ pub record BeginsWith (sectors : ℕ) (text : List ℕ) (line : LogLine) (others
   pub begins : text ≡ line_text line ++ (10 ∷ others)
   pub valid : IsLogLine sectors line
 
--- a text begins with none
+-- a text doesn't begin with a line of a log
 abbrev pub BeginsWithNone : ℕ → List ℕ → Type 0
 BeginsWithNone sectors text = (line : LogLine) (others : List ℕ) → ¬ (BeginsWith sectors text line others)

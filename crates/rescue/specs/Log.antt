@@ -1,4 +1,4 @@
--- The log of a rescue: the records that were not read, each with the drive's refusal.
+-- The log of a rescue: the records that weren't read, each with the drive's refusal.
 use Rattle.std.specs.Prelude.{◌≡◌, ℕ, ◌+◌, ◌-◌, ◌<◌, ◌≤◌, ◌⊎◌, List, [], ◌∷◌, ◌++◌, length, slice_get, All, IfSome, Result, Ok, Err}
 use Rattle.std.specs.Fmt.{decimal}
 use Rattle.std.specs.List.{AllPairs, flat_map, join_with_byte}
@@ -41,16 +41,16 @@ pub record IsLogLine (sectors : ℕ) (line : LogLine) : Type 0 where
 abbrev pub IsBefore : Chrn → Chrn → Type 0
 IsBefore a b = (a.c < b.c) ⊎ ((a.c ≡ b.c) × ((a.h < b.h) ⊎ ((a.h ≡ b.h) × (a.r < b.r))))
 
--- the lines of a log: each may stand there, and each record is before all later ones
+-- the lines of a log: each is a line that may stand in a log, and its record is before all later ones
 pub record IsLog (sectors : ℕ) (lines : List LogLine) : Type 0 where
   pub each : All (IsLogLine sectors) lines
   pub rising : AllPairs (λ a b. IsBefore a.key b.key) lines
 
--- a line may stand behind these
+-- a line may follow these: its record is after that of the last line, if there is one
 abbrev pub IsAfterLast : List LogLine → LogLine → Type 0
 IsAfterLast lines line = IfSome (slice_get lines (length lines - 1)) (λ last. IsBefore last.key line.key)
 
--- line n is the first bad one: those before it are a log's, and nothing that may stand behind them comes next
+-- line n is the first bad one: the lines before it are a log, and no line that may follow them comes next
 pub record IsFirstBadLine (sectors : ℕ) (text : List ℕ) (n : ℕ) : Type 0 where
   pub lines : List LogLine
   pub rest : List ℕ
@@ -61,7 +61,7 @@ pub record IsFirstBadLine (sectors : ℕ) (text : List ℕ) (n : ℕ) : Type 0 w
   pub bad : (line : LogLine) (others : List ℕ) → rest ≡ line_text line ++ (10 ∷ others)
       → ¬ (IsLog sectors (lines ++ line ∷ []))
 
--- a text was read as the log that it is, or refused at its first bad line, unless memory ran out
+-- a text was read as the log that it spells, or refused at its first bad line, unless memory ran out
 abbrev pub ReadsLog : {A : Type 0} → (A → List LogLine) → ℕ → List ℕ → Result A LogError → Type 0
 ReadsLog items sectors text (Ok kept) = IsLog sectors (items kept) × (text ≡ log_text (items kept))
 ReadsLog items sectors text (Err (BadLine n)) = IsFirstBadLine sectors text n

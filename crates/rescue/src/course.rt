@@ -18,7 +18,7 @@ const BUFFER: u32 = 0x10000;
 /// What follows the read of a record.
 #[derive(Drop)]
 pub enum AfterRead {
-    /// This request: the record is written to the other diskette, with the mark that it had.
+    /// This request comes next: the record is written to the other diskette, with the mark that it had.
     Write(Request),
     /// The record stays unread, and the new log has this line.
     Log(LogLine),
@@ -50,7 +50,7 @@ fn write_request(key: Chrn, deleted: bool) -> Request
     }
 }
 
-/// What follows the read of a record; `read` is true where it is marked deleted.
+/// What follows the read of a record; `Ok(true)` says that the record is marked deleted.
 pub fn after_read(key: Chrn, read: Result<bool, Code>) -> AfterRead
     ensures { result ≡ next_of key read }
 {

@@ -38,8 +38,8 @@ fn push_cylinder(keys: &mut Vec<Chrn>, sectors: u8, heads: u8, c: u8) -> Result<
     Ok(())
 }
 
-/// The records of a diskette in the standard format of its rate, by cylinder, head and number: those that are asked for where
-/// there is no log.
+/// The records of a diskette in the standard format of its rate, by cylinder, head and number. A rescue without a log
+/// asks for these.
 #[tactic(auto, unfolding(crate::specs::Course::standard_keys))]
 pub fn standard_keys(
     alloc: Global,
@@ -65,7 +65,7 @@ fn listed_keys(alloc: Global, log: &[LogLine]) -> Result<Vec<Chrn>, AllocError>
     log.iter().map(|line| line.key).collect(alloc)
 }
 
-/// The records of a log: those that are asked for where there is one.
+/// The records of a log. A rescue with a log asks for these.
 pub fn logged_keys(alloc: Global, log: &[LogLine]) -> Result<Vec<Chrn>, NoMemory>
     ensures keys { IfOk result (λ keys. keys.items ≡ keys_of_log log.now) }
     ensures rising { (sectors : ℕ) → IsLog sectors log.now

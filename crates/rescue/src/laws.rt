@@ -3,7 +3,7 @@ ghost use Rattle.std.specs.Prelude.{◌≡◌, ◌<◌, [], ◌∷◌, ◌++◌,
 ghost use Rattle.rescue.specs.Log.{log_text, IsLogLine, IsLog, IsAfterLast, IsFirstBadLine};
 ghost use Rattle.rescue.specs.declared.line.LogLine.{LogLine};
 
-/// Reading the text of a log gives its lines: no other log has that text, and it has no bad line.
+/// Reading the text of a log gives the log's lines: no other log has that text, and the text has no bad line.
 pub fn log_reads_back()
     ensures one_spelling { (sectors : ℕ) (lines others : List LogLine) → sectors < 256
         → IsLog sectors lines → IsLog sectors others → log_text lines ≡ log_text others
@@ -12,7 +12,7 @@ pub fn log_reads_back()
         → IsLog sectors lines → ¬ (IsFirstBadLine sectors (log_text lines) n) }
 {}
 
-/// A line that may stand behind those of a log makes a log, and no lines are a log.
+/// A log, and a line that may follow it, are a log. So is a list of no lines.
 pub fn log_grows()
     ensures none { (sectors : ℕ) → IsLog sectors [] }
     ensures more { (sectors : ℕ) (lines : List LogLine) (line : LogLine) → IsLog sectors lines

@@ -1,5 +1,5 @@
-//! A rescue of a diskette that is read in several runs: the log of the records that were not read, as a text that is read and
-//! written exactly, the records that a run asks for, what follows each read, and how a run ends.
+//! A rescue of a diskette that is read in several runs. Here are the log of the records that weren't read, as a text
+//! that is read and written exactly, the records that a run asks for, what follows each read, and how a run ends.
 #![tactic(auto)]
 
 mod course;

@@ -10,7 +10,7 @@ use floppy_jobs::numbers::number;
 use std::alloc::{AllocError, Global};
 use std::fmt;
 
-/// A record that was not read, and the drive's refusal: 02, 04, 08, 10 or 40.
+/// A record that wasn't read, and the drive's refusal: 02, 04, 08, 10 or 40.
 #[derive(Clone, Copy, Debug, PartialEq, Eq)]
 pub struct LogLine {
     pub key: Chrn,
@@ -82,7 +82,7 @@ fn words(alloc: Global, line: &[u8]) -> Result<Vec<&[u8]>, AllocError>
     line.split(|byte| *byte == b' ').collect(alloc)
 }
 
-/// The line that a text without line feeds is.
+/// The line that a text without line feeds spells, if it spells one.
 pub(crate) fn read_line(
     alloc: Global,
     text: &[u8],

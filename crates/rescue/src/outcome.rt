@@ -10,12 +10,12 @@ use std::fmt;
 pub struct Outcome {
     /// The records that were read and written.
     pub written: usize,
-    /// The records that were asked for, those written among them.
+    /// The records that were asked for, including those that were written.
     pub asked: usize,
 }
 
 impl Outcome {
-    /// The status of the program: whether some record was not read.
+    /// The status of the program, by whether some record wasn't read.
     pub fn status(self) -> Status
         ensures { result ≡ outcome_status self }
     {

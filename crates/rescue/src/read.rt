@@ -16,7 +16,7 @@ pub enum LogError {
     /// The first line that isn't understood, counted from 1.
     #[error("log line {line} not understood")]
     BadLine { line: usize },
-    /// Memory couldn't be had. This says nothing of the text.
+    /// Memory ran out. This says nothing about the text.
     #[error("out of memory")]
     NoMemory,
 }
@@ -43,7 +43,7 @@ fn line_end(text: &[u8]) -> Option<usize>
     text.iter().position(|byte| *byte == b'\n')
 }
 
-/// What stands before and behind the first line feed; nothing where there is none.
+/// What stands before the first line feed and after it; nothing where there is no line feed.
 fn split_line(text: &[u8]) -> Option<(&[u8], &[u8])>
     ensures pieces { MatchOption result (pieces_of text.now ≡ text.now ∷ [])
         (λ found. pieces_of text.now ≡ found.0.now ∷ pieces_of found.1.now) }
@@ -54,7 +54,7 @@ fn split_line(text: &[u8]) -> Option<(&[u8], &[u8])>
     Some((line, others))
 }
 
-/// The line of a log that a text begins with, and the text behind its line feed.
+/// The line of a log that a text begins with, and the text after its line feed.
 fn next_line(
     alloc: Global,
     text: &[u8],
@@ -79,7 +79,7 @@ fn is_before(first: Chrn, second: Chrn) -> bool
     (first.c, first.h, first.r) < (second.c, second.h, second.r)
 }
 
-/// Whether a line may stand behind these: its record is behind that of the last one.
+/// Whether a line may follow these: its record is after that of the last line, if there is one.
 fn follows(lines: &[LogLine], line: LogLine) -> bool
     ensures { IsTrue result ↔ IsAfterLast lines.now line }
 {

@@ -1,4 +1,4 @@
--- How counters go on where a drive is exchanged, and what pays for faults.
+-- How counters change when a drive is exchanged, and how faults are taken from what was left of them.
 use Rattle.std.proofs.Common.{arith, ◌≡◌, ℕ, zero, suc, ◌+◌, ◌-◌, ◌≤◌, Bool, true, false, List, [], ◌∷◌, refl, ap, ◌∙◌, sym, subst, Option, Some, None}
 use Rattle.std.proofs.lemmas.Bool.Decides.{nat_tests}
 use Rattle.std.proofs.lemmas.List.Sums.{sum_by-cons}
@@ -13,7 +13,7 @@ use Rattle.sector_model.specs.Ties.{with_spare, told_rise, told_faults, told_lef
 pub not-first : (bay : ℕ) → (suc bay == 0) ≡ false
 not-first bay = grind (arith, nat_tests)
 
--- counters with a spare in a bay go on
+-- the counters with the spare in a bay go on to the new ones
 module _ (old : Counters) (new : Counters) (next : DriveCounts) (direct : old.direct ≤ new.direct) (commands : new.data_commands ≡ old.data_commands) where
   spare_goes : (bay : ℕ) → TakesSpare bay old new → DriveGoesOn next (in_bay new.drives bay) → GoesOn (with_spare old bay (next ∷ new.spares)) new
   spare_goes zero takes comes = record {
@@ -42,13 +42,13 @@ module _ (old : Counters) (new : Counters) (next : DriveCounts) (direct : old.di
       } in
       subst (λ (b : Bool). GoesOn (record old { drives = (if b then record old.drives { first = next } else record old.drives { second = next }); spares = new.spares }) new) (sym (not-first bay)) goes
 
--- where a spare takes the place of a drive, the counters go on from those with the spare in the bay
+-- if a spare takes the place of a drive, the counters go on from those with the spare in the bay
 pub exchange_goes : (old new : Counters) (bay : ℕ) → TakesSpare bay old new → new.data_commands ≡ old.data_commands → GoesOn (with_spare old bay old.spares) new
 exchange_goes old new bay takes commands =
     subst (λ (spares : List DriveCounts). GoesOn (with_spare old bay spares) new) (sym takes.spare.1)
     (spare_goes old new takes.spare.0 takes.direct commands bay takes takes.spare.2)
 
--- ---- What is left pays for the faults.
+-- ---- Each fault is taken from what was left.
 
 rise_paid : (a b : ℕ) (l m : Option ℕ) → a ≤ b → Spends a l b m → option_map_or (λ most. b - a) l 0 + option_map_or (λ most. most) m 0 ≤ option_map_or (λ most. most) l 0
 rise_paid a b None m rose spends = subst (λ (o : Option ℕ). 0 + option_map_or (λ most. most) o 0 ≤ 0) (sym spends) (omega arith)
@@ -62,7 +62,7 @@ left_paid old new goes =
     let spares = ap (sum_by told_left) goes.spares in
     omega (arith, drive_paid old.drives.first new.drives.first goes.first, drive_paid old.drives.second new.drives.second goes.second, spares)
 
--- a drive that goes out takes along what it had left
+-- a drive that is taken out takes along what it had left
 pub spare_left : (counters : Counters) (bay : ℕ) (spares : List DriveCounts) → counters.spares ≡ spares → all_left (with_spare counters bay spares) ≤ all_left counters
 spare_left counters bay [] same = omega arith
 spare_left counters bay (next ∷ later) same = by_bay (bay == 0)

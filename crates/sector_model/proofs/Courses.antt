@@ -1,4 +1,4 @@
--- What a course's counts come to.
+-- What the counts of a course add up to.
 use Rattle.std.proofs.Common.{arith, ◌≡◌, ℕ, zero, suc, ◌+◌, ◌≤◌, Bool, true, false, All, List, [], ◌∷◌, refl, ap, ◌∙◌, sym, subst, Option, Some, None, IsSome}
 use Rattle.std.proofs.lemmas.Bool.{true≢false, leb-true, eqb-false}
 use Rattle.std.specs.Prelude.{◌==◌, if◌then◌else◌, MatchOption}
@@ -21,7 +21,7 @@ use Rattle.flop_base.proofs.Counted.{faults_go_on}
 use Rattle.sector_model.proofs.Counted.{not-first, left_paid, spare_left}
 use Rattle.sector_model.proofs.Ties.{step_goes}
 
--- ---- What was left of the faults pays for them.
+-- ---- Each fault is taken from what was left of them.
 
 entered_left : (counters : Counters) (asked : Request) (answer : Reply) → all_left (entered_by counters asked answer) ≤ all_left counters
 entered_left counters (request.Unit bay) reply.Done = spare_left counters bay counters.spares refl
@@ -42,7 +42,7 @@ entered_left counters (request.Dump address count) answer = omega arith
 entered_left counters (request.SetRate bay rate) answer = omega arith
 entered_left counters (request.Tries tries) answer = omega arith
 
--- and the counts go on after the course
+-- the same when counts go on after the course
 pub told_paid : (old mid : State) (told after : Option Files) (course : List Taken) (new : Counters) → Run old told course mid after → GoesOn mid.station.counters new → sum_told old.station.counters course + all_left new ≤ all_left old.station.counters
 told_paid old mid told after [] new run goes =
     let same = ap (λ (s : State). all_left s.station.counters) run.0 in
@@ -56,7 +56,7 @@ told_paid old mid told after (taken ∷ later) new run goes =
 
 -- ---- The faults of a bay's drive since it came.
 
--- a drive is exchanged in a bay alone
+-- a drive is exchanged only in bay 0 or 1
 taken_well : (P : Type 0) (Q : Reason → Type 0) (good : Bool) (next : Option Reason) → MatchOption (unless_bad good next) P Q → ((cause : Reason) → Q cause → ⊥) → good ≡ true
 taken_well P Q true next holds none = refl
 taken_well P Q false next holds none = absurd (none (reason.Driver BadRequest) holds)
@@ -100,7 +100,7 @@ entered_same old told after (request.Dump address count) answer new bay step one
 entered_same old told after (request.SetRate at rate) answer new bay step one apart = refl
 entered_same old told after (request.Tries tries) answer new bay step one apart = refl
 
--- one step more, before steps of which it holds
+-- one more step, before steps of which this holds
 module _ (bay : ℕ) (is : bay ≤ 1) (old : State) (told mid_told : Option Files) (taken : Taken) (later : List Taken) (new : Counters) (count sum : ℕ) (step : Step taken.asked old told taken.answer taken.after mid_told) (within : count + sum ≤ faults_of old.station.counters bay) where
   rose_in : faults_of (entered old.station.counters taken) bay ≤ faults_of (left_by taken) bay
   rose_in = faults_go_on (entered old.station.counters taken) (left_by taken) bay (step_goes old taken.after told mid_told taken.asked taken.answer step)
@@ -125,7 +125,7 @@ since_came bay is new old mid told after (taken ∷ later) count sum run goes wi
 
 -- ---- What holds of all drives.
 
--- a spare that comes into a bay is one of them
+-- a spare that comes into a bay is one of the drives
 spare_all : (P : DriveCounts → Type 0) (counters : Counters) (bay : ℕ) (spares : List DriveCounts) → OfAllDrives P counters → All P spares → OfAllDrives P (with_spare counters bay spares)
 spare_all P counters bay [] all more = all
 spare_all P counters bay (next ∷ later) all more = by_bay (bay == 0)
@@ -183,7 +183,7 @@ entered_stalls counters (request.Dump address count) answer = (refl, refl)
 entered_stalls counters (request.SetRate bay rate) answer = (refl, refl)
 entered_stalls counters (request.Tries tries) answer = (refl, refl)
 
--- what a drive that goes on keeps, all drives keep
+-- what each drive keeps when its counts go on, all drives keep
 goes_all : (P : DriveCounts → Type 0) → ((old new : DriveCounts) → P old → DriveGoesOn old new → P new) → (old new : Counters) → OfAllDrives P old → GoesOn old new → OfAllDrives P new
 goes_all P keeps old new all goes = record {
   first = keeps old.drives.first new.drives.first all.first goes.first;
@@ -195,11 +195,11 @@ told_still : (faults after : ℕ) (left later : Option ℕ) → IsSome left → 
 told_still faults after None later told spends = absurd (true≢false (sym told))
 told_still faults after (Some most) later told spends = subst (λ (o : Option ℕ). IsSome o) (sym spends.1) refl
 
--- a drive that tells what is left goes on telling it
+-- a drive that reports what is left still reports it later
 tells_on : (old new : DriveCounts) → TellsFaults old → DriveGoesOn old new → TellsFaults new
 tells_on old new told goes = told_still old.faults new.faults old.left new.left told goes.spends
 
--- drives that all tell it still do after a course
+-- if all drives report what is left, they still do after a course
 pub all_tell : (old mid : State) (told after : Option Files) (course : List Taken) (new : Counters) → Run old told course mid after → GoesOn mid.station.counters new → OfAllDrives TellsFaults old.station.counters → OfAllDrives TellsFaults new
 all_tell old mid told after [] new run goes all =
     goes_all TellsFaults tells_on mid.station.counters new (subst (λ (s : State). OfAllDrives TellsFaults s.station.counters) (sym run.0) all) goes
@@ -208,7 +208,7 @@ all_tell old mid told after (taken ∷ later) new run goes all =
     (goes_all TellsFaults tells_on (entered old.station.counters taken) (left_by taken) (entered_all TellsFaults old.station.counters taken.asked taken.answer all)
     (step_goes old taken.after told run.0 taken.asked taken.answer run.1))
 
--- ---- With nothing left nothing is disturbed.
+-- ---- If nothing is left, nothing is disturbed.
 
 -- the count of a drive with no faults left stays
 spent_stays : (old new : DriveCounts) → IsSpent old → DriveGoesOn old new → (new.faults ≡ old.faults) × IsSpent new
@@ -218,7 +218,7 @@ spent_stays old new spent goes =
     let none : pays.0 ≡ 0 = omega (arith, pays.2, goes.never_falls) in
     (same, record { left = pays.1 ∙ ap (λ (n : ℕ). Some n) none; below = omega (arith, spent.below, same) })
 
--- nothing is left of a drive that goes on, where nothing was
+-- if no fault of a drive was left, none is left when its counts go on
 spent_on : (old new : DriveCounts) → IsSpent old → DriveGoesOn old new → IsSpent new
 spent_on old new spent goes = let stays = spent_stays old new spent goes in stays.1
 

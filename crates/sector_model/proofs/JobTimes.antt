@@ -71,7 +71,7 @@ run_lasts old new told after (taken ∷ later) run =
     adds old.station.counters.clock taken.after.station.counters.clock new.station.counters.clock (time_of taken.asked old.station) (course_time taken.after.station later)
     (step_lasts old taken.after told run.0 taken.asked taken.answer run.1) (run_lasts taken.after new run.0 after later run.2)
 
--- no device step passes behind it
+-- no device step passes after a stop
 stopped_lasts : (old new : State) (asked : Request) → AfterStop asked old new → LastsUpTo 0 old.station.counters new.station.counters
 stopped_lasts old new (request.Eject bay) stopped = changed_lasts old new bay _ _ stopped
 stopped_lasts old new _ stopped = stopped.idle.no_steps
@@ -106,7 +106,7 @@ requests_last old new requests course ended (BrokenOff p) =
     (subst (λ (s : State). LastsUpTo (course_time old.state.station (p.before ++ p.last ∷ [])) old.state.station.counters s.station.counters) (sym p.after) lasts)
 requests_last old new requests course ended (EndStopped p) = run_and old.state p.mid old.files p.files course new.state.station.counters p.run (end_stop_lasts p.mid new.state p.files new.files p.stops)
 
--- where nothing was run and the state stays
+-- nothing was run and the state stays
 pub stays_last : (old new : World) (course : List Taken) → course ≡ [] → new.state ≡ old.state → Lasts old course new
 stays_last old new course nothing same =
     subst (λ (steps : List Taken). Lasts old steps new) (sym nothing)
@@ -132,7 +132,7 @@ turn_within turn tries station bay within = by_bay (bay == 0)
     by_bay true = within.first
     by_bay false = within.second
 
--- attempts of so many turns and steps
+-- attempts of `t` revolutions and `n` steps each
 attempts_within : (tries most turn longest t n : ℕ) → tries ≤ most → turn ≤ longest → tries * t * turn + tries * n ≤ most * (t * longest + n)
 attempts_within tries most turn longest t n few short =
     let many = mul-le-mul few (mul-le-mul_left t short) in

@@ -27,7 +27,7 @@ pub record PlayTied (old : Counters) (requests : List Request) (course : List Ta
   pub ties : TiesCounts old course new
   pub accesses : new.direct ≤ old.direct + accesses_of_job requests
 
--- a run, and how counts go on after it
+-- a run, and the counts after it
 run_ties : (old mid : State) (told after : Option Files) (course : List Taken) (new : Counters) (last : ℕ) → Run old told course mid after → GoesOn mid.station.counters new → Tied last mid.station.counters new → new.direct ≤ mid.station.counters.direct + 2 → TiesCounts old.station.counters course new
 run_ties old mid told after course new last run goes tied few =
     let ran = run_tied old mid told after course run in
@@ -64,7 +64,7 @@ up_to_one course requests later asked all =
     let whole : sum_by accesses_of requests ≡ sum_by accesses_of (requests_of course) + (accesses_of asked + sum_by accesses_of later) = ap (sum_by accesses_of) all ∙ sum_by-append accesses_of (requests_of course) (asked ∷ later) ∙ ap (λ n. sum_by accesses_of (requests_of course) + n) (sum_by-cons accesses_of asked later) in
     omega (arith, whole)
 
--- up to one that was run
+-- the same up to a request that was run
 up_to_last : (before : List Taken) (last : Taken) (requests later : List Request) → requests ≡ requests_of before ++ last.asked ∷ later → sum_by accesses_of (requests_of (before ++ last ∷ [])) + 0 ≤ accesses_of_job requests
 up_to_last before last requests later all =
     let one = up_to_one before requests later last.asked all in
@@ -93,7 +93,7 @@ pub stopped_ties : (old mid new : State) (told mid_told after : Option Files) (c
 stopped_ties old mid new told mid_told after course asked cause run stops =
     (play_tied old mid told mid_told course (requests_of course ++ asked ∷ []) new.station.counters (accesses_of asked) run (stop_goes mid new mid_told after asked cause stops) (stop_tied mid new mid_told after asked cause stops) (omega (arith, stop_accesses mid new mid_told after asked cause stops)) (up_to_one course (requests_of course ++ asked ∷ []) [] asked refl)).ties
 
--- where nothing was run and the state stays, nothing was counted
+-- if nothing was run and the state stays, nothing was counted
 stays_tied : (old new : World) (requests : List Request) (course : List Taken) → course ≡ [] → new.state ≡ old.state → PlayTied (counters_of old) requests course (counters_of new)
 stays_tied old new requests course nothing same =
     subst (λ (steps : List Taken). PlayTied (counters_of old) requests steps (counters_of new)) (sym nothing)
@@ -116,14 +116,14 @@ play_ties old new job course ended (TooLong longer alone) = (stays_tied old new 
 play_ties old new job course ended (Faulty nothing idle) = (stays_tied old new [] course nothing (ap (λ (w : World). w.state) idle.same)).ties
 play_ties old new job course ended (Starved nothing idle) = (stays_tied old new [] course nothing (ap (λ (w : World). w.state) idle.same)).ties
 
--- the text that was read is the told one
+-- the text that was read is the one in the files
 one_text : (told : Option Files) (job text : List ℕ) (requests : List Request) (is : IsJob told job requests) → IsText told job text → text ≡ is.text
 one_text told job text requests is read =
     let there = subst (λ (t : Option Files). IfSome t (λ files. IsSomeAnd (file_at files job) (λ bytes. (bytes ≡ text) × (length bytes ≤ most_job_bytes)))) is.tells read in
     let here = subst (λ (found : Option (List ℕ)). IsSomeAnd found (λ bytes. (bytes ≡ text) × (length bytes ≤ most_job_bytes))) is.there there in
     sym here.0
 
--- a play of a job with these requests makes no more accesses than they say
+-- a play of a job with these requests makes no more accesses than the requests may
 pub play_accesses : (old new : World) (job : List ℕ) (course : List Taken) (ended : Status) (requests : List Request) → Plays job old course new ended → IsJob old.files job requests → (counters_of new).direct ≤ (counters_of old).direct + accesses_of_job requests
 play_accesses old new job course ended requests (There p) is =
     (requests_tied old new requests course ended (subst (λ (parsed : Result (List Request) ℕ). PlaysParsed parsed old course new ended) (ap job_of (one_text old.files job p.text requests is p.told) ∙ is.spells) p.plays)).accesses

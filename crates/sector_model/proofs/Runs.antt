@@ -1,4 +1,4 @@
--- One step more at the end of a run.
+-- One more step at the end of a run.
 use Rattle.std.proofs.Common.{◌≡◌, ℕ, Bool, true, false, List, [], ◌∷◌, ◌++◌, refl, ap, ◌∙◌, sym, subst, append-nil, append_assoc, Option}
 use Rattle.std.specs.Prelude.{◌||◌}
 use Rattle.flop_base.specs.Shelf.{Files}

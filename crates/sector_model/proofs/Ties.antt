@@ -1,4 +1,4 @@
--- Each step ties its counts, so a run does.
+-- Each step ties its counts, and so does a run.
 use Rattle.std.proofs.Common.{arith, ◌≡◌, ℕ, ◌+◌, ◌-◌, ◌≤◌, Bool, true, false, List, [], ◌∷◌, refl, sym, ap, subst, Option, Some, None, Result}
 use Rattle.std.proofs.lemmas.List.Sums.{sum_by-cons}
 use Rattle.std.specs.Prelude.{MatchOption, MatchBool, sum_by}
@@ -26,8 +26,8 @@ pub either : {A : Type 0} {P R : Type 0} {Q : A → Type 0} (value : Option A) �
 either None holds none some = none holds
 either (Some x) holds none some = some x holds
 
--- what holds of the counts before and after some calls: an interrupt for each data command, stalls paid for by what was
--- left of them, and at most so many accesses past the driver
+-- what holds of the counts before and after some calls. Each data command has an interrupt, each stall is taken from
+-- what was left of them, and there are at most `most` accesses past the driver
 pub record Tied (most : ℕ) (old new : Counters) : Type 0 where
   pub commands : old.data_commands ≤ new.data_commands
   pub interrupts : RoseBy (new.data_commands - old.data_commands) old.taken new.taken
@@ -123,12 +123,12 @@ run_tied old new told after [] run = subst (λ (s : State). Tied 0 old.station.c
 run_tied old new told after (taken ∷ later) run =
     subst (λ (n : ℕ). Tied n old.station.counters new.station.counters) (sym (sum_by-cons accesses_of taken.asked (requests_of later))) (tied_after (accesses_of taken.asked) (sum_by accesses_of (requests_of later)) _ _ _ (step_tied old taken.after told run.0 taken.asked taken.answer run.1) (run_tied taken.after new run.0 after later run.2))
 
--- the counters after its course are those that it left
+-- the counters after the course of a run are those that the run left
 pub run_counters : (old new : State) (told after : Option Files) (course : List Taken) → Run old told course new after → counters_after old.station.counters course ≡ new.station.counters
 run_counters old new told after [] run = ap (λ (s : State). s.station.counters) (sym run.0)
 run_counters old new told after (taken ∷ later) run = run_counters taken.after new run.0 after later run.2
 
--- what stands after a stop
+-- the state after a stop
 stopped_tied : (old new : State) (asked : Request) → AfterStop asked old new → Tied (accesses_of asked) old.station.counters new.station.counters
 stopped_tied old new (request.Eject bay) stopped = changed_tied old new bay _ _ stopped
 stopped_tied old new (request.Insert bay name) stopped = tied_more 0 1 _ _ (omega arith) (same_tied old new stopped)
@@ -145,7 +145,7 @@ stopped_tied old new (request.Dump address count) stopped = same_tied old new st
 stopped_tied old new (request.SetRate bay rate) stopped = same_tied old new stopped
 stopped_tied old new (request.Tries tries) stopped = same_tied old new stopped
 
--- one access at most is past the driver in a stop: of an eject, which drops the medium
+-- at a stop at most one access goes past the driver: that of an eject, which drops the medium
 stopped_accesses : (old new : State) (asked : Request) → AfterStop asked old new → new.station.counters.direct ≤ old.station.counters.direct + 1
 stopped_accesses old new (request.Eject bay) stopped = stopped.exchanged.access.accesses
 stopped_accesses old new _ stopped = let idle = stopped.idle.accesses in omega arith
@@ -170,7 +170,7 @@ pub end_stop_tied : (old new : State) (told after : Option Files) → EndStopsAt
 end_stop_tied old new told after (AtFirst drops same) = tied_more 1 2 _ _ (omega arith) (changed_tied old new 0 _ _ drops.changes)
 end_stop_tied old new told after (AtSecond mid ends drops) = tied_after 1 1 _ _ _ (bay_tied old mid told after 0 ends) (changed_tied mid new 1 _ _ drops.changes)
 
--- ---- How counters go on in a step, from the drives that stand in the bays in it.
+-- ---- How counters change in a step, from the drives that stand in the bays during the step.
 
 does_goes : (old new : State) (told after : Option Files) (asked : Request) (answer : Reply) → Does asked old told answer new after → GoesOn (entered_by old.station.counters asked answer) new.station.counters
 does_goes old new told after (request.Insert bay name) answer does = does.2.2.counts
@@ -215,7 +215,7 @@ step_goes old new told after asked answer step =
     subst (λ (a : Reply). GoesOn (entered_by old.station.counters asked a) new.station.counters) (sym refused.answered)
     (subst (λ (c : Counters). GoesOn c new.station.counters) (sym (refused_enters old.station.counters asked cause)) refused.same.counts))
 
--- what stands after a stop
+-- the state after a stop
 stopped_goes : (old new : State) (asked : Request) → AfterStop asked old new → GoesOn old.station.counters new.station.counters
 stopped_goes old new (request.Eject bay) stopped = stopped.counts
 stopped_goes old new (request.Insert bay name) stopped = stopped.counts

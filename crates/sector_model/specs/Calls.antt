@@ -70,7 +70,7 @@ pub record SetsTries (tries : ℕ) (old new : StationState) : Type 0 where
   pub idle : IsDriven 0 old.counters new.counters
   pub no_steps : LastsUpTo 0 old.counters new.counters
 
--- it was told whether the medium was exchanged since the bay was acknowledged
+-- a question was answered: whether the medium was exchanged since the bay was acknowledged
 pub record TellsChange (bay : ℕ) (old : StationState) (answer : Bool) (new : StationState) : Type 0 where
   pub changed : answer ≡ not (is_acknowledged old bay)
   pub stays : Stays old new
@@ -87,7 +87,7 @@ pub record Exchanges (bay : ℕ) (medium : Option Disk) (old new : StationState)
   pub becomes : Becomes (set_bay old bay (fresh_bay medium)) new
   pub access : IsPastDriver 1 old.counters new.counters
 
--- a medium is put in where none is; else it is given back
+-- a medium is put in if none is in; else it is given back
 abbrev pub Inserts : ℕ → Disk → StationState → Result (Unit {0}) Disk → StationState → Type 0
 Inserts bay disk old (Ok _) new = ((bay_of old bay).medium ≡ None) × Exchanges bay (Some disk) old new
 Inserts bay disk old (Err back) new = IsSome (bay_of old bay).medium × (back ≡ disk) × IsUnmoved old new

@@ -24,7 +24,7 @@ Lays format (Some disk) layings (Some after) = LaysDisk format disk layings afte
 Lays format (Some disk) layings None = ⊥
 Lays format None layings medium = (layings ≡ []) × (medium ≡ None)
 
--- the track after a format at the rate of the medium: the layout, or its beginning where it doesn't fit
+-- the track after a format at the rate of the medium: the layout, or its beginning if it doesn't fit
 abbrev pub IsFormatted : Format → Option Disk → Option Disk → Type 0
 IsFormatted format before after =
     (disk : Disk) → before ≡ Some disk → HasTrack disk format.c format.h → disk.rate ≡ format.rate
@@ -42,8 +42,8 @@ pub record IsFormatCause (format : Format) (medium : Option Disk) (bay : ℕ) (o
   pub undisturbed : IsUndisturbed bay old.counters new.counters → code ≡ NoMark
   pub overrun : code ≡ Overrun → RoseBy 1 old.counters.stalls new.counters.stalls
   pub lost : code ≡ Seek → FaultsRoseBy 77 bay old.counters new.counters
-  -- 40 tells that the last attempt sent no data command, and any other code that it sent one; 04 and 10 that it read back,
-  -- behind a format that was done
+  -- code 40 says that the last attempt sent no data command, and any other code says that it sent one. Codes 04 and 10
+  -- say that it read back, after a format that was done
   pub unsent : code ≡ Seek
       → new.counters.data_commands ≤ old.counters.data_commands + (old.tries - 1) * (1 + sectors_at format.rate)
   pub sent : code ≢ Seek → RoseBy 1 old.counters.data_commands new.counters.data_commands

@@ -48,7 +48,7 @@ read_refusal station bay key address =
     else (if crosses_page address (content_size key.n) then Some Page
     else (if not (is_acknowledged station bay) then Some Changed else None))
 
--- that of a write
+-- the refusal of a write before the drive is asked, if there is one
 abbrev pub write_refusal : StationState → ℕ → Chrn → ℕ → Option Code
 write_refusal station bay key address =
     if not (is_sector_request bay key address) then Some BadRequest
@@ -66,20 +66,20 @@ abbrev pub is_format_request : StationState → ℕ → ℕ → ℕ → ℕ → 
 is_format_request station bay c h gap3 =
     is_bay bay && is_place c h && nat_le 16 gap3 && nat_le gap3 (most_format_gap (bay_of station bay).rate)
 
--- that of a format
+-- the refusal of a format before the drive is asked, if there is one
 abbrev pub format_refusal : StationState → ℕ → ℕ → ℕ → ℕ → Option Code
 format_refusal station bay c h gap3 =
     if not (is_format_request station bay c h gap3) then Some BadRequest
     else (if not (is_acknowledged station bay) then Some Changed
     else (if is_protected station bay then Some Protected else None))
 
--- that of a change of the rate
+-- the refusal of a change of the rate, if there is one
 abbrev pub rate_refusal : StationState → ℕ → Option Code
 rate_refusal station bay =
     if not (is_bay bay) then Some BadRequest
     else (if not (is_acknowledged station bay) then Some Changed else None)
 
--- a call that such a refusal ended: nothing changed, and no data command was sent
+-- a call that ended with such a refusal: nothing changed, and no data command was sent
 pub record IsRefusedAtOnce {A : Type 0} (code : Code) (old : StationState) (answer : Result A Code) (new : StationState) : Type 0 where
   pub refused : answer ≡ Err code
   pub stays : Stays old new

@@ -1,4 +1,5 @@
--- Plays: a job is read, run and told, up to its end or to what stops it, with the status of the run.
+-- Plays: a job is read and run, and its answers are printed, up to its end or to what stops it, with the status of the
+-- run.
 use Rattle.std.specs.Prelude.{◌≡◌, ◌≤◌, ℕ, Bool, List, [], ◌∷◌, ◌++◌, length, Option, Result, Ok, Err, IfSome, IsSomeAnd, if◌then◌else◌}
 use Rattle.flop_base.specs.Shelf.{Files, file_at}
 use Rattle.flop_base.specs.Sink.{grown, GrowsByPart}
@@ -12,19 +13,19 @@ use Rattle.sector_model.specs.Steps.{Step, StopsAt, IsAbsent, IsLonger}
 use Rattle.sector_model.specs.Texts.{reply_lines, stop_lines, stop_status, bad_line_text, absent_text}
 use Rattle.sector_model.specs.Runs.{Taken, Run, requests_of, course_lines, has_refusal, Ends, EndStopsAt, IsEndStop}
 
--- all that a play may change: the state of its session, the told files, and the told report
+-- all that a play may change: the state of its session, the files and the report, where the last two may be unknown
 pub record World : Type 0 where
   pub state : State
   pub files : Option Files
   pub report : Option (List (List ℕ))
 
--- the statuses of a put that failed
+-- the statuses after a failure to print
 abbrev pub IsPutFault : Status → Type 0
 IsPutFault status.NoMemory = Unit {0}
 IsPutFault status.SinkFault = Unit {0}
 IsPutFault _ = ⊥
 
--- last lines were put, and the status is the wanted one; or they couldn't be put whole
+-- last lines were printed, and the status is the wanted one; or the lines couldn't be printed whole
 pub data Prints (lines : List (List ℕ)) (wanted : Status) (report after : Option (List (List ℕ))) (ended : Status) : Type 0 where
   Whole : after ≡ grown report lines → ended ≡ wanted → Prints lines wanted report after ended
   Part : GrowsByPart report lines after → IsPutFault ended → Prints lines wanted report after ended
@@ -44,7 +45,7 @@ pub record IsIdle (old new : World) (cause ended : Status) : Type 0 where
 abbrev pub whole_status : Bool → Status
 whole_status refused = if refused then status.SomeRefused else status.AllOk
 
--- all requests were run and told, and the media that were left in were stored
+-- all requests were run and their answers printed, and the media that were left in were stored
 pub record IsPlayed (requests : List Request) (old : World) (course : List Taken) (new : World) (ended : Status) : Type 0 where
   pub mid : State
   pub files : Option Files
@@ -54,7 +55,7 @@ pub record IsPlayed (requests : List Request) (old : World) (course : List Taken
   pub report : new.report ≡ grown old.report (course_lines course)
   pub status : ended ≡ whole_status (has_refusal course)
 
--- a request stopped the run, after all before it were run and told
+-- a request stopped the run, after all requests before it were run and their answers printed
 pub record IsStopped (requests : List Request) (old : World) (course : List Taken) (new : World) (ended : Status) : Type 0 where
   pub asked : Request
   pub later : List Request
@@ -66,7 +67,7 @@ pub record IsStopped (requests : List Request) (old : World) (course : List Take
   pub stops : StopsAt asked mid files cause new.state new.files
   pub prints : Prints (stop_lines cause) (stop_status cause) (grown old.report (course_lines course)) new.report ended
 
--- the answer to a request couldn't be told whole, after all before it were run and told
+-- the answer to a request couldn't be printed whole, after all requests before it were run and their answers printed
 pub record IsUnfinished (requests : List Request) (old : World) (course : List Taken) (new : World) (ended : Status) : Type 0 where
   pub before : List Taken
   pub last : Taken
@@ -81,7 +82,7 @@ pub record IsUnfinished (requests : List Request) (old : World) (course : List T
   pub part : GrowsByPart (grown old.report (course_lines before)) (reply_lines last.asked last.answer) new.report
   pub fault : IsPutFault ended
 
--- all requests were run and told, and the end couldn't store what was left in
+-- all requests were run and their answers printed, and the end couldn't store the media that were left in
 pub record IsEndStopped (requests : List Request) (old : World) (course : List Taken) (new : World) (ended : Status) : Type 0 where
   pub mid : State
   pub files : Option Files
@@ -100,12 +101,12 @@ pub data PlaysRequests (requests : List Request) (old : World) (course : List Ta
   BrokenOff : IsUnfinished requests old course new ended → PlaysRequests requests old course new ended
   EndStopped : IsEndStopped requests old course new ended → PlaysRequests requests old course new ended
 
--- nothing was run, and a line told why
+-- nothing was run, and a line says why
 pub record TellsAlone (line : List ℕ) (wanted : Status) (old : World) (course : List Taken) (new : World) (ended : Status) : Type 0 where
   pub nothing : course ≡ []
   pub tells : Tells line wanted old new ended
 
--- a text in the grammar of jobs has requests, and any other a first bad line
+-- a text in the grammar of jobs has requests, and any other text has a first bad line
 abbrev pub PlaysParsed : Result (List Request) ℕ → World → List Taken → World → Status → Type 0
 PlaysParsed (Ok requests) old course new ended = PlaysRequests requests old course new ended
 PlaysParsed (Err line) old course new ended = TellsAlone (bad_line_text line) status.BadJob old course new ended
@@ -114,19 +115,19 @@ PlaysParsed (Err line) old course new ended = TellsAlone (bad_line_text line) st
 abbrev pub most_job_bytes : ℕ
 most_job_bytes = 4194304
 
--- the told file of this name has this text
+-- the file of this name has this text, if the files are known
 abbrev pub IsText : Option Files → List ℕ → List ℕ → Type 0
 IsText told name text =
     IfSome told (λ files. IsSomeAnd (file_at files name) (λ bytes. (bytes ≡ text) × (length bytes ≤ most_job_bytes)))
 
--- a job's text is there, and is played as it is parsed
+-- the text of a job is there, and is played as it is parsed
 pub record PlaysText (job : List ℕ) (old : World) (course : List Taken) (new : World) (ended : Status) : Type 0 where
   pub text : List ℕ
   pub told : IsText old.files job text
   pub plays : PlaysParsed (job_of text) old course new ended
 
--- how a job is played: its text is there; no file has its name; the file is too long; the shelf failed; or memory
--- couldn't be had before the first request
+-- how a job is played. Its text is there; no file has its name; the file is too long; the shelf failed; or memory ran
+-- out before the first request
 pub data Plays (job : List ℕ) (old : World) (course : List Taken) (new : World) (ended : Status) : Type 0 where
   There : PlaysText job old course new ended → Plays job old course new ended
   Missing : IsAbsent old.files job → TellsAlone (absent_text job) status.Absent old course new ended

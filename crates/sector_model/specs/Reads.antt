@@ -17,11 +17,12 @@ use Rattle.sector_model.specs.Stations.{StationState, Becomes, bay_of, met, IsSt
 use Rattle.sector_model.specs.Lasting.{read_time}
 use Rattle.sector_model.specs.Orders.{read_refusal, IsRefusedAtOnce, IsDeviceRefusal}
 
--- with so many attempts, all is well in one of them where faults and stalls rose by less than this
+-- with `tries` attempts, all is well in one of them if faults and stalls rose by less than this number
 abbrev pub spoilable : ℕ → ℕ
 spoilable tries = max 1 (tries - 1)
 
--- a field of the key was read: its address field is at `place`, its data mark at `mark`, and what is known of them
+-- a field of the key was read: its address field is at `place`, its data mark is at `mark`, and the rest says what is
+-- known of them
 pub record IsRead (bay : ℕ) (key : Chrn) (address : ℕ) (old : StationState) (deleted : Bool) (new : StationState) : Type 0 where
   pub disk : Disk
   pub cylinder : ℕ
@@ -50,7 +51,7 @@ pub record IsReadCause (track : List ℕ) (key : Chrn) (tries bay : ℕ) (old : 
   pub bad_data : code ≡ BadCrc → IsUndisturbed bay old.counters new.counters → HasLook track key look.BadCrc
   pub overrun : code ≡ Overrun → RoseBy 1 old.counters.stalls new.counters.stalls
   pub lost : code ≡ Seek → FaultsRoseBy 77 bay old.counters new.counters
-  -- 40 tells that the last attempt sent no data command, and any other code that it sent one
+  -- code 40 says that the last attempt sent no data command, and any other code says that it sent one
   pub unsent : code ≡ Seek → new.counters.data_commands ≤ old.counters.data_commands + (tries - 1)
   pub sent : code ≢ Seek → RoseBy 1 old.counters.data_commands new.counters.data_commands
   pub never : HasClearAddress track key → AllFound track key

@@ -1,4 +1,5 @@
--- Runs: steps one after the other, with the lines that answer them; and the end of a run, which stores what is left in.
+-- Runs: steps one after the other, with the lines that answer them, and the end of a run, which stores the media that
+-- are left in.
 use Rattle.std.specs.Prelude.{◌≡◌, ℕ, Bool, true, false, ◌||◌, List, [], ◌∷◌, ◌++◌, map, Option, None}
 use Rattle.flop_base.specs.Shelf.{Files}
 use Rattle.floppy_jobs.specs.declared.request.Request.{Request}
@@ -26,7 +27,7 @@ Run old told (taken ∷ later) new told_after =
 abbrev pub requests_of : List Taken → List Request
 requests_of course = map (λ taken. taken.asked) course
 
--- the lines that answer them
+-- the lines that answer the requests of a course
 abbrev pub course_lines : List Taken → List (List ℕ)
 course_lines [] = []
 course_lines (taken ∷ later) = reply_lines taken.asked taken.answer ++ course_lines later
@@ -62,7 +63,7 @@ pub data EndStopsAt (old : State) (told : Option Files) (new : State) (told_afte
   AtFirst : DropsMedium 0 old new → told_after ≡ told → EndStopsAt old told new told_after
   AtSecond : (mid : State) → EndsBay 0 old told mid told_after → DropsMedium 1 mid new → EndStopsAt old told new told_after
 
--- what can stop the end of a run: a fault of the shelf, or want of memory
+-- what can stop the end of a run: a fault of the shelf, or a lack of memory
 abbrev pub IsEndStop : Stop → Type 0
 IsEndStop stop.FileFault = Unit {0}
 IsEndStop stop.NoMemory = Unit {0}

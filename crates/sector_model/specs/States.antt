@@ -9,14 +9,14 @@ use Rattle.sector_model.specs.Calls.{Exchanges}
 -- a session: a station, and what its media are called
 pub record State : Type 0 where
   pub station : StationState
-  -- the name under which the medium of each bay is stored; none where the bay is empty
+  -- the name under which the medium of each bay is stored; none if the bay is empty
   pub names : Two (Option (List ℕ))
 
 -- a session begins with no names
 abbrev pub start_of : StationState → State
 start_of station = record { station = station; names = both None }
 
--- a bay has a name exactly where it has a medium
+-- a bay has a name exactly if it has a medium
 pub record IsNamed (state : State) : Type 0 where
   pub first : is_some state.names.first ≡ is_some state.station.bays.first.medium
   pub second : is_some state.names.second ≡ is_some state.station.bays.second.medium
@@ -28,7 +28,7 @@ pub record IsSame (old new : State) : Type 0 where
   pub idle : IsPastDriver 0 old.station.counters new.station.counters
   pub counts : GoesOn old.station.counters new.station.counters
 
--- a bay has this medium under this name from now on, or none; it is unacknowledged
+-- a bay has this medium under this name from now on, or no medium. The bay is unacknowledged
 pub record ChangesMedium (bay : ℕ) (name : Option (List ℕ)) (medium : Option Disk) (old new : State) : Type 0 where
   pub names : new.names ≡ with_bay old.names bay name
   pub exchanged : Exchanges bay medium old.station new.station

@@ -12,12 +12,12 @@ use Rattle.sector_map.specs.Met.{met_in}
 -- a bay as the driver knows it
 pub record Bay : Type 0 where
   pub medium : Option Disk
-  -- the count of faults that the drive had when the bay was acknowledged; none where it isn't
+  -- the count of faults that the drive had when the bay was acknowledged; none if the bay isn't acknowledged
   pub acknowledged : Option ℕ
-  -- the rate of commands in the bay, whatever that of the medium
+  -- the rate of commands in the bay, whatever the rate of the medium is
   pub rate : Rate
 
--- what requests are made to
+-- a station, to which requests are made
 pub record StationState : Type 0 where
   pub bays : Two Bay
   -- user memory, 983,040 bytes from 00000 to EFFFF
@@ -28,7 +28,7 @@ pub record StationState : Type 0 where
   pub tries : ℕ
   pub counters : Counters
 
--- the bay of a number
+-- the bay with this number
 abbrev pub bay_of : StationState → ℕ → Bay
 bay_of station bay = in_bay station.bays bay
 
@@ -44,7 +44,7 @@ Becomes target new = new ≡ record target { counters = new.counters }
 abbrev pub Stays : StationState → StationState → Type 0
 Stays old new = Becomes old new
 
--- a bay with this medium or none, as it is once the medium is exchanged: unacknowledged, at 500 kbit/s
+-- a bay with this medium or none, as it is after an exchange of the medium: unacknowledged, at 500 kbit/s
 abbrev pub fresh_bay : Option Disk → Bay
 fresh_bay medium = record { medium = medium; acknowledged = None; rate = R500 }
 
@@ -60,8 +60,8 @@ pub record IsFresh (station : StationState) : Type 0 where
 abbrev pub met : Bay → ℕ → ℕ → List ℕ
 met bay c h = met_in bay.medium bay.rate c h
 
--- Steady: at the end of a call the bay's drive has the count that it had when the bay was acknowledged, so its heads
--- stand where the driver takes them to stand
+-- Steady: at the end of a call the bay's drive has the fault count that it had when the bay was acknowledged. Its heads
+-- therefore stand where the driver takes them to stand
 pub record IsSteady (bay : ℕ) (old new : StationState) : Type 0 where
   pub kept : ℕ
   pub acknowledged : (bay_of old bay).acknowledged ≡ Some kept

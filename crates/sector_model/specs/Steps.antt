@@ -1,4 +1,4 @@
--- The step of each request: from a state and the told files to an answer, a state and files.
+-- The step of each request. It leads from a state and files, if these are known, to an answer, a state and files.
 use Rattle.std.specs.Prelude.{◌≡◌, ℕ, ◌+◌, ◌<◌, ◌≤◌, ◌==◌, ◌&&◌, Bool, true, false, nat_le, List, length, replicate, is_some, Option, Some, None, Result, Ok, Err, IfSome, IsSomeAnd, MatchOption, if◌then◌else◌}
 use Rattle.flop_base.specs.Shelf.{Files, file_at, stored}
 use Rattle.flop_base.specs.Standard.{words_at, gap_at, standard_fill}
@@ -37,7 +37,7 @@ is_loaded state bay = is_some (bay_of state.station bay).medium
 abbrev pub busy_refusal : State → ℕ → Option Reason
 busy_refusal state bay = if is_loaded state bay then Some reason.Busy else None
 
--- a bad request, unless the test holds; else what comes next
+-- a bad request, unless the test holds; if it holds, what comes next
 abbrev pub unless_bad : Bool → Option Reason → Option Reason
 unless_bad good next = if good then next else Some (reason.Driver BadRequest)
 
@@ -49,7 +49,7 @@ is_blank_request bay cylinders = is_bay bay && nat_le 1 cylinders && nat_le cyli
 abbrev pub spare_refusal : State → Option Reason
 spare_refusal state = if state.station.spares == 0 then Some reason.NoSpare else None
 
--- the refusals of a session's own; those of the driver are in its calls
+-- the refusals that the session makes itself; those of the driver are in its calls
 abbrev pub refusal_of : State → Request → Option Reason
 refusal_of state (request.Insert bay name) = unless_bad (is_bay bay) (busy_refusal state bay)
 refusal_of state (request.Blank bay name cylinders) = unless_bad (is_blank_request bay cylinders) (busy_refusal state bay)
@@ -72,7 +72,7 @@ refusal_of state (request.Tries tries) = None
 abbrev pub most_image_bytes : ℕ
 most_image_bytes = 5242894
 
--- the told file of this name is the image of a disk
+-- the file of this name is the image of a disk, if the files are known
 abbrev pub IsImageOf : Option Files → List ℕ → Disk → Type 0
 IsImageOf told name disk =
     IfSome told (λ files. IsSomeAnd (file_at files name)
@@ -182,17 +182,17 @@ takes_memory (request.Eject bay) = true
 takes_memory (request.Dump address length) = true
 takes_memory _ = false
 
--- the told file of this name is no image, for this reason
+-- the file of this name is no image, for this reason, if the files are known
 abbrev pub IsBadImage : Option Files → List ℕ → ImageError → Type 0
 IsBadImage told name error =
     IfSome told (λ files. IsSomeAnd (file_at files name)
     (λ bytes. (length bytes ≤ most_image_bytes) × (image_of bytes ≡ Err error)))
 
--- the told file of this name is longer than that
+-- the file of this name is longer than `most` bytes, if the files are known
 abbrev pub IsLonger : Option Files → List ℕ → ℕ → Type 0
 IsLonger told name most = IfSome told (λ files. IsSomeAnd (file_at files name) (λ bytes. most < length bytes))
 
--- no told file has this name
+-- no file has this name, if the files are known
 abbrev pub IsAbsent : Option Files → List ℕ → Type 0
 IsAbsent told name = IfSome told (λ files. file_at files name ≡ None)
 
@@ -205,7 +205,7 @@ StopCause told asked (stop.Absent name) = ((bay : ℕ) × (asked ≡ request.Ins
 StopCause told asked stop.FileFault = uses_files asked ≡ true
 StopCause told asked stop.NoMemory = takes_memory asked ≡ true
 
--- what stands after a stop: an eject dropped the medium, and all else is as it was
+-- the state after a stop: an eject dropped the medium, and all else is as it was
 abbrev pub AfterStop : Request → State → State → Type 0
 AfterStop (request.Eject bay) old new = ChangesMedium bay None None old new
 AfterStop _ old new = IsSame old new

@@ -60,11 +60,11 @@ image_error_text NoMemory = []
 abbrev pub image_text : List ℕ → List ℕ → List ℕ
 image_text name cause = codes "image " ++ (name ++ (codes ": " ++ cause))
 
--- the line where a file isn't there
+-- the line for a file that isn't there
 abbrev pub absent_text : List ℕ → List ℕ
 absent_text name = name ++ codes " absent\n"
 
--- the last line of a run that stopped; nothing is printed where the outside failed or memory couldn't be had
+-- the last line of a run that stopped; nothing is printed if the outside failed or memory ran out
 unfoldable pub stop_lines : Stop → List (List ℕ)
 stop_lines (stop.BadImage name error) = image_text name (image_error_text error) ∷ []
 stop_lines (stop.TooLong name most) = image_text name (codes "longer than " ++ (decimal most ++ line_end)) ∷ []
@@ -72,7 +72,7 @@ stop_lines (stop.Absent name) = absent_text name ∷ []
 stop_lines stop.FileFault = []
 stop_lines stop.NoMemory = []
 
--- the line where a job's line isn't understood; line 0 where the text is too long
+-- the line for a job with a line that isn't understood; line 0 means that the text is too long
 unfoldable pub bad_line_text : ℕ → List ℕ
 bad_line_text line = codes "job line " ++ (decimal line ++ codes " not understood\n")
 

@@ -12,14 +12,14 @@ use Rattle.sector_model.specs.declared.reply.Reply.{Reply}
 use Rattle.sector_model.specs.declared.reply.Reply.TheVariants as reply
 use Rattle.sector_model.specs.Runs.{Taken, requests_of}
 
--- ---- Each step, with the drives that stand in the bays in it.
+-- ---- Each step, with the drives that stand in the bays during the step.
 
 -- the counters with the next spare drive in a bay
 abbrev pub with_spare : Counters → ℕ → List DriveCounts → Counters
 with_spare counters bay [] = counters
 with_spare counters bay (next ∷ later) = record counters { drives = with_bay counters.drives bay next; spares = later }
 
--- the counters as a step finds them: where it exchanges the drive of a bay, the one that comes stands there already
+-- the counters as a step finds them. If the step exchanges the drive of a bay, the new drive stands there already
 abbrev pub entered_by : Counters → Request → Reply → Counters
 entered_by counters (request.Unit bay) reply.Done = with_spare counters bay counters.spares
 entered_by counters _ _ = counters
@@ -37,24 +37,24 @@ step_faults bay counters taken = faults_of (left_by taken) bay - faults_of (ente
 
 -- ---- All steps together.
 
--- the faults of a drive that tells what is left of them; one that doesn't counts as none
+-- the new faults of a drive that reports what is left of its faults; those of any other drive count as 0
 abbrev pub told_rise : DriveCounts → DriveCounts → ℕ
 told_rise old new = option_map_or (λ most. new.faults - old.faults) old.left 0
 
--- the faults of the telling drives in a step
+-- the faults in a step of the drives that report what is left
 abbrev pub told_faults : Counters → Counters → ℕ
 told_faults old new = told_rise old.drives.first new.drives.first + told_rise old.drives.second new.drives.second
 
--- and in all steps of a course
+-- the faults of these drives in all steps of a course
 abbrev pub sum_told : Counters → List Taken → ℕ
 sum_told counters [] = 0
 sum_told counters (taken ∷ later) = told_faults (entered counters taken) (left_by taken) + sum_told (left_by taken) later
 
--- the faults that a drive can still have, where it tells it
+-- the faults that a drive can still have, if it reports them; else 0
 abbrev pub told_left : DriveCounts → ℕ
 told_left drive = option_map_or (λ most. most) drive.left 0
 
--- and those of all drives that tell it, in the bays and spare
+-- the faults that all drives which report them can still have, in the bays and as spares
 abbrev pub all_left : Counters → ℕ
 all_left counters = told_left counters.drives.first + told_left counters.drives.second + sum_by told_left counters.spares
 
@@ -66,25 +66,25 @@ is_exchange_by bay _ _ = false
 abbrev pub is_exchange : ℕ → Taken → Bool
 is_exchange bay taken = is_exchange_by bay taken.asked taken.answer
 
--- the count that the drive which stands in a bay after a course had as it came: on entry, or as a spare
+-- a drive stands in a bay after a course: this is the count that it had when it came, on entry or as a spare
 abbrev pub came_with : ℕ → ℕ → Counters → List Taken → ℕ
 came_with bay count counters [] = count
 came_with bay count counters (taken ∷ later) =
     came_with bay (if is_exchange bay taken then faults_of (entered counters taken) bay else count) (left_by taken) later
 
--- its faults in the steps since then, one after the other
+-- the faults of that drive in the steps since it came, added up
 abbrev pub faults_since : ℕ → ℕ → Counters → List Taken → ℕ
 faults_since bay sum counters [] = sum
 faults_since bay sum counters (taken ∷ later) =
     faults_since bay ((if is_exchange bay taken then 0 else sum) + step_faults bay counters taken) (left_by taken) later
 
--- P holds of all drives, in the bays and spare
+-- P holds of all drives, in the bays and among the spares
 pub record OfAllDrives (P : DriveCounts → Type 0) (counters : Counters) : Type 0 where
   pub first : P counters.drives.first
   pub second : P counters.drives.second
   pub spares : All P counters.spares
 
--- a drive tells what is left of its faults
+-- a drive reports what is left of its faults
 abbrev pub TellsFaults : DriveCounts → Type 0
 TellsFaults drive = IsSome drive.left
 
@@ -125,7 +125,7 @@ accesses_of (request.Dump address count) = 0
 accesses_of (request.SetRate bay rate) = 0
 accesses_of (request.Tries tries) = 0
 
--- and those of a course: what its requests make
+-- the most accesses past the driver of a course: those that its requests make
 abbrev pub accesses_of_course : List Taken → ℕ
 accesses_of_course course = sum_by accesses_of (requests_of course)
 
@@ -141,20 +141,21 @@ pub record TiesCounts (old : Counters) (course : List Taken) (new : Counters) : 
   -- an interrupt was taken for each data command
   pub commands : old.data_commands ≤ new.data_commands
   pub interrupts : RoseBy (new.data_commands - old.data_commands) old.taken new.taken
-  -- what is left of stalls pays for those that came
+  -- each stall that came is taken from what was left of them
   pub stalls : old.stalls ≤ new.stalls
   pub stalls_left : new.stalls + new.stalls_left ≤ old.stalls + old.stalls_left
-  -- past the driver the requests made no more accesses than they may, and what came after them one for each bay at most
+  -- the requests made no more accesses past the driver than they may. What came after them made at most one for each
+  -- bay
   pub by_requests : (counters_after old course).direct ≤ old.direct + accesses_of_course course
   pub at_the_end : new.direct ≤ (counters_after old course).direct + 2
-  -- what was left of the faults of all drives that tell it pays for theirs in all steps
+  -- the drives that report what is left: each fault of theirs in any step is taken from what was left of them all
   pub told : sum_told old course + all_left new ≤ all_left old
-  -- and drives that all told it still do
+  -- if all drives reported what is left, they still do
   pub tells : OfAllDrives TellsFaults old → OfAllDrives TellsFaults new
-  -- for each bay, its faults since its last exchange are faults of the drive that stands in it
+  -- for each bay, the faults since its last exchange are faults of the drive that stands in it
   pub since : (bay : ℕ) → bay ≤ 1
       → came_with bay (faults_of old bay) old course + faults_since bay 0 old course ≤ faults_of new bay
-  -- so with nothing left, no step was disturbed
+  -- if nothing was left, no step was disturbed
   pub undisturbed : HasNothingLeft old → AreUndisturbed old course
 
 -- ---- Jobs.
@@ -163,7 +164,7 @@ pub record TiesCounts (old : Counters) (course : List Taken) (new : Counters) : 
 abbrev pub accesses_of_job : List Request → ℕ
 accesses_of_job requests = sum_by accesses_of requests + 2
 
--- the told file of a job's name spells these requests
+-- the files are known, and the file of the job's name spells these requests
 pub record IsJob (told : Option Files) (job : List ℕ) (requests : List Request) : Type 0 where
   pub files : Files
   pub text : List ℕ

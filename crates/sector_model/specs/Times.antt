@@ -25,12 +25,12 @@ time_of (request.Unit bay) station = 0
 time_of (request.SetRate bay rate) station = 0
 time_of (request.Tries tries) station = 0
 
--- and those of a course
+-- the most device steps that a course takes
 abbrev pub course_time : StationState → List Taken → ℕ
 course_time station [] = 0
 course_time station (taken ∷ later) = time_of taken.asked station + course_time taken.after.station later
 
--- ---- By the requests alone, where no medium has a longer turn, and no request more attempts.
+-- ---- By the requests alone, if no medium has a longer revolution, and no request has more attempts.
 
 -- a format reads back 18 records at most
 abbrev pub most_time : ℕ → ℕ → Request → ℕ
@@ -54,11 +54,11 @@ pub record IsWithin (turn tries : ℕ) (station : StationState) : Type 0 where
   pub second : turn_of station.bays.second.medium ≤ turn
   pub attempts : station.tries ≤ tries
 
--- so is each station that a course finds
+-- each station that a course finds is within these bounds
 abbrev pub AreWithin : ℕ → ℕ → StationState → List Taken → Type 0
 AreWithin turn tries station [] = Unit {0}
 AreWithin turn tries station (taken ∷ later) = IsWithin turn tries station × AreWithin turn tries taken.after.station later
 
--- the sum of a job
+-- the most device steps that a job takes
 abbrev pub job_time : ℕ → ℕ → List Request → ℕ
 job_time turn tries requests = sum_by (most_time turn tries) requests

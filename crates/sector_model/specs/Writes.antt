@@ -55,7 +55,7 @@ pub record IsWritten (written : Written) (bay : ℕ) (changes : List Change) (ol
   pub last : IsFaultless bay old.counters new.counters → IsLastRead written disk changes
   pub commands : RoseBy 2 old.counters.data_commands new.counters.data_commands
 
--- on the track as it is after the write some address field of the key has a window that isn't inside
+-- on the track as it is after the write, some address field of the key has a window that isn't inside the track
 abbrev pub HasWindowCut : List ℕ → Chrn → Type 0
 HasWindowCut track key =
     (p : ℕ) × IsAddressAt track p key × (window_word p + window_words key.n ≤ length track → ⊥)
@@ -79,7 +79,8 @@ pub record IsWriteCause (written : Written) (before track : List ℕ) (changes :
       → IsLastWhole written changes × (HasLook track written.key look.BadCrc ⊎ HasOtherContent track written)
   pub overrun : code ≡ Overrun → RoseBy 1 old.counters.stalls new.counters.stalls
   pub lost : code ≡ Seek → FaultsRoseBy 77 bay old.counters new.counters
-  -- 40 tells that the last attempt sent no data command, and any other code that it sent one; 10 that it read back, by a second
+  -- code 40 says that the last attempt sent no data command, and any other code says that it sent one. Code 10 says
+  -- that it read back, by a second command
   pub unsent : code ≡ Seek → new.counters.data_commands ≤ old.counters.data_commands + 2 * (old.tries - 1)
   pub sent : code ≢ Seek → RoseBy 1 old.counters.data_commands new.counters.data_commands
   pub read_back : code ≡ BadCrc → RoseBy 2 old.counters.data_commands new.counters.data_commands
@@ -88,7 +89,7 @@ pub record IsWriteCause (written : Written) (before track : List ℕ) (changes :
       → (IsTidy before p written.deleted written.content ⊎ IsUndisturbed bay old.counters new.counters)
       → DisturbedLess (spoilable old.tries) bay old.counters new.counters → ⊥
 
--- a regular disk after a write behind the one address field of the key, at p: that field alone changed
+-- a regular disk after a write behind the one address field of the key, at p: only that field changed
 pub record ChangesAlone (written : Written) (bay p : ℕ) (disk : Disk) (old : StationState) (answer : Result (Unit {0}) Code) (new : StationState) : Type 0 where
   pub after : Disk
   pub words : ℕ

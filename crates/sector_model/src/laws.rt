@@ -1,4 +1,4 @@
-// What follows of the steps of requests. The bodies are empty.
+// What follows from the steps of requests. The bodies are empty.
 ghost use Rattle.std.specs.Prelude.{◌≤◌, ℕ, List, Option};
 ghost use Rattle.flop_base.specs.Counters.{LastsUpTo};
 ghost use Rattle.flop_base.specs.Shelf.{Files};
@@ -9,8 +9,8 @@ ghost use Rattle.sector_model.specs.States.{State};
 ghost use Rattle.sector_model.specs.Stations.{StationState};
 ghost use Rattle.sector_model.specs.Times.{AreWithin, course_time, job_time};
 
-/// A run lasts no more device steps than its requests do, each by the medium that it finds, beside those of the gaps behind port
-/// accesses; and so does the whole play of a job, wherever it stops.
+/// A run lasts no more device steps than its requests do, each by the medium that it finds. The gaps after port
+/// accesses aren't counted. The same holds of the whole play of a job, wherever it stops.
 pub fn a_run_lasts()
     ensures run { (old new : State) (told after : Option Files) (course : List Taken) → Run old told course new after
         → LastsUpTo (course_time old.station course) old.station.counters new.station.counters }

@@ -13,8 +13,8 @@ pub fn is_place(c: u8, h: u8) -> bool
     c <= 79 && h <= 1
 }
 
-/// Whether a read or a write of this key can be asked for, at this address: bay 0 or 1, a place of a drive, a record
-/// from 1, a size code from 1 to 6, and all bytes in user memory.
+/// Whether a read or a write of this key can be asked for, at this address. It needs bay 0 or 1, a place of a drive, a
+/// record from 1, a size code from 1 to 6, and all bytes in user memory.
 pub fn is_sector_request(bay: u8, key: Chrn, address: u32) -> bool
     ensures value { result ≡ is_sector_request bay key address }
     ensures asked { IsTrue result → IsAsked bay key address }

@@ -10,21 +10,21 @@ use thiserror::Error;
 /// The answer to a request that was run.
 #[derive(Drop)]
 pub enum Reply {
-    /// It was done. A field that was read isn't marked deleted.
+    /// The request was done. A field that was read isn't marked deleted.
     Done,
     /// A field was read, and its mark says that it is deleted.
     DoneDeleted,
     /// The bytes of memory from the address on.
     Bytes { address: u32, content: Bytes },
-    /// It was refused, for this reason.
+    /// The request was refused, for this reason.
     Refused(Reason),
 }
 
-/// Why a request was refused. One that the driver sent to the drive may have changed memory or the medium; any other changes
-/// nothing.
+/// Why a request was refused. A request that the driver sent to the drive may have changed memory or the medium. Any
+/// other request changed nothing.
 #[derive(Clone, Copy, Debug, PartialEq, Eq, Error)]
 pub enum Reason {
-    /// The driver refused it.
+    /// The driver refused the request.
     #[error("{0}")]
     Driver(Code),
     /// The bay is loaded.
@@ -49,7 +49,7 @@ pub enum Stop {
     Absent { name: Name },
     /// The shelf failed.
     FileFault,
-    /// Memory couldn't be had.
+    /// Memory couldn't be allocated.
     NoMemory,
 }
 

@@ -1,4 +1,4 @@
-// What a session stands on.
+// The station that a session works on.
 ghost use Rattle.std.specs.Prelude.{◌≡◌, ◌≤◌, ◌<◌, ◌↔◌, ◌⊎◌, length, slice_index, is_some, IsTrue};
 ghost use Rattle.flop_base.specs.Counters.{GoesOn, faults_of};
 ghost use Rattle.flop_base.specs.Memory.{user_bytes};
@@ -14,16 +14,16 @@ use raw_image::Medium;
 /// A station with two diskette bays, 0 and 1, and 983,040 bytes of user memory, as a session sees it: a PC/AT with its
 /// driver, or media in memory that behave as such.
 ///
-/// Each call is a step of the sector model. Only `new` of a station takes memory. `is_ready` is what a station needs of
-/// itself between calls; its maker gives it, and each call keeps it.
+/// Each call is a step of the sector model. Only `new` of a station allocates memory. `is_ready` is what has to hold of
+/// a station between calls. Whoever makes the station makes it hold, and each call keeps it.
 pub trait Station: Drop {
-    /// All that the steps speak of.
+    /// The state that the steps speak of.
     ghost shown: { Self → StationState };
 
-    /// The station is as its calls need it.
+    /// The station is in a state in which it can be called.
     ghost is_ready: { Self → Type 0 };
 
-    /// Puts a medium in. Where one is in already, the new one is given back.
+    /// Puts a medium in. If one is in already, the new one is given back.
     fn insert(&mut self, bay: u8, medium: Medium) -> Result<(), Medium>
         requires ready { is_ready self.old }
         requires bay { bay ≤ 1 }
@@ -39,7 +39,7 @@ pub trait Station: Drop {
         ensures counts { GoesOn (shown self.old).counters (shown self.new).counters }
         ensures ready { is_ready self.new };
 
-    /// Takes the next spare drive into the bay and drops the old one; false where no spare is left.
+    /// Takes the next spare drive into the bay and drops the old one. The answer is false if no spare is left.
     fn take_unit(&mut self, bay: u8) -> bool
         requires ready { is_ready self.old }
         requires bay { bay ≤ 1 }
@@ -52,7 +52,7 @@ pub trait Station: Drop {
         requires bay { bay ≤ 1 }
         ensures { result ≡ is_some (bay_of (shown self.now) bay).medium };
 
-    /// The rate of the bay, R500 where it isn't acknowledged.
+    /// The rate of the bay, which is R500 if the bay isn't acknowledged.
     fn rate(&self, bay: u8) -> Rate
         requires ready { is_ready self.now }
         requires bay { bay ≤ 1 }
@@ -73,15 +73,16 @@ pub trait Station: Drop {
         ensures counts { GoesOn (shown self.old).counters (shown self.new).counters }
         ensures ready { is_ready self.new };
 
-    /// Acknowledges a change of the medium, and finds the medium's rate. Refusals: `BadRequest` where the bay is above
-    /// 1; `NotReady` where no medium is in, or its drive lost pulse after pulse, and the bay then isn't acknowledged.
+    /// Acknowledges a change of the medium, and finds the medium's rate. Refusals: `BadRequest` if the bay is above 1;
+    /// `NotReady` if no medium is in, or the drive lost pulse after pulse. After `NotReady` the bay isn't acknowledged.
     fn ack(&mut self, bay: u8) -> Result<(), Code>
         requires ready { is_ready self.old }
         ensures step { Acks bay (shown self.old) result (shown self.new) }
         ensures counts { GoesOn (shown self.old).counters (shown self.new).counters }
         ensures ready { is_ready self.new };
 
-    /// Whether the bay isn't acknowledged: a medium was put in or taken out, or the drive exchanged, since it was.
+    /// Whether the bay isn't acknowledged. It loses its acknowledgement when a medium is put in or taken out, or the
+    /// drive is exchanged.
     fn changed(&mut self, bay: u8) -> bool
         requires ready { is_ready self.old }
         requires bay { bay ≤ 1 }
@@ -89,9 +90,9 @@ pub trait Station: Drop {
         ensures counts { GoesOn (shown self.old).counters (shown self.new).counters }
         ensures ready { is_ready self.new };
 
-    /// Reads the sector of this key to memory from the address on; true where it is marked deleted. Refusals, in this
-    /// order: `BadRequest` where `is_sector_request` is false, `Page` where `crosses_page` is true, `Changed` where the
-    /// bay isn't acknowledged, and then the drive's.
+    /// Reads the sector of this key to memory from the address on. The answer is true if the sector is marked deleted.
+    /// Refusals, in this order: `BadRequest` if `is_sector_request` is false, `Page` if `crosses_page` is true,
+    /// `Changed` if the bay isn't acknowledged, and then the drive's.
     fn read(&mut self, bay: u8, key: Chrn, address: u32) -> Result<bool, Code>
         requires ready { is_ready self.old }
         ensures step { Reads bay key address (shown self.old) result (shown self.new) }
@@ -115,7 +116,7 @@ pub trait Station: Drop {
         ensures counts { GoesOn (shown self.old).counters (shown self.new).counters }
         ensures ready { is_ready self.new };
 
-    /// Sets the rate of an acknowledged bay. Refusals: `BadRequest` where the bay is above 1, `Changed` where it isn't
+    /// Sets the rate of an acknowledged bay. Refusals: `BadRequest` if the bay is above 1, `Changed` if it isn't
     /// acknowledged.
     fn set_rate(&mut self, bay: u8, rate: Rate) -> Result<(), Code>
         requires ready { is_ready self.old }
@@ -123,7 +124,7 @@ pub trait Station: Drop {
         ensures counts { GoesOn (shown self.old).counters (shown self.new).counters }
         ensures ready { is_ready self.new };
 
-    /// Sets the number of attempts of the calls after it, which is 3 at first.
+    /// Sets the number of attempts of later calls. The number is 3 at first.
     fn set_tries(&mut self, tries: u8)
         requires ready { is_ready self.old }
         requires least { 1 ≤ tries }

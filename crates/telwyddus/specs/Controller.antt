@@ -1,4 +1,5 @@
--- The controller, the adapter with its two drives, commands of several sectors in front of it, and the whole controller.
+-- The controller, the adapter with its two drives, commands of several sectors in front of it, and the whole
+-- controller.
 pub use Rattle.fdc_core.specs.State
 pub use Rattle.fdc_core.specs.Ports
 pub use Rattle.fdc_core.specs.Heard

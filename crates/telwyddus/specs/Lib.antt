@@ -1,4 +1,4 @@
--- The words of clauses, by the subjects of the code.
+-- The definitions that clauses cite, by the subjects of the code.
 pub mod Disk
 pub mod Track
 pub mod Controller

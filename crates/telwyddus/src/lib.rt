@@ -1,6 +1,6 @@
 //! The library under one name: what a user of it calls, by subject.
 //!
-//! Nothing is defined here. The words that clauses cite are in `specs`, by the same subjects.
+//! Nothing is defined here. The definitions that clauses cite are in `specs`, by the same subjects.
 #![tactic(auto)]
 
 pub mod controller;

@@ -44,7 +44,7 @@ pub alike_stand_in : (medium : Option Disk) → alike medium (stand_in_for mediu
 alike_stand_in None = refl
 alike_stand_in (Some disk) = and_from _ _ (eq-eqb disk.words_per_track disk.words_per_track refl) (same_as_itself disk.rate)
 
--- their tracks are as long
+-- the tracks of media that are alike are as long as each other
 disk_length : (disk : Disk) (other : Option Disk) → alike (Some disk) other ≡ true → same_length disk other ≡ true
 disk_length disk None is = absurd (false≢true is)
 disk_length disk (Some other) is = and_first (other.words_per_track == disk.words_per_track) (same_rate disk.rate other.rate) is
@@ -53,7 +53,7 @@ pub alike_length : (medium : Option Disk) (disk : Disk) (other : Option Disk) �
     → same_length disk other ≡ true
 alike_length medium disk other some is = disk_length disk other (subst (λ (it : Option Disk). alike it other ≡ true) some is)
 
--- none is like none
+-- no medium is alike only to no medium
 none_alike : (other : Option Disk) → alike None other ≡ true → other ≡ None
 none_alike None is = refl
 none_alike (Some other) is = absurd (false≢true is)
@@ -84,7 +84,7 @@ adapter_twice : (first : Bool) (one other : BayDrive) (adapter : DisketteAdapter
 adapter_twice true one other adapter = refl
 adapter_twice false one other adapter = refl
 
--- one drive behind another
+-- if one drive is put into a bay and then another, the second one is there
 with_twice : (bay : ℕ) (one other : BayDrive) (c : ControllerValue) → chip_with_drive bay other (chip_with_drive bay one c) ≡ chip_with_drive bay other c
 with_twice bay one other c = ap (on_adapter c) (adapter_twice (bay == 0) one other c.behind.adapter)
 
@@ -97,7 +97,7 @@ with_itself bay c = ap (on_adapter c) (adapter_itself (bay == 0) c.behind.adapte
 
 -- ---- a medium in a bay
 
--- the one that is in
+-- the medium that is in stays
 pub own_stays : (medium : Option Disk) (bay : ℕ) (c : ControllerValue) → medium_in c bay ≡ medium → HasMedium medium bay c c
 own_stays medium bay c own = record {
   drive = subst (λ (it : Option Disk). BayWithMedium it (held c bay) (held c bay)) own (stays_bay (held c bay));
@@ -129,7 +129,7 @@ put_back medium bay old between new out back =
     ∙ ap (λ (c : ControllerValue). chip_with_drive bay (held old bay) c) out.whole
     ∙ with_again bay (held between bay) old
 
--- so it is where a stand-in is in its place
+-- the medium that is out is alike to the stand-in in its place
 pub alike_out : (bay : ℕ) (old between : ControllerValue) (out : Option Disk) → out ≡ medium_in old bay
     → HasMedium (stand_in_for (medium_in old bay)) bay old between → alike out (medium_in between bay) ≡ true
 alike_out bay old between out is it =
@@ -162,7 +162,7 @@ both_bays first second old between new one two =
           ∙ ap (λ (drive : BayDrive). chip_with_drive 1 (held new 1) (chip_with_drive 0 drive old)) (sym there);
     }
 
--- the stand-in of bay 0, then that of bay 1
+-- first bay 0 gets its stand-in, then bay 1
 bared_both : (old between bare : ControllerValue) → HasMedium (stand_in_for (medium_in old 0)) 0 old between
     → HasMedium (stand_in_for (medium_in between 1)) 1 between bare → IsBared old bare
 bared_both old between bare one two =
@@ -191,7 +191,7 @@ pub ok_second : {A E : Type 0} (result : Result A E) (bytes_of : A → List ℕ)
 ok_second (Ok it) bytes_of Lacks bare lacks fits spells = record { bare = bare; lacks = lacks; fits = fits; spells = spells }
 ok_second (Err e) bytes_of Lacks bare lacks fits spells = tt
 
--- the media of one controller go to another, the first, then the second
+-- the media of one controller go to another: first that of bay 0, then that of bay 1
 pub first_alike : (one other : ControllerValue) → media_alike one other ≡ true → alike (medium_in one 0) (medium_in other 0) ≡ true
 first_alike one other is = and_first (alike (medium_in one 0) (medium_in other 0)) (alike (medium_in one 1) (medium_in other 1)) is
 
@@ -209,9 +209,9 @@ refilled_both from left state to between new is stays one two =
     (subst (λ (it : ControllerValue). HasMedium (medium_in from 0) 0 it between) is one)
     (subst (λ (drive : BayDrive). HasMedium (bay_state drive).medium 1 between new) stays two)
 
--- ---- what is told of writes
+-- ---- ---- what is reported of writes
 
--- a drive is taken out of a bay, tells besides of another's writes, and is put back
+-- a drive is taken out of a bay, reports the writes of another drive too, and is put back
 pub writes_joined_there : (bay : ℕ) (spare other before after : BayDrive) (from old between new : ControllerValue)
     → before ≡ held old bay → other ≡ held from bay → after ≡ with_writes other before
     → between ≡ chip_with_drive bay spare old → new ≡ chip_with_drive bay after between → new ≡ with_writes_at bay from old
@@ -222,11 +222,11 @@ writes_joined_there bay spare other before after from old between new taken is j
     ∙ ap (λ (drive : BayDrive). chip_with_drive bay drive old)
     (joined ∙ ap (λ (it : BayDrive). with_writes it before) is ∙ ap (with_writes (held from bay)) taken)
 
--- no medium is another one by that
+-- joining the reports of writes leaves the media alike
 pub alike_joined : (from state to : ControllerValue) → to ≡ with_writes_of from state → media_alike from state ≡ true → media_alike from to ≡ true
 alike_joined from state to is alike_both = ap (media_alike from) is ∙ alike_both
 
--- a controller without its media tells of the same writes
+-- a controller without its media reports the same writes
 joined_with_bare : (controller bare : ControllerValue) → IsBared controller bare → with_writes_of controller bare ≡ bare
 joined_with_bare controller bare bares =
     let first : with_writes (held controller 0) (held bare 0) ≡ held bare 0 =

@@ -8,7 +8,7 @@ widened true short X Y other h = h
 widened false true X Y other h = h
 widened false false X Y other h = absurd h
 
--- no other code comes, whatever it says
+-- a call that gives no other code fits, whatever another code would say
 pub written_or : (other : Type 0) (bytes : List ℕ) (code : ℕ) (old new : List ℕ) (told : ℕ) → WritesBytes bytes code old new told
     → WritesOr other bytes code old new told
 written_or other bytes code old new told h = widened (eqb code 0) (eqb code 10) _ _ other h

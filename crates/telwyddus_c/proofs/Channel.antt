@@ -9,7 +9,7 @@ use Rattle.fdc_chip.specs.Chips.{ChipState}
 use Rattle.fdc_chip.specs.Ports.{TakesChip, GivesChip}
 use Rattle.telwyddus_c.specs.Blocks.{TakesFirst, TakesSome, TakesBlock, GivesFirst, GivesBlock}
 
--- the drives stay, over none and over another
+-- the drives stay, over no calls and over one call more
 pub keeps_none : {D : Type 0} (adapter : DisketteAdapter D) → SameDrives adapter adapter
 keeps_none adapter = record { first = refl; second = refl }
 
@@ -18,7 +18,7 @@ keeps_more old between new one more = record { first = more.first ∙ one.first;
 
 -- ---- taken
 
--- only the first of the list count
+-- only the first bytes of the list count
 takes_same : (n : ℕ) (xs ys : List ℕ) (old new : ChipState) → ((k : ℕ) → k < n → slice_index ys k ≡ slice_index xs k) → TakesFirst n xs old new
     → TakesFirst n ys old new
 unfolding TakesFirst
@@ -55,7 +55,7 @@ takes_on i byte before now old between new inside some more = record {
   rest = λ k above. get_or-set_other now i k byte 0 (λ same. omega (arith, same, above)) ∙ some.rest k (omega (arith, above));
 }
 
--- none more is asked for, or the buffer is full
+-- no further byte is asked for, or the buffer is full
 pub takes_short : (i : ℕ) (before after : List ℕ) (old between new : ChipState) → i < length before → TakesSome i before after old between
     → TakesChip between None new → TakesBlock i before after old new
 takes_short i before after old between new inside some none = record {
@@ -82,7 +82,7 @@ pub gives_none : (bytes : List ℕ) (chip : ChipState) → GivesFirst 0 bytes ch
 unfolding GivesFirst
 gives_none bytes chip = refl
 
--- one more byte
+-- one more byte is given
 pub gives_on : (i : ℕ) (bytes : List ℕ) (old between new : ChipState) → GivesFirst i bytes old between
     → GivesChip (slice_index bytes i) between true new → GivesFirst (i + 1) bytes old new
 unfolding GivesFirst
@@ -90,7 +90,7 @@ gives_on i bytes old between new some more =
     let next : suc i ≡ i + 1 = omega arith in
     subst (λ (n : ℕ). GivesFirst n bytes old new) next (between, some, more)
 
--- none more is asked for, or there is none
+-- no further byte is asked for, or there is none left
 pub gives_short : (i : ℕ) (bytes : List ℕ) (old between new : ChipState) → i < length bytes → GivesFirst i bytes old between
     → GivesChip (slice_index bytes i) between false new → GivesBlock i bytes old new
 gives_short i bytes old between new inside some none = record {

@@ -34,7 +34,7 @@ stored_more address i v bytes old now inside is so_far = record {
       ∙ so_far.outside k (⊎_elim (λ (low : k < address). inl low) (λ (high : address + (i + 1) ≤ k). inr (omega (arith, high))) away);
 }
 
--- one more in user memory, and one beyond
+-- one byte more inside user memory, and one beyond it
 one_inside : (top address i : ℕ) → address + i < top → min (i + 1) (top - address) ≡ min i (top - address) + 1
 one_inside top address i inside = omega (arith, inside)
 
@@ -48,7 +48,7 @@ once_last f (suc k) m = once_last f k (f m)
 once_more : (f : ℕ → ℕ) (k m : ℕ) → iterate f (k + 1) m ≡ f (iterate f k m)
 once_more f k m = let more : suc k ≡ k + 1 = omega arith in subst (λ (n : ℕ). iterate f n m ≡ f (iterate f k m)) more (once_last f k m)
 
--- so it counts where it is in user memory
+-- the byte is counted if it is in user memory
 counted_more : (address i direct : ℕ) → iterate counted (in_user_memory address (i + 1)) direct
     ≡ (if nat_lt (address + i) user_bytes then counted (iterate counted (in_user_memory address i) direct) else iterate counted (in_user_memory address i) direct)
 counted_more address i direct =
@@ -64,7 +64,7 @@ counted_more address i direct =
 not_fresh : (i : ℕ) (fresh : Bool) → (if (i + 1) == 0 then fresh else false) ≡ false
 not_fresh i fresh = cond-false ((i + 1) == 0) fresh false (ne_eqb (i + 1) 0 (λ none. omega (arith, none)))
 
--- a board with these in place of what it has
+-- a board with these parts in place of its own
 abbrev with_memory : Board → (memory : List ℕ) → (direct : ℕ) → (fresh : Bool) → Board
 with_memory old memory direct fresh =
     record old { bus = record old.bus { chips = record old.bus.chips { memory = memory }; direct = direct; fresh = fresh } }
@@ -77,7 +77,7 @@ pub rest_none : (address : ℕ) (old : Board) → CountsBytes address 0 old old
 rest_none address old =
     ap (λ (n : ℕ). with_memory old (memory_of old) (iterate counted n old.bus.direct) old.bus.fresh) (sym (none_in user_bytes address))
 
--- another byte is set in memory: it counts, and all else stays
+-- another byte is set in memory. It is counted if it is in user memory, and all else stays
 pub rest_more : (address i value : ℕ) (old now : Board) → CountsBytes address i old now
     → CountsBytes address (i + 1) old (record now { bus = byte_set (address + i) value now.bus })
 rest_more address i value old now rest =

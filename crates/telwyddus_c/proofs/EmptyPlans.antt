@@ -6,7 +6,7 @@ use Rattle.drive_model.specs.Mechanics.{at_rest}
 use Rattle.drive_model.specs.ScriptDrive.{told}
 use Rattle.drive_model.specs.declared.fault.Fault.{Fault}
 
--- such a drive has no faults
+-- a drive with an empty list of faults is one without faults
 pub none_planned : (faults : List Fault) → faults ≡ [] → new_in_bay (told 0 (total_left faults)) ≡ new_in_bay (Some 0)
 none_planned faults none = ap (λ (it : List Fault). new_in_bay (told 0 (total_left it))) none
 

@@ -32,7 +32,7 @@ replanned_new bay faults is =
     ap (λ (it : Option ℕ). let d : DriveState = record (bay_state bay) { left = it } in d) left
     ∙ ap (λ (s : DriveState). let d : DriveState = record s { left = told 0 (total_left faults) } in d) is
 
--- first those of bay 0 are planned, then those of bay 1
+-- first the faults of bay 0 are planned, then those of bay 1
 pub planned_both : (plan : Plan) (old mid new : ControllerValue) → IsPlain old → Replans 0 plan.bay0 old mid → Replans 1 plan.bay1 mid new
     → IsPlanned plan new
 planned_both plan old mid new plain first second =

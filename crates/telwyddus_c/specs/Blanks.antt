@@ -10,8 +10,12 @@ use Rattle.telwyddus_c.specs.Slots.{FullOr}
 abbrev pub blank_asked : ℕ → ℕ → Option Rate
 blank_asked cylinders kilobits = if nat_le 1 cylinders && nat_le cylinders 80 then rate_named kilobits else None
 
--- a tray is made with a blank medium of so many cylinders and two heads: 0. The slot holds a tray already, 2, no such medium can be had, of
--- so many cylinders or at this rate, 4, or memory is out, 3: it stays
+-- a tray is made with a blank medium of so many cylinders and two heads. By the code of the call:
+-- - 0: the tray is made;
+-- - 2: the slot holds a tray already;
+-- - 4: there is no such medium, of so many cylinders or at this rate;
+-- - 3: memory is out.
+-- after every code but 0 the slot stays as it was
 abbrev pub FillsBlank : (cylinders kilobits code : ℕ) → Option TrayValue → Option TrayValue → Type 0
 FillsBlank cylinders kilobits code old new =
     FullOr code old new ⊤

@@ -3,19 +3,19 @@ use Rattle.std.specs.Prelude.{◌≡◌, ◌≤◌, ◌<◌, ℕ, zero, suc, tru
 use Rattle.fdc_chip.specs.Chips.{ChipState}
 use Rattle.fdc_chip.specs.Ports.{TakesChip, GivesChip}
 
--- the channel takes so many bytes, one behind the other, each where it is asked for: they are the first of a list
+-- the channel takes so many bytes, one after the other, each when it is asked for. They are the first of a list
 unfoldable pub TakesFirst : ℕ → List ℕ → ChipState → ChipState → Type 0
 TakesFirst zero bytes old new = new ≡ old
 TakesFirst (suc n) bytes old new =
     (between : ChipState) × TakesFirst n bytes old between × TakesChip between (Some (slice_index bytes n)) new
 
--- they go to the beginning of a buffer, whose rest stays
+-- the bytes go to the beginning of a buffer, whose rest stays
 pub record TakesSome (moved : ℕ) (before after : List ℕ) (old new : ChipState) : Type 0 where
   pub takes : TakesFirst moved after old new
   pub all : length after ≡ length before
   pub rest : (k : ℕ) → moved ≤ k → slice_index after k ≡ slice_index before k
 
--- so many are taken, and no more: the buffer is full, or none is asked for in this direction
+-- so many bytes are taken, and no more: the buffer is full, or no further byte is asked for in this direction
 pub record TakesBlock (moved : ℕ) (before after : List ℕ) (old new : ChipState) : Type 0 where
   pub within : moved ≤ length before
   pub between : ChipState
@@ -23,13 +23,13 @@ pub record TakesBlock (moved : ℕ) (before after : List ℕ) (old new : ChipSta
   pub full : moved ≡ length before → new ≡ between
   pub short : moved < length before → TakesChip between None new
 
--- the channel gives so many bytes, one behind the other, each where it is asked for: they are the first of a list
+-- the channel gives so many bytes, one after the other, each when it is asked for. They are the first of a list
 unfoldable pub GivesFirst : ℕ → List ℕ → ChipState → ChipState → Type 0
 GivesFirst zero bytes old new = new ≡ old
 GivesFirst (suc n) bytes old new =
     (between : ChipState) × GivesFirst n bytes old between × GivesChip (slice_index bytes n) between true new
 
--- so many are given, and no more: there are none left, or none is asked for in this direction
+-- so many bytes are given, and no more: no byte is left, or none is asked for in this direction
 pub record GivesBlock (moved : ℕ) (bytes : List ℕ) (old new : ChipState) : Type 0 where
   pub within : moved ≤ length bytes
   pub between : ChipState

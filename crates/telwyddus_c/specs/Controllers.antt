@@ -21,7 +21,7 @@ state_of controller = chip_state bay_state controller
 abbrev pub KeepsDrives : ControllerValue → ControllerValue → Type 0
 KeepsDrives old new = SameDrives (adapter_of (behind_of old)) (adapter_of (behind_of new))
 
--- a new one whose drives have no faults
+-- a new controller whose drives have no faults
 abbrev pub IsPlain : ControllerValue → Type 0
 IsPlain controller = IsNewChip (new_in_bay (Some 0)) (new_in_bay (Some 0)) (state_of controller)
 
@@ -29,30 +29,31 @@ IsPlain controller = IsNewChip (new_in_bay (Some 0)) (new_in_bay (Some 0)) (stat
 abbrev pub drive_of : ControllerValue → ℕ → DriveState
 drive_of controller bay = drive_at (state_of controller).front.adapter bay
 
--- the lines in a byte: 1 is the interrupt line, 2 the request line, 4 the direction to memory, and 8 the index of the selected drive
+-- the lines in a byte: 1 is the interrupt line, 2 the request line, 4 the direction to memory, and 8 the index of the
+-- selected drive
 abbrev pub lines_byte : ChipState → ℕ
 lines_byte chip = (if interrupts_chip chip then 1 else 0) + (if asks_chip chip then 2 else 0)
     + (if to_memory_of chip.front.adapter.controller then 4 else 0) + (if indexes_chip chip then 8 else 0)
 
--- the lines are told where a slot holds a controller; else what was told stays
+-- the lines are reported if a slot holds a controller. Otherwise what was reported stays
 abbrev pub TellsLines : Option ControllerValue → (was told : ℕ) → Type 0
 TellsLines None was told = told ≡ was
 TellsLines (Some controller) was told = told ≡ lines_byte (state_of controller)
 
--- the channel takes a byte: 0. None is asked for in this direction: 8
+-- the channel takes a byte: code 0. If no byte is asked for in this direction the code is 8
 abbrev pub TakesByte : ℕ → ChipState → (was byte : ℕ) → ChipState → Type 0
 TakesByte code old was byte new = DoneOr 8 code (TakesChip old (Some byte) new) (TakesChip old None new × (byte ≡ was))
 
--- the channel gives a byte: 0. None is asked for in this direction: 8
+-- the channel gives a byte: code 0. If no byte is asked for in this direction the code is 8
 abbrev pub GivesByte : ℕ → ℕ → ChipState → ChipState → Type 0
 GivesByte byte code old new = DoneOr 8 code (GivesChip byte old true new) (GivesChip byte old false new)
 
--- seeks are implied, or left to CONFIGURE: all else stays
+-- seeks are implied, or left to CONFIGURE. All else stays
 pub record StrapsSeeks (on : Bool) (old new : ControllerValue) : Type 0 where
   pub strapped : state_of new ≡ record (state_of old) { strapped = on }
   pub drives : KeepsDrives old new
 
--- pulses come in the time that SPECIFY sets, or one in each word time: all else stays
+-- pulses come in the time that SPECIFY sets, or one in each word time. All else stays
 pub record StrapsSteps (on : Bool) (old new : ControllerValue) : Type 0 where
   pub strapped : state_of new ≡ record (state_of old) { paced = on }
   pub drives : KeepsDrives old new
@@ -72,19 +73,20 @@ pub record EjectsAt (bay code : ℕ) (tray left : Option TrayValue) (old new : C
   pub drive : Ejects code tray left (drive_of old bay) (drive_of new bay)
   pub beside : KeepsBeside bay (state_of old) (state_of new)
 
--- it is told by 1 or 0 whether a word of the medium in a bay was replaced since it was put in, or since that was last forgotten
+-- 1 or 0 is reported: whether a word of the medium in a bay was replaced since it was put in, or since this sign was
+-- last forgotten
 pub record ShowsWritten (bay : ℕ) (controller : ControllerValue) (told : ℕ) : Type 0 where
   pub is : (told == 1) ≡ (drive_of controller bay).replaced
   pub bit : told ≤ 1
 
--- so it is told, and that is forgotten: all else stays
+-- the sign is reported, and forgotten. All else stays
 pub record TellsWritten (bay : ℕ) (old : ControllerValue) (told : ℕ) (new : ControllerValue) : Type 0 where
   pub was : ShowsWritten bay old told
   pub forgets : drive_of new bay ≡ forgotten (drive_of old bay)
   pub beside : KeepsBeside bay (state_of old) (state_of new)
 
--- what a front end shows of a bay: the cylinder under the heads, and in a byte 1 the motor, 2 the selection, 4 the write gate and
--- 8 a medium
+-- what a front end shows of a bay: the cylinder under the heads, and in a byte 1 for the motor, 2 for the selection, 4
+-- for the write gate and 8 for a medium
 pub record Shows (bay : ℕ) (controller : ControllerValue) (cylinder signs : ℕ) : Type 0 where
   pub cylinder_is : cylinder ≡ (drive_of controller bay).cylinder
   pub motor : Bool

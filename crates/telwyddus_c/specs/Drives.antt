@@ -22,22 +22,23 @@ pub record KeepsOther (bay : ℕ) (old new : ControllerValue) : Type 0 where
   pub chip : KeepsChip (state_of old) (state_of new)
   pub other : held new (1 - bay) ≡ held old (1 - bay)
 
--- the cable of a drive is put in, or pulled: what the drive is stays, and what is heard of it then is so
+-- the cable of a drive is put in, or pulled. The drive itself stays as it is, and what the controller sees of it
+-- follows the cable
 pub record Attaches (bay : ℕ) (on : Bool) (old new : ControllerValue) : Type 0 where
   pub is : is_attached (held new bay) ≡ on
   pub drive : drive_in_bay (held new bay) ≡ drive_in_bay (held old bay)
   pub state : bay_state (held new bay) ≡ state_with_cable on (held old bay)
   pub beside : KeepsOther bay old new
 
--- it isn't pulled where a medium is in
+-- the cable isn't pulled while a medium is in
 abbrev pub keeps_cable : (bay : ℕ) → Bool → ControllerValue → Bool
 keeps_cable bay on old = not on && is_some (drive_of old bay).medium
 
--- so it is done: 0. A medium is in, 6: all stays
+-- the cable is put in, or pulled: code 0. If a medium is in, the code is 6 and all stays
 abbrev pub AttachesAt : (bay : ℕ) → Bool → (code : ℕ) → ControllerValue → ControllerValue → Type 0
 AttachesAt bay on code old new = MatchBool (keeps_cable bay on old) ((code ≡ 6) × (new ≡ old)) ((code ≡ 0) × Attaches bay on old new)
 
--- a bay has a drive, whose cable is in; else the code is 4, and all stays
+-- a bay has a drive whose cable is in. Otherwise the code is 4, and all stays
 abbrev pub OfDrive : (bay code : ℕ) → ControllerValue → (stays served : Type 0) → Type 0
 OfDrive bay code old stays served = MatchBool (is_attached (held old bay)) served ((code ≡ 4) × stays)
 
@@ -45,11 +46,12 @@ OfDrive bay code old stays served = MatchBool (is_attached (held old bay)) serve
 abbrev pub faults_for : ℕ → Plan → List Fault
 faults_for bay plan = if bay == 0 then plan.bay0 else plan.bay1
 
--- a drive of which so many faults can still come: its medium, its heads, and all else stays
+-- a drive of which so many faults can still come. Its medium, its heads and all else stay
 abbrev pub replanned : List Fault → DriveState → DriveState
 replanned faults drive = record drive { left = told drive.faults (total_left faults) }
 
--- a drive has these faults to come, in place of those that it had; what it is besides stays, and what its cable tells of it
+-- a drive has these faults to come, in place of those that it had. All else of the drive stays, and so does what its
+-- cable shows of it
 pub record Replans (bay : ℕ) (faults : List Fault) (old new : ControllerValue) : Type 0 where
   pub faults_are : faults_in_bay (held new bay) ≡ faults
   pub within : drive_within (held new bay) ≡ replanned faults (drive_within (held old bay))
@@ -62,14 +64,18 @@ pub record IsPlanned (plan : Plan) (controller : ControllerValue) : Type 0 where
   pub first : faults_in_bay (held controller 0) ≡ plan.bay0
   pub second : faults_in_bay (held controller 1) ≡ plan.bay1
 
--- a drive is planned anew by a text: 0. It is no plan, 9: its first bad line is told. Memory is out, 3. All stays then
+-- a drive is planned anew by a text. By the code of the call:
+-- - 0: the drive has the faults of the plan to come;
+-- - 9: the text is no plan. The number of its first bad line is reported;
+-- - 3: memory is out.
+-- after every code but 0 the controller stays as it was
 abbrev pub PlansAt : (bay : ℕ) → List ℕ → (code was line : ℕ) → ControllerValue → ControllerValue → Type 0
 PlansAt bay text code was line old new =
     MatchBool (code == 0) ((plan : Plan) × (plan_spelled text ≡ Ok plan) × (line ≡ was) × Replans bay (faults_for bay plan) old new)
     (MatchBool (code == 9) ((plan_spelled text ≡ Err line) × (new ≡ old))
     (MatchBool (code == 3) ((line ≡ was) × (new ≡ old)) ⊥))
 
--- the tracks of a bay's medium that were written are told in a map, and forgotten; what the drive is besides stays
+-- the tracks of a bay's medium that were written are reported in a map, and forgotten. All else of the drive stays
 pub record TellsTracks (bay : ℕ) (old : ControllerValue) (map : List ℕ) (new : ControllerValue) : Type 0 where
   pub told : map ≡ tracks_in_bay (held old bay)
   pub forgets : held new bay ≡ without_tracks (held old bay)

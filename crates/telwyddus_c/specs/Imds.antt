@@ -13,8 +13,10 @@ use Rattle.raw_image.specs.declared.error.ImageError.{ImageError}
 use Rattle.telwyddus_c.specs.Buffers.{WritesBytes}
 use Rattle.telwyddus_c.specs.Slots.{FullOr}
 
--- a tray is made with the medium of an image, which has its sectors: 0. A track of the image has no room for its sectors, 21: the first
--- is told by cylinder and head; or memory is out, 3
+-- a tray is made with the medium of an image, which has the image's sectors. By the code of the call:
+-- - 0: the tray is made;
+-- - 21: a track of the image has no room for its sectors. The cylinder and head of the first such track are reported;
+-- - 3: memory is out.
 abbrev pub MakesTray : ImdImage → ℕ → (c_was c_told h_was h_told : ℕ) → Option TrayValue → Option TrayValue → Type 0
 MakesTray image code c_was c_told h_was h_told old new =
     MatchBool (code == 0) ((disk : Disk) × MakesDisk image (Ok disk) × HasImage disk image × (new ≡ Some (record { medium = Some disk }))
@@ -22,7 +24,8 @@ MakesTray image code c_was c_told h_was h_told old new =
     (MatchBool (code == 21) (MakesDisk image (Err (Unfit c_told h_told)) × (new ≡ old))
     (MatchBool (code == 3) ((new ≡ old) × (c_told ≡ c_was) × (h_told ≡ h_was)) ⊥))
 
--- the same of a file: 0, 21 and 3. The slot holds a tray already, 2, or the bytes are no such file, 5: it stays
+-- a tray is made with the medium of an ImageDisk file, by the codes 0, 21 and 3 as of an image. If the slot holds a
+-- tray already, 2, or if the bytes are no such file, 5, the slot stays
 abbrev pub ReadsImd : List ℕ → ℕ → (c_was c_told h_was h_told : ℕ) → Option TrayValue → Option TrayValue → Type 0
 ReadsImd bytes code c_was c_told h_was h_told old new =
     FullOr code old new ((c_told ≡ c_was) × (h_told ≡ h_was))
@@ -30,8 +33,13 @@ ReadsImd bytes code c_was c_told h_was h_told old new =
     (MatchBool (code == 3) ((new ≡ old) × (c_told ≡ c_was) × (h_told ≡ h_was))
     ((image : ImdImage) × (image_of bytes ≡ Ok image) × MakesTray image code c_was c_told h_was h_told old new)))
 
--- the ImageDisk file of a medium, which has its sectors and reads back, is written to a buffer: 0, or 10 where the buffer is too short.
--- Such a file can't have a track, 21: the first is told by cylinder and head. There is no medium, 7, or memory is out, 3: all stays
+-- the ImageDisk file of a medium has the medium's sectors, and reads back. It is written to a buffer. By the code of
+-- the call:
+-- - 0: the file is written;
+-- - 10: the buffer is too short;
+-- - 21: such a file can't have a track. The cylinder and head of the first such track are reported;
+-- - 7: there is no medium, and all stays;
+-- - 3: memory is out, and all stays.
 abbrev pub WritesImd : Option Disk → ℕ → List ℕ → List ℕ → (was told c_was c_told h_was h_told : ℕ) → Type 0
 WritesImd None code old new was told c_was c_told h_was h_told =
     (code ≡ 7) × (new ≡ old) × (told ≡ was) × (c_told ≡ c_was) × (h_told ≡ h_was)

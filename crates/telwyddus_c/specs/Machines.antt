@@ -39,7 +39,8 @@ pub record IsPlanned (plan : Plan) (machine : MachineValue) : Type 0 where
 
 -- ---- device steps
 
--- device steps until the latch is set, at most `most`: how many were made is told, and by 1 or 0 whether it is set
+-- device steps are made until the latch is set, at most `most`. How many were made is reported, and 1 or 0 says whether
+-- the latch is set
 pub record WaitsTelling (most made is_set : ℕ) (old new : Board) : Type 0 where
   pub steps : RunsToIrq most old made new
   pub set : (is_set == 1) ≡ (latch_of new).is_set
@@ -53,7 +54,7 @@ pub record Copied (memory : List ℕ) (address : ℕ) (old new : List ℕ) : Typ
   pub all : length new ≡ length old
   pub each : (k : ℕ) → k < length old → slice_index new k ≡ slice_index memory (address + k)
 
--- a range of memory is copied out: 0. It isn't within memory, 4: the buffer stays
+-- a range of memory is copied out: code 0. If the range isn't within memory, the code is 4 and the buffer stays
 abbrev pub CopiesOut : ℕ → List ℕ → ℕ → List ℕ → List ℕ → Type 0
 CopiesOut address memory code old new =
     MatchBool (code == 0) (Copied memory address old new) (MatchBool (code == 4) ((1048576 < address + length old) × (new ≡ old)) ⊥)
@@ -67,8 +68,8 @@ pub record IsStored (address count : ℕ) (bytes old new : List ℕ) : Type 0 wh
 abbrev pub in_user_memory : (address count : ℕ) → ℕ
 in_user_memory address count = min count (user_bytes - address)
 
--- so many bytes of memory from an address on were set, each once: those in user memory are counted as accesses past the controller, and
--- where there was any the machine isn't fresh any more. But for memory, all else is as it was
+-- so many bytes of memory from an address on were set, each once. Those in user memory are counted as accesses past the
+-- controller. If at least one byte was set, the machine isn't fresh any more. Except for memory, all else is as it was
 abbrev pub CountsBytes : (address count : ℕ) → Board → Board → Type 0
 CountsBytes address count old new = new ≡ record old {
   bus = record old.bus {
@@ -84,7 +85,7 @@ pub record Stores (address : ℕ) (bytes : List ℕ) (old new : Board) : Type 0 
   pub stored : IsStored address (length bytes) bytes (memory_of old) (memory_of new)
   pub rest : CountsBytes address (length bytes) old new
 
--- bytes are copied into memory: 0. Their range isn't within memory, 4: the machine stays
+-- bytes are copied into memory: code 0. If their range isn't within memory, the code is 4 and the machine stays
 abbrev pub CopiesIn : ℕ → List ℕ → ℕ → MachineValue → MachineValue → Type 0
 CopiesIn address bytes code old new =
     MatchBool (code == 0) (Stores address bytes (board_of old) (board_of new))
@@ -92,12 +93,12 @@ CopiesIn address bytes code old new =
 
 -- ---- media
 
--- the medium of a tray goes into a bay; where the tray has none, the machine stays
+-- the medium of a tray goes into a bay. If the tray has none, the machine stays
 pub record InsertsAt (bay code : ℕ) (tray left : Option TrayValue) (old new : MachineValue) : Type 0 where
   pub drive : Inserts code tray left (drive_in (board_of old) bay) (drive_in (board_of new) bay)
   pub beside : MatchBool (code == 7) (new ≡ old) (Touches bay (board_of old) (board_of new))
 
--- the medium of a bay goes into a tray; where none can be made, the machine stays
+-- the medium of a bay goes into a tray. If no tray can be made, the machine stays
 pub record EjectsAt (bay code : ℕ) (tray left : Option TrayValue) (old new : MachineValue) : Type 0 where
   pub drive : Ejects code tray left (drive_in (board_of old) bay) (drive_in (board_of new) bay)
   pub beside : MatchBool (code == 2) (new ≡ old) (MatchBool (code == 3) (new ≡ old) (Touches bay (board_of old) (board_of new)))

@@ -1,4 +1,4 @@
--- What a medium is but for its cells.
+-- What a medium is, except for its cells.
 use Rattle.std.specs.Prelude.{◌≡◌, ℕ, Option, None, Some, if◌then◌else◌}
 use Rattle.flop_base.specs.declared.answers.Rate.{Rate}
 use Rattle.flop_base.specs.declared.answers.Rate.TheVariants.{R500, R250}
@@ -20,7 +20,7 @@ shape_of disk = record {
   is_protected = if disk.protected then 1 else 0;
 }
 
--- the shape of a medium is told: 0. There is none, 7: what was told stays
+-- the shape of a medium is reported: code 0. If there is no medium, the code is 7 and what was reported stays
 abbrev pub TellsShape : Option Disk → ℕ → (was told : MediumShape) → Type 0
 TellsShape None code was told = (code ≡ 7) × (told ≡ was)
 TellsShape (Some disk) code was told = (code ≡ 0) × (told ≡ shape_of disk)

@@ -16,30 +16,34 @@ pub record IsBare (shelf : ShelfValue) : Type 0 where
   pub files : files_in shelf ≡ no_files
   pub report : report_in shelf ≡ []
 
--- a file is placed: 0. Memory is out, 3, or its name isn't UTF-8, 11: all stays
+-- a file is placed: code 0. If memory is out, 3, or if its name isn't UTF-8, 11, all stays
 abbrev pub Puts : (name bytes : List ℕ) → ℕ → Outside → Outside → Type 0
 Puts name bytes code old new =
     MatchBool (code == 0) ((new.files ≡ stored old.files name bytes) × (new.report ≡ old.report))
     (MatchBool (code == 3) (new ≡ old)
     (MatchBool (code == 11) (¬ (IsUtf8 name) × (new ≡ old)) ⊥))
 
--- a file, where one has the name, is copied to a buffer: 0, or 10 where the buffer is too short. No file has the name, 12, or it isn't
--- UTF-8, 11: the buffer and what was told stay
+-- the file of a name is copied to a buffer. By the code of the call:
+-- - 0: the file is copied;
+-- - 10: the buffer is too short;
+-- - 12: no file has the name. The buffer and what was reported stay;
+-- - 11: the name isn't UTF-8. The buffer and what was reported stay.
 abbrev pub Gets : (name : List ℕ) → Option (List ℕ) → ℕ → List ℕ → List ℕ → (was told : ℕ) → Type 0
 Gets name None code old new was told =
     MatchBool (code == 12) ((new ≡ old) × (told ≡ was)) (MatchBool (code == 11) (¬ (IsUtf8 name) × (new ≡ old) × (told ≡ was)) ⊥)
 Gets name (Some bytes) code old new was told =
     WritesOr (MatchBool (code == 11) (¬ (IsUtf8 name) × (new ≡ old) × (told ≡ was)) ⊥) bytes code old new told
 
--- the program ran with the words of a text, and its exit status is told: 0. Memory was out before it ran, 3, or some word isn't
--- UTF-8, 11: all stays
+-- the program ran with the words of a text, and its exit status is reported: code 0. If memory was out before the
+-- program ran, 3, or if some word isn't UTF-8, 11, all stays
 abbrev pub RunsWords : List ℕ → ℕ → (was status : ℕ) → Outside → Outside → Type 0
 RunsWords text code was status old new =
     MatchBool (code == 0) ((ended : Status) × (status ≡ status_number ended) × RanPlain (words_in text) old new ended)
     (MatchBool (code == 3) ((new ≡ old) × (status ≡ was))
     (MatchBool (code == 11) (¬ (All IsUtf8 (words_in text)) × (new ≡ old) × (status ≡ was)) ⊥))
 
--- the lines that were printed are copied to a buffer, one behind the other, and forgotten: 0. The buffer is too short, 10: it is kept
+-- the lines that were printed are copied to a buffer, one after the other, and forgotten: code 0. If the buffer is too
+-- short, the code is 10 and they are kept
 pub record HandsOut (code : ℕ) (old new : List ℕ) (told : ℕ) (before after : ShelfValue) : Type 0 where
   pub copied : WritesBytes (joined (report_in before)) code old new told
   pub left : report_in after ≡ if code == 0 then [] else report_in before

@@ -1,32 +1,33 @@
--- What a call makes of a slot, by the code that it answers. No call answers another code than those that are named.
+-- What a call makes of a slot, by the code that it answers. No call answers a code that isn't named.
 use Rattle.std.specs.Prelude.{◌≡◌, ◌≤◌, ◌<◌, ℕ, ◌==◌, Option, None, Some, IsSome, MatchBool, ⊤}
 
--- done, 0, or refused by one other code
+-- a call is done, 0, or refused by one other code
 abbrev pub DoneOr : (refusal code : ℕ) → Type 0 → Type 0 → Type 0
 DoneOr refusal code done refused = MatchBool (code == 0) done (MatchBool (code == refusal) refused ⊥)
 
--- a call on what a slot holds. It holds nothing: 1, it stays so, and so does what is beside
+-- a call on what a slot holds. If the slot holds nothing, the code is 1. The slot then stays empty, and so does all
+-- else stay
 abbrev pub Serves : {V : Type 0} → (ℕ → V → V → Type 0) → Type 0 → ℕ → Option V → Option V → Type 0
 Serves called stays code None new = (code ≡ 1) × (new ≡ None) × stays
 Serves {V} called stays code (Some old) new = (after : V) × (new ≡ Some after) × called code old after
 
--- a call that fills a slot. It holds something already: 2, whatever was asked, and it stays, and so does what is beside. Each other code is
--- that of an empty slot
+-- a call that fills a slot. If the slot holds something already, the code is 2, whatever was asked. The slot then
+-- stays, and so does all else. Each other code is that of an empty slot
 abbrev pub FullOr : {V : Type 0} → (code : ℕ) → Option V → Option V → (stays filled : Type 0) → Type 0
 FullOr code old new stays filled = MatchBool (code == 2) (IsSome old × (new ≡ old) × stays) ((old ≡ None) × filled)
 
--- an empty slot is filled: 0. Memory is out, 3: it stays
+-- an empty slot is filled: code 0. If memory is out, the code is 3 and the slot stays
 abbrev pub Fills : {V : Type 0} → (V → Type 0) → ℕ → Option V → Option V → Type 0
 Fills {V} made code old new =
     FullOr code old new ⊤
     (MatchBool (code == 0) ((value : V) × (new ≡ Some value) × made value)
     (MatchBool (code == 3) (new ≡ old) ⊥))
 
--- what a slot holds is freed: 0. It holds nothing: 1
+-- what a slot holds is freed: code 0. If the slot holds nothing, the code is 1
 abbrev pub Frees : {V : Type 0} → ℕ → Option V → Option V → Type 0
 Frees code old new = DoneOr 1 code (IsSome old × (new ≡ None)) ((old ≡ None) × (new ≡ None))
 
--- a bay is 0 or 1: at any other the code is 4, and all stays
+-- a bay is 0 or 1. For any other number the code is 4, and all stays
 pub record InBay (bay code : ℕ) (stays served : Type 0) : Type 0 where
   pub out_of_range : 1 < bay → (code ≡ 4) × stays
   pub within : bay ≤ 1 → served

@@ -15,30 +15,33 @@ use Rattle.telwyddus_c.specs.Buffers.{WritesOr}
 abbrev pub state_name : List ℕ
 state_name = 0x54 ∷ 0x45 ∷ 0x4C ∷ 0x57 ∷ 0x59 ∷ 0x44 ∷ 0x44 ∷ 0x02 ∷ []
 
--- the bytes of a value behind a name
+-- the bytes of a value, with a name in front of them
 abbrev pub behind : {V : Type 0} → (name : List ℕ) → (V → List ℕ → List ℕ) → V → List ℕ → List ℕ
 behind name spelled value rest = name ++ spelled value rest
 
--- behind that name
+-- the bytes of a value, with the name of states in front of them
 abbrev pub named : {V : Type 0} → (V → List ℕ → List ℕ) → V → List ℕ → List ℕ
 named = behind state_name
 
--- the bytes of a controller with its drives and their media, and what is so of each that code holds
+-- the bytes of a controller with its drives and their media. `ControllerFits` is what holds of each controller in the
+-- code
 abbrev pub spelled_controller : ControllerValue → List ℕ → List ℕ
 spelled_controller = named (spelled_chip spelled_bay)
 
 abbrev pub ControllerFits : ControllerValue → Type 0
 ControllerFits = ChipFits BayFits
 
--- the same of a machine with its memory, what its plan has still to come, its drives and their media
+-- the bytes of a machine with its memory, what its plan has still to come, its drives and their media
 abbrev pub spelled_bench : MachineValue → List ℕ → List ℕ
 spelled_bench = named (spelled_machine spelled_script_drive)
 
 abbrev pub BenchFits : MachineValue → Type 0
 BenchFits = MachineFits (λ _. ⊤)
 
--- the bytes of a state are written to a buffer, and their number told: 0. The buffer is too short, 10: it stays, and the number is told.
--- Memory is out, 3: the buffer and what was told stay
+-- the bytes of a state are written to a buffer. By the code of the call:
+-- - 0: the bytes are written, and their number is reported;
+-- - 10: the buffer is too short. It stays as it is, and the number is reported;
+-- - 3: memory is out. The buffer and what was reported stay.
 pub record WritesState {V : Type 0} (fits : V → Type 0) (spelled : V → List ℕ → List ℕ) (state : V) (code : ℕ) (old new : List ℕ) (was told : ℕ) : Type 0 where
   pub fits_here : fits state
   pub writes : WritesOr (MatchBool (code == 3) ((new ≡ old) × (told ≡ was)) ⊥) (spelled state []) code old new told
@@ -59,7 +62,8 @@ FindsState fits spelled bytes (Ok found) = HasBytes fits spelled bytes found.val
 FindsState fits spelled bytes (Err NoState) = HasNone fits spelled bytes
 FindsState fits spelled bytes (Err NoMemory) = ⊤
 
--- a slot holds the state whose bytes these are, in place of what it held: 0. No state has these bytes, 22, or memory is out, 3: it stays
+-- a slot holds the state whose bytes these are, in place of what it held: code 0. If no state has these bytes, 22, or
+-- if memory is out, 3, the slot stays
 abbrev pub RestoresState : {V : Type 0} → (V → Type 0) → (V → List ℕ → List ℕ) → List ℕ → ℕ → Option V → Option V → Type 0
 RestoresState {V} fits spelled bytes code old new =
     MatchBool (code == 0) ((state : V) × (new ≡ Some state) × HasBytes fits spelled bytes state)

@@ -39,7 +39,7 @@ fn same_rate(one: Rate, other: Rate) -> bool
     }
 }
 
-/// Whether there is none of both, or their tracks have the same length and rate.
+/// Whether both media are missing, or their tracks have the same length and rate.
 fn alike(one: Option<&Medium>, other: Option<&Medium>) -> bool
     ensures { result ≡ alike_of (option_copied one.entry) (option_copied other.entry) }
 {
@@ -69,7 +69,7 @@ fn are_alike(one: &WholeController, other: &WholeController) -> bool
     first && second
 }
 
-/// Puts a medium in place of the one in a drive, which is given.
+/// Puts a medium in place of the one in a drive, and returns the one that was in.
 fn trade(drive: &mut BayDrive, medium: Medium) -> Medium
     requires { same_length medium (bay_state drive.old).medium ≡ true }
     ensures has { BayWithMedium (Some medium) drive.old drive.new }
@@ -81,7 +81,7 @@ fn trade(drive: &mut BayDrive, medium: Medium) -> Medium
     }
 }
 
-/// The same of the drive in a bay.
+/// Puts a medium in place of the one in the drive of a bay, and returns the one that was in.
 fn replace_medium(
     alloc: Global,
     controller: &mut WholeController,
@@ -100,7 +100,8 @@ fn replace_medium(
     Some(before)
 }
 
-/// The same of a medium or none, where none is in.
+/// Puts a medium in place of the one in a bay, and returns the one that was in. If none is given, none is in, and
+/// nothing is done.
 fn exchange(
     alloc: Global,
     controller: &mut WholeController,
@@ -118,7 +119,7 @@ fn exchange(
     }
 }
 
-/// Takes the medium of a bay out, where its stand-in stays.
+/// Takes the medium of a bay out, and leaves its stand-in there.
 fn take_out(
     alloc: Global,
     controller: &mut WholeController,
@@ -133,7 +134,7 @@ fn take_out(
     Ok(exchange(alloc, controller, bay, blank))
 }
 
-/// The bytes of the controller without the medium of bay 1, which is back behind it.
+/// The bytes of the controller without the medium of bay 1. Afterwards that medium is back.
 fn bytes_without_second(
     alloc: Global,
     controller: &mut WholeController,
@@ -147,7 +148,7 @@ fn bytes_without_second(
     bytes
 }
 
-/// The bytes of the controller without its media, which are back behind it.
+/// The bytes of the controller without its media. Afterwards they are back.
 pub(crate) fn bare_bytes(
     alloc: Global,
     controller: &mut WholeController,
@@ -172,7 +173,8 @@ fn take_medium(alloc: Global, controller: &mut WholeController, bay: u8) -> Opti
     drive.eject()
 }
 
-/// Moves the medium of a bay from one controller, which isn't used any more, in place of what another has there.
+/// Moves the medium of a bay from one controller, which isn't used any more, in place of the one that another has
+/// there.
 fn move_medium(alloc: Global, from: &mut WholeController, to: &mut WholeController, bay: u8)
     requires bay { bay ≤ 1 }
     requires alike { alike_of (medium_in from.old bay) (medium_in to.old bay) ≡ true }
@@ -183,7 +185,7 @@ fn move_medium(alloc: Global, from: &mut WholeController, to: &mut WholeControll
     exchange(alloc, to, bay, medium);
 }
 
-/// Lets the drive of a bay tell besides of the writes of which another controller's drive there tells.
+/// Lets the drive of a bay also report the writes that another controller's drive there reports.
 fn join_writes(alloc: Global, from: &WholeController, to: &mut WholeController, bay: u8)
     requires { bay ≤ 1 }
     ensures { to.new ≡ with_writes_at bay from.now to.old }
@@ -194,7 +196,7 @@ fn join_writes(alloc: Global, from: &WholeController, to: &mut WholeController, 
     to.swap_drive(bay, &mut drive);
 }
 
-/// The same of both bays.
+/// Lets the drives of both bays also report the writes that another controller's drives report.
 fn join_all_writes(alloc: Global, from: &WholeController, to: &mut WholeController)
     ensures { to.new ≡ with_writes_of from.now to.old }
 {
@@ -202,8 +204,8 @@ fn join_all_writes(alloc: Global, from: &WholeController, to: &mut WholeControll
     join_writes(alloc, from, to, 1);
 }
 
-/// Makes the controller what was saved, with its own media, and with what it tells of writes to them; or tells that they aren't alike, and
-/// leaves it.
+/// Makes the controller what was saved, with its own media, and with what it reports of writes to them. If the media
+/// aren't alike, the function says so and leaves the controller as it is.
 pub(crate) fn refill(
     alloc: Global,
     controller: &mut WholeController,

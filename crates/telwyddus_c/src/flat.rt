@@ -12,7 +12,7 @@ use flat_files::{FlatFault, flat_file, flat_medium};
 use raw_image::{ImageError, Medium};
 use std::alloc::Global;
 
-/// What is told in place of a cylinder and a head where no track is meant.
+/// What is reported in place of a cylinder and a head if no track is meant.
 const NO_TRACK: u8 = 0xFF;
 
 /// Makes a tray with the medium of a flat file: all sectors, by cylinder, head and record, of 1.44 MB or 720 KB.
@@ -30,8 +30,8 @@ pub extern "C" fn telwyddus_tray_read_flat(alloc: Global, slot: &mut TraySlot, b
     }
 }
 
-/// Writes the flat file of the medium in a tray to a buffer, and tells its length. Where there is none, the cylinder and head of the first
-/// track that isn't as such a file has it are told; both FF where the medium has another shape.
+/// Writes the flat file of the medium in a tray to a buffer, and reports its length. If there is no such file, the
+/// cylinder and head of the first track that doesn't fit it are reported. Both are FF if the medium has another shape.
 #[unsafe(no_mangle)]
 pub extern "C" fn telwyddus_tray_write_flat(
     alloc: Global,
@@ -54,7 +54,7 @@ pub extern "C" fn telwyddus_tray_write_flat(
     code
 }
 
-/// The same of a medium, where there is one.
+/// Writes the flat file of a medium, if there is a medium.
 pub(crate) fn write_file(
     alloc: Global,
     medium: Option<&Medium>,
@@ -71,7 +71,7 @@ pub(crate) fn write_file(
     }
 }
 
-/// The same of a medium.
+/// Writes the flat file of a medium to a buffer.
 fn write_sectors(
     alloc: Global,
     medium: &Medium,
@@ -88,7 +88,7 @@ fn write_sectors(
     }
 }
 
-/// Tells where a medium isn't as a flat file has it.
+/// Reports where a medium doesn't fit a flat file.
 pub(crate) fn tell_fault(fault: FlatFault, cylinder: &mut u8, head: &mut u8) -> u32
     ensures { TellsFault fault result cylinder.old cylinder.new head.old head.new }
 {
@@ -100,7 +100,8 @@ pub(crate) fn tell_fault(fault: FlatFault, cylinder: &mut u8, head: &mut u8) -> 
     UNFIT
 }
 
-/// The cylinder and head of the track at which a medium isn't as a flat file has it; that memory is out says nothing of a medium.
+/// The cylinder and head of the track at which a medium doesn't fit a flat file. If memory is out, nothing is said of
+/// the medium.
 fn place_of(fault: FlatFault) -> Option<(u8, u8)>
     ensures { result ≡ place_of_fault fault }
 {

@@ -14,7 +14,7 @@ use flat_files::{FileFault, FlatForm, FormFault, flat_file_as, flat_medium_as};
 use raw_image::Medium;
 use std::alloc::Global;
 
-/// The geometry of these numbers; no rate but 500 and 250 kbit/s is taken.
+/// The geometry of these numbers. No rate but 500 and 250 kbit/s is taken.
 fn form_named(cylinders: u8, heads: u8, sectors: u8, n: u8, kilobits: u16) -> Option<FlatForm>
     ensures { result ≡ form_named_by cylinders heads sectors n kilobits }
 {
@@ -28,8 +28,8 @@ fn form_named(cylinders: u8, heads: u8, sectors: u8, n: u8, kilobits: u16) -> Op
     })
 }
 
-/// Makes a tray with the medium of a flat file of so many cylinders and heads, on each track the records 1 to so many, of size code `n`,
-/// at 500 or 250 kbit/s.
+/// Makes a tray with the medium of a flat file of so many cylinders and heads, at 500 or 250 kbit/s. Each track has the
+/// records 1 to `sectors`, of size code `n`.
 #[unsafe(no_mangle)]
 pub extern "C" fn telwyddus_tray_read_flat_as(
     alloc: Global,
@@ -52,7 +52,7 @@ pub extern "C" fn telwyddus_tray_read_flat_as(
     read_form(alloc, slot, bytes, form)
 }
 
-/// The same of a form, into an empty slot.
+/// Makes a tray with the medium of a flat file of a form, in an empty slot.
 fn read_form(alloc: Global, slot: &mut TraySlot, bytes: &[u8], form: FlatForm) -> u32
     requires { slot.old.held.tray ≡ None }
     ensures { FillsForm form bytes.now result slot.old.held.tray slot.new.held.tray }
@@ -66,8 +66,9 @@ fn read_form(alloc: Global, slot: &mut TraySlot, bytes: &[u8], form: FlatForm) -
     }
 }
 
-/// Writes the flat file, of the geometry of these numbers, of the medium in a tray to a buffer, and tells its length. Where there is none,
-/// the cylinder and head of the first track that isn't as such a file has it are told; both FF where the medium has another geometry.
+/// Writes the flat file of the medium in a tray to a buffer, in the geometry of these numbers, and reports its length.
+/// If there is no such file, the cylinder and head of the first track that doesn't fit it are reported. Both are FF if
+/// the medium has another geometry.
 #[unsafe(no_mangle)]
 pub extern "C" fn telwyddus_tray_write_flat_as(
     alloc: Global,
@@ -97,7 +98,7 @@ pub extern "C" fn telwyddus_tray_write_flat_as(
     code
 }
 
-/// The same of a medium and a form, where there are both.
+/// Writes the flat file of a medium in a form, if there are both.
 fn write_file(
     alloc: Global,
     medium: Option<&Medium>,
@@ -118,7 +119,7 @@ fn write_file(
     }
 }
 
-/// The same of both.
+/// Writes the flat file of a medium in a form to a buffer.
 fn write_form(
     alloc: Global,
     medium: &Medium,

@@ -7,8 +7,8 @@ use crate::code::{NO_MEDIUM, NO_MEMORY};
 use raw_image::{Medium, write_image};
 use std::alloc::Global;
 
-/// Writes the image file of a medium to the beginning of a buffer, and tells its length. Where the buffer is too short it
-/// is left, and the length is told all the same.
+/// Writes the image file of a medium to the beginning of a buffer, and reports its length. If the buffer is too short
+/// it stays as it is, and the length is reported all the same.
 pub(crate) fn write_medium(
     alloc: Global,
     medium: Option<&Medium>,

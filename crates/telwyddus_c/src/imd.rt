@@ -13,7 +13,8 @@ use imagedisk::{ImdError, ImdImage, from_medium, read_imd, to_medium, write_imd}
 use raw_image::{ImageError, Medium};
 use std::alloc::Global;
 
-/// Makes a tray with the medium of an ImageDisk file. Where a track has no room for its sectors, its cylinder and head are told.
+/// Makes a tray with the medium of an ImageDisk file. If a track has no room for its sectors, its cylinder and head are
+/// reported.
 #[unsafe(no_mangle)]
 pub extern "C" fn telwyddus_tray_read_imd(
     alloc: Global,
@@ -34,7 +35,7 @@ pub extern "C" fn telwyddus_tray_read_imd(
     }
 }
 
-/// The same of an image, in an empty slot.
+/// Makes a tray with the medium of an image, in an empty slot.
 fn make_tray(
     alloc: Global,
     slot: &mut TraySlot,
@@ -57,8 +58,8 @@ fn make_tray(
     }
 }
 
-/// Writes the ImageDisk file of the medium in a tray to a buffer, and tells its length. Where such a file can't have a track, its
-/// cylinder and head are told.
+/// Writes the ImageDisk file of the medium in a tray to a buffer, and reports its length. If such a file can't have a
+/// track, the cylinder and head of that track are reported.
 #[unsafe(no_mangle)]
 pub extern "C" fn telwyddus_tray_write_imd(
     alloc: Global,
@@ -81,7 +82,7 @@ pub extern "C" fn telwyddus_tray_write_imd(
     code
 }
 
-/// The same of a medium.
+/// Writes the ImageDisk file of a medium to a buffer.
 fn write_file(
     alloc: Global,
     medium: Option<&Medium>,

@@ -1,6 +1,6 @@
 //! The controller, the machine, sectors of diskettes, media, and the program over files in memory for C: c/telwyddus.h.
 //!
-//! C keeps slots, all 0 at first, and calls these functions with their addresses. Each answers a code.
+//! C keeps slots, all 0 at first, and calls these functions with their addresses. Each function answers a code.
 #![tactic(auto)]
 
 mod bare;

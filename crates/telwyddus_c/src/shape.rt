@@ -1,4 +1,4 @@
-// What a medium is but for its cells.
+// What a medium is, except for its cells.
 ghost use Rattle.std.specs.Prelude.{◌≡◌};
 ghost use Rattle.std.specs.Option.{option_copied};
 ghost use Rattle.telwyddus_c.specs.Slots.{Serves};
@@ -9,8 +9,8 @@ use flop_base::Rate;
 use raw_image::Medium;
 use std::alloc::Global;
 
-/// What a medium is but for its cells: the words of sixteen cells that each track has, the rate in kbit/s, how many cylinders and heads
-/// there are, and 1 where it is write-protected, else 0.
+/// What a medium is, except for its cells: the words of sixteen cells that each track has, the rate in kbit/s, and how
+/// many cylinders and heads there are. The last number is 1 if it is write-protected, and otherwise 0.
 #[repr(C)]
 #[derive(Clone, Copy, Debug, PartialEq, Eq)]
 pub struct MediumShape {
@@ -23,7 +23,7 @@ pub struct MediumShape {
 
 ghost use Rattle.telwyddus_c.specs.Shapes.{TellsShape, kilobits_of as kilobits_of_rate, shape_of as shape_of_disk};
 
-/// Tells the shape of the medium in a tray.
+/// Reports the shape of the medium in a tray.
 #[unsafe(no_mangle)]
 pub extern "C" fn telwyddus_tray_shape(
     alloc: Global,
@@ -41,7 +41,7 @@ pub extern "C" fn telwyddus_tray_shape(
     code
 }
 
-/// Tells the shape of a medium, where there is one.
+/// Reports the shape of a medium, if there is one.
 pub(crate) fn tell_shape(medium: Option<&Medium>, shape: &mut MediumShape) -> u32
     ensures { TellsShape (option_copied medium.entry) result shape.old shape.new }
 {

@@ -37,7 +37,7 @@ pub extern "C" fn telwyddus_shelf_free(alloc: Global, slot: &mut ShelfSlot) -> u
     }
 }
 
-/// Places a file, in place of one of that name.
+/// Places a file, in place of one of the same name.
 #[unsafe(no_mangle)]
 pub extern "C" fn telwyddus_shelf_put(
     alloc: Global,
@@ -56,7 +56,7 @@ pub extern "C" fn telwyddus_shelf_put(
     code
 }
 
-/// The same of a shelf.
+/// Places a file on a shelf.
 fn put(shelf: &mut RunShelf, name: &[u8], bytes: &[u8]) -> u32
     ensures { Puts name.now bytes.now result (outside_in shelf.old) (outside_in shelf.new) }
 {
@@ -69,7 +69,7 @@ fn put(shelf: &mut RunShelf, name: &[u8], bytes: &[u8]) -> u32
     }
 }
 
-/// Writes a file's bytes to the beginning of a buffer, and tells their number.
+/// Writes a file's bytes to the beginning of a buffer, and reports their number.
 #[unsafe(no_mangle)]
 pub extern "C" fn telwyddus_shelf_get(
     alloc: Global,
@@ -89,7 +89,7 @@ pub extern "C" fn telwyddus_shelf_get(
     code
 }
 
-/// The same of a shelf.
+/// Writes the bytes of a shelf's file to a buffer.
 fn get(shelf: &RunShelf, name: &[u8], out: &mut [u8], length: &mut usize) -> u32
     ensures { Gets name.now (file_at (files_in shelf.now) name.now) result out.old out.new length.old length.new }
 {
@@ -102,8 +102,8 @@ fn get(shelf: &RunShelf, name: &[u8], out: &mut [u8], length: &mut usize) -> u32
     }
 }
 
-/// Runs the program with the words of a text, which line feeds separate, on a new machine whose drives have no faults, and
-/// tells its exit status.
+/// Runs the program with the words of a text, which line feeds separate, on a new machine whose drives have no faults.
+/// Reports its exit status.
 #[unsafe(no_mangle)]
 pub extern "C" fn telwyddus_shelf_run(
     alloc: Global,
@@ -122,7 +122,7 @@ pub extern "C" fn telwyddus_shelf_run(
     code
 }
 
-/// The same of a shelf.
+/// Runs the program on a shelf.
 fn run(alloc: Global, shelf: &mut RunShelf, text: &[u8], status: &mut u32) -> u32
     ensures { RunsWords text.now result status.old status.new (outside_in shelf.old) (outside_in shelf.new) }
 {
@@ -138,8 +138,8 @@ fn run(alloc: Global, shelf: &mut RunShelf, text: &[u8], status: &mut u32) -> u3
     DONE
 }
 
-/// Writes what runs printed since it was asked last to the beginning of a buffer, and tells the number of bytes. What fitted
-/// is forgotten.
+/// Writes what runs printed since this was last asked to the beginning of a buffer, and reports the number of bytes.
+/// What fitted is forgotten.
 #[unsafe(no_mangle)]
 pub extern "C" fn telwyddus_shelf_report(
     alloc: Global,
@@ -158,7 +158,7 @@ pub extern "C" fn telwyddus_shelf_report(
     code
 }
 
-/// The same of a shelf.
+/// Writes what runs on a shelf printed to a buffer, and forgets it.
 fn hand_out(alloc: Global, shelf: &mut RunShelf, out: &mut [u8], length: &mut usize) -> u32
     ensures { HandsOut result out.old out.new length.new shelf.old shelf.new }
 {

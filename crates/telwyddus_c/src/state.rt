@@ -9,13 +9,13 @@ use flop_base::NoMemory;
 use saved_state::{RestoreError, SavedWhole, Sink, Source};
 use std::alloc::Global;
 
-/// What each state begins with: a name, and the number of the form that the bytes behind it have.
+/// What each state begins with: a name, and the number of the form of the bytes that follow.
 const NAME: [u8; 8] = *b"TELWYDD\x02";
 
-/// The same of a controller without its media.
+/// What the state of a controller without its media begins with.
 pub(crate) const BARE: [u8; 8] = *b"TELWYDB\x02";
 
-/// The bytes of a state, behind a name.
+/// The bytes of a state, with a name in front of them.
 pub(crate) fn save_behind<T: SavedWhole>(
     alloc: Global,
     name: &[u8],
@@ -30,7 +30,7 @@ pub(crate) fn save_behind<T: SavedWhole>(
     sink.finish()
 }
 
-/// The state whose bytes these are behind a name, all of them. Another name is none.
+/// The state whose bytes these are, all of them, with this name in front. Bytes with another name are no state.
 fn restore_behind<T: SavedWhole + Drop>(
     alloc: Global,
     name: &[u8],
@@ -51,8 +51,8 @@ fn restore_behind<T: SavedWhole + Drop>(
     }
 }
 
-/// Writes the bytes of a state to the beginning of a buffer, and tells how many. Where the buffer is too short it is left, and
-/// their number is told all the same.
+/// Writes the bytes of a state to the beginning of a buffer, and reports how many. If the buffer is too short it stays
+/// as it is, and their number is reported all the same.
 pub(crate) fn write_state<T: SavedWhole>(
     alloc: Global,
     state: &T,
@@ -77,7 +77,7 @@ pub(crate) fn read_state<T: SavedWhole + Drop>(
     read_behind(alloc, &NAME, bytes)
 }
 
-/// The same behind a name.
+/// The state whose bytes these are, with this name in front, in a box.
 pub(crate) fn read_behind<T: SavedWhole + Drop>(
     alloc: Global,
     name: &[u8],

@@ -13,7 +13,7 @@ use remaster::{SurveyLine, survey};
 use sector_map::Look;
 use std::alloc::Global;
 
-/// Writes what stands on the medium in a tray to a buffer, 11 bytes for each address field, and tells their number.
+/// Writes what stands on the medium in a tray to a buffer, 11 bytes for each address field, and reports their number.
 #[unsafe(no_mangle)]
 pub extern "C" fn telwyddus_tray_survey(
     alloc: Global,
@@ -32,7 +32,7 @@ pub extern "C" fn telwyddus_tray_survey(
     code
 }
 
-/// The same of a medium.
+/// Writes what stands on a medium to a buffer.
 fn write_survey(alloc: Global, medium: Option<&Medium>, out: &mut [u8], length: &mut usize) -> u32
     ensures { WritesSurvey (option_copied medium.entry) result out.old out.new length.old length.new }
 {
@@ -59,8 +59,8 @@ fn survey_bytes(alloc: Global, lines: &[SurveyLine]) -> Result<Vec<u8>, NoMemory
     Ok(bytes)
 }
 
-/// Adds those of an address field: cylinder and head of the track, the first cell of the field, the lowest byte first, the key, and
-/// a sign of what was found.
+/// Adds the bytes of an address field: cylinder and head of the track, the first cell of the field with the lowest byte
+/// first, the sector ID, and a sign of what was found.
 fn push_line(bytes: &mut Vec<u8>, line: SurveyLine) -> Result<(), NoMemory>
     ensures { OnOk result (bytes.new.items ≡ bytes.old.items ++ line_bytes line) }
 {
@@ -83,7 +83,8 @@ fn push_line(bytes: &mut Vec<u8>, line: SurveyLine) -> Result<(), NoMemory>
     Ok(())
 }
 
-/// The sign of what was found: by the status codes of INT 13h where the data isn't had, FF where the size code names no size.
+/// The sign of what was found. Missing or damaged data has the status code of INT 13h as its sign. A size code that
+/// names no size has FF.
 fn look_sign(n: u8, look: Look) -> u8
     ensures { result ≡ look_sign n look }
 {

@@ -7,7 +7,7 @@ use crate::code::{DONE, EMPTY, NO_MEDIUM};
 use c_slots::{MediumTray, TraySlot};
 use std::alloc::Global;
 
-/// Protects the medium in a tray from writes, or, where `on` is 0, lets it be written.
+/// Protects the medium in a tray from writes, or, if `on` is 0, lets it be written.
 #[unsafe(no_mangle)]
 pub extern "C" fn telwyddus_tray_protect(alloc: Global, slot: &mut TraySlot, on: u8) -> u32
     ensures { Serves (MovesTab (not (on == 0))) ⊤ result slot.old.held.tray slot.new.held.tray }
@@ -20,7 +20,7 @@ pub extern "C" fn telwyddus_tray_protect(alloc: Global, slot: &mut TraySlot, on:
     code
 }
 
-/// The same of a tray.
+/// Moves the tab of the medium in a tray.
 fn move_tab(tray: &mut MediumTray, on: bool) -> u32
     ensures { MovesTab on result tray.old tray.new }
 {

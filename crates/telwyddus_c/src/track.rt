@@ -10,7 +10,7 @@ use c_slots::{MediumTray, TraySlot};
 use raw_image::Medium;
 use std::alloc::Global;
 
-/// Writes the words of a track of the medium in a tray to a buffer, and tells how many.
+/// Writes the words of a track of the medium in a tray to a buffer, and reports how many.
 #[unsafe(no_mangle)]
 pub extern "C" fn telwyddus_tray_track(
     alloc: Global,
@@ -31,7 +31,7 @@ pub extern "C" fn telwyddus_tray_track(
     code
 }
 
-/// The same of a medium, where there is one.
+/// Writes the words of a track of a medium to a buffer, if there is a medium.
 pub(crate) fn write_track(
     medium: Option<&Medium>,
     cylinder: u8,
@@ -50,8 +50,8 @@ pub(crate) fn write_track(
     }
 }
 
-/// Writes words to the beginning of a buffer, and tells how many. Where the buffer is too short it is left, and their number is told all
-/// the same.
+/// Writes words to the beginning of a buffer, and reports how many. If the buffer is too short it stays as it is, and
+/// their number is reported all the same.
 fn write_words(words: &[u16], out: &mut [u16], length: &mut usize) -> u32
     ensures { WritesBytes words.now result out.old out.new length.new }
 {
@@ -82,7 +82,7 @@ pub extern "C" fn telwyddus_tray_set_track(
     code
 }
 
-/// The same of a tray.
+/// Replaces the words of a track of the medium that a tray holds.
 fn set_track(tray: &mut MediumTray, cylinder: u8, head: u8, words: &[u16]) -> u32
     ensures { SetsTrack cylinder head words.now result tray.old tray.new }
 {
@@ -92,7 +92,7 @@ fn set_track(tray: &mut MediumTray, cylinder: u8, head: u8, words: &[u16]) -> u3
     }
 }
 
-/// The same of a medium. The words have to be as many as its tracks have.
+/// Replaces the words of a track of a medium. There have to be as many words as its tracks have.
 #[tactic(auto, using(crate::proofs::WholeTracks::whole_track))]
 fn replace_track(medium: &mut Medium, cylinder: u8, head: u8, words: &[u16]) -> u32
     ensures { ReplacesTrack cylinder head words.now result medium.old medium.new }

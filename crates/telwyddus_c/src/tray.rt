@@ -25,7 +25,7 @@ pub extern "C" fn telwyddus_tray_read(alloc: Global, slot: &mut TraySlot, bytes:
     }
 }
 
-/// Writes the image file of the medium in a tray to a buffer, and tells its length.
+/// Writes the image file of the medium in a tray to a buffer, and reports its length.
 #[unsafe(no_mangle)]
 pub extern "C" fn telwyddus_tray_write(
     alloc: Global,

@@ -1,7 +1,7 @@
 // Which library this is.
 ghost use Rattle.std.specs.Prelude.{◌≡◌};
 
-/// Ten thousand times the first number, a hundred times the second, and the third: that of the file VERSION.
+/// The version in the file VERSION: ten thousand times the first number, a hundred times the second, and the third.
 const VERSION: u32 = 20000;
 
 /// The library's version as one number.

@@ -25,7 +25,7 @@ use Rattle.test_driver.specs.Laid.{HasTrackOn, CanFormatOn, LaidOn, FormatsOn}
 use Rattle.test_driver.specs.Shown.{rig_of}
 use Rattle.test_driver.proofs.WriteSteps.{written_on}
 
--- ---- no such track
+-- ---- the medium has no such track
 
 pub formatted_none : (medium : Option Disk) (c : ℕ) (format : Format) → (HasTrackOn medium format.rate c format.h → ⊥) → FormatsOn c format None medium (Err NoMark) medium
 formatted_none medium c format none = record {
@@ -35,7 +35,7 @@ formatted_none medium c format none = record {
   refused = (refl, λ can. none (can.0, can.1));
 }
 
--- ---- a track that was laid
+-- ---- a track that was laid out
 
 module _ (format : Format) (sectors c : ℕ) (count : sectors ≡ sectors_at format.rate) (medium : Option Disk) (d after : Disk) (words : List ℕ) (k : ℕ) (is_in : medium ≡ Some d) (there : HasTrackOn medium format.rate c format.h) (is : words ≡ lay (track_keys sectors format.c format.h) 2 format.gap3 format.fill k) (long : k ≡ d.words_per_track) (laid : IsWithTrack d c format.h (take 0 (track_of d c format.h) ++ (words ++ drop (0 + length words) (track_of d c format.h))) after) where
   pub meets : MeetsTrack medium format.rate c format.h d

@@ -29,7 +29,7 @@ use Rattle.test_driver.specs.Counted.{HasSent}
 use Rattle.test_driver.specs.Found.{FindsOn, RefusedAs, IsMissedOn}
 use Rattle.test_driver.specs.Shown.{rig_of}
 
--- ---- memory with a part written over
+-- ---- memory of which a part is written over
 
 pub put_bytes : (list memory bytes : List ℕ) (a k : ℕ) → list ≡ memory → k ≡ length bytes → put_mid a k list bytes ≡ with_items memory a bytes
 unfolding with_items
@@ -71,18 +71,18 @@ module _ (memory : List ℕ) (a : ℕ) (bytes : List ℕ) (fits : a + length byt
 
 -- ---- the drive of a bay
 
--- what is so of the medium and the cylinder of its drive
+-- a fact of the medium and the cylinder of the drive that is in a bay
 drive_at : (is_first : Bool) (first second : Drive) (P : Option Disk → ℕ → Type 0) → P (if is_first then first else second).medium (if is_first then first else second).cylinder → P (if is_first then first.medium else second.medium) (if is_first then first.cylinder else second.cylinder)
 drive_at true first second P fact = fact
 drive_at false first second P fact = fact
 
--- is so of the rig's bay
+-- a fact of a drive's medium and cylinder is one of the rig's bay
 pub at_bay : (drives : Two Drive) (bay : ℕ) (drive : Drive) (P : Option Disk → ℕ → Type 0) → drive ≡ in_bay drives bay → P drive.medium drive.cylinder → P (if bay == 0 then drives.first.medium else drives.second.medium) (if bay == 0 then drives.first.cylinder else drives.second.cylinder)
 at_bay drives bay drive P is fact = drive_at (bay == 0) drives.first drives.second P (subst (λ (d : Drive). P d.medium d.cylinder) is fact)
 
 -- ---- refusals
 
--- a look that found nothing is a read's reason
+-- a look that found nothing is a reason to refuse a read
 refused_code : (looked : Look) (code : Code) → RefusedAs looked code → IsReadCode code × (code ≡ Overrun → ⊥)
 refused_code look.NoMark code is = (subst IsReadCode (sym is) tt, λ e. cc (is, e))
 refused_code look.NoData code is = (subst IsReadCode (sym is) tt, λ e. cc (is, e))

@@ -225,7 +225,7 @@ module _ (drives : Two Drive) (memory page : List ℕ) (counts next : Counts) (a
     command = sent.commands.rose;
   }
 
-  -- the drive of the bay was written on, and nothing else
+  -- the drive of the bay was written on, and nothing else changed
   pub record IsWrittenOn (bay : ℕ) : Type 0 where
     pub sends : SendsWrite bay old (new bay)
     pub was : in_bay old.media bay ≡ (in_bay drives bay).medium
@@ -239,7 +239,7 @@ module _ (drives : Two Drive) (memory page : List ℕ) (counts next : Counts) (a
       (λ same. record { sends = sends_first same; was = refl; at = refl; is = refl; kept = λ e. ap (λ m. record { first = m; second = drives.second.medium }) e })
       (λ same. record { sends = sends_second same; was = refl; at = refl; is = refl; kept = λ e. ap (λ m. record { first = drives.first.medium; second = m }) e })
 
--- a write on the drive is one of the rig
+-- a write on the drive is a write of the rig
 module _ (old new : Rig) (bay : ℕ) (rate : Rate) (written : Written) (before : Option Disk) (c : ℕ) (after : Option Disk) (sends : SendsWrite bay old new) (same_page : new.page ≡ old.page) (was : in_bay old.media bay ≡ before) (at : in_bay old.cylinders bay ≡ c) (is : in_bay new.media bay ≡ after) (kept : after ≡ before → new.media ≡ old.media) where
   does : (change : Option Change) → MatchOption change (after ≡ before) (λ one. ChangesOn rate c written one before after) → MatchOption change (new.media ≡ old.media) (λ one. ChangesMedium bay rate written one old new)
   does None same = kept same

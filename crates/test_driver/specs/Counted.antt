@@ -3,20 +3,20 @@ use Rattle.std.specs.Prelude.{◌≡◌, ℕ, ◌+◌, ◌≤◌}
 use Rattle.flop_base.specs.Counts.{last_count, RoseBy}
 use Rattle.test_driver.specs.declared.counts.Counts.{Counts}
 
--- by one, where it isn't at its last value
+-- a count rises by one, unless it is at its last value
 pub record RisesByOne (old new : ℕ) : Type 0 where
   pub rose : RoseBy 1 old new
   pub most : new ≤ old + 1
   pub never_falls : old ≤ new
   pub bound : new ≤ last_count
 
--- a data command more, with its interrupt
+-- one more data command began, and its interrupt was taken
 pub record HasSent (old new : Counts) : Type 0 where
   pub commands : RisesByOne old.commands new.commands
   pub taken : RisesByOne old.taken new.taken
   pub stalls : new.stalls ≡ old.stalls
 
--- a stall more
+-- one more late DMA was counted
 pub record HasStalled (old new : Counts) : Type 0 where
   pub stalls : RisesByOne old.stalls new.stalls
   pub commands : new.commands ≡ old.commands

@@ -3,7 +3,7 @@ use Rattle.std.specs.Prelude.{◌≡◌, ◌≢◌, ℕ, ◌+◌, ◌-◌, ◌�
 use Rattle.flop_base.specs.Counts.{RoseBy, RoseLess}
 use Rattle.test_driver.specs.declared.drive.Drive.{Drive}
 
--- its heads were moved, or not
+-- the heads of the drive were moved, or not
 pub record Moved (old new : Drive) : Type 0 where
   pub medium : new.medium ≡ old.medium
   pub at_speed : new.at_speed ≡ old.at_speed
@@ -11,7 +11,7 @@ pub record Moved (old new : Drive) : Type 0 where
   pub empty : old.medium ≡ None → new.changed ≡ old.changed
   pub faults : old.faults ≤ new.faults
 
--- to track 0, or as far as 79 pulses take them
+-- the heads were moved to track 0, or as far as 79 pulses take them
 pub record RecalibratesDrive (old : Drive) (reached : Bool) (new : Drive) : Type 0 where
   pub moved : Moved old new
   pub number : new.number ≡ 0
@@ -19,20 +19,20 @@ pub record RecalibratesDrive (old : Drive) (reached : Bool) (new : Drive) : Type
   pub away : reached ≡ false → 1 ≤ new.cylinder
   pub lost : reached ≡ false → RoseBy (new.cylinder + 79 - old.cylinder) old.faults new.faults
 
--- by the controller's number
+-- the heads were moved to a cylinder, counted from the controller's number
 pub record SeeksDrive (target : ℕ) (old new : Drive) : Type 0 where
   pub moved : Moved old new
   pub number : new.number ≡ target
   pub arrives : old.cylinder ≡ old.number → RoseLess 1 old.faults new.faults → new.cylinder ≡ target
   pub clears : IsSome old.medium → old.number ≢ target → (new.changed ≡ false) ⊎ RoseBy 1 old.faults new.faults
 
--- so many faults more
+-- the drive had `count` faults more
 pub record Faulted (count : ℕ) (old new : Drive) : Type 0 where
   pub same : new ≡ record old { faults = new.faults }
   pub rose : RoseBy count old.faults new.faults
   pub never_falls : old.faults ≤ new.faults
 
--- at speed, where a medium is in
+-- the drive is at speed if a medium is in
 pub record Spins (old new : Drive) : Type 0 where
   pub same : new ≡ record old { at_speed = new.at_speed }
   pub spun : old.at_speed ≡ true → new.at_speed ≡ true

@@ -37,7 +37,7 @@ RefusedAs look.NoSector answer = answer ≡ code.NotFound
 RefusedAs look.BadCrc answer = answer ≡ code.BadCrc
 RefusedAs (look.Found deleted place) answer = ⊥
 
--- the look for the key on the track didn't find its data, and is refused so
+-- the look for the key on the track didn't find its data, and this is the refusal of that look
 pub record IsMissedOn (track : List ℕ) (key : Chrn) (answer : Code) : Type 0 where
   pub looked : Look
   pub is : LookFor track key looked

@@ -13,13 +13,13 @@ use Rattle.sector_map.specs.Layings.{Format, Laying, IsLaying, format_keys}
 abbrev pub HasTrackOn : Option Disk → Rate → ℕ → ℕ → Type 0
 HasTrackOn medium rate cylinder head = (disk : Disk) × MeetsTrack medium rate cylinder head disk
 
--- and the sectors of the format fit on it
+-- the medium has the track under the head, at the rate, and the sectors of the format fit on it
 abbrev pub CanFormatOn : Option Disk → ℕ → Format → Type 0
 CanFormatOn medium cylinder format =
     (disk : Disk) × MeetsTrack medium format.rate cylinder format.h disk
     × Fits (format_keys format) standard_code format.gap3 disk.words_per_track
 
--- the track under the head was laid
+-- the track under the head was laid out
 pub record LaidOn (cylinder : ℕ) (format : Format) (laying : Laying) (before after : Option Disk) : Type 0 where
   pub disk : Disk
   pub made : Disk
@@ -29,7 +29,7 @@ pub record LaidOn (cylinder : ℕ) (format : Format) (laying : Laying) (before a
   pub here : laying.cylinder ≡ cylinder
   pub makes : IsLaying format disk laying made
 
--- the track was laid so, or the medium is as it was
+-- the track was laid out in this way, or the medium is as it was
 pub record FormatsOn (cylinder : ℕ) (format : Format) (laying : Option Laying) (before : Option Disk) (answer : Result (Unit {0}) Code) (after : Option Disk) : Type 0 where
   pub does : MatchOption laying (after ≡ before) (λ one. LaidOn cylinder format one before after)
   pub turn : (disk : Disk) → MeetsTrack before format.rate cylinder format.h disk

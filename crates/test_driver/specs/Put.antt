@@ -18,7 +18,7 @@ pub record IsCutTo (c h p k : ℕ) (words : List ℕ) (before after : Disk) : Ty
   pub cuttable : IsCuttable (track_of before c h) p k words
   pub cut : IsWithTrack before c h (cut_of (track_of before c h) p k words) after
 
--- as many of the words as are inside the track were put there; the answer says whether all are
+-- those of the words that are inside the track were put there; the answer says whether all are inside
 abbrev pub PutsWindow : ℕ → ℕ → ℕ → List ℕ → Disk → Bool → Disk → Type 0
 PutsWindow c h p words before whole after =
     MatchBool whole (IsCutTo c h p (length words) words before after)
@@ -54,7 +54,7 @@ pub record IsWriteRefusal (track : List ℕ) (key : Chrn) (answer : Code) : Type
   pub reason : IsWriteReason track key answer
   pub no_overrun : answer ≡ code.Overrun → ⊥
 
--- the medium was changed so, or not at all
+-- the medium was changed in this way, or not at all
 pub record WritesOn (rate : Rate) (cylinder : ℕ) (written : Written) (change : Option Change) (before : Option Disk) (answer : Result (Unit {0}) Code) (after : Option Disk) : Type 0 where
   pub does : MatchOption change (after ≡ before) (λ one. ChangesOn rate cylinder written one before after)
   pub done : IsOk answer → MatchOption change ⊥ (λ one. one.words ≡ length (window_of written))

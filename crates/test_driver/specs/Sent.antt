@@ -7,18 +7,18 @@ use Rattle.flop_base.specs.Counters.{IsFaultless, IsUndisturbed, FaultsRoseBy}
 use Rattle.floppy_driver.specs.Rigs.{Rig}
 use Rattle.floppy_driver.specs.Reading.{SendsRead}
 
--- a data command changed no memory, and nothing else but counters
+-- a data command changed no memory, and nothing else except counters
 pub record Fails (old new : Rig) : Type 0 where
   pub sends : SendsRead old new
   pub memory : new.memory ≡ old.memory
   pub page : new.page ≡ old.page
 
--- it had a fault of the drive
+-- the data command failed by a fault of the drive
 pub record HasFault (bay : ℕ) (old new : Rig) : Type 0 where
   pub fails : Fails old new
   pub fault : FaultsRoseBy 1 bay old.counters new.counters
 
--- it was disturbed, and is refused so: without a fault of the drive by OR
+-- the data command was disturbed, and is refused for that; without a fault of the drive, the refusal is OR
 pub record IsDisturbed (IsCode : Code → Type 0) (bay : ℕ) (old : Rig) (code : Code) (new : Rig) : Type 0 where
   pub fails : Fails old new
   pub coded : IsCode code

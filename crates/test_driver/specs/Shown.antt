@@ -8,7 +8,7 @@ use Rattle.test_driver.specs.declared.counts.Counts.{Counts}
 use Rattle.test_driver.specs.declared.drive.Drive.{Drive}
 use Rattle.test_driver.specs.declared.bench.Bench.{Bench}
 
--- the faults of a drive; it doesn't tell how many are left
+-- the faults of a drive, as it shows them; it doesn't say how many are left
 abbrev pub faults_shown : Drive → DriveCounts
 faults_shown drive = record { faults = drive.faults; left = None }
 

@@ -24,8 +24,8 @@ const PAGE_BYTES: usize = 65_536;
 /// The most words of a track.
 const TRACK_WORDS: usize = 16_384;
 
-/// A machine in memory that runs one command at a time. Its commands do as a machine's do, but for the troubles that are
-/// planned.
+/// A machine in memory that runs one command at a time. Its commands do what those of a machine do, except for the
+/// troubles that are planned.
 #[derive(Drop)]
 pub(crate) struct Bench {
     pub(crate) alloc: Global,
@@ -41,7 +41,7 @@ pub(crate) struct Bench {
     ghost room: { length words.items ≡ 16384 },
 }
 
-/// The range of bytes; it does nothing.
+/// Its contract says what range bytes have; the function does nothing.
 fn keep_bytes(_bytes: &[u8])
     ensures { (k : ℕ) → slice_index _bytes.now k < 2 ^ 8 }
 {}
@@ -71,7 +71,8 @@ impl Bench {
         })
     }
 
-    /// Exchanges the medium of a bay, or takes it out; the change line is set, and the drive has to come to speed again.
+    /// Exchanges the medium of a bay, or takes it out. The change line is set, and the drive has to come to speed
+    /// again.
     pub fn exchange(&mut self, bay: u8, medium: Option<Medium>)
         ensures { (driver : Driver) → IsAttached driver (rig_shown self.old) → IsAttached driver (rig_shown self.new) }
     {
@@ -80,14 +81,14 @@ impl Bench {
         self.drives.replace(bay, drive);
     }
 
-    /// Plans the troubles of the data commands that come.
+    /// Plans the troubles of the next data commands.
     pub fn plan(&mut self, troubles: &[Trouble]) -> Result<(), AllocError>
         ensures { (driver : Driver) → IsAttached driver (rig_shown self.old) → IsAttached driver (rig_shown self.new) }
     {
         self.script.plan(troubles)
     }
 
-    /// Plans how many pulses the movements of heads that come lose.
+    /// Plans how many pulses the next movements of heads lose.
     pub fn lose(&mut self, lost: &[u8]) -> Result<(), AllocError>
         ensures { (driver : Driver) → IsAttached driver (rig_shown self.old) → IsAttached driver (rig_shown self.new) }
     {
@@ -121,7 +122,7 @@ impl Bench {
         self.script.forget_calls();
     }
 
-    /// The ranges of what the bench shows; it does nothing.
+    /// Its contract says what ranges the numbers have that the bench shows; the function does nothing.
     pub(crate) fn keep_ranges(&self)
         ensures { IsSound (rig_shown self.now) }
     {
@@ -129,7 +130,7 @@ impl Bench {
         keep_bytes(self.page.as_slice());
     }
 
-    /// A data command that a fault of the drive ends.
+    /// Does a data command that a fault of the drive ends.
     pub(crate) fn fault(&mut self, bay: u8)
         requires { bay ≤ 1 }
         ensures { HasFault bay (rig_shown self.old) (rig_shown self.new) }
@@ -140,7 +141,7 @@ impl Bench {
         self.counts.send();
     }
 
-    /// A write or a format that fails so.
+    /// Does a write or a format that fails by this trouble, and gives its refusal.
     pub(crate) fn refuse_write(&mut self, bay: u8, trouble: Trouble) -> Code
         requires { bay ≤ 1 }
         ensures write { IsDisturbed IsWriteCode bay (rig_shown self.old) result (rig_shown self.new) }
@@ -159,7 +160,7 @@ impl Bench {
         }
     }
 
-    /// A read that fails so.
+    /// Does a read that fails by this trouble, and gives its refusal.
     pub(crate) fn refuse_read(&mut self, bay: u8, trouble: Trouble) -> Code
         requires { bay ≤ 1 }
         ensures { IsDisturbed IsReadCode bay (rig_shown self.old) result (rig_shown self.new) }

@@ -1,7 +1,7 @@
-// What the bench counts beside the faults of its drives.
+// What the bench counts besides the faults of its drives.
 ghost use Rattle.test_driver.specs.Counted.{HasSent, HasStalled};
 
-/// Data commands, interrupts taken and stalls. Each count stays at its last value.
+/// Data commands, interrupts taken, and late DMAs. Each count stays at its last value.
 #[derive(Clone, Copy)]
 pub(crate) struct Counts {
     pub commands: u64,
@@ -26,7 +26,7 @@ impl Counts {
         };
     }
 
-    /// A DMA request waited too long.
+    /// A DMA request waited too long: counts a late DMA.
     pub fn stall(&mut self)
         ensures { HasStalled self.old self.new }
     {

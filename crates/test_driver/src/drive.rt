@@ -78,7 +78,7 @@ impl Drive {
         }
     }
 
-    /// A pulse came through: the change line clears where a medium is in.
+    /// A pulse came through: the change line clears if a medium is in.
     fn clear_change(&mut self)
         ensures same { self.new ≡ record self.old { changed = self.new.changed } }
         ensures moved { Moved self.old self.new }
@@ -89,7 +89,7 @@ impl Drive {
         }
     }
 
-    /// At most 79 pulses outward, of which some are lost; true where track 0 is reached.
+    /// At most 79 pulses outward, of which some are lost. True if track 0 is reached.
     pub fn recalibrate(&mut self, lost: u8) -> bool
         ensures { RecalibratesDrive self.old result self.new }
     {
@@ -105,7 +105,7 @@ impl Drive {
         self.cylinder == 0
     }
 
-    /// The pulses to a cylinder, all of which are lost where some are.
+    /// The pulses to a cylinder. If some of them are lost, all are.
     pub fn seek(&mut self, target: u8, lost: u8)
         requires { target ≤ 79 }
         ensures { SeeksDrive target self.old self.new }
@@ -130,7 +130,7 @@ impl Drive {
         self.clear_change();
     }
 
-    /// Comes to speed where a medium is in.
+    /// Comes to speed if a medium is in.
     pub fn spin(&mut self)
         ensures { Spins self.old self.new }
     {
@@ -151,7 +151,7 @@ impl Drive {
         self.at_speed = false;
     }
 
-    /// So many faults more.
+    /// Adds `count` faults.
     pub fn fail(&mut self, count: u8)
         ensures { Faulted count self.old self.new }
     {
@@ -159,7 +159,7 @@ impl Drive {
         self.faults = faults.saturating_add(u64::from(count));
     }
 
-    /// The track under a head, where the medium has it at this rate.
+    /// The track under a head, if the medium has it at this rate.
     pub fn track(&self, rate: Rate, head: u8) -> Option<&[u16]>
         ensures { MatchOption result (HasNothing (met_in self.now.medium rate self.now.cylinder head))
             (λ track. IsUnderHead self.now.medium rate self.now.cylinder head track.now) }
@@ -173,7 +173,7 @@ impl Drive {
         medium.track(self.cylinder, head)
     }
 
-    /// Reads the record of a key, and gives whether it is marked deleted. A refused read changes nothing.
+    /// Reads the record of a key, and says whether it is marked deleted. A read that is refused changes nothing.
     pub fn read(&self, key: Chrn, rate: Rate, content: &mut [u8]) -> Result<bool, Code>
         requires coded { IsSizeCode key.n }
         requires room { length content.old ≡ content_size key.n }
@@ -195,7 +195,7 @@ impl Drive {
         }
     }
 
-    /// The key of the first address field on the track under a head, where the memory suffices to find it.
+    /// The key of the first address field on the track under a head, if there is one and memory suffices to find it.
     pub fn read_id(&self, alloc: Global, rate: Rate, head: u8) -> Result<Option<Chrn>, NoMemory>
         ensures { IfOk result (λ found. MatchOption found
             ((p : ℕ) (key : Chrn) → IsAddressAt (met_in self.now.medium rate self.now.cylinder head) p key → ⊥)

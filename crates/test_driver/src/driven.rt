@@ -20,24 +20,25 @@ pub struct DrivenBench {
 }
 
 impl DrivenBench {
-    /// A bench of two empty drives and memory of 00 without troubles, and a driver as it is set up.
+    /// A bench of two empty drives and memory of 00, without troubles, and a driver that was set up on it.
     pub fn new(alloc: Global) -> Result<DrivenBench, NoMemory> {
         let mut bench = Bench::new(alloc)?;
         let driver = Driver::set_up(&mut bench);
         Ok(DrivenBench { bench, driver })
     }
 
-    /// Exchanges the medium of a bay, or takes it out; the change line is set, and the drive has to come to speed again.
+    /// Exchanges the medium of a bay, or takes it out. The change line is set, and the drive has to come to speed
+    /// again.
     pub fn exchange(&mut self, bay: u8, medium: Option<Medium>) {
         self.bench.exchange(bay, medium);
     }
 
-    /// Plans the troubles of the data commands that come.
+    /// Plans the troubles of the next data commands.
     pub fn plan(&mut self, troubles: &[Trouble]) -> Result<(), AllocError> {
         self.bench.plan(troubles)
     }
 
-    /// Plans how many pulses the movements of heads that come lose.
+    /// Plans how many pulses the next movements of heads lose.
     pub fn lose(&mut self, lost: &[u8]) -> Result<(), AllocError> {
         self.bench.lose(lost)
     }
@@ -81,7 +82,7 @@ impl DrivenBench {
         self.driver.tries()
     }
 
-    /// The rate that is noted of a bay.
+    /// The rate that the driver has noted for a bay.
     pub fn rate(&self, bay: u8) -> Rate
         requires { bay ≤ 1 }
     {

@@ -5,7 +5,7 @@ ghost use Rattle.flop_base.specs.Bays.{in_bay, with_bay};
 use crate::drive::Drive;
 use flop_base::Two;
 
-/// Takes the drive of a bay out, whose place another is to take.
+/// Takes the drive of a bay out; another drive is to take its place.
 pub(crate) fn take(drives: &mut Two<Drive>, bay: u8) -> Drive
     ensures taken { result ≡ in_bay drives.old bay }
     ensures left { (drive : Drive) → with_bay drives.new bay drive ≡ with_bay drives.old bay drive }

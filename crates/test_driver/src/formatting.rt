@@ -15,7 +15,7 @@ use flop_base::{Code, Rate};
 use sector_map::keys_of_track;
 use track_format::fill_layout;
 
-/// The answer of a format of a track of so many words: whether so many sectors of 512 bytes fit on it.
+/// The answer of a format of a track of `words` words. It says whether `sectors` sectors of 512 bytes fit on the track.
 fn format_answer(sectors: u8, gap3: u8, words: usize) -> Result<(), Code>
     ensures fits { IsOk result ↔ laid_words sectors 2 gap3 ≤ words }
     ensures refused { IfErr result (λ code. code ≡ Code.NoMark) }
@@ -27,7 +27,7 @@ fn format_answer(sectors: u8, gap3: u8, words: usize) -> Result<(), Code>
     }
 }
 
-/// Fills words with those of a formatted track.
+/// Fills the words with those of a formatted track.
 fn fill_track(words: &mut [u16], sectors: u8, c: u8, h: u8, gap3: u8, fill: u8)
     requires { sectors ≤ 18 }
     ensures { words.new ≡ lay (track_keys sectors c h) 2 gap3 fill (length words.old) }
@@ -53,7 +53,7 @@ impl Drive {
         }
     }
 
-    /// Formats the track under a head. The words are room for it.
+    /// Formats the track under a head. `words` is the room in which the track is made.
     fn format(
         &mut self,
         c: u8,

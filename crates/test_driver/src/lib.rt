@@ -1,5 +1,5 @@
-//! A bench for a driver: a machine in memory that runs one command at a time and has the troubles that its user plans, and a
-//! driver that is set up on it.
+//! A bench for a driver: a machine in memory that runs one command at a time and has the troubles that its user plans,
+//! and a driver that is set up on it.
 #![tactic(auto)]
 
 mod bench;

@@ -5,11 +5,11 @@ use std::alloc::{AllocError, Global};
 /// A trouble of a data command.
 #[derive(Clone, Copy)]
 pub enum Trouble {
-    /// None: the command runs as it should.
+    /// No trouble: the command runs as it should.
     Calm,
     /// No address mark is read: a fault of the drive.
     Unmarked,
-    /// A check is wrong: a fault of the drive.
+    /// A CRC is wrong: a fault of the drive.
     Damaged,
     /// A DMA request waits too long.
     Stalled,
@@ -27,8 +27,8 @@ pub enum Call {
     Format,
 }
 
-/// The troubles of the next commands: of each data command, and how many pulses each movement of heads loses. Behind the
-/// last there is none.
+/// The troubles that are planned. Each of the next data commands takes the next trouble, and each of the next movements
+/// of heads takes the next number of pulses that it loses. After the last one, commands and movements have no trouble.
 #[derive(Drop)]
 pub(crate) struct Script {
     troubles: Vec<Trouble>,
@@ -50,14 +50,14 @@ impl Script {
         }
     }
 
-    /// Plans the troubles of the data commands that come.
+    /// Plans the troubles of the next data commands.
     pub fn plan(&mut self, troubles: &[Trouble]) -> Result<(), AllocError> {
         self.troubles.clear();
         self.next_trouble = 0;
         self.troubles.extend_from_slice(troubles)
     }
 
-    /// Plans how many pulses the movements of heads that come lose.
+    /// Plans how many pulses the next movements of heads lose.
     pub fn lose(&mut self, lost: &[u8]) -> Result<(), AllocError> {
         self.lost.clear();
         self.next_lost = 0;

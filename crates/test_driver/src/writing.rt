@@ -16,11 +16,11 @@ use flop_base::{Chrn, Code, Rate, sector_size};
 use raw_image::Medium;
 use sector_map::{Absent, fill_field_words, find_address, window_word};
 
-/// The words of a window beside those of its content.
+/// The words of a window without those of its content.
 const WINDOW_WORDS: usize = 18;
 
-/// Puts as many words of a window as are inside the track of a cylinder at its place behind an address field; true where
-/// all are.
+/// Puts a window at its place behind an address field. Only words that are inside the track of the cylinder are put
+/// there. True if all words are inside.
 fn put_window(medium: &mut Medium, c: u8, key: Chrn, place: usize, words: &[u16]) -> bool
     requires track { HasTrack medium.old c key.h }
     requires address { IsAddressAt (track_of medium.old c key.h) place key }
@@ -57,7 +57,7 @@ impl Drive {
         }
     }
 
-    /// Writes a record behind the first address field of its key. The words are room for its window.
+    /// Writes a record behind the first address field of its key. `words` is the room in which its window is made.
     fn write(
         &mut self,
         key: Chrn,

@@ -3,13 +3,13 @@ use crate::wrong::Wrong;
 use std::alloc::{AllocError, Global};
 use std::fmt::Display;
 
-/// Bytes that are added to. Where memory ends the line that isn't whole and all behind are left out, and `whole` says so: who adds
-/// asks once, at the end.
+/// Bytes that are added to. If memory runs out, the line that isn't whole and all that comes after it are left out.
+/// `whole` reports that, so its user asks once, at the end.
 #[derive(Drop)]
 pub struct Draft {
     alloc: Global,
     bytes: Vec<u8>,
-    /// How many of them are whole lines.
+    /// How many of the bytes are whole lines.
     kept: usize,
     is_cut: bool,
 }
@@ -56,7 +56,7 @@ impl Draft {
         self.put(text.as_bytes());
     }
 
-    /// A text and a line feed.
+    /// Adds a text and a line feed.
     pub fn line(&mut self, text: &str) {
         self.text(text);
         self.text("\n");
@@ -70,54 +70,54 @@ impl Draft {
         }
     }
 
-    /// A value as it is shown.
+    /// Adds a value as it is shown.
     pub fn show<T: Display>(&mut self, value: &T) {
         let told = format!(in self.alloc; "{value}");
         self.add(told);
     }
 
-    /// The same, and a line feed.
+    /// Adds a value as it is shown, and a line feed.
     pub fn show_line<T: Display>(&mut self, value: &T) {
         self.show(value);
         self.line("");
     }
 
-    /// Two hexadecimal digits.
+    /// Adds two hexadecimal digits.
     pub fn hex_byte(&mut self, value: u8) {
         let told = format!(in self.alloc; "{value:02X}");
         self.add(told);
     }
 
-    /// Four.
+    /// Adds four hexadecimal digits.
     pub fn hex_word(&mut self, value: u16) {
         let told = format!(in self.alloc; "{value:04X}");
         self.add(told);
     }
 
-    /// Three, or four where it has them.
+    /// Adds three hexadecimal digits, or four if the value has four.
     pub fn hex_port(&mut self, value: u16) {
         let told = format!(in self.alloc; "{value:03X}");
         self.add(told);
     }
 
-    /// Five.
+    /// Adds five hexadecimal digits.
     pub fn hex_address(&mut self, value: u32) {
         let told = format!(in self.alloc; "{value:05X}");
         self.add(told);
     }
 
-    /// Eight.
+    /// Adds eight hexadecimal digits.
     pub fn hex_long(&mut self, value: u32) {
         let told = format!(in self.alloc; "{value:08X}");
         self.add(told);
     }
 
-    /// A number in decimal digits.
+    /// Adds a number in decimal digits.
     pub fn number(&mut self, number: u64) {
         self.show(&number);
     }
 
-    /// Numbers in decimal digits, a blank before each.
+    /// Adds numbers in decimal digits, with a blank before each.
     pub fn numbers(&mut self, numbers: &[u64]) {
         for number in numbers {
             self.text(" ");
@@ -125,26 +125,26 @@ impl Draft {
         }
     }
 
-    /// Words, the high byte of each first.
+    /// Adds words, with the high byte of each first.
     pub fn words(&mut self, words: &[u16]) {
         for word in words {
             self.put(&word.to_be_bytes());
         }
     }
 
-    /// The same byte so many times.
+    /// Adds the same byte `copies` times.
     pub fn copies(&mut self, copies: usize, byte: u8) {
         for _ in 0..copies {
             self.put(&[byte]);
         }
     }
 
-    /// Leaves so many bytes.
+    /// Leaves the first `length` bytes.
     pub fn truncate(&mut self, length: usize) {
         self.bytes.truncate(length);
     }
 
-    /// Puts these bytes in place of those from a place on.
+    /// Puts these bytes in place of those that stand from a place on.
     pub fn replace(&mut self, place: usize, new: &[u8]) {
         for (old, new) in self.bytes.iter_mut().skip(place).zip(new) {
             *old = *new;

@@ -1,4 +1,5 @@
-//! Scenes that are data: lines word by word, files made by recipes and told by their length and sum, and what is printed.
+//! Scenes as data: lines word by word, files that are made by recipes and shown by their length and sum, and what is
+//! printed.
 #![tactic(auto)]
 
 mod draft;

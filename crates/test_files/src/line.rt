@@ -13,12 +13,12 @@ pub fn words_in(alloc: Global, text: &str) -> Result<Vec<&str>, Wrong> {
     Ok(words)
 }
 
-/// The words of a line, taken one by one. What isn't there, or isn't what was asked for, is told by `end` alone; till then 0, or a
-/// word without letters, stands for it.
+/// The words of a line, taken one by one. `end` alone reports a word that isn't there, or isn't what was asked for.
+/// Until then, 0 or a word without letters stands for it.
 #[derive(Clone, Copy)]
 pub struct Line<'a> {
     words: &'a [&'a str],
-    /// How many of them were taken.
+    /// How many of the words were taken.
     taken: usize,
     is_wrong: bool,
 }
@@ -32,7 +32,7 @@ impl<'a> Line<'a> {
         }
     }
 
-    /// Whether each word was taken, and was understood.
+    /// Whether each word was taken and understood.
     pub fn end(&self) -> Result<(), Wrong> {
         if self.is_wrong || self.taken != self.words.len() {
             Err(Wrong::Line)
@@ -41,12 +41,12 @@ impl<'a> Line<'a> {
         }
     }
 
-    /// The line isn't understood.
+    /// Marks the line as one that isn't understood.
     pub fn refuse(&mut self) {
         self.is_wrong = true;
     }
 
-    /// The next word.
+    /// Takes the next word.
     pub fn word(&mut self) -> &'a str {
         match self.words.get(self.taken) {
             Some(word) => {
@@ -60,19 +60,19 @@ impl<'a> Line<'a> {
         }
     }
 
-    /// All that are left.
+    /// Takes all words that are left.
     pub fn words(&mut self) -> &'a [&'a str] {
         let left = self.words.get(self.taken..).unwrap_or(&[]);
         self.taken = self.words.len();
         left
     }
 
-    /// Whether the next word is this one.
+    /// Takes the next word, and says whether it is this one.
     pub fn is(&mut self, word: &str) -> bool {
         is_verb(self.word().as_bytes(), word)
     }
 
-    /// A number in decimal digits.
+    /// Takes a number in decimal digits.
     pub fn count(&mut self) -> usize {
         match self.word().parse::<usize>() {
             Ok(number) => number,
@@ -83,7 +83,7 @@ impl<'a> Line<'a> {
         }
     }
 
-    /// One of a byte.
+    /// Takes a number of one byte, in decimal digits.
     pub fn byte(&mut self) -> u8 {
         match self.word().parse::<u8>() {
             Ok(number) => number,
@@ -94,7 +94,7 @@ impl<'a> Line<'a> {
         }
     }
 
-    /// One of two bytes.
+    /// Takes a number of two bytes, in decimal digits.
     pub fn short(&mut self) -> u16 {
         match self.word().parse::<u16>() {
             Ok(number) => number,
@@ -105,7 +105,7 @@ impl<'a> Line<'a> {
         }
     }
 
-    /// One of four bytes.
+    /// Takes a number of four bytes, in decimal digits.
     pub fn long(&mut self) -> u32 {
         match self.word().parse::<u32>() {
             Ok(number) => number,
@@ -116,7 +116,7 @@ impl<'a> Line<'a> {
         }
     }
 
-    /// A number of so many hexadecimal digits.
+    /// Takes a number of `fewest` to `most` hexadecimal digits.
     pub fn hex(&mut self, fewest: usize, most: usize) -> u32 {
         match number(self.word().as_bytes(), 16, fewest, most, 0, u32::MAX) {
             Some(number) => number,
@@ -127,13 +127,13 @@ impl<'a> Line<'a> {
         }
     }
 
-    /// One of two hexadecimal digits.
+    /// Takes a number of two hexadecimal digits.
     pub fn hex_byte(&mut self) -> u8 {
         let [_, _, _, byte] = self.hex(2, 2).to_be_bytes();
         byte
     }
 
-    /// One of four.
+    /// Takes a number of four hexadecimal digits.
     pub fn hex_word(&mut self) -> u16 {
         let [_, _, high, low] = self.hex(4, 4).to_be_bytes();
         u16::from_be_bytes([high, low])

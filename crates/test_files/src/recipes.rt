@@ -9,10 +9,10 @@ use sector_map::field_words;
 use std::alloc::Global;
 use track_format::layout;
 
-/// The bytes before the words of an image.
+/// The bytes in front of the words of an image.
 const HEADER: usize = 14;
 
-/// Adds the bytes of hexadecimal digits; tells whether they are such.
+/// Adds the bytes that hexadecimal digits spell. The result says whether all digits are hexadecimal.
 pub fn hex_bytes(bytes: &mut Draft, digits: &str) -> bool {
     let mut all = true;
     for pair in digits.as_bytes().chunks(2) {
@@ -31,12 +31,12 @@ fn hex(bytes: &mut Draft, line: &mut Line) {
     }
 }
 
-/// Where a word of an image stands, counted from the first of its first track.
+/// Where a word of an image stands. Words are counted from the first one of the first track.
 fn place_of(word: usize) -> usize {
     word.saturating_mul(2).saturating_add(HEADER)
 }
 
-/// The first bytes of an image: flags, cylinders, heads and rate, and the words of a track.
+/// Adds the first bytes of an image: flags, cylinders, heads and rate, and how many words a track has.
 fn put_head(bytes: &mut Draft, fields: [u8; 4], words: u16) {
     bytes.text("RTIMAGE2");
     bytes.put(&fields);
@@ -50,7 +50,7 @@ fn head(bytes: &mut Draft, line: &mut Line) {
     put_head(bytes, fields, words);
 }
 
-/// How tracks are laid.
+/// How tracks are laid out.
 #[derive(Clone, Copy)]
 struct Form {
     sectors: u8,
@@ -59,7 +59,7 @@ struct Form {
     words: usize,
 }
 
-/// Adds a track that is laid with these keys, whose sectors have size code `n`.
+/// Adds a track that is laid out with these keys; its sectors have size code `n`.
 fn push_laid(bytes: &mut Draft, keys: &[Chrn], n: u8, form: Form) -> Result<(), Wrong> {
     if n < 1 || n > 6 {
         return Err(Wrong::Line);
@@ -71,7 +71,7 @@ fn push_laid(bytes: &mut Draft, keys: &[Chrn], n: u8, form: Form) -> Result<(), 
     Ok(())
 }
 
-/// The keys of a track with so many sectors of 512 bytes.
+/// The keys of a track with `sectors` sectors of 512 bytes.
 fn keys_of(alloc: Global, c: u8, h: u8, sectors: u8) -> Result<Vec<Chrn>, Wrong> {
     let mut keys = Vec::new(alloc);
     for i in 0..sectors {
@@ -98,7 +98,7 @@ fn track(bytes: &mut Draft, line: &mut Line) -> Result<(), Wrong> {
     push_track(bytes, c, h, form)
 }
 
-/// The key that eight hexadecimal digits are.
+/// The key that eight hexadecimal digits spell.
 fn key_of(digits: &str) -> Chrn {
     let words = [digits];
     let [c, h, r, n] = Line::of(&words).hex(8, 8).to_be_bytes();
@@ -126,7 +126,7 @@ fn lay(bytes: &mut Draft, line: &mut Line) -> Result<(), Wrong> {
     push_laid(bytes, &keys, n, form)
 }
 
-/// The form of a disk's tracks by its rate.
+/// The form of the tracks of a disk, by its rate.
 fn form_of(rate: &str) -> Form {
     if is_verb(rate.as_bytes(), "500") {
         Form {
@@ -183,7 +183,7 @@ fn filled(first: &Draft) -> Draft {
     content
 }
 
-/// `field PLACE data|deleted CONTENT`: a window of 512 bytes, the given ones over and over
+/// `field PLACE data|deleted CONTENT`: the window of 512 bytes, which are the given ones over and over
 fn field(bytes: &mut Draft, line: &mut Line) -> Result<(), Wrong> {
     let place = line.count();
     let deleted = line.is("deleted");
@@ -208,14 +208,15 @@ fn first_track(image: &[u8]) -> &[u8] {
     behind.get(..usize::from(words) * 2).unwrap_or(behind)
 }
 
-/// Eight bits of two bytes, from one of the first byte's on.
+/// Eight bits of two bytes, from bit `bit % 8` of the first byte on; bit 0 is the highest.
 fn bits_from(first: u8, next: u8, bit: u32) -> u8 {
     let pair = u16::from(first) << 8 | u16::from(next);
     let [_, low] = (pair >> (8 - bit % 8)).to_be_bytes();
     low
 }
 
-/// The cells of the first track, so many places forward; behind them stand cells 0, or the first ones where they go round.
+/// Moves the cells of the first track forward, so many places. Behind them stand cells 0, or the first cells if
+/// `around` is true.
 fn shift(bytes: &mut Draft, line: &mut Line, around: bool) {
     let cells = line.byte();
     if cells > 15 {
@@ -233,7 +234,7 @@ fn shift(bytes: &mut Draft, line: &mut Line, around: bool) {
     bytes.replace(HEADER, moved.bytes());
 }
 
-/// The cells of these bytes without so many first ones, and without the rest of the last two bytes.
+/// The cells of these bytes without the first `cells` ones. The result has two bytes fewer.
 fn moved_by(ahead: &Draft, cells: u8) -> Draft {
     let mut moved = Draft::new(ahead.alloc());
     let skip = usize::from(cells / 8);
@@ -279,7 +280,7 @@ pub fn follow(bytes: &mut Draft, verb: &str, line: Line) -> Result<(), Wrong> {
     bytes.whole()
 }
 
-/// Follows a line that lays tracks, or another.
+/// Follows a line that lays out tracks, or another line.
 fn follow_tracks(bytes: &mut Draft, verb: &[u8], line: &mut Line) -> Result<(), Wrong> {
     if is_verb(verb, "track") {
         track(bytes, line)

@@ -1,4 +1,4 @@
-// What is told of a file.
+// What is printed of a file.
 use crate::draft::Draft;
 
 /// Prints a file's name with its length and its sum, or that it isn't there.

@@ -1,4 +1,5 @@
-// Calls of shelves, each with what it must give. None of them tells its caller anything, so that a test is a row of calls.
+// Calls of shelves, each with what it must give. None of them returns anything to its caller, so that a test is a row
+// of calls.
 use flop_base::{LoadError, Shelf, StoreError};
 use std::alloc::Global;
 use std::fmt::Debug;
@@ -9,7 +10,7 @@ pub(crate) fn same<T: PartialEq + Debug>(rt: &impl Abort, found: &T, wanted: &T)
     assert!(rt; *found == *wanted, "{found:?}, and not {wanted:?}");
 }
 
-/// The file has these bytes, which the most that is asked for lets through.
+/// The file has these bytes. The load allows exactly as many.
 pub(crate) fn gives(
     rt: &impl Abort,
     alloc: Global,
@@ -23,7 +24,7 @@ pub(crate) fn gives(
     }
 }
 
-/// Its load ends so.
+/// The load of this file fails with the wanted error.
 pub(crate) fn gives_none(
     rt: &impl Abort,
     alloc: Global,
@@ -40,7 +41,7 @@ pub(crate) fn takes(rt: &impl Abort, shelf: &mut impl Shelf, name: &str, bytes: 
     same(rt, &shelf.store(name, bytes).err(), &None);
 }
 
-/// They aren't, by a fault.
+/// These bytes aren't stored, because of a fault.
 pub(crate) fn takes_none(rt: &impl Abort, shelf: &mut impl Shelf, name: &str, bytes: &[u8]) {
     same(
         rt,
@@ -49,7 +50,7 @@ pub(crate) fn takes_none(rt: &impl Abort, shelf: &mut impl Shelf, name: &str, by
     );
 }
 
-/// So many faults were counted.
+/// The wanted number of faults was counted.
 pub(crate) fn has_faults(rt: &impl Abort, shelf: &impl Shelf, wanted: u64) {
     same(rt, &shelf.faults(), &wanted);
 }

@@ -1,4 +1,5 @@
-// Drives, media and memory of a machine, past its controller. A machine is large, so that it is there where nothing can fail.
+// Drives, media and memory of a machine, past its controller. A machine is large, so it is used in functions where
+// nothing can fail.
 ghost use Rattle.pc_bus.specs.Boards.{IsEmpty};
 
 use crate::machines::{machine, machine_with};
@@ -12,7 +13,7 @@ use std::test::Fail;
 /// What is seen of a machine while media and a drive of bay 1 are exchanged.
 #[derive(Clone, Copy)]
 struct Seen {
-    /// Whether it is fresh, before and behind an access to a port.
+    /// Whether the machine is fresh, before and after an access to a port.
     fresh: [bool; 2],
     inserted: bool,
     rate: Rate,
@@ -41,7 +42,7 @@ fn see<D: Drive>(machine: &mut MachineOf<D>, medium: Medium, next: D) -> Seen
     }
 }
 
-/// The same of a new machine with these drives in its bays.
+/// What is seen of a new machine with these drives in its bays.
 fn see_new<D: Drive>(
     alloc: Global,
     first: D,
@@ -73,7 +74,7 @@ fn drives_and_media_are_exchanged(rt: HostRuntime) -> Result<(), Fail> {
     Ok(())
 }
 
-/// What is set at the last byte of the user's memory and at the first one behind it.
+/// What is set at the last byte of the user's memory and at the first one above it.
 fn set_both(machine: &mut MachineOf<PlainDrive>) -> ([u8; 2], u64) {
     machine.ram_set(0xEFFFF, 1);
     machine.ram_set(0xF0000, 2);
@@ -83,7 +84,7 @@ fn set_both(machine: &mut MachineOf<PlainDrive>) -> ([u8; 2], u64) {
     )
 }
 
-/// The same of a new machine.
+/// What is set there on a new machine.
 fn set_new(alloc: Global) -> Result<([u8; 2], u64), Fail> {
     let mut machine = machine(alloc)?;
     Ok(set_both(&mut machine))

@@ -1,6 +1,6 @@
-//! Tests where only calls can show something: the program's edge (shelves and sinks, those of the system and those in memory, and
-//! texts that the program doesn't print), the calls of a session and of a machine one by one, and drives behind a box, one of the
-//! tests' own among them.
+//! Tests where only calls can show something. They test the program's edge: shelves and sinks, those of the system and
+//! those in memory, and texts that the program doesn't print. They also test the calls of a session and of a machine
+//! one by one, and drives in a `Box`, one of the tests' own among them.
 #![tactic(auto)]
 
 #[cfg(test)]

@@ -10,7 +10,7 @@ use irq_events::Pace;
 use pc_bus::MachineOf;
 use std::alloc::Global;
 
-/// A machine with these drives, which nothing delays.
+/// A machine with these drives; nothing delays the machine.
 pub(crate) fn machine_with<D: Drive>(
     alloc: Global,
     first: D,
@@ -29,7 +29,7 @@ pub(crate) fn machine_with<D: Drive>(
     Ok(machine)
 }
 
-/// A drive without faults, as it comes.
+/// A new drive without faults.
 fn plain() -> PlainDrive
     ensures { IsEmpty (plain_state result) }
 {

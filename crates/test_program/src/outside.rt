@@ -1,4 +1,4 @@
-// Shelves and sinks: those in memory, whose calls fail where they are told to, and those of the system.
+// Shelves and sinks: those in memory, whose calls with given numbers fail, and those of the system.
 use crate::calls::{gives, gives_none, has_faults, same, takes, takes_none};
 use flop_base::{Bytes, Chrn, Code, LoadError, Name, PutError, Sink, Status, sector_size};
 use flop_outside::{FileShelf, StreamSink};
@@ -71,7 +71,7 @@ fn a_shelf_keeps_files_and_its_numbered_calls_fail(rt: HostRuntime) -> Result<()
     Ok(())
 }
 
-/// These bytes are printed, or aren't.
+/// These bytes are printed, or printing fails with the wanted error.
 fn puts(rt: &impl Abort, sink: &mut impl Sink, bytes: &[u8], refused: Option<PutError>) {
     same(rt, &sink.put(bytes).err(), &refused);
 }
@@ -98,7 +98,7 @@ fn a_name_is_copied(rt: HostRuntime) -> Result<(), Fail> {
     Ok(())
 }
 
-/// Takes a file away.
+/// Removes a file.
 pub(crate) fn remove(rt: &(impl Abort + Files), name: &str) {
     assert!(rt; fs::remove_file(rt, name).is_ok());
 }
@@ -127,14 +127,14 @@ fn a_folder_in_a_files_place_is_a_fault(rt: HostRuntime) {
     has_faults(&rt, &shelf, 2);
 }
 
-/// Whether this user may write a file that none may.
+/// Whether this user may write a file whose permissions let nobody write.
 fn may_write(rt: &(impl Abort + Files), name: &str) -> bool {
     let closed = fs::set_permissions(rt, name, Permissions::from_mode(0o444));
     assert!(rt; closed.is_ok());
     OpenOptions::new().write(true).open(rt, name).is_ok()
 }
 
-// The superuser may write any file, so what is wanted goes by whether this user may.
+// The superuser may write any file. What the test wants therefore depends on whether this user may.
 #[test]
 fn a_file_that_may_not_be_written_is_not_replaced(rt: HostRuntime) {
     let name = "floppy-test-kept";

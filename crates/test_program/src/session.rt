@@ -13,7 +13,7 @@ use sector_model::{Reason, Reply, Stop};
 use std::alloc::Global;
 use std::test::Fail;
 
-/// What a request came to: nothing where it was neither done nor refused by the driver.
+/// The result of a request, or nothing if it was neither done nor refused by the driver.
 fn answer(reply: Result<Reply, Stop>) -> Option<Result<(), Code>> {
     match reply {
         Ok(Reply::Done) => Some(Ok(())),
@@ -76,7 +76,7 @@ fn read(session: &mut Session<PlainDrive>, shelf: &mut MemShelf) -> Option<Resul
     ask(session, shelf, &request)
 }
 
-/// The last byte of the sector that a read puts to 10000, and the byte behind it.
+/// The last byte of the sector that a read puts to 10000, and the next byte in memory.
 fn last_and_next(machine: &MachineOf<PlainDrive>) -> (u8, u8) {
     (machine.ram(0x101FF), machine.ram(0x10200))
 }
@@ -89,7 +89,7 @@ fn acknowledges_and_reads(session: &mut Session<PlainDrive>, shelf: &mut MemShel
     is_refused && is_acknowledged && is_read
 }
 
-/// What a session of requests came to. A session is large, so that it is there where nothing can fail.
+/// The results of a session of requests. A session is large, so it is used in functions where nothing can fail.
 #[derive(Clone, Copy)]
 struct Ended {
     inserted: bool,
@@ -138,7 +138,7 @@ const READ: Regs = Regs {
     carry: false,
 };
 
-/// What two such calls behind one another came to.
+/// The results of two such calls, one after the other.
 #[derive(Clone, Copy)]
 struct Served {
     inserted: bool,
@@ -169,7 +169,7 @@ fn a_session_serves_calls(rt: HostRuntime) -> Result<(), Fail> {
     let name = Name::copy(alloc, "a.rt")?;
     let served = serve_twice(new_session(alloc)?, &mut shelf, name);
     assert!(rt; served.inserted);
-    // The bay isn't acknowledged yet, and a call that acknowledges it moves nothing.
+    // The bay isn't acknowledged yet, and a call that acknowledges it transfers nothing.
     assert!(rt; served.first.ax == 0x0600 && served.first.carry);
     assert!(rt; served.second == Regs { ax: 0x0001, ..READ });
     assert!(rt; served.bytes == (0xF6, 0x00));

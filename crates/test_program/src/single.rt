@@ -21,7 +21,7 @@ fn idle(alloc: Global) -> Result<CommandedMachine<PlainDrive>, Fail>
     Ok(machine)
 }
 
-/// A medium goes into bay 0, where none is in.
+/// Puts a medium into bay 0, in which there is none.
 fn puts_in(machine: &mut CommandedMachine<PlainDrive>, medium: Medium) -> bool
     requires { is_idle plain_state machine.old }
     ensures { is_idle plain_state machine.new }
@@ -29,7 +29,7 @@ fn puts_in(machine: &mut CommandedMachine<PlainDrive>, medium: Medium) -> bool
     machine.insert(0, medium).is_ok()
 }
 
-/// It is taken out.
+/// Takes the medium out of bay 0.
 fn takes_out(machine: &mut CommandedMachine<PlainDrive>) -> bool
     requires { is_idle plain_state machine.old }
     ensures { is_idle plain_state machine.new }
@@ -37,7 +37,7 @@ fn takes_out(machine: &mut CommandedMachine<PlainDrive>) -> bool
     machine.eject(0).is_some()
 }
 
-/// Steps outward until track 0.
+/// Steps outward to track 0.
 fn recalibrate<C: Commands>(machine: &mut C) -> bool
     requires { C.is_idle machine.old }
     ensures { C.is_idle machine.new }
@@ -45,7 +45,7 @@ fn recalibrate<C: Commands>(machine: &mut C) -> bool
     machine.recalibrate(0)
 }
 
-/// The change line behind a seek to cylinder 1.
+/// The change line after a seek to cylinder 1.
 fn is_changed<C: Commands>(machine: &mut C) -> bool
     requires { C.is_idle machine.old }
     ensures { C.is_idle machine.new }
@@ -61,8 +61,9 @@ fn reset<C: Commands>(machine: &mut C)
     machine.reset();
 }
 
-/// The change line behind a seek each: of a first diskette; of a second one, with the heads there; and behind a reset besides, since which
-/// the controller takes their cylinder for 0. Nothing where a diskette isn't taken.
+/// The change line after three seeks to cylinder 1. The first seek is with a first diskette. The second seek is with a
+/// second diskette, while the heads stand at cylinder 1 already. The third seek is after a reset as well, since which
+/// the controller takes the heads' cylinder for 0. The answer is nothing if a diskette isn't taken.
 fn watch(
     machine: &mut CommandedMachine<PlainDrive>,
     first: Medium,
@@ -88,7 +89,7 @@ fn blank(alloc: Global) -> Result<Medium, Fail> {
     Ok(Medium::blank_at(alloc, 2, 1, 64, Rate::R250)?)
 }
 
-/// The same on a new machine, which is large, so that it is there where nothing can fail.
+/// The same on a new machine. The machine is large, so it is used in functions where nothing can fail.
 fn watch_new(alloc: Global) -> Result<Option<[bool; 3]>, Fail> {
     let first = blank(alloc)?;
     let second = blank(alloc)?;

@@ -1,5 +1,5 @@
-// What a store does to the files of the folder: it writes into none that is there, and a power cut leaves the old file
-// or the new one.
+// What a store does to the files of the folder. It writes into no file that is there, and a power cut leaves the old
+// file or the new one.
 use crate::calls::{gives, takes};
 use crate::outside::remove;
 use flop_base::{Shelf, StoreError};
@@ -13,24 +13,24 @@ use std::rt::Files;
 use std::test::Fail;
 use std::{fs, io};
 
-/// How far a new file is on its way to the disk, as far as calls of the system tell.
+/// How far a new file is on its way to the disk, as far as system calls show it.
 #[derive(Clone, Copy, PartialEq, Eq)]
 enum Progress {
     /// Nothing was written yet.
     Begun,
-    /// Some of its bytes may be in memory alone.
+    /// Some of the file's bytes may be only in memory.
     Written,
-    /// All its bytes are on the disk.
+    /// All bytes of the file are on the disk.
     Synced,
-    /// It has its name besides, which may be in memory alone.
+    /// The file also has its name, which may be only in memory.
     Named,
-    /// Its name is on the disk too.
+    /// The file's name is on the disk too.
     Lasting,
-    /// It was taken away.
+    /// The file was removed.
     Removed,
 }
 
-/// Follows the calls by which a file is stored, and fails each sync where it is to.
+/// Follows the calls by which a file is stored. It fails each sync if `syncs_fail` is set.
 #[derive(Drop)]
 struct Watch {
     progress: Cell<Progress>,
@@ -49,7 +49,7 @@ impl Watch {
         self.progress.get() == progress
     }
 
-    // A call that leads on from one point alone.
+    // A call that leads on from one point only.
     fn lead(&self, from: Progress, to: Progress) {
         if self.is_at(from) {
             self.progress.set(to);

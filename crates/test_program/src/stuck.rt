@@ -1,4 +1,4 @@
-// A drive of the tests' own, handed in as a spare.
+// A drive of the tests' own, which a machine gets as a spare.
 ghost use Rattle.std.specs.Prelude.{◌≡◌, ◌≤◌, All, IfOk, None};
 ghost use Rattle.flop_base.specs.Counts.{last_count};
 ghost use Rattle.pc_bus.specs.Boards.{IsEmpty};
@@ -91,7 +91,7 @@ fn one_spare<D: Drive>(alloc: Global, drive: D) -> Result<Vec<D>, NoMemory>
     Ok(spare)
 }
 
-/// What a run over a machine leaves behind.
+/// What a run over a machine leaves.
 #[derive(Drop)]
 struct Ran {
     report: Vec<u8>,
@@ -99,7 +99,7 @@ struct Ran {
     faults: [u64; 2],
 }
 
-/// Plays the job over a machine with these drives, and this spare one.
+/// Plays the job over a machine with these drives in its bays, and this spare drive.
 fn play<D: Drive>(
     alloc: Global,
     first: D,
@@ -145,7 +145,7 @@ fn a_spare_whose_pulses_are_lost(rt: HostRuntime) -> Result<(), Fail> {
     Ok(())
 }
 
-/// No pulse of bay 0's new drive reached track 0, so that its diskette wasn't acknowledged.
+/// No pulse of bay 0's new drive took effect, so its diskette wasn't acknowledged.
 fn is_refused(ran: &Ran) -> bool {
     let [first, second] = ran.faults;
     let told = b"unit ok\ninsert ok\nack refused 80\n";

@@ -1,4 +1,4 @@
-// Pure functions on the bytes of the last file: `of VERB ARGUMENT..`.
+// Pure functions of the bytes of the last file: `of VERB ARGUMENT..`.
 mod bench;
 mod cells;
 mod chips;
@@ -25,13 +25,13 @@ pub(crate) struct Asked<'a> {
     pub bytes: &'a [u8],
 }
 
-/// Prints what a function gives for these bytes. Each of the modules passes a verb that it doesn't know on to the next.
+/// Prints what a function gives for these bytes. Each module passes a verb that it doesn't know on to the next module.
 pub(crate) fn answer(asked: Asked, line: &mut Line, out: &mut Draft) -> Result<(), Wrong> {
     let verb = line.word().as_bytes();
     cells::answer(verb, asked, line, out)
 }
 
-/// The key that the words `C H R N` are.
+/// The key that the words `C H R N` spell.
 fn key(line: &mut Line) -> Chrn {
     Chrn {
         c: line.byte(),
@@ -41,7 +41,7 @@ fn key(line: &mut Line) -> Chrn {
     }
 }
 
-/// The data rate of so many kbit/s.
+/// The data rate that a word gives in kbit/s.
 fn rate(line: &mut Line) -> Rate {
     let word = line.word().as_bytes();
     if is_verb(word, "500") {
@@ -53,7 +53,7 @@ fn rate(line: &mut Line) -> Rate {
     Rate::R250
 }
 
-/// The words that bytes are, the high byte of each first.
+/// The words that the bytes make, with the high byte of each word first.
 fn words_of(alloc: Global, bytes: &[u8]) -> Result<Vec<u16>, Wrong> {
     let mut words = Vec::new(alloc);
     for pair in bytes.chunks(2) {

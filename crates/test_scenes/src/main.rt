@@ -1,5 +1,6 @@
-//! Tests as data: reads scenes from standard input, plays each on the program over a machine, and prints reports and sums; or asks
-//! pure functions about the bytes of a file, a part of the machine alone, or a driver on its bench, and prints the answers.
+//! Tests as data: reads scenes from standard input, plays each of them on the program over a machine, and prints
+//! reports and sums. A scene can also ask pure functions about the bytes of a file, a part of the machine alone, or a
+//! driver on its bench; then it prints the answers.
 #![tactic(auto)]
 
 mod answers;

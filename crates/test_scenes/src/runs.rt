@@ -1,4 +1,4 @@
-// Runs of the program over a shelf and a sink in memory.
+// Runs of the program over a file store and an output in memory.
 use drive_model::Drive;
 use floppy_tools::{Ended, ProgramEnded, run_program};
 use memory_files::{MemShelf, MemSink};
@@ -27,7 +27,7 @@ pub(crate) const NO_COUNTS: Counts = Counts {
     faults: [0, 0],
 };
 
-/// What is seen behind a run: its status and, where a machine was made, its counts and a part of its memory.
+/// What is seen after a run: its status and, if a machine was made, its counts and a part of its memory.
 #[derive(Drop)]
 pub(crate) struct Seen {
     pub status: u8,
@@ -35,7 +35,7 @@ pub(crate) struct Seen {
     pub memory: Vec<u8>,
 }
 
-/// Where memory is looked at.
+/// The part of memory that is printed.
 #[derive(Clone, Copy)]
 pub(crate) struct Range {
     pub start: u32,
@@ -83,7 +83,7 @@ fn look_over<D: Drive>(alloc: Global, ended: Ended<D>, range: Range) -> Result<S
     }
 }
 
-/// Runs the program with the plan that the variable gives.
+/// Runs the program with the plan that the environment variable gives.
 pub(crate) fn run(
     alloc: Global,
     plan: Result<String, VarError>,

@@ -18,10 +18,10 @@ struct Kept {
 #[derive(Drop)]
 struct Scene {
     alloc: Global,
-    /// Whether the next lines are a file's text.
+    /// Whether the next lines are the text of a file.
     is_text: bool,
     files: Vec<Kept>,
-    /// What the variable gives that names the plan of the runs.
+    /// What the environment variable gives that names the plan of the runs.
     plan: Result<String, VarError>,
     shelf_fails: Vec<u64>,
     sink_fails: Vec<u64>,
@@ -30,7 +30,7 @@ struct Scene {
     range: Range,
 }
 
-/// Plays the scenes of a text. What is printed goes to `out`, also where a line isn't understood.
+/// Plays the scenes of a text. What is printed goes to `out`, even if a line isn't understood.
 pub(crate) fn play(alloc: Global, text: &str, out: &mut Draft) -> Result<(), Wrong> {
     let mut scene = Scene::new(alloc);
     let mut number = 0u64;
@@ -72,7 +72,7 @@ impl Scene {
         }
     }
 
-    /// A line of a file's text, or the one behind it.
+    /// Takes a line of a file's text, or the line `.` that ends it.
     fn text_line(&mut self, line: &str) -> Result<(), Wrong> {
         if line == "." {
             self.is_text = false;
@@ -143,13 +143,13 @@ impl Scene {
         }
     }
 
-    /// A line of a recipe.
+    /// Does a line of a recipe.
     fn recipe(&mut self, verb: &str, fields: &mut Line) -> Result<(), Wrong> {
         let words = fields.words();
         follow(self.last_made()?, verb, Line::of(words))
     }
 
-    /// A name that is watched, with an empty file or with none.
+    /// Watches a name, with a file of these bytes or with none.
     fn file(&mut self, name: &str, bytes: Option<Draft>) -> Result<(), Wrong> {
         self.files.retain(|file| file.name.as_str() != name);
         let name = String::from_str(self.alloc, name)?;
@@ -157,7 +157,7 @@ impl Scene {
         Ok(())
     }
 
-    /// `plan NAME`: the later runs have the plan of this name. `plan`: they have none.
+    /// `plan NAME`: the runs after this line have the plan of this name. `plan`: they have none.
     fn plan(&mut self, fields: &mut Line) -> Result<(), Wrong> {
         self.plan = match fields.words() {
             [] => Err(VarError::NotPresent),
@@ -167,7 +167,7 @@ impl Scene {
         Ok(())
     }
 
-    /// `counts NAME..`: the later runs print these counts.
+    /// `counts NAME..`: the runs after this line print these counts.
     fn count(&mut self, fields: &mut Line) -> Result<(), Wrong> {
         let mut counts = Vec::new(self.alloc);
         for name in fields.words() {
@@ -180,7 +180,7 @@ impl Scene {
         Ok(())
     }
 
-    /// Watches a name, if it isn't yet.
+    /// Watches a name, if it isn't watched yet.
     fn watch(&mut self, name: &str) -> Result<(), Wrong> {
         if !self.files.iter().any(|file| file.name.as_str() == name) {
             let name = String::from_str(self.alloc, name)?;
@@ -189,7 +189,7 @@ impl Scene {
         Ok(())
     }
 
-    /// The bytes of the last file, as it is made.
+    /// The bytes of the last file, which is still being made.
     fn last_made(&mut self) -> Result<&mut Draft, Wrong> {
         match self.files.last_mut() {
             Some(
@@ -202,7 +202,7 @@ impl Scene {
         }
     }
 
-    /// Asks about the bytes of the last file.
+    /// Asks a function about the bytes of the last file.
     fn ask(&mut self, fields: Line, out: &mut Draft) -> Result<(), Wrong> {
         let alloc = self.alloc;
         let made = self.last_made()?;
@@ -236,7 +236,7 @@ impl Scene {
         Ok(shelf)
     }
 
-    /// What the variable gives to a run.
+    /// What the environment variable gives to a run.
     fn variable(&self) -> Result<Result<String, VarError>, Wrong> {
         match &self.plan {
             Ok(name) => Ok(Ok(String::from_str(self.alloc, name.as_str())?)),
@@ -255,7 +255,7 @@ impl Scene {
         Ok(words)
     }
 
-    /// Runs the program, and prints its report, what is seen behind it, and each watched file that changed.
+    /// Runs the program, and prints its report, what is seen after it, and each watched file that changed.
     fn run(&mut self, fields: Line, out: &mut Draft) -> Result<(), Wrong> {
         let words = self.words_of(fields)?;
         let mut shelf = self.shelf()?;
@@ -280,7 +280,7 @@ impl Kept {
         put_file(out, self.name.as_str(), bytes);
     }
 
-    /// Takes the file as the shelf has it, and prints its sum where it changed.
+    /// Takes the file as the file store has it, and prints its sum if it changed.
     fn renew(&mut self, shelf: &MemShelf, out: &mut Draft) {
         let Some(new) = shelf.file(self.name.as_str()) else {
             return;
@@ -298,7 +298,7 @@ impl Kept {
     }
 }
 
-/// `ram ADDRESS LENGTH`
+/// `ram ADDRESS LENGTH`: the part of memory that the later runs print
 fn range(fields: &mut Line) -> Range {
     Range {
         start: fields.hex(1, 5),

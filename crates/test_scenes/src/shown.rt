@@ -3,7 +3,7 @@ use crate::runs::{Counts, Seen};
 use floppy_jobs::is_verb;
 use test_files::Draft;
 
-/// Prints the status of a run, those of its counts that are asked for, and the memory that is looked at.
+/// Prints the status of a run, the counts that are asked for, and the part of memory.
 pub(crate) fn put_seen(seen: &Seen, asked: &[String], out: &mut Draft) {
     out.text("status");
     out.numbers(&[u64::from(seen.status)]);
@@ -60,7 +60,7 @@ pub(crate) fn number_of(counts: Counts, name: &str) -> Option<u64> {
     }
 }
 
-/// Prints bytes of memory, equal ones as one with their number.
+/// Prints bytes of memory, with a row of equal bytes as one byte and their number.
 fn put_memory(memory: &[u8], out: &mut Draft) {
     out.text("ram");
     let mut last = None;

@@ -1,4 +1,4 @@
-// What every drive does: as the drive within, and the tracks that are written are kept.
+// What every drive does. It does as the drive within, and the tracks that are written are kept.
 ghost use Rattle.std.specs.Prelude.{◌≡◌, ◌↔◌, IsErr, IsSome, OnOk, OnErr, IfErr, false};
 ghost use Rattle.drive_model.specs.Ahead.{LetsPass};
 ghost use Rattle.drive_model.specs.Drive.{Becomes, InRange, Pulses, Reads, Writes, at_index, loaded, passed, rate_of, unloaded, with_gate, with_motor};
@@ -11,7 +11,7 @@ use drive_model::{Drive, Heard, Inspect, Turn};
 use flop_base::Rate;
 use raw_image::Medium;
 
-/// The change line is up, where the cable is pulled.
+/// Sets the change line up if the cable is pulled.
 fn with_change(pulled: Option<Pulled>) -> Option<Pulled>
     ensures { result ≡ changed_there pulled }
 {

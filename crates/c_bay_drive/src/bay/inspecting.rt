@@ -1,4 +1,4 @@
-// What can be looked at: as in the drive within. Where the heads stand isn't known by a pulled cable.
+// What can be looked at is as in the drive within. Where the heads stand isn't known while the cable is pulled.
 ghost use Rattle.std.specs.Prelude.{◌≡◌, ◌↔◌, Some, IsErr, OnOk, OnErr, IfOk, IfErr, false};
 ghost use Rattle.drive_model.specs.Drive.{forgotten, same_length, exchanged, with_protection};
 

@@ -1,4 +1,4 @@
-// What is told by a pulled cable as bytes.
+// The state of a pulled cable as bytes.
 ghost use Rattle.c_bay_drive.specs.Saving.{GivesCable};
 
 use super::Pulled;
@@ -24,7 +24,7 @@ impl Saved for Pulled {
     }
 }
 
-/// The same where one is pulled.
+/// Reads the state of the cable if it is pulled.
 pub fn load_cable(attached: bool, from: &mut Source<'_>) -> Option<Pulled>
     ensures { GivesCable attached from.old result from.new }
 {

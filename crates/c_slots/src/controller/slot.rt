@@ -8,7 +8,7 @@ use crate::controller::held::Held;
 use std::alloc::Global;
 use std::mem;
 
-/// The tag of a slot that holds one: the bytes `TELC` in the order of a PC.
+/// The tag of a slot that holds a controller: the bytes `TELC` in the order of a PC.
 const FULL: u32 = 0x434C_4554;
 
 /// A controller or nothing.
@@ -20,7 +20,7 @@ pub struct ControllerSlot {
 }
 
 impl ControllerSlot {
-    /// Whether it holds one.
+    /// Whether the slot holds a controller.
     pub fn is_full(&self) -> bool
         ensures { result ≡ is_some self.now.held.controller }
     {
@@ -64,7 +64,7 @@ impl ControllerSlot {
         mem::replace(self, ControllerSlot::empty(alloc)).into_box()
     }
 
-    /// Puts a controller in. What was there is freed.
+    /// Puts a controller in. What was in the slot is freed.
     pub fn put(&mut self, controller: Box<WholeController>)
         ensures { self.new.held.controller ≡ Some controller.value }
     {

@@ -1,4 +1,4 @@
-// A desk behind a pointer, or nothing.
+// A pointer that owns a desk, or nothing.
 ghost use Rattle.std.specs.Prelude.{◌≡◌, None, Some, Option};
 ghost use Rattle.c_slots.specs.Disks.{DeskValue, held_owns, held_coded};
 
@@ -66,5 +66,5 @@ impl Held {
     }
 }
 
-// It may go to another thread, as what it owns may.
+// The holder may go to another thread, as what it owns may.
 unsafe impl Send for Held {}

@@ -8,7 +8,7 @@ use memory_files::SectorDesk;
 use std::alloc::Global;
 use std::mem;
 
-/// The tag of a slot that holds one: the bytes `TELD` in the order of a PC.
+/// The tag of a slot that holds a desk: the bytes `TELD` in the order of a PC.
 const FULL: u32 = 0x444C_4554;
 
 /// A desk or nothing.
@@ -20,7 +20,7 @@ pub struct DiskSlot {
 }
 
 impl DiskSlot {
-    /// Whether it holds one.
+    /// Whether the slot holds a desk.
     pub fn is_full(&self) -> bool
         ensures { result ≡ is_some self.now.held.desk }
     {
@@ -64,7 +64,7 @@ impl DiskSlot {
         mem::replace(self, DiskSlot::empty(alloc)).into_box()
     }
 
-    /// Puts a desk in. What was there is freed.
+    /// Puts a desk in. What was in the slot is freed.
     pub fn put(&mut self, desk: Box<SectorDesk>)
         ensures { self.new.held.desk ≡ Some desk.value }
     {

@@ -8,7 +8,7 @@ use crate::machine::held::Held;
 use std::alloc::Global;
 use std::mem;
 
-/// The tag of a slot that holds one: the bytes `TELM` in the order of a PC.
+/// The tag of a slot that holds a machine: the bytes `TELM` in the order of a PC.
 const FULL: u32 = 0x4D4C_4554;
 
 /// A machine or nothing.
@@ -20,7 +20,7 @@ pub struct MachineSlot {
 }
 
 impl MachineSlot {
-    /// Whether it holds one.
+    /// Whether the slot holds a machine.
     pub fn is_full(&self) -> bool
         ensures { result ≡ is_some self.now.held.machine }
     {
@@ -64,7 +64,7 @@ impl MachineSlot {
         mem::replace(self, MachineSlot::empty(alloc)).into_box()
     }
 
-    /// Puts a machine in. What was there is freed.
+    /// Puts a machine in. What was in the slot is freed.
     pub fn put(&mut self, machine: Box<BenchMachine>)
         ensures { self.new.held.machine ≡ Some machine.value }
     {

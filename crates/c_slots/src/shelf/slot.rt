@@ -8,7 +8,7 @@ use memory_files::RunShelf;
 use std::alloc::Global;
 use std::mem;
 
-/// The tag of a slot that holds one: the bytes `TELS` in the order of a PC.
+/// The tag of a slot that holds a shelf: the bytes `TELS` in the order of a PC.
 const FULL: u32 = 0x534C_4554;
 
 /// A shelf or nothing.
@@ -20,7 +20,7 @@ pub struct ShelfSlot {
 }
 
 impl ShelfSlot {
-    /// Whether it holds one.
+    /// Whether the slot holds a shelf.
     pub fn is_full(&self) -> bool
         ensures { result ≡ is_some self.now.held.shelf }
     {
@@ -64,7 +64,7 @@ impl ShelfSlot {
         mem::replace(self, ShelfSlot::empty(alloc)).into_box()
     }
 
-    /// Puts a shelf in. What was there is freed.
+    /// Puts a shelf in. What was in the slot is freed.
     pub fn put(&mut self, shelf: Box<RunShelf>)
         ensures { self.new.held.shelf ≡ Some shelf.value }
     {

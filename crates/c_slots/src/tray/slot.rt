@@ -8,7 +8,7 @@ use crate::tray::held::Held;
 use std::alloc::Global;
 use std::mem;
 
-/// The tag of a slot that holds one: the bytes `TELT` in the order of a PC.
+/// The tag of a slot that holds a tray: the bytes `TELT` in the order of a PC.
 const FULL: u32 = 0x544C_4554;
 
 /// A tray or nothing.
@@ -20,7 +20,7 @@ pub struct TraySlot {
 }
 
 impl TraySlot {
-    /// Whether it holds one.
+    /// Whether the slot holds a tray.
     pub fn is_full(&self) -> bool
         ensures { result ≡ is_some self.now.held.tray }
     {
@@ -64,7 +64,7 @@ impl TraySlot {
         mem::replace(self, TraySlot::empty(alloc)).into_box()
     }
 
-    /// Puts a tray in. What was there is freed.
+    /// Puts a tray in. What was in the slot is freed.
     pub fn put(&mut self, tray: Box<MediumTray>)
         ensures { self.new.held.tray ≡ Some tray.value }
     {

@@ -36,8 +36,8 @@ pub record HasMedium (outset : Outset) (start : ℕ) (words : List ℕ) (drive :
   pub put : IsThere outset → 1 ≤ length words → ArePut outset start words drive
 
 -- in execution: the drive is at speed, at the word after those that were heard and written. The gate is open where
--- words were written. Each step heard or wrote a word, and at most one index has passed. A protected medium ended the
--- first step
+-- words were written. Each step heard or wrote a word, and at most one index has passed. A protected medium would have
+-- ended the command in its first step
 pub record IsAtWork (outset : Outset) (start : ℕ) (turns : List (List ℕ)) (heard : ℕ) (words : List ℕ) (steps : ℕ) (drive : DriveState) : Type 0 where
   pub over : IsOver outset.cylinder (start + length words) drive
   pub inside : start + length words < outset.disk.words_per_track

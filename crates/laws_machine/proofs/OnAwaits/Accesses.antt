@@ -68,7 +68,7 @@ begun_by (Write (Track numbers)) scene byte old controller can out low writes =
     let (task, is, waits, after) = (does.0 can.last.no_seek).1 can.last.dma in
     asks_as (controller_of old) controller scene.sent.head_drive task out low after
 
--- behind the write, before its gap
+-- after the write, before its gap
 has_begun : (order : Order) (scene : Scene) (byte : ℕ) (old new : Board) (access : Outputs 0x3F5 byte old new) → CanBegin order scene byte old → IsLetOut (controller_of old) → IsHushed old
     → HasBegun (controller_of old) (controller_of access.between)
 has_begun order scene byte old new access can out hushed =
@@ -104,7 +104,7 @@ input_awaits begun port value start old new other access was =
     inputs (IsAwaited begun start) (awaiting begun start) port value old new
     (same_await begun start old (read_from port old) (read_same old (read_from port old) (is_controllers port) (port == 0x3F5) port other refl) refl refl refl was) access
 
--- ---- a stray is taken
+-- ---- a spurious interrupt is taken
 
 pub stray_awaits : (begun : ℕ) (start old : Board) → is_executing (controller_of old).phase ≡ true → IsAwaited begun start old → IsAwaited begun start (record old { bus = irq_taken old.bus })
 stray_awaits begun start old busy was = record {

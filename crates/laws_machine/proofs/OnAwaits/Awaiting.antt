@@ -20,7 +20,7 @@ pub record HasRested (old new : Fdc) : Type 0 where
   pub phase : new.phase ≡ old.phase
   pub asking : new.asking ≡ old.asking
 
--- a drive and the controller behind a word time
+-- a drive and the controller after a word time
 pub record IsBehind (before after : DriveState) (old between : Fdc) : Type 0 where
   pub drive : TurnsOn before after
   pub seeks : between.seeks ≡ old.seeks
@@ -46,7 +46,7 @@ rests_behind (Result answer) before after old between at idle none moves rests =
     stepped_behind before after old between (ap is_executing at) none (as_turned before after (turned_moves _ before after (pulse_none old.seeks (before.cylinder == 0) none) moves)) rests
 rests_behind (Execute execution) before after old between at idle none moves rests = absurd (false≢true (sym idle))
 
--- in execution, with the poll behind it
+-- in execution, after the poll
 busy_behind : (before after : DriveState) (old between : Fdc) (index : Bool) (word : ℕ) → is_executing old.phase ≡ true → MovesIn old.phase old before after
     → WritesIn old.phase old.asking old.fifo old before after between → ExecutesIn old.phase index word old between → IsBehind before after old between
 busy_behind before after old between index word busy moves writes executes =
@@ -81,7 +81,7 @@ gate_low false interrupt low = refl
 
 -- ---- the transfers
 
--- what transfers leave
+-- what transfers leave as it was
 pub record IsKeptBy (old new : Fdc) : Type 0 where
   pub seeks : new.seeks ≡ old.seeks
   pub poll : new.poll_due ≡ old.poll_due
@@ -148,7 +148,7 @@ holds_word begun start old between new was stays seeks kept = record {
 
 -- ---- the device step
 
--- both drives and the controller behind the word time of a device step
+-- both drives and the controller after the word time of a device step
 pub record IsPast (old new : Board) (between : Fdc) : Type 0 where
   pub both : TurnsOn old.first new.first × TurnsOn old.second new.second
   pub behind : (before : DriveState) × (after : DriveState) × IsBehind before after (controller_of old) between
@@ -195,7 +195,7 @@ module _ (begun : ℕ) (start old new : Board) (was : IsAwaited begun start old)
         level = ap (λ latch. latch.level) latch_now ∙ gate_low (is_gated (dma_stepped chips).controller) (dma_stepped chips).controller.interrupt (sym (ap (λ fdc. fdc.interrupt) now) ∙ low);
       }
 
-  -- it ends
+  -- the command ends in this step
   rose : is_executing (controller_of old).phase ≡ true → is_executing step.between.phase ≡ false → HasEnded new
   rose was_busy idle =
       let hushed = was.waits was_busy in
@@ -209,7 +209,7 @@ module _ (begun : ℕ) (start old new : Board) (was : IsAwaited begun start old)
         quiet = ap (λ fdc. fdc.asking) (now ∙ same) ∙ finished.quiet;
       }
 
-  -- it has ended
+  -- the command has ended before
   rests : is_executing (controller_of old).phase ≡ false → HasEnded new
   rests idle =
       let before = was.ended idle in

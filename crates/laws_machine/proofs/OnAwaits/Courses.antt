@@ -1,4 +1,5 @@
--- A data command, from its beginning until its end is told: through device steps, waits, strays that are taken and reads of MSR.
+-- A data command, from its beginning until its end is reported: through device steps, waits, spurious interrupts that
+-- are taken, and reads of MSR.
 use Rattle.std.proofs.Common.{◌≡◌, ◌⊎◌, inl, inr, ℕ, ◌+◌, ◌≤◌, Bool, true, false, min, if◌then◌else◌, refl, sym, ◌∙◌, ap, subst, arith}
 use Rattle.std.proofs.lemmas.Bool.{false≢true}
 use Rattle.laws_machine.proofs.Common.{last_count, Rose, is_executing, takes_in, asks, data_commands_of, is_held, Phase, Command, Execute, Result, CountsGoOn, GoesQuietly, HoldsOn, Turned, only_listens, Scene, AreShort, counted, shown, LeavesOthers, IsFedInTime, IsOnTime, read_from, Stalled, Keeping, regapped, Steady, Order, Identify, Read, Write, CanBegin, IsAwaited, is_unread, Board, controller_of, holds_of, irq_taken, Inputs, Outputs, Waits, stirred, Chips}

@@ -9,7 +9,7 @@ use Rattle.laws_machine.proofs.OnReads.EndSteps.{soon_few_of}
 use Rattle.laws_machine.proofs.OnReads.EndWords.{words_few}
 use Rattle.laws_machine.proofs.OnReads.Words.{length-met}
 
--- ---- READ ID hears two turns at most
+-- ---- READ ID hears two revolutions at most
 
 id_few : (scene : Scene) (past : Past) (steps : ℕ) (executes : Bool) (drive : DriveState) → IsScene scene → IsHearing scene past executes drive
     → IsPaced past steps true → steps ≤ 2 * scene.disk.words_per_track

@@ -1,4 +1,4 @@
--- Drives that turn on, while words are read and written.
+-- Drives that go on turning, while words are read and written.
 use Rattle.std.proofs.Common.{◌≡◌, inl, inr, ℕ, ◌≤◌, ◌&&◌, nat_lt, not, Bool, true, false, Option, Some, None, is_some, if◌then◌else◌, refl, sym, ◌∙◌, ap, subst, arith}
 use Rattle.laws_machine.proofs.Common.{Disk, spends_twice, DriveState, Becomes, Writes, can_write, has_track, rewritten, turns, with_gate, let_pass, WordTime, Saw, KeptOut, Wrote, Stopped, IsTime, Opens, Closes, DataRate, Turned, TurnsOn}
 use Rattle.laws_machine.proofs.Facts.{if_both, spin_on}

@@ -9,7 +9,7 @@ use Rattle.fdc_stages.specs.declared.writing.WriteNext.TheVariants as write_next
 use Rattle.fdc_phases.specs.declared.phases.Task.TheVariants.{Read, Write}
 use Rattle.laws_machine.proofs.OnAwaits.Turning.{on_let, on_time}
 
--- the results are there
+-- the command has given its results
 pub record IsFinished (new : Fdc) : Type 0 where
   pub up : new.interrupt ≡ true
   pub quiet : new.asking ≡ false
@@ -94,7 +94,7 @@ format_leaves Stopped head_drive steps formatting old before new does = late_lea
 
 -- ---- the word time
 
--- both, with the drive
+-- what a word time leaves of the controller and of the drive
 pub record LeavesBoth (before after : DriveState) (old new : Fdc) : Type 0 where
   pub drive : TurnsOn before after
   pub controller : Leaves old new

@@ -12,14 +12,14 @@ use Rattle.laws_machine.proofs.OnCounts.Spending.{DrivesGoOn, drives_step, drive
 use Rattle.laws_machine.proofs.OnSteps.Stalls.{up_to_holding}
 use Rattle.laws_machine.proofs.OnSteps.Transfers.{by_request}
 
--- ---- the holds
+-- ---- the DMA latencies
 
--- the stalls and the holds that are left
+-- the count of late DMAs and the DMA latencies that are left
 pub record HoldsGoOn (old new : Holds) : Type 0 where
   pub stalls : min old.stalls last_count ≤ new.stalls
   pub spent : new.stalls + long_holds new.entries ≤ old.stalls + long_holds old.entries
 
--- the same stalls and holds
+-- the same count of late DMAs, and the same DMA latencies
 pub record SameHolds (old new : Holds) : Type 0 where
   pub stalls : new.stalls ≡ old.stalls
   pub entries : new.entries ≡ old.entries

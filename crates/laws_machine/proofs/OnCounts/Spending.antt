@@ -15,7 +15,7 @@ use Rattle.laws_machine.proofs.OnAwaits.Turning.{on_time}
 abbrev pub GoesOn : DriveState → DriveState → Type 0
 GoesOn old new = DriveGoesOn (counts_of old) (counts_of new)
 
--- and so do those of both
+-- the faults of both drives go on
 pub record DrivesGoOn (old new : Board) : Type 0 where
   pub first : GoesOn old.first new.first
   pub second : GoesOn old.second new.second

@@ -48,7 +48,7 @@ laid_stage past numbers handed now was =
     let has = (stopped_formatted Overrun now (record past { counted = false }) numbers handed was refl).begun in
     record { behind = has.behind; first = has.first }
 
--- whatever the phase
+-- what the command has laid out, whatever its phase is
 pub laid_in : (scene : Scene) (numbers : Numbers) (past : Past) (phase : Phase) (asking : Bool) (fifo : Fifo) → MayFormatIn past scene.sent.head_drive numbers phase asking fifo
     → (handed : List ℕ) × IsContent past.counted past.taken handed × HasLaid past numbers handed
 laid_in scene numbers past Command asking fifo was = absurd was
@@ -75,7 +75,7 @@ words_of scene numbers keys past memory channel whole taken size are inside phas
 
 -- ---- the medium
 
--- so many of the words stand there
+-- so many of the words stand on the medium
 pub record MakesLaying (scene : Scene) (numbers : Numbers) (keys : List Chrn) (past : Past) (drive : DriveState) : Type 0 where
   pub has : HasLaying scene numbers keys drive
   pub whole : IsCalm scene.faults drive.faults → has.laying.words ≡ length past.words
@@ -122,7 +122,7 @@ only scene numbers keys executes past drive was (inr of) = elim (none_or_some pa
 
 module _ (scene : Scene) (numbers : Numbers) (keys : List Chrn) (executes : Bool) (past : Past) (drive : DriveState) (memory : List ℕ) (channel : Channel) (whole : IsScene scene) (was : IsAtDrive scene past executes drive)
     (taken : IsTaken scene past.taken past.counted memory channel) (size : scene.size ≡ 4 * numbers.sectors) (are : AreKeysOf scene numbers keys) where
-  -- the index came behind the words: they are a turn
+  -- the index came after the words, so they are a revolution
   turn_long : IsBehindFirst past.turns past.seen → past.place ≡ 0 → 1 ≤ length past.words → length past.words ≡ scene.disk.words_per_track
   turn_long behind index some =
       let start = start_zero scene.from past.turns past.seen behind in

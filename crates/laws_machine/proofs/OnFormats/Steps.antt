@@ -16,14 +16,14 @@ use Rattle.laws_machine.proofs.OnOrders.Behind.{IsTimedLed}
 
 -- ---- parts
 
--- the words are none, or the gate is open
+-- there are no words, or the gate is open
 due_words : (turns : List (List ℕ)) (seen : List ℕ) (place : ℕ) (words : List ℕ) (barred : Bool) (part : FormatPart) → IsAtPart turns seen place words barred part → is_next part ≡ false → words ≡ []
 due_words turns seen place words barred Await was due = was.1
 due_words turns seen place words barred Due was due = absurd (false≢true (sym due))
 due_words turns seen place words barred Lay was due = absurd (false≢true (sym due))
 due_words turns seen place words barred Barred was due = was.1
 
--- where a word is due, it is the first, or some were written
+-- if a word is due, it is the first one, or some were written
 pub record IsDueNow (words : List ℕ) (part : FormatPart) : Type 0 where
   pub first : is_first part ≡ true → words ≡ []
   pub later : is_first part ≡ false → 1 ≤ length words
@@ -125,7 +125,7 @@ module _ (scene : Scene) (numbers : Numbers) (lead : ℕ) (late : Past) (drive a
   by_time Stopped is does guards then_is =
       subst (λ b. IsAtDrive scene (stepped late) b after) (sym (ap (λ fdc. is_executing fdc.phase) does.after_is)) (stopped_on (outset_of scene) late drive after whole.disk was is)
 
--- so it is in execution, where NW comes of a protected medium alone
+-- the word time of a FORMAT in execution, after which NW comes of a protected medium alone
 pub in_task : (scene : Scene) (numbers : Numbers) (lead : ℕ) (late : Past) (drive after : DriveState) (polls between : Fdc) (asking : Bool) (fifo : Fifo) → IsScene scene → polls.rate ≡ scene.rate
     → (1 ≤ lead → scene.disk.protected ≡ false) → IsAtDrive scene late true drive → (task : Task) (head_drive steps : ℕ) → MayFormatTask (led lead late) scene.sent.head_drive numbers head_drive steps task asking fifo
     → WritesTask task head_drive steps asking fifo polls drive after between → IsTimedLed (Track numbers) scene lead late between after

@@ -45,7 +45,7 @@ begun_led order scene executes drive whole is = record {
 pub begins : (order : Order) (scene : Scene) (byte : ℕ) (old new : Board) → Outputs 0x3F5 byte old new → CanWarm order scene byte old → WarmsUp order scene new
 begins order scene = begins_on order scene (IsLed order scene) (led_keeps order scene) IsTurningIn (begun_led order scene)
 
--- ---- where the drive was at speed
+-- ---- if the drive was at speed
 
 pub can_warm : (order : Order) (scene : Scene) (byte : ℕ) (board : Board) → CanBegin order scene byte board → CanWarm order scene byte board
 can_warm order scene byte board can = record {

@@ -19,7 +19,7 @@ use Rattle.laws_machine.proofs.OnWrites.Steps.{is_stopped, due_now, opens_due, t
 
 -- ---- a word time in which the medium spins up
 
--- the step is counted that ends the command
+-- the step that ends the command is counted
 stepped_over : (scene : Scene) (late : Past) (drive : DriveState) → late.steps + 1 ≤ 2 * scene.disk.words_per_track → IsAtDrive scene late false drive
     → IsAtDrive scene (stepped late) false drive
 stepped_over scene late drive early was = record {
@@ -73,7 +73,7 @@ module _ (laid : Laid) (scene : Scene) (lead : ℕ) (late : Past) (drive after :
   by_time (Wrote opened closed index word) hears is unprotected over = absurd hears
   by_time Stopped hears is unprotected over = subst (λ b. IsLed (Write laid) scene (stepped (led lead late)) b after) (sym (over refl)) (stops_spinning is)
 
--- it isn't protected where the first step didn't stop
+-- the medium isn't protected if the first step didn't stop the command
 unprotected_spun : (scene : Scene) (lead : ℕ) (late : Past) (drive : DriveState) (steps : ℕ) (time : WordTime) → IsUnheard late
     → IsSpinning scene lead drive → (1 ≤ lead → scene.disk.protected ≡ false)
     → late.steps + lead ≡ steps → (steps ≡ 0 → is_protected drive.medium ≡ true → time ≡ Stopped) → (time ≡ Stopped → ⊥) → scene.disk.protected ≡ false

@@ -14,7 +14,7 @@ use Rattle.laws_machine.proofs.OnReads.EndWords.{words_few}
 use Rattle.laws_machine.proofs.OnReads.IdWords.{IsBrief}
 use Rattle.laws_machine.proofs.OnReads.Words.{hearing_on, hearing_over, length-met}
 
--- ---- where nothing passes
+-- ---- what goes on while no word passes
 
 -- bytes that were moved play no part
 pub led_bytes : (order : Order) (scene : Scene) (drive : DriveState) → IsOfWords (λ past executes. IsLed order scene past executes drive)
@@ -44,7 +44,7 @@ led_less order scene past before now drive less was = record {
   drive_is = elim was.drive_is [ inl spins ↦ inl spins | inr at ↦ inr (drive_on order scene was.late before now drive less at) ];
 }
 
--- once it is over, all is known of the drive that is of a command that began at speed
+-- once the command is over, all is known of the drive that is known for a command that began at speed
 pub led_over : (order : Order) (scene : Scene) (past : Past) (executes : Bool) (drive : DriveState) → IsScene scene
     → (was : IsLed order scene past executes drive) → AtDrive order scene was.late false drive
 led_over order scene past executes drive whole was = elim was.drive_is [

@@ -6,7 +6,7 @@ use Rattle.fdc_stages.specs.History.{begun as new_past}
 use Rattle.fdc_core.proofs.drives.Spinning as spinning
 use Rattle.laws_machine.specs.OnReads.Scenes.{outset_of}
 
--- ---- where no word of the track was heard
+-- ---- if no word of the track was heard
 
 hearing_none : (scene : Scene) (late : Past) (executes : Bool) (drive : DriveState) → IsScene scene → IsTurningIn scene drive
     → (executes ≡ true → 6250 ≤ drive.spin) → IsHearing scene (unheard late) executes drive

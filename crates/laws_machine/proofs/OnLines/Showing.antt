@@ -86,7 +86,7 @@ output_lines port value old new access was =
 
 -- ---- media and drives
 
--- the drive in a bay is set so, and the other one stays
+-- the drive in a bay is set in this way, and the other one stays
 handled_lines : (bay : ℕ) (old new : Board) → bay ≤ 1 → Touches bay old new → (IsSetIfEmpty (drive_in old bay) → IsSetIfEmpty (drive_in new bay)) → AreSetIfEmpty old → AreSetIfEmpty new
 handled_lines zero old new small touches goes was = record { first = goes was.first; second = subst IsSetIfEmpty (sym touches.other) was.second }
 handled_lines (suc zero) old new small touches goes was = record { first = subst IsSetIfEmpty (sym touches.other) was.first; second = goes was.second }

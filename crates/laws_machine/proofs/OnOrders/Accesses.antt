@@ -49,7 +49,7 @@ shows_given (Write laid) scene fdc covered = λ is. covered (read_refuses fdc.ph
 
 -- ---- the channel
 
--- of its flip-flop and its terminal count nothing is known
+-- the channel's flip-flop and its terminal count play no part
 same_grants : (channel : Channel) (high told : Bool) → grants (record channel { high_byte_next = high; terminal_count = told }) ≡ grants channel
 unfolding grants
 same_grants channel high told = refl
@@ -88,7 +88,7 @@ moves_read order scene past memory channel port was = by_port (port == 4 || port
 
 -- ---- reads
 
--- it is as before, or the controller takes commands
+-- the command is as before, or the controller takes commands
 pub record IsReadOn (order : Order) (scene : Scene) (past : Past) (old new : Chips) : Type 0 where
   pub known : IsDoneBy order scene past new
   pub busy : is_executing new.controller.phase ≡ true → is_executing old.controller.phase ≡ true
@@ -109,7 +109,7 @@ by_port order scene past port chips was false d =
     inl (record { known = record { may = was.may; shows = was.shows; dor = was.dor; rate = was.rate; moves = moves_read order scene past chips.memory chips.channel port was.moves }; busy = λ busy. busy })
 
 module _ (order : Order) (scene : Scene) (On : Past → Bool → DriveState → Type 0) (keeps : KeepsOn order scene On) where
-  -- before the gap; or the controller takes commands behind it
+  -- the command is as before when the gap begins; or the controller takes commands after the gap
   pub between_goes : (port value : ℕ) (old new : Board) → Inputs port old value new → IsUnderwayOn On order scene old → IsUnderwayOn On order scene (read_from port old) ⊎ ((controller_of new).phase ≡ phase.Command)
   between_goes port value old new access (past, was) = elim (by_port order scene past port old.bus.chips was.chips (is_controllers port) (port == 0x3F5)) [
     | inl on ↦ inl (

@@ -1,4 +1,4 @@
--- The controller behind the byte that begins a data command.
+-- The controller after the byte that begins a data command.
 use Rattle.std.proofs.Common.{◌≡◌, ℕ, Bool, true, false, List, [], ◌∷◌, ◌++◌, refl, sym, ◌∙◌, ap, subst}
 use Rattle.std.proofs.lemmas.Bool.{false≢true}
 use Rattle.laws_machine.proofs.Common.{Channel, answer, kept, Ready, ReadData, FormatTrack, emptied, seek_bits, Obeys, TakesAs, WaitsAtFirst, asked, Sent, is_executing, is_taking, dor_of, Fdc, Lines, Task, Board, controller_of, lines_of, WritesPort, shown_again, Chips, is_late, Scene, write_of, refuses, Window, Track, Order, Identify, Read, Write, May, Shows, IsDoneBy, IsLast, IsSetFor}

@@ -11,7 +11,7 @@ use Rattle.pc_bus.specs.Transfers.{moved, memory_after}
 use Rattle.laws_machine.proofs.OnReads.Bytes as moving
 use Rattle.laws_machine.proofs.OnReads.Steps.{reads_there}
 
--- of two
+-- the first of two is true
 pub first_true : (a b : Bool) → (a && b) ≡ true → a ≡ true
 first_true true b h = refl
 first_true false b h = absurd cc
@@ -24,7 +24,7 @@ second_true false b h = absurd cc
 pub must_ask : (chips : Chips) → can_move chips ≡ true → chips.controller.asking ≡ true
 must_ask chips can = second_true (is_gated chips.controller) chips.controller.asking (first_true (asks chips.controller) (grants chips.channel) can)
 
--- what was given then; the same words were heard
+-- the bytes that were given after the transfer; the same words were heard
 pub record Fetched (scene : Scene) (past : Past) (old new : Chips) : Type 0 where
   pub given : List ℕ
   pub counted : Bool

@@ -40,7 +40,7 @@ begins_leaving byte old new access same =
     } in
     leaves_on old (gapped access.between) new between (goes_runs LeavesOthers leaving (next_entry access.between.bus.gaps) (gapped access.between) new access.gap.runs)
 
--- so it is where a data command begins
+-- a data command that begins leaves the seeks and the output register as they were
 begin_keeps : (order : Order) (scene : Scene) (byte : ℕ) (old new : Board) (access : Outputs 0x3F5 byte old new) → CanBegin order scene byte old → KeepsSeeks (controller_of old) (controller_of access.between)
 begin_keeps order scene byte old new access can =
     let (has, chips_are) = begun_at order scene byte old access.between access.writes can.last in

@@ -1,5 +1,5 @@
--- Port writes that leave a data command as it is: a byte to the data port, which takes none, one that clears the channel's flip-flop, and a write to a port
--- where nothing answers.
+-- Port writes that leave a data command as it is. They are a byte to the data port, which takes none, a write that
+-- clears the channel's flip-flop, and a write to a port where nothing answers.
 use Rattle.std.proofs.Common.{inl, inr, ◌≡◌, ℕ, ◌==◌, Bool, true, false, refl, sym, ◌∙◌, ap, subst}
 use Rattle.std.proofs.lemmas.Bool.{false≢true}
 use Rattle.laws_machine.proofs.Common.{Channel, Past, is_executing, takes_in, is_held, Fdc, Phase, Board, controller_of, channel_of, drive_in, lines_of, is_controllers, sets_lines, WritesPort, Outputs, shown_again, drive_stays, Scene, IsUnderwayOn, Order, Identify, Read, Write, MayIn, May, AtDrive, IsDoneBy, Underway, Leaves, DriveState}
@@ -14,7 +14,7 @@ use Rattle.laws_machine.proofs.OnOrders.Words.{no_command}
 use Rattle.laws_machine.proofs.OnOrders.Steps.{goes_on, goes_on, at_drive}
 use Rattle.laws_machine.proofs.OnOrders.Behind.{KeepsOn}
 
--- the data port takes no byte
+-- the data port takes no byte in this phase
 taking_in : (p : Phase) → (p ≡ phase.Command → ⊥) → (held : Bool) → takes_in p held ≡ false
 taking_in phase.Command busy held = absurd (busy refl)
 taking_in (phase.Result answer) busy held = refl

@@ -52,7 +52,7 @@ fetching scene fits = record {
   idle = λ old gaps fresh was. was;
 }
 
--- it begins so, and no byte outside the range changes
+-- a READ DATA begins, and no byte outside the range changes
 pub begins : (scene : Scene) (byte : ℕ) (old new : Board) → Outputs 0x3F5 byte old new → CanFetch scene byte old → IsFetching scene new
 begins scene byte old new access can = outputs (IsFetching scene) (fetching scene can.fits) 0x3F5 byte old new (λ between writes.
     let (controller, does, chips_are) = writes.writes.controllers refl in
@@ -90,7 +90,7 @@ record Ends (old new : Chips) : Type 0 where
   phase : new.controller.phase ≡ Command
   idle : is_executing old.controller.phase ≡ false
 
--- by whether the port is the controller's, and its data port
+-- a read of a port, by whether the port is the controller's, and its data port
 abbrev read_by : ℕ → Chips → Bool → Bool → Chips
 read_by port chips b d =
     if b then shown_again (record chips { controller = if d then given chips.controller else chips.controller })
@@ -112,7 +112,7 @@ by_port scene port chips was true false = inl (record { past = was.past; may = w
 by_port scene port chips was false d =
     inl (record { past = was.past; may = was.may; quiet = was.quiet; moved = moves_read Read scene was.past chips.memory chips.channel port was.moved })
 
--- it goes on; or it is over, and the machine stays idle
+-- the command goes on; or it is over, and the machine stays idle
 record IsOver (old new : Board) : Type 0 where
   phase : (controller_of new).phase ≡ Command
   rests : RestsIdle old new

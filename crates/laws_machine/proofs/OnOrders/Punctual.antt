@@ -13,7 +13,7 @@ use Rattle.dma_8237.specs.Channel.{grants}
 use Rattle.fdc_stages.specs.History.{begun as new_past}
 use Rattle.laws_machine.proofs.OnSteps.Stalls.{runs_until}
 
--- it fills its FIFO from memory
+-- a command that writes fills its FIFO from memory
 filling_task : (laid : Laid) (scene : Scene) (past : Past) (head_drive : ℕ) (task : Task) (asking : Bool) (fifo : Fifo)
     → MayLayIn laid scene past (Execute (record { head_drive = head_drive; steps = 0; task = task })) asking fifo → fills_task task ≡ true
 filling_task (Window deleted) scene past head_drive (Write writing) asking fifo may = refl

@@ -36,7 +36,7 @@ told_may : (laid : Laid) (scene : Scene) (past : Past) (fdc : Fdc) → MayLay la
 told_may (Window deleted) scene past fdc may = told_writes past scene.sent deleted fdc.phase fdc.asking fdc.fifo may
 told_may (Track numbers) scene past fdc may = told_formats past scene.sent.head_drive numbers fdc.phase fdc.asking fdc.fifo may
 
--- one that asks is in execution, and takes bytes
+-- a command that asks is in execution, and takes bytes
 record IsTaking (p : Phase) : Type 0 where
   busy : is_executing p ≡ true
   from_memory : is_reading p ≡ false
@@ -63,7 +63,7 @@ taking laid scene past (phase.Execute execution) asking fifo up may =
 abbrev retaken : Past → List ℕ → Bool → Past
 retaken past taken counted = record past { taken = taken; counted = counted }
 
--- to memory
+-- a byte goes to memory
 read_moved : (scene : Scene) (P : Past → Bool → Type 0) → IsOfWords P → scene.address + scene.size ≤ length scene.memory → (chips : Chips) → can_move chips ≡ true → IsDoing Read scene P chips
     → IsDoing Read scene P (moved chips)
 read_moved scene P words fits chips can was =
@@ -80,7 +80,7 @@ read_moved scene P words fits chips can was =
       at = subst (P (record was.past { given = is.given; counted = is.counted })) (sym is.busy) (words.bytes was.past is.given was.past.taken is.counted (is_executing chips.controller.phase) was.at);
     }
 
--- from memory
+-- a byte comes from memory
 laid_moved : (laid : Laid) (scene : Scene) (P : Past → Bool → Type 0) → IsOfWords P → scene.address + scene.size ≤ length scene.memory → (chips : Chips) → chips.controller.asking ≡ true → grants chips.channel ≡ true
     → (was : IsDoing (Write laid) scene P chips) → is_executing chips.controller.phase ≡ true → IsDoing (Write laid) scene P (moved_from_memory chips)
 laid_moved laid scene P words fits chips up granting was busy =
@@ -140,7 +140,7 @@ transfers order scene P words fits = record {
   held = λ chips holding was. record { past = was.past; known = record { may = was.known.may; shows = was.known.shows; dor = was.known.dor; rate = was.known.rate; moves = was.known.moves }; at = was.at };
 }
 
--- of the drive
+-- moved bytes play no part in what is known of the drive
 pub at_bytes : (order : Order) (scene : Scene) (drive : DriveState) → IsOfWords (λ past executes. AtDrive order scene past executes drive)
 at_bytes (Write laid) scene drive = record {
   bytes = λ past given taken counted executes was. laid_on laid scene past (record past { given = given; taken = taken; counted = counted }) executes executes drive drive
@@ -172,11 +172,11 @@ module _ (order : Order) (scene : Scene) (On : Past → Bool → DriveState → 
       (keeps.word_time past old.bus.chips (drive_in old scene.bay) step.between (drive_in new scene.bay) whole was.chips was.drive works) in
       (then_is.past, record { scene_is = whole; chips = then_is.known; drive = then_is.at })
 
-  -- a call that leaves chips and drives is idle
+  -- device steps keep the command underway, and so do calls that leave chips and drives
   pub goes_on : Steady (IsUnderwayOn On order scene)
   goes_on = record { step = step_goes; idle = λ old gaps fresh (past, was). (past, record { scene_is = was.scene_is; chips = was.chips; drive = was.drive }) }
 
-  -- and one that takes the latch
+  -- so does a call that takes the latch
   pub still_goes : (old new : Board) → StandsStill old new → IsUnderwayOn On order scene old → IsUnderwayOn On order scene new
   still_goes old new still (past, was) = (
     past,

@@ -19,14 +19,14 @@ use Rattle.laws_machine.proofs.OnOrders.Behind.{IsDoing, IsBehind, IsTimed, IsTi
 polled_rate : (old : Fdc) → (polled old).rate ≡ old.rate
 polled_rate old = if_both (old.poll_due && not (is_held old)) (record old { poll_due = false; interrupt = true; seeks = with_polls old.seeks }) old (λ z. z.rate ≡ old.rate) refl refl
 
--- it takes no byte
+-- a word time takes no byte
 same_taken : (time : WordTime) (past : Past) (P : List ℕ → Bool → Type 0) → P past.taken past.counted → P (after_time time past).taken (after_time time past).counted
 same_taken (Saw index word) past P was = was
 same_taken (KeptOut index word) past P was = was
 same_taken (Wrote opened closed index word) past P was = was
 same_taken Stopped past P was = was
 
--- where so many words 0000 came first
+-- a word time after `lead` words 0000
 pub timed_led : (laid : Laid) (scene : Scene) (lead : ℕ) (late : Past) (drive after : DriveState) (polls between : Fdc) (asking : Bool) (fifo : Fifo) → IsScene scene → polls.rate ≡ scene.rate
     → IsGuarded (Write laid) scene lead → LaysOn laid scene late true drive → (execution : Execution) → MayLayIn laid scene (led lead late) (Execute execution) asking fifo
     → WritesIn (Execute execution) asking fifo polls drive after between → IsTimedLed laid scene lead late between after
@@ -39,7 +39,7 @@ timed : (laid : Laid) (scene : Scene) (past : Past) (between : Fdc) (after : Dri
 timed laid scene past between after made =
     record { time = made.time; may = subst (λ p. MayLay laid scene (after_time made.time p) between) (led_none past) made.may; covered = made.covered; at = made.at }
 
--- of the words of the track
+-- what word times leave of the words of the track
 pub laying : (laid : Laid) (scene : Scene) → IsScene scene → Laying laid scene (LaysOn laid scene)
 laying laid scene whole = record {
   works = λ past drive after polls between asking fifo rate was execution may does. timed laid scene past between after

@@ -18,8 +18,8 @@ pulse_none seeks track0 none = rw none refl
 
 -- ---- a word
 
--- behind a word that a command in execution listens to: the seeks and the poll are the same, no command writes, and INT is as it was while
--- the command goes on, and rises where it ends
+-- what a word leaves that a command in execution listens to. The seeks and the poll are the same, and no command
+-- writes. INT is as it was while the command goes on, and rises when the command ends.
 pub record Heard (old new : Fdc) : Type 0 where
   pub seeks : new.seeks ≡ old.seeks
   pub listens : only_listens new.phase ≡ true

@@ -29,7 +29,7 @@ rested old new track0 idle rests = rests_stayed old.phase old new track0 idle (s
 
 -- ---- INT
 
--- INT stays low where no seek runs and no poll is to come
+-- INT stays low if no seek runs and no poll is to come
 record StaysLow (new : Fdc) : Type 0 where
   low : new.interrupt ≡ false
   polled : new.poll_due ≡ false

@@ -85,7 +85,7 @@ listens_told (Execute execution) = in_task execution.task
     in_task (Write writing) = refl
     in_task (Format formatting) = refl
 
--- the FIFO's mode alone has to be looked at
+-- only the FIFO's mode has to be looked at
 pub like_mode : (old new : Fdc) → new.seeks ≡ old.seeks → new.dor ≡ old.dor → new.non_dma ≡ old.non_dma → new.polling ≡ old.polling
     → new.data_commands ≡ old.data_commands
     → new.fifo.on ≡ old.fifo.on → new.fifo.threshold ≡ old.fifo.threshold → IsLike old new
@@ -112,7 +112,7 @@ holding begun start = by_bytes (HoldsOn begun start)
 
 -- ---- the device step
 
--- a device step of the drives, and the controller behind its word time
+-- a device step of the drives, and the controller after its word time
 pub record WorksOn (begun : ℕ) (start : Fdc) (old new : Board) (between : Fdc) : Type 0 where
   pub controller : HoldsOn begun start between
   pub drives : HaveTurned old new

@@ -1,4 +1,4 @@
--- Drives that turn on.
+-- Drives that go on turning.
 use Rattle.std.proofs.Common.{◌≡◌, ℕ, ◌+◌, ◌<◌, ◌≤◌, ◌==◌, ◌&&◌, nat_lt, Bool, true, false, Option, None, if◌then◌else◌, refl, sym, ◌∙◌, ap, subst, arith}
 use Rattle.laws_machine.proofs.Common.{spends_twice, DriveState, Becomes, at_speed, turns, track_words, let_pass, Moves, Turned}
 use Rattle.laws_machine.proofs.Facts.{different, spin_on}

@@ -38,7 +38,7 @@ still_busy Command busy = busy
 still_busy (Execute execution) busy = refl
 still_busy (Result answer) busy = absurd (false≢true busy)
 
--- the results tell no more of steps
+-- if the results don't report that all steps were taken, they don't report it after a read of the data port either
 pub calm_read : (phase : Phase) → is_late phase ≡ false → is_late (phase_after phase) ≡ false
 calm_read = given_down is_late refl (λ next last. refl) (λ ending results taken. refl)
 

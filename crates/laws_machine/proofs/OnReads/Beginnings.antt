@@ -1,4 +1,4 @@
--- A command that listens and begins behind port accesses.
+-- A command that listens and begins after port accesses.
 use Rattle.std.proofs.Common.{◌≡◌, ℕ, ◌+◌, ◌%◌, ◌<◌, ◌≤◌, ◌==◌, Bool, true, false, [], ◌∷◌, ◌++◌, length, min, if◌then◌else◌, refl, sym, ◌∙◌, ap, subst, arith}
 use Rattle.laws_machine.proofs.Common.{last_count, Disk, track_words, Channel, writes_memory, answer, Sent, is_listening, Fdc, Task, next_entry, counted, Board, controller_of, channel_of, drive_in, memory_of, Outputs, drive_stays, Turned, HaveTurned, HoldsOn, GoesQuietly, Setting, Stands, Order, Identify, Read, Write, May, IsSetFor, IsLast, CanBegin, seek_bits, is_taking, Command, Scene, IsSet}
 use Rattle.dma_8237.specs.SetUp.{IsSetUp}
@@ -110,7 +110,7 @@ listening Read is scene old new has = listens_task new_past scene.sent scene.sen
 listening Identify is scene old new has = listens_id new_past scene.sent.head_drive scene.sent.head_drive 0 has.task (subst (May Identify scene new_past) has.after has.may)
 listening (Write laid) is scene old new has = absurd is
 
--- the last byte's write counts one data command
+-- the write of the last byte counts one data command
 pub begins_quietly : (order : Order) → Listens order → (count : ℕ) (start : Board) (scene : Scene) (byte : ℕ) (old new : Board) → Outputs 0x3F5 byte old new → CanBegin order scene byte old
     → GoesQuietly count start old → GoesQuietly (counted count) start new
 begins_quietly order listens count start scene byte old new access can was =

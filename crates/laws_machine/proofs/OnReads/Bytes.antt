@@ -1,4 +1,4 @@
--- One more byte in memory, and the channel behind it.
+-- One more byte in memory, and the channel after it.
 use Rattle.std.proofs.Common.{◌≡◌, ◌⊎◌, inl, inr, ℕ, ◌+◌, ◌-◌, ◌%◌, ◌<◌, ◌≤◌, ◌==◌, Bool, true, false, List, [], ◌∷◌, ◌++◌, length, slice_set, if◌then◌else◌, refl, sym, ◌∙◌, subst, arith}
 use Rattle.std.proofs.Math.ListN.{get_or-append, length-set}
 use Rattle.std.proofs.lemmas.List.{get_or_push, get_or-set_other}
@@ -11,7 +11,7 @@ use Rattle.dma_8237.specs.Channel.{grants}
 early_or_last : (i n : ℕ) → i < n + 1 → (i < n) ⊎ (i ≡ n)
 early_or_last i n h = grind (arith, nat_tests)
 
--- one more byte behind the others
+-- one more byte behind the others in memory
 bytes_more : (old : List ℕ) (address : ℕ) (bytes new : List ℕ) (byte place : ℕ) → HasBytes address bytes old new
     → place ≡ address + length bytes → address + length bytes < length old → HasBytes address (bytes ++ byte ∷ []) old (slice_set new place byte)
 bytes_more old address bytes new byte place was here room = record {
@@ -28,7 +28,7 @@ bytes_more old address bytes new byte place was here room = record {
 
 -- ---- the channel
 
--- it goes on behind the byte
+-- the channel goes on behind the byte
 set_more : (channel : Channel) (address left : ℕ) → IsSet channel address left → (channel.count == 0) ≡ false
     → IsSet (after_transfer channel) (address + 1) (left - 1)
 set_more channel address left set more = record {

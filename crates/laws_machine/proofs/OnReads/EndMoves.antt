@@ -1,4 +1,4 @@
--- The transfers behind the word time of a READ DATA that ends soon.
+-- The transfers after the word time of a READ DATA that ends soon.
 use Rattle.std.proofs.Common.{◌≡◌, ◌⊎◌, inl, inr, ℕ, ◌+◌, ◌-◌, ◌*◌, ◌≤◌, ◌==◌, ◌&&◌, ◌||◌, not, nat_le, nat_lt, Bool, true, false, [], length, drop, if◌then◌else◌, refl, sym, ◌∙◌, ap, subst, arith}
 use Rattle.std.proofs.lemmas.Bool.{and_from, cases_lt, cond_both, cond-true, eqb-false, false_from_ne_true, false≢true, lt-ltb}
 use Rattle.laws_machine.proofs.Common.{Rose, Fifo, room_of, worth_fetching, ReadStage, fifo_told, taken_out, to_memory_of, phase_asks, task_asks, phase_told, is_executing, is_over, is_reading, asks, is_gated, phase_counted, Fdc, Phase, Command, Execute, Result, Task, next_entry, Holds, IsShort, is_due, looked, shown, waited, counted, DmaRequest, Low, High, can_move, moved_to_memory, moved_from_memory, told_if, looked_at, shown_again, Chips, IsRuled, lingers, task_lingers, steps_taken, wait_left, most_steps_of, IsSoonOver}
@@ -13,7 +13,7 @@ use Rattle.laws_machine.proofs.OnReads.EndWords.{IsReadingAt, HasEnded}
 
 -- ---- how a request is dealt with
 
--- it isn't granted now, or bytes are moved
+-- the request isn't granted now, or bytes are moved
 pub data Dealt (chips : Chips) : Chips → Type 0 where
   Waits : (is_due (looked_at chips).holding.request ≡ false) ⊎ (grants chips.channel ≡ false) → Dealt chips (looked_at chips)
   Moves : Dealt chips (shown_again (moved_up_to 16 (looked_at chips)))
@@ -23,7 +23,7 @@ unfolding dma_stepped granted
 dealt chips = cond_both (is_due (looked_at chips).holding.request) _ _ (Dealt chips)
     (λ due. cond_both (grants chips.channel) _ _ (Dealt chips) (λ granting. Moves) (λ masked. Waits (inr masked))) (λ idle. Waits (inl idle))
 
--- ---- holds are bytes
+-- ---- DMA latencies are bytes
 
 waits_or_stalls : (request : DmaRequest) (old : Holds) → IsShort request → IsShort (waited request old).request ⊎ Rose old.stalls (waited request old).stalls
 waits_or_stalls Low old short = elim (cases_lt 8 (next_entry old.entries)) [
@@ -32,7 +32,7 @@ waits_or_stalls Low old short = elim (cases_lt 8 (next_entry old.entries)) [
 ]
 waits_or_stalls (High left) old short = inl (omega arith)
 
--- a hold that isn't a byte counts as a stall
+-- a DMA latency that isn't a byte counts as a late DMA
 pub looks_or_stalls : (line : Bool) (old : Holds) → IsShort old.request → IsShort (looked line old).request ⊎ Rose old.stalls (looked line old).stalls
 looks_or_stalls true old short = waits_or_stalls old.request old short
 looks_or_stalls false old short = inl tt
@@ -41,7 +41,7 @@ pub request_short : (line : Bool) (old : Holds) → IsShort old.request → IsSh
 request_short true old short = short
 request_short false old short = tt
 
--- what the transfers leave of the holds
+-- what the transfers leave of the DMA latencies
 pub dealt_holding : (P : Holds → Type 0) → ((line : Bool) (old : Holds) → P old → P (shown line old)) → (chips new : Chips) → Dealt chips new
     → P (looked_at chips).holding → P new.holding
 dealt_holding P shows chips new (Waits why) was = was
@@ -125,7 +125,7 @@ asks_over (Execute execution) asking fifo over some = in_task execution.task ove
 pub asks_up : (fdc : Fdc) → is_gated fdc ≡ true → IsRuled fdc → lingers fdc.phase ≡ true → (length fdc.fifo.bytes == 0) ≡ false → asks fdc ≡ true
 asks_up fdc gated ruled over some = and_from (is_gated fdc) fdc.asking gated (ruled.rule ∙ asks_over fdc.phase fdc.asking fdc.fifo over some)
 
--- ---- behind the word time
+-- ---- after the word time
 
 pub record IsBehind (words steps : ℕ) (chips : Chips) : Type 0 where
   pub stage : ReadStage

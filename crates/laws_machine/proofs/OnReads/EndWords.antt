@@ -16,7 +16,7 @@ use Rattle.laws_machine.specs.OnReads.Ends.{ends_late, is_late}
 
 -- ---- words heard
 
--- with one index at most, no more than two turns
+-- with one index at most, there are no more than two revolutions
 pub words_few : (track : List ℕ) (from : ℕ) (turns : List (List ℕ)) (seen : List ℕ) → IsHeardFrom track from turns seen → length turns ≤ 1
     → words_in turns seen ≤ 2 * length track
 words_few track from [] seen heard few = let inside = heard.now.inside in omega arith
@@ -25,14 +25,15 @@ words_few track from (turn ∷ second ∷ turns) seen heard few = absurd (omega 
 
 -- ---- what a word leaves
 
--- a READ DATA is in execution at a stage, after so many steps, and its FIFO is empty where the terminal count came
+-- a READ DATA is in execution at a stage, after so many steps; its FIFO is empty if the terminal count came
 pub record IsReadingAt (steps : ℕ) (stage : ReadStage) (fdc : Fdc) : Type 0 where
   pub head_drive : ℕ
   pub reading : Reading
   pub phase : fdc.phase ≡ Execute (record { head_drive = head_drive; steps = steps; task = Read (at_stage reading stage) })
   pub drained : reading.counted ≡ true → fdc.fifo.bytes ≡ []
 
--- it was in this phase, and goes on: where the field is over bytes wait, and they are those from before where it was over then
+-- the command was in this phase, and goes on. If the field is over, bytes wait; if it was over before, they are those
+-- from before.
 pub record GoesOn (phase : Phase) (old new : Fdc) : Type 0 where
   pub busy : is_executing phase ≡ true
   pub stage : ReadStage
@@ -41,7 +42,7 @@ pub record GoesOn (phase : Phase) (old new : Fdc) : Type 0 where
   pub some : is_over stage ≡ true → (length new.fifo.bytes == 0) ≡ false
   pub same : lingers phase ≡ true → new.fifo.bytes ≡ old.fifo.bytes
 
--- it is over, and not for want of steps
+-- the command is over, and not for want of steps
 pub record HasEnded (new : Fdc) : Type 0 where
   pub idle : is_executing new.phase ≡ false
   pub calm : is_late new.phase ≡ false
@@ -94,7 +95,7 @@ heard_word head_drive steps reading old drained room index word (given.Byte stag
     (λ free. gone head_drive steps reading old (pushed value old) (λ counted. absurd (false≢true (sym uncounted ∙ counted))) (room_on old.fifo.bytes value (room_of old.fifo.on) room free)
     (λ over. absurd (never stage value hears over)) stage))
 
--- behind the field no byte is told
+-- after the field no further byte is reported
 over_length : (past : Past) (key : Chrn) (told : List ℕ) (stage : ReadStage) → is_over stage ≡ true → IsReading past key told stage
     → length told ≡ content_size key.n
 over_length past key told (stages.Over deleted good) over reads = over_full past key told deleted good reads
@@ -115,7 +116,7 @@ pub record IsHeld (phase : Phase) (fdc : Fdc) : Type 0 where
   pub drained : phase_counted phase ≡ true → fdc.fifo.bytes ≡ []
   pub room : length fdc.fifo.bytes ≤ room_of fdc.fifo.on
 
--- while its field wasn't over it heard each word, of two turns at most
+-- while its field wasn't over, the command heard each word, of two revolutions at most
 few_task : (words : ℕ) (past : Past) (sent : Sent) (head_drive steps : ℕ) (task : Task) (asking : Bool) (bytes : List ℕ)
     → MayReadTask past sent head_drive steps task asking bytes
     → IsPaced past steps (is_hearing task) → (HasFewTurns past → words_heard past ≤ 2 * words) → task_lingers task ≡ false → steps ≤ 2 * words

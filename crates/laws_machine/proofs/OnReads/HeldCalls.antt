@@ -31,7 +31,7 @@ same_busy Command busy = refl
 same_busy (Execute execution) busy = refl
 same_busy (Result answer) busy = absurd (false≢true busy)
 
--- the request where DRQ is shown again
+-- the request after DRQ is shown again
 ready_shown : (line : Bool) (holding : Holds) (slack : ℕ) → (line ≡ false → 9 ≤ slack) → IsReady holding.request slack → IsReady (shown line holding).request slack
 ready_shown true holding slack low was = was
 ready_shown false holding slack low was = low refl

@@ -21,7 +21,7 @@ pub listens_id : (past : Past) (sent head_drive steps : ℕ) (task : Task) → M
 listens_id past sent head_drive steps (ReadId search) was = refl
 listens_id past sent head_drive steps _ was = absurd was
 
--- it never asks for DMA
+-- a READ ID never asks for DMA
 low_task : (past : Past) (sent head_drive steps : ℕ) (task : Task) (asking : Bool) (fifo : Fifo) → MayReadIdTask past sent head_drive steps task
     → phase_asks (Execute (record { head_drive = head_drive; steps = steps; task = task })) asking fifo ≡ false
 low_task past sent head_drive steps (ReadId search) asking fifo was = refl

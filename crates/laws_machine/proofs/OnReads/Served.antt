@@ -76,7 +76,7 @@ some_room (Execute execution) asking fifo is up = room_task execution.task askin
 
 -- ---- one byte
 
--- by the rule, with fewer bytes to move
+-- DRQ goes by the rule, and there are fewer bytes to move
 pub record GoesOnFewer (phase : Phase) (asking : Bool) (fifo : Fifo) (before : ℕ) : Type 0 where
   pub ruled : GoesByRule phase asking fifo
   pub fewer : moves_left phase fifo + 1 ≤ before
@@ -122,7 +122,7 @@ in_fewer phase asking fifo byte is up was =
       fewer = omega arith;
     })
 
--- TC leaves no more
+-- TC leaves no more bytes to move
 told_task_ruled : (head_drive steps : ℕ) (task : Task) (asking : Bool) (fifo : Fifo) (before : ℕ)
     → GoesOnFewer (Execute (record { head_drive = head_drive; steps = steps; task = task })) asking fifo before
     → GoesOnFewer (Execute (record { head_drive = head_drive; steps = steps; task = task_told task }))

@@ -37,7 +37,7 @@ moves_faults (Some inward) before after (between, pulses, is) =
       | inr lost ↦ (let first = lost.0.never_falls in omega arith)
     ]
 
--- what is known behind the word time
+-- what is known after the word time
 abbrev pub IsBetween : Scene → Chips → Fdc → DriveState → Type 0
 IsBetween scene chips between after = IsBehind order.Read scene (record chips { controller = between }) after
 
@@ -61,7 +61,7 @@ read_hearkens scene past (Execute execution) asking fifo was =
     (sent_task past scene.sent execution.head_drive execution.steps execution.task asking fifo was, listens_task past scene.sent execution.head_drive execution.steps execution.task asking fifo was)
 read_hearkens scene past _ asking fifo was = tt
 
--- what it hears goes on, and rests once it is over
+-- what the command hears goes on, and rests once the command is over
 pub heard_at : (scene : Scene) (P : Past → Bool → DriveState → Type 0) → Listening scene P → (past : Past) (old between : Fdc) (drive after : DriveState) → old.rate ≡ scene.rate → (phase : Phase) → (polled old).phase ≡ phase
     → Hearkens scene phase → P past (is_executing phase) drive → (steps : StepHears phase (polled old) (at_index drive) old drive after between)
     → RestsIn phase (drive.cylinder == 0) (polled old) between → MovesIn phase (polled old) drive after
@@ -76,7 +76,7 @@ heard_at scene P listening past old between drive after rate Command is hearkens
 heard_at scene P listening past old between drive after rate (Result answer) is hearkens hears steps rests moves =
     subst (λ b. P past b after) (sym (ap is_executing (ap (λ fdc. fdc.phase) rests ∙ is))) (listening.rests past drive after hears (moves_faults _ drive after moves))
 
--- by the order
+-- what a command hears, by its order
 pub listened_as : (order : Order) (scene : Scene) (P : Past → Bool → DriveState → Type 0) → Listening scene P → (past : Past) (chips : Chips) (drive : DriveState) (between : Fdc) (after : DriveState) → IsDoneBy order scene past chips
     → P past (is_executing chips.controller.phase) drive → (works : Works chips.controller drive between after) → Hearkens scene chips.controller.phase
     → (now : Past) → now ≡ past_after (is_executing chips.controller.phase) (at_index drive) works.reads.word past → May order scene now between → Shows order scene between → Moved order scene now chips.memory chips.channel
@@ -99,7 +99,7 @@ listened scene P listening past chips drive between after known hears works =
     (still_quiet old.phase (drive.cylinder == 0) old between (polled_phase old) known.shows (subst (λ phase. RestsIn phase (drive.cylinder == 0) (polled old) between) (polled_phase old) works.rests) works.flows)
     (same_given (is_executing old.phase) (at_index drive) works.reads.word past (λ given counted. IsMoved scene given counted chips.memory chips.channel) known.moves)
 
--- of the words of the track
+-- what a command hears is of the words of the track
 pub listening : (scene : Scene) → IsScene scene → Listening scene (IsHearing scene)
 listening scene whole = record {
   hears = λ past drive after word executes hears sees becomes. hearing_on scene past drive after word executes whole.disk hears sees becomes;
@@ -110,7 +110,7 @@ pub word_time : (scene : Scene) (past : Past) (chips : Chips) (drive : DriveStat
     → IsHearing scene past (is_executing chips.controller.phase) drive → Works chips.controller drive between after → IsBetween scene chips between after
 word_time scene past chips drive between after whole known hears works = listened scene (IsHearing scene) (listening scene whole) past chips drive between after known hears works
 
--- ---- the transfers behind it
+-- ---- the transfers after the word time
 
 -- a READ DATA in execution reads
 pub reads_there : (past : Past) (sent : Sent) (phase : Phase) (asking : Bool) (fifo : List ℕ) → MayReadIn past sent phase asking fifo → is_executing phase ≡ true → is_reading phase ≡ true

@@ -74,7 +74,7 @@ few_bytes (Execute execution) asking fifo is eight low = few_task execution.task
 worth_is : (fifo : Fifo) → fifo.on ≡ true → fifo.threshold ≡ 8 → worth_fetching fifo ≡ 8
 worth_is fifo on eight = rw (on, eight) refl
 
--- with its line low
+-- the slack while the line is low
 pub slack_low : (chips : Chips) → HasMode chips.controller → chips.controller.asking ≡ phase_asks chips.controller.phase chips.controller.asking chips.controller.fifo
     → is_reading chips.controller.phase ≡ true → asks chips.controller ≡ false → 9 ≤ slack_of chips.controller
 slack_low chips mode rule reading low =
@@ -102,7 +102,7 @@ ready_one (High left) slack enough = let some = enough.0 in let all = enough.1 i
 
 -- ---- the transfers
 
--- the channel doesn't grant: the request is looked at alone
+-- if the channel doesn't grant, the request is looked at alone
 idle_dma : (chips : Chips) → grants chips.channel ≡ false → dma_stepped chips ≡ looked_at chips
 idle_dma chips masked = by_request (λ c. c ≡ looked_at chips) chips (λ _. refl) (λ _. refl) (λ granting. absurd (false≢true (sym masked ∙ granting)))
 
@@ -144,7 +144,7 @@ timely_dma chips granting mode ruled reading room enough = by_request IsEmptiedI
     })
     (λ masked. absurd (false≢true (sym masked ∙ granting))) (λ _. timely_served (looked_at chips) mode ruled reading room)
 
--- the channel doesn't grant
+-- a READ DATA in time, if the channel doesn't grant
 timely_idle : (chips : Chips) → grants chips.channel ≡ false → HasMode chips.controller
     → chips.controller.asking ≡ phase_asks chips.controller.phase chips.controller.asking chips.controller.fifo → IsEmptiedInTime (dma_stepped chips)
 timely_idle chips masked mode rule = subst IsEmptiedInTime (sym (idle_dma chips masked)) (record {
@@ -157,7 +157,7 @@ timely_idle chips masked mode rule = subst IsEmptiedInTime (sym (idle_dma chips 
 
 -- ---- the device step
 
--- what the transfers make of what stands behind the word time
+-- what the transfers make of what stands after the word time
 behind : (chips : Chips) (before : ℕ) → HasMode chips.controller → is_reading chips.controller.phase ≡ true
     → chips.controller.asking ≡ phase_asks chips.controller.phase chips.controller.asking chips.controller.fifo
     → before ≤ slack_of chips.controller + 1 → (grants chips.channel ≡ true → IsReady chips.holding.request before × (length chips.controller.fifo.bytes ≤ 16))

@@ -40,13 +40,13 @@ one_byte P told out into chips was = by_way (to_memory_of chips.controller)
     by_way false = if_told P told (chips.channel.count == 0) (taken_in (byte_read chips.channel chips.memory) chips.controller)
         (into (byte_read chips.channel chips.memory) chips.controller was)
 
--- what bytes and TC keep of the controller, each transfer keeps
+-- each transfer keeps what bytes and TC keep of the controller
 pub by_bytes : (P : Fdc → Type 0) → ((fdc : Fdc) → P fdc → P (told_count fdc)) → ((fdc : Fdc) → P fdc → P (taken_out fdc))
     → ((byte : ℕ) (fdc : Fdc) → P fdc → P (taken_in byte fdc))
     → Transferred (λ chips. P chips.controller)
 by_bytes P told out into = record { one = one_byte P told out into; held = λ chips holding was. was }
 
--- and so it is with what TC keeps of the phase
+-- each transfer keeps what TC keeps of the phase
 pub by_phase : {V : Type 0} (F : Phase → V) → ((phase : Phase) → F (phase_told phase) ≡ F phase) → (value : V)
     → Transferred (λ chips. F chips.controller.phase ≡ value)
 by_phase F told value = by_bytes (λ fdc. F fdc.phase ≡ value) (λ fdc is. told fdc.phase ∙ is) (λ fdc is. is) (λ byte fdc is. is)
@@ -63,7 +63,7 @@ controller_dma F told out into chips =
     served (λ c. F c.controller ≡ F chips.controller) (by_bytes (λ fdc. F fdc ≡ F chips.controller)
     (λ fdc is. told fdc ∙ is) (λ fdc is. out fdc ∙ is) (λ byte fdc is. into byte fdc ∙ is)) chips refl
 
--- ---- phases behind TC
+-- ---- phases after TC
 
 told_overrun : (phase : Phase) → is_overrun (phase_told phase) ≡ is_overrun phase
 told_overrun Command = refl
@@ -87,7 +87,7 @@ dma_executing value chips was = phase_dma is_executing told_busy chips ∙ was
 pub dma_overrun : (value : Bool) (chips : Chips) → is_overrun chips.controller.phase ≡ value → is_overrun (dma_stepped chips).controller.phase ≡ value
 dma_overrun value chips was = phase_dma is_overrun told_overrun chips ∙ was
 
--- ---- the mode of the FIFO behind TC and behind a byte
+-- ---- the mode of the FIFO after TC and after a byte
 
 pub byte_on : (full : Bool) (fifo : Fifo) (bytes : List ℕ) → (if full then fifo else record fifo { bytes = bytes }).on ≡ fifo.on
 byte_on true fifo bytes = refl
@@ -106,7 +106,7 @@ dma_controller F told out into value chips was = controller_dma F told out into 
 pub dma_dor : (value : ℕ) (chips : Chips) → dor_of chips.controller ≡ value → dor_of (dma_stepped chips).controller ≡ value
 dma_dor value chips was = dma_controller dor_of (λ fdc. refl) (λ fdc. refl) (λ byte fdc. refl) value chips was
 
--- where DRQ is low nothing is moved
+-- if DRQ is low, nothing is moved
 pub idle_dma : (chips : Chips) → chips.controller.asking ≡ false → dma_stepped chips ≡ record chips { holding = record chips.holding { request = Low } }
 unfolding dma_stepped
 idle_dma chips low = by_line (asks chips.controller) (ap (λ b. is_gated chips.controller && b) low ∙ and_right (is_gated chips.controller) false refl)
@@ -117,7 +117,7 @@ idle_dma chips low = by_line (asks chips.controller) (ap (λ b. is_gated chips.c
     by_line true is = absurd (false≢true (sym is))
     by_line false is = refl
 
--- ---- while it takes commands, device steps keep it so
+-- ---- while the controller takes commands, device steps keep it so
 
 rests_command : (old between : Fdc) (track0 : Bool) → old.phase ≡ Command → RestsIn (polled old).phase track0 (polled old) between → between.phase ≡ Command
 rests_command old between track0 is rests =

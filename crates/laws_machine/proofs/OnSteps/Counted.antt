@@ -4,7 +4,7 @@ use Rattle.laws_machine.proofs.Common.{last_count, Board, Acts, Goes, Lasting}
 use Rattle.laws_machine.specs.OnSteps.Ends.{Counts}
 use Rattle.laws_machine.proofs.OnSteps.Moves.{lasts}
 
--- no act counts as one
+-- no act counts as a device step
 same_steps : (old new : Board) → Acts old new → new.bus.steps ≡ old.bus.steps
 same_steps old new (Acts.Idles gaps fresh) = refl
 same_steps old new (Acts.Reads port) = refl

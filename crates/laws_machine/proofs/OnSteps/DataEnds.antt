@@ -1,4 +1,4 @@
--- A data command ends in time, whatever is done meanwhile.
+-- A data command ends in time, whatever is done in the meantime.
 use Rattle.std.proofs.Common.{◌≡◌, ◌⊎◌, inl, inr, ℕ, suc, ◌+◌, ◌-◌, ◌≤◌, ◌==◌, nat_le, min, Bool, true, false, Option, Some, None, List, [], ◌∷◌, ◌++◌, if◌then◌else◌, refl, sym, ◌∙◌, ap, subst, arith}
 use Rattle.std.proofs.lemmas.Bool.{false≢true}
 use Rattle.std.proofs.lemmas.Bool.Decides.{nat_tests}
@@ -47,7 +47,7 @@ shows_moved left begun chips was = by_way (to_memory_of chips.controller)
     by_way true = by_last (chips.channel.count == 0) (taken_out chips.controller) (record { steps = was.steps; counted = was.counted; count = was.count })
     by_way false = by_last (chips.channel.count == 0) (taken_in (byte_read chips.channel chips.memory) chips.controller) (record { steps = was.steps; counted = was.counted; count = was.count })
 
--- a step is over, and behind it the count of a data command in execution is below 65,536
+-- a step is over, and after it the count of a data command in execution is below 65,536
 record Falls (old new : Phase) : Type 0 where
   steps : steps_left new ≤ steps_left old - 1
   counted : IsCounted new
@@ -92,7 +92,7 @@ pub record Keeps (old new : Phase) : Type 0 where
   pub left : steps_left new ≤ steps_left old
   pub counted : IsCounted old → IsCounted new
 
--- so it is, or a data command began
+-- the data command in execution is the same as before, or a data command began
 pub data Holds (old : Fdc) (new : Fdc) : Type 0 where
   Same : new.data_commands ≡ old.data_commands → Keeps old.phase new.phase → Holds old new
   Began : new.data_commands ≡ min (old.data_commands + 1) last_count → Holds old new
@@ -245,7 +245,7 @@ elapses : (old new : Board) (n : ℕ) → Goes old n new → Elapses old n new
 elapses old new n goes =
     lasts (Elapses old) (elapsing old) old new n goes (record { rises = omega arith; left = inl (record { left = omega arith; counted = λ why. elim why [ inl was ↦ was | inr some ↦ absurd (omega arith) ] }) })
 
--- where none is left it is over
+-- if no step is left, the command is over
 over_of : (p : Phase) → IsCounted p → steps_left p ≡ 0 → is_executing p ≡ false
 over_of phase.Command counted none = refl
 over_of (phase.Result answer) counted none = refl
@@ -262,14 +262,14 @@ ends_by old new n goes why many = elim (elapses old new n goes).left [
   | inr rose ↦ inr rose
 ]
 
--- behind as many device steps as were left of it
+-- the command is over after as many device steps as were left of it
 pub data_ends : (old new : Board) (n : ℕ) → Goes old n new → IsCounted (controller_of old).phase → steps_left (controller_of old).phase ≤ n → IsOver old new
 data_ends old new n goes counted many = ends_by old new n goes (inl counted) many
 
--- behind 65,536 in any case
+-- the command is over after 65,536 device steps in any case
 pub data_ends_in_time : (old new : Board) (n : ℕ) → Goes old n new → 65536 ≤ n → IsOver old new
 data_ends_in_time old new n goes many = let most = most_left (controller_of old).phase in ends_by old new n goes (inr (omega arith)) (omega arith)
 
--- so it is on the way, behind 65,536
+-- a course of 65,536 device steps or more passes a board on which the command is over, after at most 65,536 of them
 pub data_over : (old new : Board) (n : ℕ) → Goes old n new → 65536 ≤ n → Meets (IsOver old) 65536 old n new
 data_over old new n goes many = meets_behind (IsOver old) 65536 n old new (λ mid first. data_ends_in_time old mid 65536 first (omega arith)) goes many

@@ -1,5 +1,5 @@
--- The word time of a device step, at both drives: what holds of a drive over a word that passes after a pulse or without one, over one
--- that is heard, and over a word time of a command that records.
+-- The word time of a device step, at both drives. What holds of a drive over a word that passes after a pulse or
+-- without one, over a word that is heard, and over a word time of a command that records.
 use Rattle.std.proofs.Common.{ℕ, ◌/◌, ◌%◌, Bool, Option, None, subst}
 use Rattle.laws_machine.proofs.Common.{Becomes, DriveState, Fifo, let_pass, is_listening, polled, Moves, MovesIn, MovesTask, WordTime, IsTime, WritesIn, WritesTask, Fdc, Phase, Command, Execute, Result, Task, ReadId, Format, DataRate, Board, controller_of, Works, Step}
 use Rattle.laws_machine.proofs.Facts.{polled_phase}

@@ -1,4 +1,4 @@
--- How long calls last, beside the gaps behind port accesses.
+-- How long calls last, besides the gaps after port accesses.
 use Rattle.std.proofs.Common.{◌≡◌, ℕ, zero, suc, ◌+◌, ◌≤◌, Bool, List, [], ◌∷◌, refl, ◌∙◌, ap, arith}
 use Rattle.laws_machine.proofs.Common.{next_entry, rest_of, Board, RunsGap, Inputs, Outputs, Waits, stirred, irq_taken, regapped, read_from, Acts, Goes}
 use Rattle.pc_bus.specs.Handling.{Touches, byte_set}
@@ -10,13 +10,13 @@ use Rattle.laws_machine.proofs.OnSteps.Runs.{unset_runs}
 
 -- ---- gaps
 
--- device steps use none up
+-- device steps use up no gap
 runs_gaps : (n : ℕ) (old new : Board) → Runs n old new → new.bus.gaps ≡ old.bus.gaps
 unfolding Runs
 runs_gaps zero old new same = ap (λ b. b.bus.gaps) same
 runs_gaps (suc n) old new (between, runs, step) = ap (λ bus. bus.gaps) step.bus ∙ runs_gaps n old between runs
 
--- an access uses up the next one
+-- an access uses up the next gap
 gap_gaps : (between new : Board) → RunsGap between new → new.bus.gaps ≡ rest_of between.bus.gaps
 gap_gaps between new gap = runs_gaps (next_entry between.bus.gaps) (regapped (rest_of between.bus.gaps) between.bus.fresh between) new gap.runs
 
@@ -61,7 +61,7 @@ lasts_set address value old = lasts_act old (record old { bus = byte_set address
 pub lasts_handled : (bay : ℕ) (old new : Board) → Touches bay old new → Lasts 0 old new
 lasts_handled bay old new touches = lasts_act old new (Acts.Handles bay new touches) (ap (λ bus. bus.gaps) touches.bus)
 
--- ---- one behind another
+-- ---- one call after another
 
 pub lasts_none : (old : Board) → Lasts 0 old old
 lasts_none old = record { steps = 0; goes = Goes.Stays; few = omega arith }

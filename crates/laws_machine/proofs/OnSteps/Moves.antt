@@ -1,11 +1,11 @@
--- Every call is a course, and what each step and each act carries on holds at the end of every course.
+-- Every call is a course. What each step and each act carries on holds at the end of every course.
 use Rattle.std.proofs.Common.{◌≡◌, inl, inr, ℕ, suc, ◌+◌, ◌≤◌, Bool, List, sym, ap, subst, arith}
 use Rattle.std.proofs.lemmas.Bool.{cases_lt}
 use Rattle.laws_machine.proofs.Common.{next_entry, Board, Inputs, Outputs, Step, Waits, stirred, regapped, Marching, Meets, read_from, Acts, Goes, Lasting}
 use Rattle.pc_bus.specs.Steps.{Runs, RunsUnset}
 use Rattle.laws_machine.proofs.OnSteps.Runs.{unset_runs, march_wait, march_gap}
 
--- the only induction
+-- the only induction: what is carried on holds at the end of a course
 pub lasts : (P : ℕ → Board → Type 0) → Lasting P → (old new : Board) (n : ℕ) → Goes old n new → P 0 old → P n new
 lasts P lasting old new n Goes.Stays was = was
 lasts P lasting old new n (Goes.Does m between last goes acts) was = lasting.act m between last acts (lasts P lasting old between m goes was)
@@ -18,7 +18,7 @@ going start = record {
   idle = λ n old gaps fresh goes. Goes.Does n old (regapped gaps fresh old) goes (Acts.Idles gaps fresh);
 }
 
--- each call is one
+-- each call is a course
 pub wait_goes : (n : ℕ) (old new : Board) → Runs n (stirred old) new → Goes old n new
 wait_goes n old new runs = march_wait (λ n. Goes old n) (going old) n old new runs Goes.Stays
 
@@ -37,7 +37,7 @@ output_goes port value old new access =
     subst (λ (gaps : List ℕ). Goes old (next_entry gaps) new) (ap (λ bus. bus.gaps) access.writes.bus)
     (march_gap (λ n. Goes old n) (going old) access.between new access.gap (Goes.Does 0 old access.between Goes.Stays (Acts.Writes port value access.between access.writes)))
 
--- one course behind another
+-- one course after another
 suc_plus : (n m : ℕ) → suc (n + m) ≡ n + suc m
 suc_plus n m = omega arith
 
@@ -79,17 +79,17 @@ meets_step P most n start old new step was = let all = was.all in record {
   holds = was.holds;
 }
 
--- it is here
+-- the board is here
 pub meets_here : (P : Board → Type 0) (most n : ℕ) (start now : Board) → Goes start n now → n ≤ most → P now → Meets P most start n now
 meets_here P most n start now goes within holds =
     record { mid = now; first = n; behind = 0; goes = goes; goes_on = Goes.Stays; all = omega arith; within = within; holds = holds }
 
--- a greater number
+-- the same board is met within a greater number of steps
 pub meets_within : (P : Board → Type 0) (few most n : ℕ) (start now : Board) → few ≤ most → Meets P few start n now → Meets P most start n now
 meets_within P few most n start now less was = let within = was.within in
     record { mid = was.mid; first = was.first; behind = was.behind; goes = was.goes; goes_on = was.goes_on; all = was.all; within = omega arith; holds = was.holds }
 
--- a course passes the board behind so many of its steps
+-- a course passes the board after `most` of its steps
 record Passed (P : Board → Type 0) (most : ℕ) (start : Board) (n : ℕ) (now : Board) : Type 0 where
   goes : Goes start n now
   meets : most ≤ n → Meets P most start n now

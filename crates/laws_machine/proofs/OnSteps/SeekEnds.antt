@@ -1,4 +1,4 @@
--- A seek ends in time, whatever is done meanwhile.
+-- A seek ends in time, whatever is done in the meantime.
 use Rattle.std.proofs.Common.{◌≡◌, ℕ, zero, suc, ◌+◌, ◌-◌, ◌^◌, ◌≤◌, ◌==◌, ◌&&◌, nat_lt, not, Bool, true, false, Option, Some, None, IsSomeAnd, List, [], ◌∷◌, ◌++◌, if◌then◌else◌, refl, sym, ◌∙◌, ap, subst, arith}
 use Rattle.std.specs.Option.{ForSome, option_map_or}
 use Rattle.std.proofs.lemmas.Bool.{false≢true}
@@ -89,7 +89,7 @@ has_moved left chips was = by_way (to_memory_of chips.controller)
     by_way true = by_last (chips.channel.count == 0) (taken_out chips.controller) (record { left_is = was.left_is; idle = was.idle })
     by_way false = by_last (chips.channel.count == 0) (taken_in (byte_read chips.channel chips.memory) chips.controller) (record { left_is = was.left_is; idle = was.idle })
 
--- behind the poll
+-- the controller after the poll
 record Polls (old polls : Fdc) : Type 0 where
   phase_is : polls.phase ≡ old.phase
   seek : polls.seeks.seek ≡ old.seeks.seek
@@ -125,7 +125,7 @@ step_has old new step idle runs =
 
 -- ---- the acts: a seek that runs stays as it is, or is forgotten by a reset
 
--- what is left of it is the same, or none runs
+-- what is left of the seek is the same, or none runs
 pub data Goes_on (old new : Fdc) : Type 0 where
   Same : new.seeks.seek ≡ old.seeks.seek → is_executing new.phase ≡ false → Goes_on old new
   Forgets : is_seeking new.seeks ≡ false → Goes_on old new
@@ -229,7 +229,7 @@ data Runs (start : Board) (n : ℕ) (now : Board) : Type 0 where
 over_here : (start : Board) (n : ℕ) (now : Board) → Goes start n now → n ≤ pulses_left start → RunsNoSeek now → Runs start n now
 over_here start n now goes within over = Runs.Over (meets_here RunsNoSeek (pulses_left start) n start now goes within over)
 
--- here it may have ended
+-- the seek may have ended here
 here : (start : Board) (n : ℕ) (now : Board) → Goes start n now → pulses_left now + n ≤ pulses_left start → n ≤ pulses_left start → is_executing (controller_of now).phase ≡ false → Runs start n now
 here start n now goes left within idle = by_run (is_seeking (controller_of now).seeks) refl
   where
@@ -280,11 +280,11 @@ outward_left : (seek : Option Seek) → ForSome seek (λ s. IsMotion s.motion) �
 outward_left None range none = omega arith
 outward_left (Some seek) range (pulses, is) = outward_few seek.motion pulses is (range seek refl)
 
--- and that of a RECALIBRATE no more than 80
+-- a RECALIBRATE takes no more than 80
 pub recalibrate_left : (board : Board) → IsInRange board → Recalibrates board → pulses_left board ≤ 80
 recalibrate_left board range is = outward_left (controller_of board).seeks.seek range.controller.seeks.motion is
 
--- a seek that runs has ended in 256
+-- a seek that runs has ended within 256 device steps
 pub seek_ends_in_time : (old new : Board) (n : ℕ) → Goes old n new → IsInRange old → is_executing (controller_of old).phase ≡ false → seeks old → 256 ≤ n → Meets RunsNoSeek 256 old n new
 seek_ends_in_time old new n goes range idle runs many = let few = most_left old range in
     meets_within RunsNoSeek (pulses_left old) 256 n old new few (seek_ends old new n goes idle runs (omega arith))

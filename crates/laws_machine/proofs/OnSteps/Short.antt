@@ -1,4 +1,4 @@
--- Holds stay bytes.
+-- DMA latencies stay bytes.
 use Rattle.std.proofs.Common.{ℕ, suc, ◌≤◌, Bool, true, false, List, [], ◌∷◌, if◌then◌else◌, sym, ap, subst, arith}
 use Rattle.std.specs.List.{All}
 use Rattle.laws_machine.proofs.Common.{next_entry, rest_of, Holds, AreShort, IsShort, is_due, looked, shown, waited, DmaRequest, Low, High, holds_of, looked_at, shown_again, Chips, Steady}

@@ -1,4 +1,4 @@
--- What holds until a stall is counted.
+-- What holds until a late DMA (stall) is counted.
 use Rattle.std.proofs.Common.{◌≡◌, ◌⊎◌, inl, inr, ℕ, nat_lt, Bool, true, false, if◌then◌else◌, refl, sym, ◌∙◌, ap, subst, arith}
 use Rattle.laws_machine.proofs.Common.{to_memory_of, next_entry, Holds, looked, waited, shown, counted, DmaRequest, Low, High, Board, holds_of, RunsGap, Step, moved_to_memory, moved_from_memory, looked_at, Chips, Steady, Stalled, Keeping}
 use Rattle.laws_machine.proofs.Facts.{if_both, shown_stalls}
@@ -8,7 +8,7 @@ use Rattle.laws_machine.specs.OnSteps.Stalls.{Grows, UntilStalled}
 use Rattle.laws_machine.proofs.OnSteps.Runs.{runs, gap}
 use Rattle.laws_machine.proofs.OnSteps.Transfers.{by_request, up_to}
 
--- no transfer changes the holds
+-- no transfer changes the DMA latencies
 holding_moved : (holding : Holds) (chips : Chips) → chips.holding ≡ holding → (moved chips).holding ≡ holding
 unfolding moved
 holding_moved holding chips is = if_both (to_memory_of chips.controller) (moved_to_memory chips) (moved_from_memory chips) (λ z. z.holding ≡ holding) is is

@@ -17,7 +17,8 @@ up_to_moves P one (suc n) chips was = up_to_if P n chips was (can_move chips) (�
 pub up_to : (P : Chips → Type 0) → ((chips : Chips) → P chips → P (moved chips)) → (n : ℕ) (chips : Chips) → P chips → P (moved_up_to n chips)
 up_to P one = up_to_moves P (λ chips can. one chips)
 
--- the transfers of a device step, by how its request is dealt with: it isn't due, the channel doesn't grant, or bytes are moved
+-- the transfers of a device step, by how the request of the step is dealt with: it isn't due, the channel doesn't
+-- grant, or bytes are moved
 pub by_request : (P : Chips → Type 0) → (chips : Chips) → (is_due (looked_at chips).holding.request ≡ false → P (looked_at chips))
     → (grants chips.channel ≡ false → P (looked_at chips))
     → (grants chips.channel ≡ true → P (shown_again (moved_up_to 16 (looked_at chips)))) → P (dma_stepped chips)
@@ -40,7 +41,7 @@ served_moves P keeps chips was =
 pub served : (P : Chips → Type 0) → Transferred P → (chips : Chips) → P chips → P (dma_stepped chips)
 served P keeps = served_moves P (record { one = λ chips can. keeps.one chips; held = keeps.held })
 
--- the chips at the end of a device step, from those behind its word time
+-- the chips at the end of a device step, from those after its word time
 pub after_moves : (P : Chips → Type 0) → Moving P → (old new : Board) → (step : Step old new) → P (record old.bus.chips { controller = step.between }) → P new.bus.chips
 after_moves P keeps old new step was = subst P (sym (ap (λ bus. bus.chips) step.bus)) (served_moves P keeps (record old.bus.chips { controller = step.between }) was)
 

@@ -24,7 +24,7 @@ pub drives : (D : DriveState → DriveState → Type 0) → (old new : Board) �
     → ((before after : DriveState) → Passes before after → D before after) → D old.first new.first × D old.second new.second
 drives D old new step works_on passes_on = bays (λ bay. D) old new step (λ bay before after at. works_on before after) (λ bay. passes_on)
 
--- what holds of the controller behind a word time with a drive and with none
+-- what holds of the controller after a word time with a drive and with none
 pub controller : (C : Type 0) → (old new : Board) → (step : Step old new) → ((before after : DriveState) → Works (controller_of old) before step.between after → C)
     → (WorksAlone (controller_of old) step.between → C) → C
 controller C old new step with_drive alone = elim (first_second_or_none (selected_of old)) [
@@ -45,7 +45,7 @@ selected bay small old new at step = elim (first_or_second bay small) [
   | inr is ↦ subst (λ b. Works (controller_of old) (drive_in old b) step.between (drive_in new b)) (sym is) (step.word_time.at_second (at ∙ is)).0
 ]
 
--- where one of the two drives is selected, what holds behind a word time with it
+-- what holds after a word time with the selected drive, if one of the two drives is selected
 pub some_drive : (C : Type 0) → (old new : Board) → selected_of old ≤ 1 → (step : Step old new) → ((bay : ℕ) → Works (controller_of old) (drive_in old bay) step.between (drive_in new bay) → C) → C
 some_drive C old new small step works = elim (first_or_second (selected_of old) small) [
   | inl at ↦ works 0 (step.word_time.at_first at).0

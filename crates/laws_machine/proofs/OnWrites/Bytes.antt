@@ -1,4 +1,4 @@
--- One more byte of the range, and the channel behind it.
+-- One more byte of the range, and the channel after it.
 use Rattle.std.proofs.Common.{◌≡◌, ℕ, ◌+◌, ◌-◌, ◌%◌, ◌<◌, ◌≤◌, ◌==◌, Bool, true, false, List, [], ◌∷◌, ◌++◌, length, slice_index, take, drop, if◌then◌else◌, refl, sym, ◌∙◌, ap, subst, arith, add-one}
 use Rattle.std.proofs.Math.Seq.{take-suc}
 use Rattle.std.proofs.lemmas.List.{get_or-drop, length-drop}
@@ -14,7 +14,7 @@ take_one list n below = rw add-one (take-suc list n 0 below)
 
 -- ---- the channel
 
--- it goes on behind the byte
+-- the channel goes on behind the byte
 set_more : (channel : Channel) (address left : ℕ) → IsReadSet channel address left → (channel.count == 0) ≡ false
     → IsReadSet (after_transfer channel) (address + 1) (left - 1)
 set_more channel address left set more = record {

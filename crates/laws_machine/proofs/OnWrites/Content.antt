@@ -1,4 +1,4 @@
--- What was handed in is of the range.
+-- What was handed in is from the range.
 use Rattle.std.proofs.Common.{◌≡◌, inl, inr, ℕ, ◌+◌, ◌<◌, ◌≤◌, Bool, false, List, ◌++◌, length, get_or, take, drop, replicate, sym, ◌∙◌, ap, arith, length-append}
 use Rattle.std.proofs.Math.ListN.{get_or-append}
 use Rattle.std.proofs.lemmas.Bool.{false≢true}
@@ -16,7 +16,7 @@ module _ (scene : Scene) (taken : List ℕ) (counted : Bool) (memory : List ℕ)
   each_taken : (k : ℕ) → k < length taken → get_or taken k 0 ≡ get_or rest_of_memory k 0
   each_taken k below = ap (λ bytes. get_or bytes k 0) was.first ∙ get_or-take (length taken) rest_of_memory k 0 below
 
-  -- and so is each byte handed in
+  -- each byte handed in is that of the range
   each_handed : (handed : List ℕ) → IsContent counted taken handed → length handed ≤ scene.size → (k : ℕ) → k < length handed → get_or handed k 0 ≡ get_or rest_of_memory k 0
   each_handed handed (inl (rest, is)) few k below =
       let long = length-append handed rest in
@@ -39,7 +39,7 @@ module _ (scene : Scene) (taken : List ℕ) (counted : Bool) (memory : List ℕ)
       each_handed handed content few k below
       ∙ (sym (get_or-take scene.size rest_of_memory k 0 (omega arith)) ∙ sym (get_or-take (length handed) (range_of scene) k 0 below)))
 
-  -- and the rest of the range makes it whole
+  -- the rest of the range completes what was handed in
   pub handed_rest : (handed : List ℕ) → IsContent counted taken handed → length handed ≤ scene.size
       → (handed ++ drop (length handed) (range_of scene) ≡ range_of scene) × (length handed + length (drop (length handed) (range_of scene)) ≡ scene.size)
   handed_rest handed content few =

@@ -17,7 +17,7 @@ not_ended : (ending : Ending) → IsEnd ending → refuses_as ending ≡ false
 not_ended Protected is = absurd is
 not_ended _ is = refl
 
--- where it stops, the medium was protected in the first step
+-- if the command stops, the medium was protected in the first step
 pub stops_covered : (ending : Ending) (steps : ℕ) (protects : Bool) (byte : Option ℕ) → Stops steps protects byte ending → refuses_as ending ≡ true → (steps ≡ 0) × (protects ≡ true)
 stops_covered Protected steps protects byte stops is = stops
 stops_covered _ steps protects byte stops is = absurd (false≢true is)

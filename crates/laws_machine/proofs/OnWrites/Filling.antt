@@ -30,7 +30,7 @@ not_reading Command is = refl
 not_reading (Result answer) is = refl
 not_reading (Execute execution) is = not_read execution.task is
 
--- behind the terminal count
+-- the command after the terminal count
 told_fills : (phase : Phase) → fills (phase_told phase) ≡ fills phase
 told_fills Command = refl
 told_fills (Result answer) = refl
@@ -65,7 +65,7 @@ told_low (Execute execution) asking fifo is = in_task execution.task is
     in_task (Write writing) is = refl
     in_task (Format formatting) is = refl
 
--- behind the terminal count it can wait for ever
+-- after the terminal count the command can wait for ever
 counted_task : (slack : ℕ) (task : Task) (fifo : Fifo) → fills_task task ≡ true → task_counted task ≡ true → TaskWaits slack task fifo
 counted_task slack (ReadId search) fifo is counted = tt
 counted_task slack (Read reading) fifo is counted = absurd (false≢true is)
@@ -117,7 +117,7 @@ into slack chips byte channel was granting =
       waits = in_waits slack byte fdc.phase fdc.fifo (not_reading fdc.phase was.fills_it) was.waits;
     }
 
--- and then TC
+-- then TC comes
 told : (slack : ℕ) (chips : Chips) → IsFilling slack chips → IsFilling slack (record chips { controller = told_count chips.controller })
 told slack chips was =
     let fdc = chips.controller in
@@ -133,7 +133,7 @@ told slack chips was =
       waits = told_waits slack fdc.phase (fifo_told (is_reading fdc.phase) fdc.fifo);
     }
 
--- TC may come with a channel that is masked then
+-- TC may come with a channel that is masked from then on
 masked : (slack : ℕ) (chips : Chips) (byte : ℕ) (channel : Channel) → IsFilling slack chips → IsFilling slack (record chips { controller = told_count (taken_in byte chips.controller); channel = channel })
 masked slack chips byte channel was =
     let first = into slack chips byte chips.channel was was.granting in

@@ -71,7 +71,7 @@ closes_gate : (closed : Bool) (mid after : DriveState) → Closes closed mid aft
 closes_gate true mid after closed is = ap (λ s. s.gate) closed
 closes_gate false mid after same wrong = absurd cc
 
--- where a word leaves the gate open, the write goes on
+-- if a word leaves the gate open, the write goes on
 next_records : (next : WriteNext) (head_drive steps : ℕ) (writing : Writing) (old new : Fdc) (closed : Bool) (mid after : DriveState) → new ≡ after_next head_drive steps writing next old
     → closed ≡ is_ended next → Closes closed mid after → after.gate ≡ true → is_recording new.phase ≡ true
 next_records (write_next.On stage) head_drive steps writing old new closed mid after is goes closes on = ap (λ f. is_recording f.phase) is
@@ -100,7 +100,7 @@ format_goes Stopped rate head head_drive steps formatting old before after new i
 
 -- ---- the selected drive
 
--- what it made of its word time, where a command that records was in execution or not
+-- what the selected drive made of its word time, while a command that records was in execution or not
 record IsWorked (records : Bool) (Makes : WordTime → Type 0) (before after : DriveState) (new : Fdc) : Type 0 where
   time : PassesClosed before after ⊎ ((records ≡ true) × IsGivenIn Makes before after)
   goes_on : after.gate ≡ true → is_recording new.phase ≡ true
@@ -156,7 +156,7 @@ step_gates old new step =
     (λ bay before after passes. inl (moves_closed None before after passes)) in
     record { first = first; second = second }
 
--- ---- behind a device step
+-- ---- after a device step
 
 -- transfers leave the command in execution
 recording_after : (old new : Board) → (step : Step old new) → is_recording step.between.phase ≡ true → is_recording (controller_of new).phase ≡ true
@@ -172,7 +172,7 @@ step_holds old new step =
     (λ bay before after passes on. absurd (not_closed after (moves_closed None before after passes).gate on)) in
     record { first = first; second = second }
 
--- and behind each further one
+-- the gates hold after each further device step
 pub gating : Marching (λ n board. 0 < n → HoldsGates board)
 gating = record {
   step = λ n old new step was some. step_holds old new step;

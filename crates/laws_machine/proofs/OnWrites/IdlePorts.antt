@@ -72,7 +72,7 @@ inputs_leave port value old new access =
 
 -- ---- writes
 
--- memory and the request behind the write
+-- memory and the request after the write
 pub record WritesIdle (old new : Chips) : Type 0 where
   pub memory : new.memory ≡ old.memory
   pub request : old.holding.request ≡ Low → new.holding.request ≡ Low

@@ -22,7 +22,7 @@ use Rattle.laws_machine.proofs.OnReads.Timely.{first_low, flows_in, not_due, rea
 
 -- ---- the word time
 
--- behind it the command goes on with no more bytes in the FIFO, or it is over
+-- after the word time the command goes on with no more bytes in the FIFO, or it is over
 pub record GoesOnFilling (fifo : Fifo) (new : Fdc) : Type 0 where
   pub fills_it : is_executing new.phase ≡ true → fills new.phase ≡ true
   pub fewer : is_executing new.phase ≡ true → length new.fifo.bytes ≤ length fifo.bytes
@@ -111,7 +111,7 @@ served_timely slack chips was = by_counted (phase_counted then_chips.controller.
           ready = λ _. ready_low (asks (moved_up_to 16 chips).controller) (moved_up_to 16 chips).holding 9 low (omega arith);
         }
 
--- behind a look at the request
+-- a command on time after a look at the request
 dma_timely : (slack : ℕ) (chips : Chips) → IsFilling slack chips
     → (phase_counted chips.controller.phase ≡ false → IsInTime (looked_at chips).holding.request slack) → IsFedInTime (dma_stepped chips)
 dma_timely slack chips was enough =

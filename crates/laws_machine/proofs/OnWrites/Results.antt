@@ -70,7 +70,7 @@ stage_of scene deleted past memory channel handed whole taken size content (stag
       first = first_of_range scene deleted past.words handed rest all (words_behind (Some window) rest, sym (within.goes_on rest (omega arith)));
     })
 
--- whatever the phase
+-- what the command has written, whatever its phase is
 pub words_of : (scene : Scene) (deleted : Bool) (past : Past) (memory : List ℕ) (channel : Channel) → IsScene scene → IsTaken scene past.taken past.counted memory channel
     → scene.size ≡ content_size scene.sent.key.n → (phase : Phase) (asking : Bool) (fifo : Fifo) → MayWriteIn past scene.sent deleted phase asking fifo
     → (past.words ≡ []) ⊎ IsOfWindow scene deleted past
@@ -90,7 +90,7 @@ words_of scene deleted past memory channel whole taken size (Execute execution) 
 
 -- ---- the medium
 
--- so many of the words stand there
+-- so many of the words stand on the medium
 pub record MakesChange (scene : Scene) (deleted : Bool) (past : Past) (drive : DriveState) (p : ℕ) : Type 0 where
   pub changed : HasChanged scene deleted drive
   pub whole : IsCalm scene.faults drive.faults → changed.change.words ≡ length past.words
@@ -163,7 +163,7 @@ pub only : (scene : Scene) (deleted executes : Bool) (past : Past) (drive : Driv
 only scene deleted executes past drive whole was (inl none) = inl (was.at.medium.quiet none)
 only scene deleted executes past drive whole was (inr of) = inr (made scene deleted executes past drive whole was of).changed
 
--- ---- a turn that was heard
+-- ---- a revolution that was heard
 
 among_heard : (track : List ℕ) (from : ℕ) (turns : List (List ℕ)) (turn : List ℕ) → AreHeard track from turns → IsAmong turns turn → (start : ℕ) × IsHeard track start turn
 among_heard track from [] turn all among = absurd among
@@ -267,7 +267,7 @@ module _ (scene : Scene) (deleted executes : Bool) (past : Past) (drive : DriveS
   ended (Result (Short next last)) asking fifo covered may = tt
   ended (Result (Long ending results taken)) asking fifo covered (low, are, (handed, has)) = (are, ends handed has.content ending covered has.written)
 
--- undisturbed, the whole window stands where it is inside the track
+-- if nothing disturbed the write, the whole window stands wherever it is inside the track
 pub well : (scene : Scene) (deleted : Bool) (drive : DriveState) (ending : Ending) → IsCalm scene.faults drive.faults → overran ending ≡ false → WriteEndsAs scene deleted drive ending → WritesWell scene deleted drive
 well scene deleted drive (Done marked) calm on_time says = inr (says.changed, λ inside. says.whole calm)
 well scene deleted drive NoMark calm on_time says = inl says.0

@@ -19,13 +19,13 @@ use Rattle.laws_machine.proofs.OnOrders.Behind.{IsTimedLed}
 
 -- ---- stages
 
--- the words are none, or the gate is open
+-- there are no words, or the gate is open
 due_words : (past : Past) (key : Chrn) (deleted : Bool) (handed : List ℕ) (now : WriteStage) → IsWriting past key deleted handed now → is_due now ≡ false → past.words ≡ []
 due_words past key deleted handed (stage.Search searching) was due = was.1.1.0
 due_words past key deleted handed (stage.Gap left) was due = was.1.1.0
 due_words past key deleted handed (stage.Window window) was due = absurd (false≢true (sym due))
 
--- where a word is due, it is the first or some were written, and an address field was heard
+-- if a word is due, it is the first one or some were written, and an address field was heard
 pub record IsDueNow (past : Past) (key : Chrn) (now : WriteStage) : Type 0 where
   pub place : ℕ
   pub address : IsAddressAt past.seen place key
@@ -46,7 +46,7 @@ opens_due (stage.Gap zero) opening = refl
 opens_due (stage.Gap (suc left)) opening = absurd (false≢true opening)
 opens_due (stage.Window window) opening = absurd (false≢true opening)
 
--- one index has passed at most, or words were heard behind the last
+-- at most one index has passed, or words were heard after the last index
 few_turned : (turned : Bool) (turns : List (List ℕ)) → HasTurned turned turns → length turns ≤ 1
 few_turned false turns is = let none = ap length is in omega arith
 few_turned true turns (first, is) = let one = ap length is in omega arith
@@ -90,13 +90,13 @@ ended_rests : (head_drive steps : ℕ) (writing : Writing) (after : WriteNext) (
 ended_rests head_drive steps writing (next.On now) old busy = refl
 ended_rests head_drive steps writing (next.Ended ending) old busy = absurd (false≢true busy)
 
--- at the scene's rate, under its head
+-- the word time is at the scene's rate, under its head
 pub time_here : (scene : Scene) (time : WordTime) (drive after : DriveState) (polls : Fdc) (head_drive : ℕ) → head_drive ≡ scene.sent.head_drive → polls.rate ≡ scene.rate
     → IsTime time polls.rate (head_drive / 4 % 2) drive after → IsTime time scene.rate (head_sent scene.sent) drive after
 time_here scene time drive after polls head_drive head rate is =
     subst (λ byte. IsTime time scene.rate (byte / 4 % 2) drive after) head (subst (λ r. IsTime time r (head_drive / 4 % 2) drive after) rate is)
 
--- behind words 0000
+-- the medium isn't protected after words 0000
 pub unprotected_led : (scene : Scene) (lead : ℕ) (late : Past) (drive : DriveState) (steps : ℕ) → IsAtDrive scene late true drive → late.steps + lead ≡ steps → (steps ≡ 0 → late.words ≡ [])
     → (1 ≤ lead → scene.disk.protected ≡ false) → (steps ≡ 0 → is_protected drive.medium ≡ true → ⊥) → scene.disk.protected ≡ false
 unprotected_led scene zero late drive steps was steps_are fresh guarded guards = still_unprotected (outset_of scene) late drive steps was (omega arith) fresh guards
@@ -143,7 +143,7 @@ module _ (scene : Scene) (deleted : Bool) (lead : ℕ) (late : Past) (drive afte
     unbarred = was.unbarred;
   }
 
--- so it is in execution, where NW comes of a protected medium alone
+-- the word time of a write in execution, after which NW comes of a protected medium alone
 pub in_task : (scene : Scene) (deleted : Bool) (lead : ℕ) (late : Past) (drive after : DriveState) (polls between : Fdc) (asking : Bool) (fifo : Fifo) → IsScene scene → polls.rate ≡ scene.rate
     → (1 ≤ lead → scene.disk.protected ≡ false) → IsAtWindow scene late true drive → (task : Task) (head_drive steps : ℕ) → MayWriteTask (led lead late) scene.sent deleted head_drive steps task asking fifo
     → WritesTask task head_drive steps asking fifo polls drive after between → IsTimedLed (Window deleted) scene lead late between after

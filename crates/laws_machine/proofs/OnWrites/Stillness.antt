@@ -27,7 +27,7 @@ still_further a b c one two = record {
 no_slower : (a b : ℕ) → a ≤ b → nat_le 6250 a ≡ true → nat_le 6250 b ≡ true
 no_slower a b more up = grind (arith, nat_tests)
 
--- one that turns on, whatever is written on its medium
+-- a drive that goes on turning, whatever is written on its medium
 still_turned : (before after : DriveState) → TurnsOn before after → IsStill before after
 still_turned before after is = record {
   cylinder = is.cylinder;

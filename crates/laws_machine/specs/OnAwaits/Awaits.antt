@@ -11,7 +11,8 @@ use Rattle.fdc_phases.specs.declared.phases.Phase.TheVariants.{Result}
 use Rattle.pc_bus.specs.Boards.{Board, controller_of, latch_of}
 use Rattle.laws_machine.specs.OnQuiet.Quiet.{IsHushed}
 
--- heads, change line and motor stay; the medium, whatever is written on it, stays in and loses no speed; no fault is taken back, and no more come than were left
+-- heads, change line and motor stay; the medium stays in and loses no speed, whatever is written on it; no fault is
+-- taken back, and no more faults come than were left
 pub record TurnsOn (old new : DriveState) : Type 0 where
   pub stays_in : is_some new.medium ≡ is_some old.medium
   pub cylinder : new.cylinder ≡ old.cylinder
@@ -28,7 +29,7 @@ pub record IsLetOut (fdc : Fdc) : Type 0 where
   pub no_seek : fdc.seeks.seek ≡ None
   pub polled : fdc.poll_due ≡ false
 
--- what was set stands, and no byte of a further command has come; so many data commands have begun
+-- what was set stands, and no byte of a further command has come; `begun` data commands have begun
 pub record HoldsSet (begun : ℕ) (start now : Fdc) : Type 0 where
   pub seeks : now.seeks ≡ start.seeks
   pub dor : now.dor ≡ start.dor
@@ -51,8 +52,8 @@ pub record HasEnded (board : Board) : Type 0 where
   pub unread : is_unread (controller_of board).phase ≡ true
   pub quiet : (controller_of board).asking ≡ false
 
--- a data command that began on a board is in execution, with INT low, or has ended; all else stands as it was set, but for what
--- is written and read
+-- a data command that began on a board is in execution, with INT low, or has ended; all else stands as it was set,
+-- except what is written and read
 pub record IsAwaited (begun : ℕ) (start now : Board) : Type 0 where
   pub calm : IsLetOut (controller_of now)
   pub holds : HoldsSet begun (controller_of start) (controller_of now)

@@ -1,4 +1,4 @@
--- A data command, from its beginning until its end is told.
+-- A data command, from its beginning until its end is reported.
 use Rattle.std.specs.Prelude.{◌≡◌, ◌⊎◌, ◌≤◌, ◌+◌, ℕ, min, true}
 use Rattle.flop_base.specs.Counts.{last_count}
 use Rattle.fdc_core.specs.State.{data_commands_of}
@@ -23,36 +23,36 @@ pub record StandsReady (board : Board) : Type 0 where
   pub threshold : (controller_of board).fifo.threshold ≡ 8
   pub low : (holds_of board).request ≡ Low
 
--- no count falls, but from beyond its last value; the stalls rise by no more than the long holds that are taken, and nothing
--- went past the controller
+-- no count falls, except from beyond its last value; the late DMAs rise by no more than the long DMA latencies that are
+-- taken, and nothing went past the controller
 pub record CountsOn (old new : Board) : Type 0 where
   pub stalls : min (holds_of old).stalls last_count ≤ (holds_of new).stalls
   pub spent : (holds_of new).stalls + long_holds (holds_of new).entries ≤ (holds_of old).stalls + long_holds (holds_of old).entries
   pub taken : min old.bus.taken last_count ≤ new.bus.taken
   pub direct : new.bus.direct ≡ old.bus.direct
 
--- its requests are granted in time: READ ID has none
+-- the requests of the command are granted in time; READ ID has none
 abbrev pub InTime : Order → Scene → Board → Type 0
 InTime Identify scene board = Unit {0}
 InTime Read scene board = ReadPrompt scene board
 InTime (Write laid) scene board = IsOnTime board
 
--- it ends soon behind its field: READ DATA alone has one to read
+-- the command ends soon after its field; READ DATA alone has one to read
 abbrev pub EndsSoon : Order → Scene → Board → Type 0
 EndsSoon Read scene board = ReadSoon scene board
 EndsSoon _ scene board = Unit {0}
 
--- the media only turn on under a command that reads
+-- under a command that reads, the media only go on turning
 abbrev pub Listens : Order → ℕ → Board → Board → Type 0
 Listens (Write laid) begun start now = Unit {0}
 Listens _ begun start now = GoesQuietly begun start now
 
--- the data commands that one on this board makes
+-- the number of data commands with the one that begins on this board
 abbrev pub with_one : Board → ℕ
 with_one start = counted (data_commands_of (controller_of start))
 
--- a command of this order that began on a board is awaited: it is in time where no stall was counted since, and where the holds
--- were bytes it ends soon, whatever stalls are counted
+-- a command of this order that began on a board is awaited. It is in time if no late DMA was counted since. If all DMA
+-- latencies were below 256, it ends soon, whatever late DMAs are counted.
 pub record GoesOn (order : Order) (scene : Scene) (start now : Board) : Type 0 where
   pub underway : Underway order scene now
   pub awaited : IsAwaited (with_one start) start now

@@ -42,23 +42,23 @@ pub record LaysTo (scene : Scene) (numbers : Numbers) (keys : List Chrn) (laying
   pub laid : IsWithTrack scene.disk scene.cylinder (head_sent scene.sent)
       (with_items (track_of scene.disk scene.cylinder (head_sent scene.sent)) 0 (take laying.words (layout_in scene numbers keys))) after
 
--- the medium was laid so
+-- the medium was laid out in this way
 pub record HasLaying (scene : Scene) (numbers : Numbers) (keys : List Chrn) (drive : DriveState) : Type 0 where
   pub laying : Laying
   pub after : Disk
   pub medium : drive.medium ≡ Some after
   pub lays : LaysTo scene numbers keys laying after
 
--- the medium is as it was, or was laid
+-- the medium is as it was, or was laid out
 abbrev pub IsSameOrLaid : Scene → Numbers → List Chrn → DriveState → Type 0
 IsSameOrLaid scene numbers keys drive = IsUnchanged scene drive ⊎ HasLaying scene numbers keys drive
 
--- all words of the track are laid where the drive had no fault
+-- all words of the track are laid out if the drive had no fault
 pub record LaysWhole (scene : Scene) (numbers : Numbers) (keys : List Chrn) (drive : DriveState) : Type 0 where
   pub has : HasLaying scene numbers keys drive
   pub whole : IsCalm scene.faults drive.faults → has.laying.words ≡ scene.disk.words_per_track
 
--- the turn went by: the track under the head is laid, or there is no such track, and the medium is as it was
+-- the revolution went by: the track under the head is laid out, or there is no such track, and the medium is as it was
 pub record LaysTurn (scene : Scene) (numbers : Numbers) (keys : List Chrn) (drive : DriveState) : Type 0 where
   pub rate : rate_fits scene.rate scene.disk.rate ≡ true
   pub there : IsThere scene → LaysWhole scene numbers keys drive
@@ -68,8 +68,9 @@ pub record LaysTurn (scene : Scene) (numbers : Numbers) (keys : List Chrn) (driv
 abbrev pub FitsOn : Scene → Numbers → List Chrn → Type 0
 FitsOn scene numbers keys = Fits keys numbers.n numbers.gap3 scene.disk.words_per_track
 
--- what an ending says: IC 00, that the turn was laid and the layout fits; MA with MD, that it was laid and the layout doesn't fit;
--- MA alone, that the medium has another rate; NW, that it is protected. EN, ND, DE and the last step don't come
+-- what an ending says: IC 00, that the revolution was laid out and the layout fits; MA with MD, that it was laid out
+-- and the layout doesn't fit. MA alone says that the medium has another rate, and NW that it is protected. EN, ND, DE
+-- and the last step don't come.
 abbrev pub FormatEndsAs : Scene → Numbers → List Chrn → DriveState → Ending → Type 0
 FormatEndsAs scene numbers keys drive (Done marked) = LaysTurn scene numbers keys drive × FitsOn scene numbers keys
 FormatEndsAs scene numbers keys drive NoField = LaysTurn scene numbers keys drive × (FitsOn scene numbers keys → ⊥)
@@ -78,7 +79,7 @@ FormatEndsAs scene numbers keys drive Overrun = IsSameOrLaid scene numbers keys 
 FormatEndsAs scene numbers keys drive Protected = IsUnchanged scene drive × (scene.disk.protected ≡ true)
 FormatEndsAs scene numbers keys drive _ = ⊥
 
--- the result bytes are those of an ending, and that is what it says
+-- the result bytes are those of an ending, and what that ending says is true
 abbrev pub FormatEndedIn : Scene → Numbers → List Chrn → DriveState → Phase → Type 0
 FormatEndedIn scene numbers keys drive (Result (Long ending results _)) =
     (results ≡ results_of ending scene.sent.head_drive results.key) × FormatEndsAs scene numbers keys drive ending
@@ -87,7 +88,7 @@ FormatEndedIn scene numbers keys drive _ = Unit {0}
 abbrev pub FormatEnded : Scene → Numbers → List Chrn → Board → Type 0
 FormatEnded scene numbers keys board = FormatEndedIn scene numbers keys (drive_in board scene.bay) (controller_of board).phase
 
--- at any time: memory is as it was, and the medium is, or was laid
+-- at any time memory is as it was, and the medium is as it was or was laid out
 pub record FormatsOnly (scene : Scene) (numbers : Numbers) (keys : List Chrn) (board : Board) : Type 0 where
   pub memory : memory_of board ≡ scene.memory
   pub medium : IsSameOrLaid scene numbers keys (drive_in board scene.bay)

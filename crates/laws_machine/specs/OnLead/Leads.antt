@@ -1,4 +1,5 @@
--- A data command whatever the speed of its drive was when it began: words 0000 pass until the medium is at speed.
+-- A data command, whatever the speed of its drive was when the command began: words 0000 pass until the medium is at
+-- speed.
 use Rattle.std.specs.Prelude.{◌≡◌, ◌⊎◌, ℕ, ◌≤◌, Bool, false}
 use Rattle.drive_model.specs.Drive.{DriveState}
 use Rattle.fdc_stages.specs.History.{Past}
@@ -13,16 +14,17 @@ use Rattle.laws_machine.specs.OnOrders.Orders.{Order, Write, AtDrive, IsUnderway
 abbrev pub IsTurningIn : Scene → DriveState → Type 0
 IsTurningIn scene = IsTurningSince (outset_of scene)
 
--- the medium spins up, for so many word times at least
+-- the medium spins up, for at least so many word times
 abbrev pub IsSpinning : Scene → ℕ → DriveState → Type 0
 IsSpinning scene = IsSpinningSince (outset_of scene)
 
--- where a word passed, the medium of a command that writes isn't protected
+-- if a word passed, the medium of a command that writes isn't protected
 abbrev pub IsGuarded : Order → Scene → ℕ → Type 0
 IsGuarded (Write laid) scene lead = 1 ≤ lead → scene.disk.protected ≡ false
 IsGuarded _ scene lead = Unit {0}
 
--- the medium spins up; or it is at speed, and of what passed since all is known that is of a command that begins there
+-- the medium spins up; or it is at speed, and all is known of what passed since that is known of a command that begins
+-- there
 pub record IsLed (order : Order) (scene : Scene) (past : Past) (executes : Bool) (drive : DriveState) : Type 0 where
   pub lead : ℕ
   pub late : Past
@@ -33,10 +35,10 @@ pub record IsLed (order : Order) (scene : Scene) (past : Past) (executes : Bool)
 
 -- ---- the command
 
--- it began in this scene, at whatever speed, and is in execution, or gives its results
+-- the command began in this scene, at whatever speed, and is in execution, or gives its results
 abbrev pub WarmsUp : Order → Scene → Board → Type 0
 WarmsUp order scene board = IsUnderwayOn (IsLed order scene) order scene board
 
--- all stands as in the scene, whatever the drive's speed is, and the last byte of the command is written
+-- all stands as in the scene, except the speed of the drive, and the last byte of the command is written
 abbrev pub CanWarm : Order → Scene → ℕ → Board → Type 0
 CanWarm order scene byte board = CanBeginAt IsTurningIn order scene byte board

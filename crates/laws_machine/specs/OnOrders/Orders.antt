@@ -30,15 +30,15 @@ pub data Laid : Type 0 where
   Window : Bool → Laid
   Track : Numbers → Laid
 
--- READ ID, READ DATA, or a command that writes. The scene has what was sent
+-- READ ID, READ DATA, or a command that writes; the scene has what was sent
 pub data Order : Type 0 where
   Identify : Order
   Read : Order
   Write : Laid → Order
 
--- ---- what is known
+-- ---- what is known of a data command
 
--- of the controller's history, in a phase with DRQ and the FIFO
+-- what is known of the controller's history, in a phase with DRQ and the FIFO
 abbrev pub MayLayIn : Laid → Scene → Past → Phase → Bool → Fifo → Type 0
 MayLayIn (Window deleted) scene past phase asking fifo = MayWriteIn past scene.sent deleted phase asking fifo
 MayLayIn (Track numbers) scene past phase asking fifo = MayFormatIn past scene.sent.head_drive numbers phase asking fifo
@@ -54,19 +54,20 @@ MayLay laid scene past fdc = MayLayIn laid scene past fdc.phase fdc.asking fdc.f
 abbrev pub May : Order → Scene → Past → Fdc → Type 0
 May order scene past fdc = MayIn order scene past fdc.phase fdc.asking fdc.fifo
 
--- of its lines and results: READ ID moves no byte, and has steps left; DRQ is low outside execution; NW comes of a protected medium alone
+-- what is known of the controller's lines and results: READ ID moves no byte, and has steps left; DRQ is low outside
+-- execution; NW comes of a protected medium alone
 abbrev pub Shows : Order → Scene → Fdc → Type 0
 Shows Identify scene fdc = (fdc.asking ≡ false) × (is_late fdc.phase ≡ false)
 Shows Read scene fdc = fdc.asking ≡ true → is_executing fdc.phase ≡ true
 Shows _ scene fdc = refuses fdc.phase ≡ true → scene.disk.protected ≡ true
 
--- of memory and the channel
+-- what is known of memory and the channel
 abbrev pub Moves : Order → Scene → Past → List ℕ → Channel → Type 0
 Moves Identify scene past memory channel = memory ≡ scene.memory
 Moves Read scene past memory channel = IsMoved scene past.given past.counted memory channel
 Moves _ scene past memory channel = IsTaken scene past.taken past.counted memory channel
 
--- of the drive
+-- what is known of the drive
 abbrev pub LaysOn : Laid → Scene → Past → Bool → DriveState → Type 0
 LaysOn (Window deleted) scene past executes drive = IsAtWindow scene past executes drive
 LaysOn (Track numbers) scene past executes drive = IsAtDrive scene past executes drive
@@ -75,7 +76,7 @@ abbrev pub AtDrive : Order → Scene → Past → Bool → DriveState → Type 0
 AtDrive (Write laid) scene past executes drive = LaysOn laid scene past executes drive
 AtDrive _ scene past executes drive = IsHearing scene past executes drive
 
--- of the chips
+-- what is known of the chips
 pub record IsDoneBy (order : Order) (scene : Scene) (past : Past) (chips : Chips) : Type 0 where
   pub may : May order scene past chips.controller
   pub shows : Shows order scene chips.controller
@@ -83,7 +84,8 @@ pub record IsDoneBy (order : Order) (scene : Scene) (past : Past) (chips : Chips
   pub rate : chips.controller.rate ≡ scene.rate
   pub moves : Moves order scene past chips.memory chips.channel
 
--- a command of this order that began in this scene heard, moved and wrote this; `On` is what is known of the drive
+-- a command of this order that began in this scene heard, moved and wrote what `past` says; `On` is what is known of
+-- the drive
 pub record IsDoneOn (On : Past → Bool → DriveState → Type 0) (order : Order) (scene : Scene) (past : Past) (board : Board) : Type 0 where
   pub scene_is : IsScene scene
   pub chips : IsDoneBy order scene past board.bus.chips
@@ -92,11 +94,11 @@ pub record IsDoneOn (On : Past → Bool → DriveState → Type 0) (order : Orde
 abbrev pub IsUnderwayOn : (Past → Bool → DriveState → Type 0) → Order → Scene → Board → Type 0
 IsUnderwayOn On order scene board = (past : Past) × IsDoneOn On order scene past board
 
--- it is in execution, or gives its results
+-- the command is in execution, or gives its results
 abbrev pub Underway : Order → Scene → Board → Type 0
 Underway order scene board = IsUnderwayOn (AtDrive order scene) order scene board
 
--- ---- how it begins
+-- ---- how a data command begins
 
 abbrev pub IsLast : Order → Scene → ℕ → Fdc → Type 0
 IsLast Identify scene byte fdc = IsLastOfId byte scene.sent.head_drive fdc
@@ -123,13 +125,13 @@ pub record CanBeginAt (At : Scene → DriveState → Type 0) (order : Order) (sc
 abbrev pub CanBegin : Order → Scene → ℕ → Board → Type 0
 CanBegin order scene byte board = CanBeginAt IsDriveOf order scene byte board
 
--- ---- what leaves it as it is
+-- ---- what leaves a data command as it is
 
--- the same channel, but for its flip-flop
+-- the same channel, except its flip-flop
 abbrev pub IsFlipped : Channel → Channel → Type 0
 IsFlipped old new = (high : Bool) × (new ≡ record old { high_byte_next = high })
 
--- a port whose write changes neither DOR nor the rate, resets nothing, and leaves the channel but for its flip-flop
+-- a port whose write changes neither DOR nor the rate, resets nothing, and leaves the channel except its flip-flop
 pub record Leaves (port value : ℕ) (board : Board) : Type 0 where
   pub output : (port == 0x3F2) ≡ false
   pub select : (port == 0x3F4) ≡ false

@@ -9,7 +9,7 @@ use Rattle.laws_machine.specs.OnReads.Begins.{IsLastByte}
 use Rattle.laws_machine.specs.OnReads.Scenes.{Scene}
 use Rattle.laws_machine.specs.OnReads.Underway.{IsMoved, IsSet}
 
--- of the scene, what was sent and the range of memory count alone
+-- of the scene, only what was sent and the range of memory count
 pub record Fetches (scene : Scene) (chips : Chips) : Type 0 where
   pub past : Past
   pub may : MayRead past scene.sent chips.controller

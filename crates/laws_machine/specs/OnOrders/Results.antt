@@ -8,7 +8,7 @@ use Rattle.laws_machine.specs.OnWrites.Results.{WriteEnded, WritesOnly}
 use Rattle.laws_machine.specs.OnFormats.Results.{FormatEnded, FormatsOnly, AreKeysOf}
 use Rattle.laws_machine.specs.OnOrders.Orders.{Laid, Window, Track}
 
--- the range has the bytes that are wanted: a content, or the keys of a track
+-- the range has the bytes that the command takes: a content, or the keys of a track
 abbrev pub IsFor : Laid → Scene → List Chrn → Type 0
 IsFor (Window deleted) scene keys = scene.size ≡ content_size scene.sent.key.n
 IsFor (Track numbers) scene keys = (scene.size ≡ 4 * numbers.sectors) × AreKeysOf scene numbers keys

@@ -7,7 +7,7 @@ use Rattle.pc_bus.specs.Boards.{Board}
 use Rattle.pc_bus.specs.Ports.{Inputs}
 use Rattle.laws_machine.specs.OnQuiet.Settings.{Setting, Stands}
 
--- the data port was read so often, one read behind the other, and gave these bytes
+-- the data port was read once for each of these bytes, one read after the other, and gave them
 abbrev pub GivesBytes : Board → List ℕ → Board → Type 0
 GivesBytes old [] new = new ≡ old
 GivesBytes old (byte ∷ bytes) new = (between : Board) × Inputs 0x3F5 old byte between × GivesBytes between bytes new

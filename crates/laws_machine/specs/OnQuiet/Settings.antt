@@ -27,7 +27,7 @@ setting_of board = record {
   channel = channel_of board;
 }
 
--- with one more byte of a command, with another rate, and with a byte written to a port of the channel
+-- the setting with one more byte of a command, with another rate, or with a byte written to a port of the channel
 abbrev pub with_byte : ℕ → Setting → Setting
 with_byte byte set = record set { command = set.command ++ byte ∷ [] }
 
@@ -37,13 +37,13 @@ with_rate byte set = record set { rate = rate_chosen byte }
 abbrev pub with_write : ℕ → ℕ → Setting → Setting
 with_write port byte set = record set { channel = after_write port byte set.channel }
 
--- once a port was read: the data port gives a result byte
+-- the setting after a port was read; the data port gives a result byte
 abbrev pub with_read : ℕ → Setting → Setting
 with_read port set =
     if is_controllers port then (if port == 0x3F5 then record set { phase = phase_after set.phase } else set)
     else record set { channel = after_read port set.channel }
 
--- chips with this setting, and all else as in others: DRQ is low
+-- chips with this setting, and all else as in other chips; DRQ is low
 pub record ChipsStand (set : Setting) (old now : Chips) : Type 0 where
   pub controller : HoldsOn old.controller.data_commands old.controller now.controller
   pub phase : now.controller.phase ≡ set.phase
@@ -54,8 +54,8 @@ pub record ChipsStand (set : Setting) (old now : Chips) : Type 0 where
   pub memory : now.memory ≡ old.memory
   pub stalls : now.holding.stalls ≡ old.holding.stalls
 
--- between two data commands the board has this setting; all else is as it was at the start, but that the drives turned on;
--- and INT stays low
+-- between two data commands the board has this setting. All else is as it was at the start, except that the drives went
+-- on turning. INT stays low.
 pub record Stands (set : Setting) (start now : Board) : Type 0 where
   pub idle : is_executing set.phase ≡ false
   pub chips : ChipsStand set start.bus.chips now.bus.chips

@@ -65,7 +65,7 @@ pub record IsReadyIn (bay : ℕ) (disk : Disk) (start : Board) : Type 0 where
   pub speed : 6250 ≤ (drive_in start bay).spin
   pub inside : (drive_in start bay).place < disk.words_per_track
 
--- the accesses since set the channel to a range, and sent all bytes of a READ DATA but this one
+-- the accesses since have set the channel to a range, and sent all bytes of a READ DATA but this one
 pub record IsSetFor (sent : Sent) (address left byte : ℕ) (set : Setting) : Type 0 where
   pub takes : set.phase ≡ Command
   pub gap : ℕ

@@ -26,7 +26,7 @@ use Rattle.fdc_core.specs.Drives.Hearing.{IsCalm}
 
 -- ---- how it begins
 
--- a READ ID sends the head and the drive alone: in its scene key and range play no part
+-- a READ ID sends the head and the drive alone, so key and range play no part in its scene
 abbrev pub sent_id : ℕ → Sent
 sent_id head_drive = record { head_drive = head_drive; key = no_key; last_sector = 0 }
 
@@ -41,15 +41,15 @@ pub record IsLastOfId (byte head_drive : ℕ) (controller : Fdc) : Type 0 where
   pub dma : controller.non_dma ≡ false
   pub no_seek : seek_bits controller.seeks ≡ 0
 
--- the accesses since sent all bytes of a READ ID but this one
+-- the accesses since have sent all bytes of a READ ID but this one
 pub record IsSetForId (head_drive byte : ℕ) (set : Setting) : Type 0 where
   pub takes : set.phase ≡ Command
   pub whole : answer (set.command ++ byte ∷ []) ≡ Ready (ReadId head_drive)
 
 -- ---- its results
 
--- what an ending says of the track, where the drive's count of faults is now this: IC 00, that the key is that of an address
--- field; MA, that there is no address mark; ND, that no address field is clear
+-- what an ending says of the track, if the drive's count of faults is now `faults`. IC 00 says that the key is that of
+-- an address field; MA, that there is no address mark; ND, that no address field is Clear.
 abbrev pub IdEndsAs : Scene → ℕ → Chrn → Ending → Type 0
 IdEndsAs scene faults key (Done deleted) = (p : ℕ) × IsAddressAt (track_met scene) p key
 IdEndsAs scene faults key NoMark = IsCalm scene.faults faults → HasAddressMark (track_met scene) → ⊥
@@ -61,6 +61,6 @@ IdEndedIn scene faults (Result (Long ending results _)) =
     (results ≡ results_of ending scene.sent.head_drive (key_met ending results.key)) × IdEndsAs scene faults results.key ending
 IdEndedIn scene faults _ = Unit {0}
 
--- the result bytes are those of an ending, and that is what it says
+-- the result bytes are those of an ending, and what that ending says is true
 abbrev pub IdEnded : Scene → Board → Type 0
 IdEnded scene board = IdEndedIn scene (drive_in board scene.bay).faults (controller_of board).phase

@@ -1,4 +1,4 @@
--- Results that tell that a data command took all its steps.
+-- Results that report that a data command took all its steps.
 use Rattle.std.specs.Prelude.{Bool, true, false}
 use Rattle.fdc_stages.specs.declared.ending.Ending.{Ending}
 use Rattle.fdc_stages.specs.declared.ending.Ending.TheVariants.{Late}
@@ -7,7 +7,7 @@ use Rattle.fdc_phases.specs.declared.answers.Answer.TheVariants.{Long}
 use Rattle.fdc_phases.specs.declared.phases.Phase.{Phase}
 use Rattle.fdc_phases.specs.declared.phases.Phase.TheVariants.{Result}
 
--- MA, since all steps were taken
+-- the ending is MA because all steps were taken
 abbrev pub ends_late : Ending → Bool
 ends_late Late = true
 ends_late _ = false

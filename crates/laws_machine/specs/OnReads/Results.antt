@@ -17,8 +17,8 @@ use Rattle.laws_machine.specs.OnReads.Scenes.{Scene, track_met}
 use Rattle.fdc_core.specs.Drives.Hearing.{IsCalm}
 use Rattle.laws_machine.specs.OnReads.Underway.{HasBytes}
 
--- a field of the key with this mark and content is on the track, and the content is in memory; where the drive had no fault,
--- or no other data mark is there, it is what a look for it finds
+-- a field of the key with this mark and content is on the track, and the content is in memory. If the drive had no
+-- fault, or no other data mark is there, the field is what a look for it finds.
 pub record FindsField (scene : Scene) (faults : ℕ) (deleted : Bool) (content memory : List ℕ) : Type 0 where
   pub place : ℕ
   pub mark : ℕ
@@ -28,7 +28,7 @@ pub record FindsField (scene : Scene) (faults : ℕ) (deleted : Bool) (content m
   pub in_memory : HasBytes scene.address content scene.memory memory
   pub looked : IsCalm scene.faults faults ⊎ IsLone (track_met scene) place → LookAt (track_met scene) place scene.sent.key.n (Found deleted (mark + 64))
 
--- what an ending says of the track, where the drive's count of faults is now this
+-- what an ending says of the track, if the drive's count of faults is now `faults`
 abbrev pub ReadEndsAs : Scene → ℕ → List ℕ → Ending → Type 0
 ReadEndsAs scene faults memory (Done deleted) = (content : List ℕ) × FindsField scene faults deleted content memory
 ReadEndsAs scene faults memory NoMark = IsCalm scene.faults faults → HasAddressMark (track_met scene) → ⊥
@@ -40,7 +40,7 @@ ReadEndsAs scene faults memory NoCount = ⊥
 ReadEndsAs scene faults memory Protected = ⊥
 ReadEndsAs scene faults memory _ = Unit {0}
 
--- the result bytes are those of an ending, and that is what it says
+-- the result bytes are those of an ending, and what that ending says is true
 abbrev pub ReadEndedIn : Scene → ℕ → List ℕ → Phase → Type 0
 ReadEndedIn scene faults memory (Result (Long ending results _)) = (results ≡ results_sent ending scene.sent) × ReadEndsAs scene faults memory ending
 ReadEndedIn scene faults memory _ = Unit {0}
@@ -48,7 +48,7 @@ ReadEndedIn scene faults memory _ = Unit {0}
 abbrev pub ReadEnded : Scene → Board → Type 0
 ReadEnded scene board = ReadEndedIn scene (drive_in board scene.bay).faults (memory_of board) (controller_of board).phase
 
--- outside the range memory is as it was
+-- memory outside the range is as it was
 pub record StaysOutside (scene : Scene) (memory : List ℕ) : Type 0 where
   pub lengths : length memory ≡ length scene.memory
   pub others : (k : ℕ) → (k < scene.address) ⊎ (scene.address + scene.size ≤ k) → slice_index memory k ≡ slice_index scene.memory k

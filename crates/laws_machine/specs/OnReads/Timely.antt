@@ -13,12 +13,12 @@ use Rattle.laws_machine.specs.OnReads.Scenes.{Scene}
 pub use Rattle.laws_machine.specs.OnSteps.Stalls.{Stalled}
 use Rattle.laws_machine.specs.OnOrders.Orders.{Read, Underway}
 
--- for so many device steps a READ DATA can go on with no grant: its FIFO has room for a byte in each
+-- a READ DATA can go on for so many device steps without a grant: its FIFO has room for one byte in each step
 abbrev pub slack_of : Fdc → ℕ
 slack_of controller = 16 - length controller.fifo.bytes
 
--- the FIFO is on with threshold 8, DOR lets DRQ out, and DRQ goes by the rule; until the terminal count the request is granted
--- before the FIFO is full
+-- the FIFO is on with threshold 8, DOR lets DRQ out, and DRQ goes by the rule. Until the terminal count, the request is
+-- granted before the FIFO is full.
 pub record IsEmptiedInTime (chips : Chips) : Type 0 where
   pub on : chips.controller.fifo.on ≡ true
   pub threshold : chips.controller.fifo.threshold ≡ 8
@@ -26,7 +26,7 @@ pub record IsEmptiedInTime (chips : Chips) : Type 0 where
   pub rule : chips.controller.asking ≡ phase_asks chips.controller.phase chips.controller.asking chips.controller.fifo
   pub ready : grants chips.channel ≡ true → IsReady chips.holding.request (slack_of chips.controller)
 
--- so it is in execution, and the results don't tell OR
+-- a READ DATA in execution is emptied in time, and the results don't report OR
 pub record IsPunctualRead (chips : Chips) : Type 0 where
   pub timely : is_executing chips.controller.phase ≡ true → IsEmptiedInTime chips
   pub no_overrun : is_overrun chips.controller.phase ≡ false

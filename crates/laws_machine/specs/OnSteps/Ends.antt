@@ -1,4 +1,4 @@
--- How long a command lasts, whatever is done meanwhile.
+-- How long a command lasts, whatever is done in the meantime.
 use Rattle.std.specs.Prelude.{◌≡◌, ◌⊎◌, ◌≤◌, ◌+◌, ◌-◌, ℕ, min, false, true, Option, Some, None, IsSomeAnd}
 use Rattle.flop_base.specs.Counts.{last_count, Rose, RoseBy}
 use Rattle.fdc_commands.specs.Seeking.{is_seeking}
@@ -11,7 +11,7 @@ use Rattle.fdc_core.specs.Steps.{steps_left, IsCounted}
 use Rattle.pc_bus.specs.Boards.{Board, controller_of}
 use Rattle.laws_machine.specs.OnSteps.Moves.{Goes}
 
--- on a course of so many device steps there is a board of which this holds, behind no more than `most` of them
+-- a course of `n` device steps passes a board for which P holds, after at most `most` of them
 pub record Meets (P : Board → Type 0) (most : ℕ) (start : Board) (n : ℕ) (now : Board) : Type 0 where
   pub mid : Board
   pub first : ℕ
@@ -24,17 +24,17 @@ pub record Meets (P : Board → Type 0) (most : ℕ) (start : Board) (n : ℕ) (
 
 -- ---- data commands
 
--- so many device steps have passed since: each took one of those that were left of the data command in execution
+-- `n` device steps have passed since, and each took one of those that were left of the data command in execution
 pub record Lessens (start : Board) (n : ℕ) (now : Board) : Type 0 where
   pub left : steps_left (controller_of now).phase ≤ steps_left (controller_of start).phase - n
-  -- its count is below 65,536, as behind every device step
+  -- the command's count is below 65,536, as after every device step
   pub counted : IsCounted (controller_of start).phase ⊎ (1 ≤ n) → IsCounted (controller_of now).phase
 
 -- a data command began since
 abbrev pub Began : Board → Board → Type 0
 Began start now = Rose (data_commands_of (controller_of start)) (data_commands_of (controller_of now))
 
--- so it is, unless another one began
+-- `n` device steps were taken from what was left of the data command, or another one began
 pub record Elapses (start : Board) (n : ℕ) (now : Board) : Type 0 where
   pub rises : min (data_commands_of (controller_of start)) last_count ≤ data_commands_of (controller_of now)
   pub left : Lessens start n now ⊎ Began start now
@@ -61,7 +61,7 @@ pulses_left board = seek_left (controller_of board).seeks.seek
 abbrev pub seeks : Board → Type 0
 seeks board = is_seeking (controller_of board).seeks ≡ true
 
--- none runs
+-- no seek runs
 abbrev pub RunsNoSeek : Board → Type 0
 RunsNoSeek board = is_seeking (controller_of board).seeks ≡ false
 
@@ -71,7 +71,7 @@ Recalibrates board = IsSomeAnd (controller_of board).seeks.seek (λ seek. (pulse
 
 -- ---- the count of device steps
 
--- it rose by so many, up to its last value
+-- the count of device steps rose by `n`, up to its last value
 pub record Counts (n : ℕ) (old new : Board) : Type 0 where
   pub least : RoseBy n old.bus.steps new.bus.steps
   pub most : new.bus.steps ≤ old.bus.steps + n

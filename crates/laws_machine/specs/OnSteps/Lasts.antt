@@ -1,4 +1,4 @@
--- How long calls last, beside the gaps behind port accesses, which are used up.
+-- How long calls last, besides the gaps after port accesses, which are used up.
 use Rattle.std.specs.Prelude.{◌≤◌, ◌+◌, ℕ, List, [], ◌∷◌}
 use Rattle.pc_bus.specs.Boards.{Board}
 use Rattle.laws_machine.specs.OnSteps.Moves.{Goes}
@@ -8,7 +8,7 @@ abbrev pub gap_steps : List ℕ → ℕ
 gap_steps [] = 0
 gap_steps (gap ∷ rest) = gap + gap_steps rest
 
--- those of the gaps that are still to come
+-- the device steps of the gaps that are still to come
 abbrev pub gaps_left : Board → ℕ
 gaps_left board = gap_steps board.bus.gaps
 
@@ -16,7 +16,7 @@ gaps_left board = gap_steps board.bus.gaps
 abbrev pub clock_of : Board → ℕ
 clock_of board = board.bus.steps + gaps_left board
 
--- a course of so many device steps at most, beside those of the gaps that it used up
+-- a course of at most `most` device steps, besides those of the gaps that it used up
 pub record Lasts (most : ℕ) (old new : Board) : Type 0 where
   pub steps : ℕ
   pub goes : Goes old steps new

@@ -1,4 +1,5 @@
--- Whatever is done with a machine: device steps, port accesses, waits, takes of the latch, and calls past the controller.
+-- Whatever is done with a machine: device steps, port accesses, waits, takes of the latch, and calls past the
+-- controller.
 use Rattle.std.specs.Prelude.{ℕ, zero, suc, Bool, false, List}
 use Rattle.pc_bus.specs.Boards.{Board}
 use Rattle.pc_bus.specs.Handling.{Touches, byte_set, irq_taken}
@@ -19,13 +20,13 @@ pub data Acts (old : Board) : Board → Type 0 where
   Sets : (address value : ℕ) → Acts old (record old { bus = byte_set address value old.bus })
   Handles : (bay : ℕ) (new : Board) → Touches bay old new → Acts old new
 
--- a course: so many device steps, and whatever was done between them
+-- a course: a number of device steps, and whatever was done between them
 pub data Goes (old : Board) : ℕ → Board → Type 0 where
   Stays : Goes old zero old
   Does : (n : ℕ) (between new : Board) → Goes old n between → Acts between new → Goes old n new
   Steps : (n : ℕ) (between new : Board) → Goes old n between → Step between new → Goes old (suc n) new
 
--- a property of the board after so many device steps, which each device step and each act carry on
+-- a property of the board after `n` device steps; each device step and each act carries the property on
 pub record Lasting (P : ℕ → Board → Type 0) : Type 0 where
   pub step : (n : ℕ) (old new : Board) → Step old new → P n old → P (suc n) new
   pub act : (n : ℕ) (old new : Board) → Acts old new → P n old → P n new

@@ -5,7 +5,7 @@ use Rattle.fdc_stages.specs.History.{Past}
 use Rattle.fdc_core.specs.Drives.Writing.{IsAtDrive as IsAtDriveSince, IsAtWindow as IsAtWindowSince, IsThere as IsThereSince, start_in as start_since}
 use Rattle.laws_machine.specs.OnReads.Scenes.{Scene, outset_of}
 
--- A FORMAT's scene is that of a command that sends a sector; of what was sent, the head and drive alone count.
+-- The scene of a FORMAT is that of a command that sends a sector. Of what was sent, only the head and the drive count.
 
 -- where the words written begin on the track: behind those that were heard
 abbrev pub start_in : Scene → Past → ℕ
@@ -19,6 +19,7 @@ IsThere scene = IsThereSince (outset_of scene)
 abbrev pub IsAtDrive : Scene → Past → Bool → DriveState → Type 0
 IsAtDrive scene = IsAtDriveSince (outset_of scene)
 
--- that of a window: words are written only on a track that is there, and the gate could be opened
+-- what is known of the drive for a window: words are written only on a track that is there, and the gate could be
+-- opened
 abbrev pub IsAtWindow : Scene → Past → Bool → DriveState → Type 0
 IsAtWindow scene = IsAtWindowSince (outset_of scene)

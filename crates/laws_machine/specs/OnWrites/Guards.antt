@@ -26,11 +26,11 @@ pub record HasOneWord (before after : Option Disk) : Type 0 where
   pub unprotected : disk.protected ≡ false
   pub is : after ≡ Some (with_word disk c h place word)
 
--- a medium stays as it is, but for one word at most
+-- a medium stays as it is, except for one word at most
 abbrev pub IsGuarded : Option Disk → Option Disk → Type 0
 IsGuarded before after = (after ≡ before) ⊎ HasOneWord before after
 
--- so it is with both media
+-- both media stay as they are, except for one word at most each
 pub record GuardsMedia (old new : Board) : Type 0 where
   pub first : IsGuarded old.first.medium new.first.medium
   pub second : IsGuarded old.second.medium new.second.medium
@@ -47,13 +47,13 @@ pub record LeavesOthers (old new : Board) : Type 0 where
 abbrev pub is_recording : Phase → Bool
 is_recording phase = not (only_listens phase)
 
--- a word time passes at a drive with its gate closed: after the pulse of a seek where one is due, or while a word is heard
+-- a word time passes at a drive with its gate closed: after the pulse of a seek if one is due, or while a word is heard
 pub record PassesClosed (before after : DriveState) : Type 0 where
   pub passes : ((pulse : Option Bool) × Moves pulse before after) ⊎ Becomes (let_pass before) before after
   pub gate : after.gate ≡ false
   pub medium : after.medium ≡ before.medium
 
--- this is a word time of the write or the format in execution, which leads from this controller to that one
+-- this is a word time of the write or format in execution, which leads from controller `old` to controller `new`
 abbrev pub MakesTask : Task → ℕ → ℕ → WordTime → Fdc → DriveState → Fdc → Type 0
 MakesTask (Write writing) head_drive steps time old before new = WriteDoes time head_drive steps writing old before new
 MakesTask (Format formatting) head_drive steps time old before new = FormatDoes time head_drive steps formatting old before new
@@ -63,7 +63,8 @@ abbrev pub MakesTime : Phase → WordTime → Fdc → DriveState → Fdc → Typ
 MakesTime (Execute execution) time old before new = MakesTask execution.task execution.head_drive execution.steps time old before new
 MakesTime _ time old before new = ⊥
 
--- a drive is given a word in a word time that a command makes; its gate is opened before it and closed behind it, or not
+-- a drive is given a word in a word time that a command makes; its gate may be opened before the word and closed after
+-- it
 pub record IsGivenIn (Makes : WordTime → Type 0) (before after : DriveState) : Type 0 where
   pub head : ℕ
   pub opened : Bool
@@ -79,18 +80,18 @@ pub record IsGivenIn (Makes : WordTime → Type 0) (before after : DriveState) :
   -- a word of the medium is replaced through an open gate alone
   pub gate : (after.medium ≡ before.medium) ⊎ (from.gate ≡ true)
 
--- it is the word that the command in execution has to record
+-- the word is the one that the command in execution has to record
 abbrev pub IsGivenWord : Fdc → DriveState → DriveState → Type 0
 IsGivenWord old before after = (new : Fdc) × IsGivenIn (λ time. MakesTime old.phase time (polled old) before new) before after
 
--- what a device step is to the drive in a bay: its gate is closed, or it is the selected one, and is given a word of the
--- command in execution, which records
+-- what a device step is to the drive in a bay: its gate is closed; or it is the selected drive, a command that records
+-- is in execution, and the drive is given a word of it
 abbrev pub IsGated : Board → ℕ → DriveState → DriveState → Type 0
 IsGated old bay before after =
     PassesClosed before after
     ⊎ ((selected_of old ≡ bay) × (is_recording (controller_of old).phase ≡ true) × IsGivenWord (controller_of old) before after)
 
--- so it is at both drives
+-- both drives are gated in this way
 pub record GatesDrives (old new : Board) : Type 0 where
   pub first : IsGated old 0 old.first new.first
   pub second : IsGated old 1 old.second new.second
@@ -99,7 +100,7 @@ pub record GatesDrives (old new : Board) : Type 0 where
 abbrev pub IsGateOf : Board → ℕ → DriveState → Type 0
 IsGateOf board bay drive = drive.gate ≡ true → (selected_of board ≡ bay) × (is_recording (controller_of board).phase ≡ true)
 
--- so it is with both gates
+-- this holds for both gates
 pub record HoldsGates (board : Board) : Type 0 where
   pub first : IsGateOf board 0 board.first
   pub second : IsGateOf board 1 board.second

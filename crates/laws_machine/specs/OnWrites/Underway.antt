@@ -1,4 +1,4 @@
--- The bytes that a command that writes takes, and results that refuse it.
+-- The bytes that are taken by a command that writes, and results that refuse the command.
 use Rattle.std.specs.Prelude.{◌≡◌, ℕ, ◌+◌, ◌<◌, Bool, true, false, List, length, take, drop}
 use Rattle.dma_8237.specs.Channel.{Channel, grants, reads_memory, place_of}
 use Rattle.fdc_stages.specs.declared.ending.Ending.{Ending}
@@ -11,7 +11,7 @@ use Rattle.laws_machine.specs.OnReads.Scenes.{Scene}
 
 -- ---- the bytes
 
--- the channel gives the byte at an address next, and so many behind it in the same page
+-- the channel gives the byte at an address next, and `left` more bytes behind it in the same page
 pub record IsReadSet (channel : Channel) (address left : ℕ) : Type 0 where
   pub granting : grants channel ≡ true
   pub reading : reads_memory channel ≡ true
@@ -23,8 +23,8 @@ pub record IsReadSet (channel : Channel) (address left : ℕ) : Type 0 where
 abbrev pub range_of : Scene → List ℕ
 range_of scene = take scene.size (drop scene.address scene.memory)
 
--- memory is as it was, and the bytes that were taken are the first of the range; the channel goes on behind them until the
--- range is over
+-- memory is as it was, and the bytes that were taken are the first of the range; the channel goes on behind these bytes
+-- until the range is over
 pub record IsTaken (scene : Scene) (taken : List ℕ) (counted : Bool) (memory : List ℕ) (channel : Channel) : Type 0 where
   pub same : memory ≡ scene.memory
   pub first : taken ≡ take (length taken) (drop scene.address scene.memory)
@@ -33,7 +33,7 @@ pub record IsTaken (scene : Scene) (taken : List ℕ) (counted : Bool) (memory :
 
 -- ---- the results
 
--- the results tell NW
+-- the results report NW
 abbrev pub refuses_as : Ending → Bool
 refuses_as Protected = true
 refuses_as _ = false

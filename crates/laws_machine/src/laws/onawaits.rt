@@ -14,8 +14,8 @@ ghost use Rattle.pc_bus.specs.Boards.{Board, controller_of, holds_of};
 ghost use Rattle.pc_bus.specs.Handling.{irq_taken};
 ghost use Rattle.pc_bus.specs.Ports.{Inputs, Outputs};
 
-/// A data command that begins while INT is low, and the latch saw the line low, counts as one, and sets the latch when it ends,
-/// whatever strays come and are taken before; what was set stays until then.
+/// A data command that begins while INT is low, and the latch saw the line low, counts as one. It sets the latch when
+/// it ends, whatever spurious interrupts come and are taken before. What was set stays until then.
 #[tactic(auto, using(crate::proofs::OnAwaits::Awaiting::awaiting, crate::proofs::OnAwaits::Accesses::stray_awaits))]
 pub fn a_data_command_is_awaited()
     ensures begins { (order : Order) (scene : Scene) (byte : ℕ) (old new : Board) → Outputs 0x3F5 byte old new → CanBegin order scene byte old
@@ -27,9 +27,10 @@ pub fn a_data_command_is_awaited()
         → IsAwaited begun start (record old { bus = irq_taken old.bus }) }
 {}
 
-/// A data command that begins with INT and DRQ let out, INT low, the FIFO on with threshold 8, and no request left from before,
-/// goes on through device steps, waits, strays that are taken, and reads of MSR, until its end is told. Where the holds were bytes
-/// as it began, a READ DATA ends soon behind its field, whatever stalls are counted.
+/// A data command that begins with INT and DRQ let out, INT low, the FIFO on with threshold 8, and no request left from
+/// before goes on until its end is reported. It goes on through device steps, waits, spurious interrupts that are
+/// taken, and reads of MSR. If all DMA latencies were below 256 when it began, a READ DATA ends soon after its field,
+/// whatever late DMAs are counted.
 #[tactic(auto, using(crate::proofs::OnAwaits::Courses::going))]
 pub fn a_data_command_goes_on()
     ensures begins { (order : Order) (scene : Scene) (byte : ℕ) (old new : Board) → Outputs 0x3F5 byte old new → CanBegin order scene byte old
@@ -41,8 +42,9 @@ pub fn a_data_command_goes_on()
         → GoesOn order scene start (record old { bus = irq_taken old.bus }) }
 {}
 
-/// Where the holds were bytes as it began, such a data command takes no more device steps than two turns of the track have words,
-/// and 258 more: a READ DATA waits for the grant of its last bytes.
+/// If all DMA latencies were below 256 when it began, such a data command takes no more device steps than two
+/// revolutions of the track have words, and 258 more. It is a READ DATA that may need the 258: it waits for the grant
+/// of its last bytes.
 #[tactic(auto, using(crate::proofs::OnAwaits::Few::few))]
 pub fn a_data_command_takes_few_steps()
     ensures { (order : Order) (scene : Scene) (start now : Board) → GoesOn order scene start now → AreShort (holds_of start)

@@ -5,8 +5,9 @@ ghost use Rattle.pc_bus.specs.Boards.{Board};
 ghost use Rattle.pc_bus.specs.Ports.{Inputs, Outputs};
 ghost use Rattle.laws_machine.specs.OnSteps.Steady.{Progress};
 
-/// The faults of a drive and the stalls never fall; faults rise by no more than what the drive tells is left of them, and stalls by
-/// no more than the long holds that are left. Device steps, waits and port accesses take no interrupt.
+/// The faults of a drive and the late DMAs never fall. The faults rise by no more than what the drive tells is left of
+/// them, and the late DMAs by no more than the long DMA latencies that are left. Device steps, waits and port accesses
+/// take no interrupt.
 #[tactic(auto, using(crate::proofs::OnCounts::Counting::counting))]
 pub fn counts_go_on()
     ensures goes_on { Progress CountsGoOn }

@@ -14,9 +14,10 @@ mod holding;
 
 pub use holding::a_format_begins_on_time;
 
-/// What a FORMAT leaves, where the channel was set to the bytes of the keys: at any time memory is as it was, and the medium is,
-/// or the first words of the layout stand on the track under the head; and its results say whether the layout fits, and that the
-/// whole turn was laid. Where the keys are those of a format of the cylinder and head, that is a laying of the disk.
+/// What a FORMAT leaves, if the channel was set to the bytes of the keys. At any time memory is as it was. The medium
+/// is as it was too, or the first words of the layout stand on the track under the head. The results say whether the
+/// layout fits, and that the whole revolution was laid out. If the keys are those of a format of the cylinder and head,
+/// this is a laying of the disk.
 #[tactic(auto, using(crate::proofs::OnFormats::Results::lays_disk))]
 pub fn a_format_tells_of_the_medium()
     ensures only { (scene : Scene) (numbers : Numbers) (keys : List Chrn) (board : Board) → scene.size ≡ 4 * numbers.sectors → AreKeysOf scene numbers keys

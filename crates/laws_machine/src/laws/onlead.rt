@@ -20,11 +20,13 @@ ghost use Rattle.pc_bus.specs.Boards.{Board, controller_of, memory_of};
 ghost use Rattle.pc_bus.specs.Ports.{Inputs, Outputs};
 ghost use Rattle.track_model.specs.Fields.{IsSizeCode, content_size};
 
-/// A READ ID, READ DATA, write or FORMAT TRACK whose medium may not be at speed yet when its last byte is written begins and goes
-/// on as another does, through device steps, reads of ports, and writes that leave DOR, the rate and the channel. Where its
-/// results say IC 00, they mean what they mean at speed: a sector of the key is on the track and in memory, the key is that of an
-/// address field, the whole window stands, or the turn is laid. At any time a READ DATA changes memory in its range alone, and a
-/// command that writes leaves the medium, or the first words of what it writes stand there.
+/// A READ ID, READ DATA, write or FORMAT TRACK whose medium may not be at speed yet when its last byte is written
+/// begins and goes on as any other. It goes on through device steps, reads of ports, and writes that leave DOR, the
+/// rate and the channel. If its results say IC 00, they mean what they mean at speed. For a READ DATA, a sector of the
+/// key is on the track and in memory; for a READ ID, the key is that of an address field. If the drive had no fault,
+/// the whole window of a write stands, and the whole revolution of a FORMAT TRACK is laid out. At any time, a READ DATA
+/// has changed memory in its range alone. A command that writes has left the medium as it was, or the first words of
+/// what it writes stand there.
 #[tactic(auto, using(crate::proofs::OnLead::Steps::warming, crate::proofs::OnLead::Ends::read_outside, crate::proofs::OnLead::Written::only, crate::proofs::OnLead::Accesses::still_keeps, crate::proofs::OnLead::Accesses::can_warm, crate::proofs::OnLead::Ends::id_memory))]
 pub fn a_command_begun_before_speed()
     ensures steady { (order : Order) (scene : Scene) → Steady (WarmsUp order scene) }

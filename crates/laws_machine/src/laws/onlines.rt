@@ -6,7 +6,7 @@ ghost use Rattle.pc_bus.specs.Boards.{AreSetIfEmpty, Board, IsEmpty, IsNew};
 ghost use Rattle.pc_bus.specs.Calls.{AreCalled, IsCalled};
 ghost use Rattle.laws_machine.specs.OnSteps.Steady.{Steady};
 
-/// On a new machine each empty drive has its change line set, and every call of a machine keeps that, in each device step.
+/// On a new machine each empty drive has its change line set. Every call of a machine keeps that, in each device step.
 #[tactic(auto, using(crate::proofs::OnLines::Showing::new_lines, crate::proofs::OnLines::Showing::showing, crate::proofs::OnLines::Showing::calls_lines))]
 pub fn empty_drives_keep_their_lines()
     ensures made { (pace : Pace) (bay0 bay1 : DriveState) (new : Board) → IsEmpty bay0 → IsEmpty bay1 → IsNew pace bay0 bay1 new → AreSetIfEmpty new }

@@ -14,11 +14,13 @@ ghost use Rattle.pc_bus.specs.Boards.{Board, controller_of, memory_of};
 ghost use Rattle.pc_bus.specs.Ports.{Inputs, Outputs};
 ghost use Rattle.pc_bus.specs.Steps.{Runs};
 
-/// Each device step keeps what is known of a READ ID, a READ DATA, a write or a FORMAT TRACK, whatever holds, strays, gaps and
-/// faults of the drive there are; and so does each call that leaves the chips and the drives, as one that takes the latch. The port
-/// write that completes its bytes begins it, and moves no heads. A read of a port keeps what is known of it until the last result
-/// byte was read; and so does a write that leaves DOR, the rate and the channel, as a byte to the data port, or one that clears the
-/// channel's flip-flop.
+/// Each device step keeps what is known of a READ ID, a READ DATA, a write or a FORMAT TRACK, whatever DMA latencies,
+/// spurious interrupts, gaps and faults of the drive there are. So does each call that leaves the chips and the drives
+/// as they are, for example one that takes the latch.
+///
+/// The port write that completes the bytes of the command begins it, and moves no heads. A read of a port keeps what is
+/// known of the command until the last result byte was read. So does a write that leaves DOR, the rate and the channel,
+/// for example a byte to the data port, or a write that clears the channel's flip-flop.
 #[tactic(auto, using(crate::proofs::OnOrders::Steps::underway, crate::proofs::OnOrders::Steps::still_keeps, crate::proofs::OnOrders::Outputs::leaves_data))]
 pub fn a_data_command_stays_underway()
     ensures steady { (order : Order) (scene : Scene) → Steady (Underway order scene) }
@@ -34,10 +36,13 @@ pub fn a_data_command_stays_underway()
     ensures flips { (value : ℕ) (board : Board) → Leaves 0x0C value board }
 {}
 
-/// Whatever the drive is, absent, empty, spinning up, or another one selected: from the write that begins a READ DATA on no device
-/// step changes a byte outside the range that the channel was set to; nor does a call that leaves the chips, a read of a port, or a
-/// write that leaves DOR, the rate and the channel but for its flip-flop. Once it gives its results the machine is idle, and so it
-/// is behind the last result byte: while it is, no byte moves at all.
+/// From the write that begins a READ DATA on, no device step changes a byte outside the range that the channel was set
+/// to. This holds whatever the drive is: absent, empty, spinning up, or another one selected. Nor is such a byte
+/// changed by a call that leaves the chips, by a read of a port, or by a write that leaves DOR, the rate, and the
+/// channel but for its flip-flop.
+///
+/// Once the READ DATA gives its results, the machine is idle, and it is idle after the last result byte too. While the
+/// machine is idle, no byte moves at all.
 #[tactic(auto, using(crate::proofs::OnOrders::Outside::fetching, crate::proofs::OnOrders::Outside::outside, crate::proofs::OnOrders::Outside::still_fetching, crate::proofs::OnOrders::Outside::idles))]
 pub fn a_read_moves_bytes_of_its_range_alone()
     ensures outside { (scene : Scene) (byte n : ℕ) (old between new : Board) → CanFetch scene byte old → Outputs 0x3F5 byte old between → Runs n between new

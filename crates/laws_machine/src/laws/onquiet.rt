@@ -16,7 +16,7 @@ ghost use Rattle.pc_bus.specs.Boards.{Board, controller_of};
 ghost use Rattle.pc_bus.specs.Ports.{Inputs, Outputs, is_controllers};
 ghost use Rattle.laws_machine.specs.OnSteps.Steady.{Steady};
 
-/// Where no seek bit is set and no command writes, device steps turn the drives and leave what was set.
+/// If no seek bit is set and no command writes, device steps turn the drives and leave what was set.
 #[tactic(auto, using(crate::proofs::OnQuiet::Steps::starts_quietly, crate::proofs::OnQuiet::Steps::still_quietly, crate::proofs::OnQuiet::Steps::quietly))]
 pub fn quiet_steps_turn_drives()
     ensures starts { (board : Board) → IsQuiet (controller_of board) → GoesQuietly (data_commands_of (controller_of board)) board board }
@@ -24,7 +24,7 @@ pub fn quiet_steps_turn_drives()
     ensures steady { (begun : ℕ) (start : Board) → Steady (GoesQuietly begun start) }
 {}
 
-/// Between two data commands device steps leave what was set, memory and the stalls, and DRQ stays low.
+/// Between two data commands device steps leave what was set, memory, and the count of late DMAs, and DRQ stays low.
 #[tactic(auto, using(crate::proofs::OnQuiet::Standing::starts_standing, crate::proofs::OnQuiet::Standing::still_stands, crate::proofs::OnQuiet::Standing::standing))]
 pub fn steps_leave_a_setting()
     ensures starts { (board : Board) → IsQuiet (controller_of board) → is_executing (controller_of board).phase ≡ false → (controller_of board).asking ≡ false
@@ -33,8 +33,9 @@ pub fn steps_leave_a_setting()
     ensures steady { (start : Board) (set : Setting) → Steady (Stands set start) }
 {}
 
-/// A port access between two data commands sets its register, and leaves all else, whatever gap follows it: a port of the
-/// channel, the data port with a byte of a command that isn't whole yet, the rate, and each port that is read.
+/// A port access between two data commands sets its register and leaves all else, whatever gap follows it. It is a
+/// write to a port of the channel, a byte of a command that isn't whole yet, a write of the rate, or a read of any
+/// port.
 #[tactic(auto, using(crate::proofs::OnQuiet::Accesses::input_gives))]
 pub fn accesses_set_registers()
     ensures channel { (start : Board) (set : Setting) (port value : ℕ) (old new : Board) → is_controllers port ≡ false → Outputs port value old new
@@ -46,8 +47,8 @@ pub fn accesses_set_registers()
     ensures gives { (start : Board) (set : Setting) (value : ℕ) (old new : Board) → Inputs 0x3F5 old value new → Stands set start old → value ≡ result_byte set.phase }
 {}
 
-/// Seven reads of the data port give the results of a data command, which are ST0, ST1, ST2, C, H, R, N; then the controller
-/// takes commands, and all else stands as it was.
+/// Seven reads of the data port give the results of a data command, which are ST0, ST1, ST2, C, H, R, N. After them the
+/// controller takes commands, and all else is as it was.
 pub fn results_are_read()
     ensures { (ending : Ending) (results : Results) (old new : Board) (st0 st1 st2 c h r n : ℕ) → IsQuiet (controller_of old) → (controller_of old).asking ≡ false
         → (controller_of old).phase ≡ Result (Long ending results 0) → GivesBytes old (st0 ∷ st1 ∷ st2 ∷ c ∷ h ∷ r ∷ n ∷ []) new

@@ -30,8 +30,8 @@ pub use ending::{
 pub use holding::{a_read_overruns_only_by_a_stall, a_served_request_falls};
 pub use identifying::{a_read_id_begins, a_read_id_tells_of_the_track};
 
-/// A READ DATA can begin where port accesses set all that it needs on a machine at rest, and its last byte counts one data
-/// command.
+/// A READ DATA can begin on a machine at rest, if port accesses have set all that the command needs. The write of its
+/// last byte counts one data command.
 #[tactic(auto, using(crate::proofs::OnReads::Beginnings::is_set, crate::proofs::OnReads::Beginnings::can_begin))]
 pub fn a_read_begins()
     ensures set { (address left : ℕ) (channel : Channel) → IsSetUp 0x46 address left channel → address % 65536 + left < 65536 → IsSet channel address left }
@@ -41,8 +41,8 @@ pub fn a_read_begins()
         → GoesQuietly begun start old → GoesQuietly (counted begun) start new }
 {}
 
-/// The track under the head is the one that a command meets at the rate that the controller is set to; one with an address
-/// field is a track of the medium, at its own rate.
+/// The track under the head is the one that a command meets at the rate that the controller is set to. If it has an
+/// address field, it is a track of the medium, at the medium's own rate.
 #[tactic(auto, using(crate::proofs::OnReads::TrackMet::met_is, crate::proofs::OnReads::TrackMet::rate_is))]
 pub fn the_track_is_met()
     ensures met { (scene : Scene) (rate : Rate) → scene.rate ≡ data_rate rate → track_met scene ≡ met_in (Some scene.disk) rate scene.cylinder (head_sent scene.sent) }
@@ -50,8 +50,8 @@ pub fn the_track_is_met()
     ensures rate { (scene : Scene) (rate : Rate) → scene.rate ≡ data_rate rate → IsRecorded scene → scene.disk.rate ≡ rate }
 {}
 
-/// What the results of a READ DATA say of the track under the head, where the channel was set to as many bytes as the
-/// sector has; and what else there is in memory stays as it was, however it ends. DRQ is low then.
+/// What the results of a READ DATA say of the track under the head, if the channel was set to as many bytes as the
+/// sector has. What else there is in memory stays as it was, however the command ends. DRQ is low after the command.
 #[tactic(auto, using(crate::proofs::OnOrders::Ends::read_outside, crate::proofs::OnOrders::Ends::read_low))]
 pub fn a_read_tells_of_the_track()
     ensures ended { (scene : Scene) (board : Board) → IsSizeCode scene.sent.key.n → scene.size ≡ content_size scene.sent.key.n

@@ -13,7 +13,7 @@ ghost use Rattle.pc_bus.specs.Handling.{Touches, byte_set, irq_taken};
 ghost use Rattle.pc_bus.specs.Ports.{Inputs, Outputs};
 ghost use Rattle.pc_bus.specs.Steps.{Runs, RunsToIrq, Waits, stirred};
 
-/// Each call of the machine is a course of so many device steps.
+/// Each call of the machine is a course of a known number of device steps.
 pub fn calls_are_courses()
     ensures wait { (n : ℕ) (old new : Board) → Runs n (stirred old) new → Goes old n new }
     ensures wait_irq { (most : ℕ) (set : Bool) (old new : Board) → (waits : Waits most old set new) → Goes old waits.steps new }
@@ -25,9 +25,10 @@ pub fn calls_are_courses()
     ensures handle { (bay : ℕ) (old new : Board) → Touches bay old new → Goes old 0 new }
 {}
 
-/// Behind as many device steps as were left of a data command none is in execution, unless another one began, whatever calls
-/// came between: 65,536 in any case, and so it is on the way of each longer course. A reset ends it too. Each device step
-/// leaves one fewer, whatever the pace.
+/// After as many device steps as were left of a data command, no data command is in execution, unless another one
+/// began. This holds whatever calls came between. At most 65,536 device steps are left of any, so each course of that
+/// length or more passes such a point after at most 65,536. A reset ends the command too. Each device step leaves one
+/// fewer, whatever the timing of the machine.
 pub fn a_data_command_ends()
     ensures steps { (start : Board) → Marching (λ n board. steps_left (controller_of board).phase ≤ steps_left (controller_of start).phase - n) }
     ensures left { (old new : Board) (n : ℕ) → Goes old n new → IsCounted (controller_of old).phase
@@ -36,8 +37,8 @@ pub fn a_data_command_ends()
     ensures meets { (old new : Board) (n : ℕ) → Goes old n new → 65536 ≤ n → Meets (IsOver old) 65536 old n new }
 {}
 
-/// A seek that runs comes to its end in no more device steps than are left of it, whatever calls come between: 256 at most, and
-/// 80 for a RECALIBRATE. A reset ends it too.
+/// A seek that runs comes to its end in no more device steps than are left of it, whatever calls come between. These
+/// are 256 at most, and 80 for a RECALIBRATE. A reset ends the seek too.
 pub fn a_seek_ends()
     ensures ends { (old new : Board) (n : ℕ) → Goes old n new → is_executing (controller_of old).phase ≡ false → seeks old
         → pulses_left old ≤ n → Meets RunsNoSeek (pulses_left old) old n new }
@@ -45,22 +46,23 @@ pub fn a_seek_ends()
     ensures recalibrates { (board : Board) → IsInRange board → Recalibrates board → pulses_left board ≤ 80 }
 {}
 
-/// Device steps are counted, and nothing else is: a wait for the interrupt adds no more than its number, and exactly that where
-/// it answers false.
+/// Device steps are counted, and nothing else is. A wait for the interrupt adds no more than its number, and exactly
+/// that number if the wait answers false.
 pub fn device_steps_are_counted()
     ensures course { (n : ℕ) (old new : Board) → Goes old n new → Counts n old new }
     ensures wait_irq { (most : ℕ) (set : Bool) (old new : Board) → Waits most old set new
         → (n : ℕ) × (n ≤ most) × (set ≡ false → n ≡ most) × Counts n old new }
 {}
 
-/// A hold that is left stays below 256, and so does what is left of a request.
+/// A DMA latency that is left stays below 256, and so does what is left of the latency of a request.
 pub fn holds_stay_short()
     ensures { Steady (λ board. AreShort (holds_of board)) }
 {}
 
-/// Each call of the machine lasts as many device steps as it is given, at most, beside those of the gaps behind port accesses,
-/// which are used up. So the device steps that were counted and those of the gaps that are still to come rise together by no
-/// more than the sum of what calls last, whatever the gaps, the strays and the holds are.
+/// Each call of the machine lasts at most as many device steps as the call is given, besides those of the gaps after
+/// port accesses, which are used up. Add the device steps that were counted to those of the gaps that are still to
+/// come. This sum rises by no more than the sum of what the calls last, whatever the gaps, the spurious interrupts and
+/// the DMA latencies are.
 pub fn calls_last()
     ensures wait { (n : ℕ) (old new : Board) → Runs n (stirred old) new → Lasts n old new }
     ensures wait_irq { (most : ℕ) (set : Bool) (old new : Board) → Waits most old set new → Lasts most old new }

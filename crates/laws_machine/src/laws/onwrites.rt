@@ -26,10 +26,12 @@ pub use heads::{
 };
 pub use holding::{a_write_begins_on_time, device_steps_are_on_time};
 
-/// What a write leaves, where the channel was set to as many bytes as the sector has: at any time memory is as it was, and the
-/// medium is, or has one change, a first part of the window of those bytes behind an address field of the key; and its results
-/// say how much of it stands, or what the track under the head is; with no fault of the drive and no OR the whole window stands
-/// wherever it is inside the track. Where the command's head is that of the key, that is a
+/// What a write leaves, if the channel was set to as many bytes as the sector has. At any time memory is as it was. The
+/// medium is as it was too, or it has one change: a first part of the window of those bytes stands behind an address
+/// field of the key.
+///
+/// The results say how much of the window stands, or what the track under the head is. With no fault of the drive and
+/// no OR, the whole window stands wherever it is inside the track. If the command's head is that of the key, this is a
 /// change of the disk.
 #[tactic(auto, using(crate::proofs::OnWrites::Results::changes_disk))]
 pub fn a_write_tells_of_the_medium()

@@ -36,11 +36,11 @@ pub length-bytes : (bytes rest : List ℕ) → length (spelled_bytes bytes rest)
 unfolding spelled_bytes
 length-bytes bytes rest = omega (arith, length-count, length-append bytes rest)
 
--- so many bytes a value has at the most
+-- a value has at most so many bytes
 abbrev pub HasMost : {A : Type 0} → (A → List ℕ → List ℕ) → ℕ → Type 0
 HasMost {A} spelled most = (value : A) (rest : List ℕ) → length (spelled value rest) ≤ most + length rest
 
--- one more where it may be missing
+-- a value that may be missing has one byte more
 pub most-option : {A : Type 0} (spelled : A → List ℕ → List ℕ) (most : ℕ) → HasMost spelled most → HasMost (spelled_option spelled) (1 + most)
 unfolding spelled_option
 most-option spelled most each None rest = omega arith
@@ -49,7 +49,7 @@ most-option spelled most each (Some value) rest = omega (arith, each value rest)
 pub most-byte : HasMost spelled_byte 1
 most-byte n rest = omega (arith, length-byte)
 
--- bytes one behind the other
+-- bytes one after the other
 pub length-each : (bytes rest : List ℕ) → length (spelled_each spelled_byte bytes rest) ≡ length bytes + length rest
 unfolding spelled_each
 length-each [] rest = omega arith

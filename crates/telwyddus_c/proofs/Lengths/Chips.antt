@@ -1,4 +1,4 @@
--- How many bytes the whole controller has in a state, but for its drives.
+-- How many bytes the whole controller has in a state, except for its drives.
 use Rattle.std.proofs.Common.{◌+◌, ◌≤◌, ℕ, List, length, arith}
 use Rattle.fdc_adapter.specs.Saving.{AdapterFits, spelled_adapter}
 use Rattle.fdc_adapter.specs.declared.adapter.DisketteAdapter.{DisketteAdapter}
@@ -18,7 +18,7 @@ use Rattle.saved_state.specs.Saved.{spelled_bytes, spelled_byte, spelled_each, s
 use Rattle.telwyddus_c.proofs.Lengths.Bytes.{HasMost, length-byte, length-bytes, length-double, length-each, length-flag, length-key, length-word, most-byte, most-each, most-option}
 use Rattle.telwyddus_c.proofs.Lengths.Fdcs.{most-fdc, most-results}
 
--- a drive has so many bytes at the most
+-- a drive has at most so many bytes
 abbrev IsWithin : {D : Type 0} → (D → List ℕ → List ℕ) → D → ℕ → Type 0
 IsWithin spelled drive most = (rest : List ℕ) → length (spelled drive rest) ≤ most + length rest
 

@@ -102,7 +102,7 @@ not_out : (out : Bool) (X : Type 0) → out ≡ false → MatchBool out X ⊥ �
 not_out true X e is = absurd cc
 not_out false X e is = is
 
--- so is what is told of it
+-- the length that is reported of a state is no more than that either
 pub tells_at_most : (controller : ControllerValue) (code : ℕ) (old new : List ℕ) (was told : ℕ)
     → WritesState ControllerFits spelled_controller controller code old new was told → TellsAtMost (Some controller) code told
 tells_at_most controller code old new was told writes memory =

@@ -13,8 +13,8 @@ use c_slots::{ControllerSlot, WholeController};
 use saved_state::RestoreError;
 use std::alloc::Global;
 
-/// Writes the controller's state with its drives to the beginning of a buffer, and tells its length. Of the media in them it has the length
-/// of their tracks and their rates alone. The controller goes on.
+/// Writes the controller's state with its drives to the beginning of a buffer, and reports its length. Of the media in
+/// the drives the state has only the length of their tracks and their rates. The controller goes on.
 #[unsafe(no_mangle)]
 pub extern "C" fn telwyddus_controller_save_bare(
     alloc: Global,
@@ -33,7 +33,7 @@ pub extern "C" fn telwyddus_controller_save_bare(
     code
 }
 
-/// The same of a controller, which has its media again behind it.
+/// Writes the state of a controller, which afterwards has its media again.
 fn save_bare(
     alloc: Global,
     controller: &mut WholeController,
@@ -49,8 +49,8 @@ fn save_bare(
     }
 }
 
-/// Makes the controller that a slot holds the one whose state the bytes are, but for its media, which stay in its bays with what it tells of
-/// writes to them. Afterwards `lines` has the lines of the controller.
+/// Makes the controller that a slot holds the one whose state the bytes are, except for its media. These stay in its
+/// bays, with what it reports of writes to them. Afterwards `lines` has the lines of the controller.
 #[unsafe(no_mangle)]
 pub extern "C" fn telwyddus_controller_restore_bare(
     alloc: Global,
@@ -69,7 +69,7 @@ pub extern "C" fn telwyddus_controller_restore_bare(
     code
 }
 
-/// The same of a controller.
+/// Restores a controller without its media, and reports the lines.
 fn restore_telling(
     alloc: Global,
     controller: &mut WholeController,
@@ -84,7 +84,7 @@ fn restore_telling(
     code
 }
 
-/// The same, and no lines are told.
+/// Restores a controller without its media, and reports no lines.
 fn restore_bare(alloc: Global, controller: &mut WholeController, bytes: &[u8]) -> u32
     ensures { RestoresBare bytes.now result controller.old controller.new }
 {

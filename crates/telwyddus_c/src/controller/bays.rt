@@ -25,7 +25,8 @@ const GATE: u8 = 4;
 /// A medium is in.
 const MEDIUM: u8 = 8;
 
-/// Puts the medium of a tray into a bay. Where one is in already, it stays in the tray. Afterwards `lines` has the controller's lines.
+/// Puts the medium of a tray into a bay. If a medium is in already, the new one stays in the tray. Afterwards `lines`
+/// has the controller's lines.
 #[unsafe(no_mangle)]
 pub extern "C" fn telwyddus_controller_insert(
     alloc: Global,
@@ -48,7 +49,7 @@ pub extern "C" fn telwyddus_controller_insert(
     code
 }
 
-/// The same of a controller.
+/// Puts the medium of a tray into a bay of a controller, and reports the lines.
 fn insert_telling(
     alloc: Global,
     controller: &mut WholeController,
@@ -66,7 +67,7 @@ fn insert_telling(
     code
 }
 
-/// The same, and no lines are told.
+/// Puts the medium of a tray into a bay of a controller, and reports no lines.
 fn insert_from(
     alloc: Global,
     controller: &mut WholeController,
@@ -83,7 +84,7 @@ fn insert_from(
     insert_attached(alloc, controller, bay as u8, tray)
 }
 
-/// The same of a bay that there is. A drive whose cable is pulled takes no medium.
+/// Puts the medium of a tray into bay 0 or 1. A drive whose cable is pulled takes no medium.
 fn insert_attached(
     alloc: Global,
     controller: &mut WholeController,
@@ -101,7 +102,7 @@ fn insert_attached(
     }
 }
 
-/// The same of a bay whose drive is attached.
+/// Puts the medium of a tray into a bay whose drive is attached.
 fn insert_from_tray(
     alloc: Global,
     controller: &mut WholeController,
@@ -119,7 +120,7 @@ fn insert_from_tray(
     code
 }
 
-/// The same of a controller and a tray.
+/// Puts the medium that a tray holds into a bay.
 fn insert(controller: &mut WholeController, bay: u8, tray: &mut MediumTray) -> u32
     requires { bay ≤ 1 }
     ensures drive { PutsIn result tray.old tray.new (drive_of controller.old bay) (drive_of controller.new bay) }
@@ -159,7 +160,7 @@ pub extern "C" fn telwyddus_controller_eject(
     code
 }
 
-/// The same of a controller.
+/// Takes the medium out of a bay of a controller, and reports the lines.
 fn eject_telling(
     alloc: Global,
     controller: &mut WholeController,
@@ -176,7 +177,7 @@ fn eject_telling(
     code
 }
 
-/// The same, and no lines are told.
+/// Takes the medium out of a bay of a controller, and reports no lines.
 fn eject_into(alloc: Global, controller: &mut WholeController, bay: u32, tray: &mut TraySlot) -> u32
     ensures { InBay bay result ((controller.new ≡ controller.old) × (tray.new.held.tray ≡ tray.old.held.tray))
         (EjectsAt bay result tray.old.held.tray tray.new.held.tray controller.old controller.new) }
@@ -198,7 +199,7 @@ fn eject_into(alloc: Global, controller: &mut WholeController, bay: u32, tray: &
     DONE
 }
 
-/// Writes the image file of the medium in a bay to a buffer, and tells its length. The medium stays in.
+/// Writes the image file of the medium in a bay to a buffer, and reports its length. The medium stays in.
 #[unsafe(no_mangle)]
 pub extern "C" fn telwyddus_controller_image(
     alloc: Global,
@@ -219,7 +220,7 @@ pub extern "C" fn telwyddus_controller_image(
     code
 }
 
-/// The same of a controller.
+/// Writes the image file of the medium in a bay of a controller.
 fn image_of(
     alloc: Global,
     controller: &WholeController,
@@ -236,8 +237,8 @@ fn image_of(
     write_medium(alloc, controller.medium(bay as u8), out, length)
 }
 
-/// Tells whether a word of the medium in a bay was replaced since it was put in, or since that was last forgotten. Nothing
-/// changes.
+/// Reports whether a word of the medium in a bay was replaced since it was put in, or since this sign was last
+/// forgotten. Nothing changes.
 #[unsafe(no_mangle)]
 pub extern "C" fn telwyddus_controller_is_written(
     alloc: Global,
@@ -257,7 +258,7 @@ pub extern "C" fn telwyddus_controller_is_written(
     code
 }
 
-/// The same of a controller.
+/// Reports whether a word of the medium in a bay of a controller was replaced.
 fn show_written(controller: &WholeController, bay: u32, written: &mut u8) -> u32
     ensures { InBay bay result (written.new ≡ written.old) ((result ≡ 0) × ShowsWritten bay controller.now written.new) }
 {
@@ -268,7 +269,7 @@ fn show_written(controller: &WholeController, bay: u32, written: &mut u8) -> u32
     DONE
 }
 
-/// Tells what `is_written` does, and forgets it.
+/// Reports what `is_written` reports, and forgets it.
 #[unsafe(no_mangle)]
 pub extern "C" fn telwyddus_controller_written(
     alloc: Global,
@@ -288,7 +289,7 @@ pub extern "C" fn telwyddus_controller_written(
     code
 }
 
-/// The same of a controller.
+/// Reports whether a word of the medium in a bay of a controller was replaced, and forgets it.
 fn tell_written(controller: &mut WholeController, bay: u32, written: &mut u8) -> u32
     ensures { InBay bay result ((controller.new ≡ controller.old) × (written.new ≡ written.old))
         ((result ≡ 0) × TellsWritten bay controller.old written.new controller.new) }
@@ -300,8 +301,8 @@ fn tell_written(controller: &mut WholeController, bay: u32, written: &mut u8) ->
     DONE
 }
 
-/// What a front end shows of a bay: the cylinder under the heads, and in a byte 1 the motor, 2 the selection, 4 the write
-/// gate and 8 a medium.
+/// What a front end shows of a bay: the cylinder under the heads, and in a byte 1 for the motor, 2 for the selection, 4
+/// for the write gate and 8 for a medium.
 #[unsafe(no_mangle)]
 pub extern "C" fn telwyddus_controller_bay(
     alloc: Global,
@@ -322,7 +323,7 @@ pub extern "C" fn telwyddus_controller_bay(
     code
 }
 
-/// The same of a controller.
+/// What a front end shows of a bay of a controller.
 fn show(controller: &WholeController, bay: u32, cylinder: &mut u8, signs: &mut u8) -> u32
     ensures { InBay bay result ((cylinder.new ≡ cylinder.old) × (signs.new ≡ signs.old))
         ((result ≡ 0) × Shows bay controller.now cylinder.new signs.new) }

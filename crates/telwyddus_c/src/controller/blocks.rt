@@ -9,8 +9,8 @@ use crate::controller::lines::lines_of;
 use c_slots::{ControllerSlot, WholeController};
 use std::alloc::Global;
 
-/// The channel takes bytes to the beginning of a buffer, as long as they are asked for and the buffer has room, and tells how
-/// many, and the lines behind that.
+/// The channel takes bytes to the beginning of a buffer, as long as they are asked for and the buffer has room. Reports
+/// how many. Afterwards `lines` has the controller's lines.
 #[unsafe(no_mangle)]
 pub extern "C" fn telwyddus_controller_dack_block_read(
     alloc: Global,
@@ -30,7 +30,7 @@ pub extern "C" fn telwyddus_controller_dack_block_read(
     DONE
 }
 
-/// The same of a controller.
+/// The channel takes bytes from a controller, and the lines are reported.
 fn take_block(controller: &mut WholeController, out: &mut [u8], lines: &mut u8) -> usize
     ensures takes { TakesBlock result out.old out.new (state_of controller.old) (state_of controller.new) }
     ensures drives { KeepsDrives controller.old controller.new }
@@ -41,7 +41,7 @@ fn take_block(controller: &mut WholeController, out: &mut [u8], lines: &mut u8) 
     moved
 }
 
-/// The same without the lines.
+/// The channel takes bytes from a controller, and no lines are reported.
 fn take_bytes(controller: &mut WholeController, out: &mut [u8]) -> usize
     ensures { TakesBlock result out.old out.new (state_of controller.old) (state_of controller.new) × KeepsDrives controller.old controller.new }
 {
@@ -54,8 +54,8 @@ fn take_bytes(controller: &mut WholeController, out: &mut [u8]) -> usize
     out.len()
 }
 
-/// The channel gives the bytes of a buffer, from its beginning on, as long as they are asked for, and tells how many, and the
-/// lines behind that.
+/// The channel gives the bytes of a buffer, from its beginning on, as long as they are asked for. Reports how many.
+/// Afterwards `lines` has the controller's lines.
 #[unsafe(no_mangle)]
 pub extern "C" fn telwyddus_controller_dack_block_write(
     alloc: Global,
@@ -75,7 +75,7 @@ pub extern "C" fn telwyddus_controller_dack_block_write(
     DONE
 }
 
-/// The same of a controller.
+/// The channel gives bytes to a controller, and the lines are reported.
 fn give_block(controller: &mut WholeController, bytes: &[u8], lines: &mut u8) -> usize
     ensures gives { GivesBlock result bytes.now (state_of controller.old) (state_of controller.new) }
     ensures drives { KeepsDrives controller.old controller.new }
@@ -86,7 +86,7 @@ fn give_block(controller: &mut WholeController, bytes: &[u8], lines: &mut u8) ->
     moved
 }
 
-/// The same without the lines.
+/// The channel gives bytes to a controller, and no lines are reported.
 fn give_bytes(controller: &mut WholeController, bytes: &[u8]) -> usize
     ensures { GivesBlock result bytes.now (state_of controller.old) (state_of controller.new) × KeepsDrives controller.old controller.new }
 {

@@ -9,7 +9,8 @@ use crate::controller::lines::lines_of;
 use c_slots::{ControllerSlot, WholeController};
 use std::alloc::Global;
 
-/// The channel takes a byte, where one is asked for. The lines behind that are told, also where none is.
+/// The channel takes a byte, if one is asked for. Afterwards `lines` has the controller's lines, even if none was asked
+/// for.
 #[unsafe(no_mangle)]
 pub extern "C" fn telwyddus_controller_dack_read(
     alloc: Global,
@@ -28,7 +29,7 @@ pub extern "C" fn telwyddus_controller_dack_read(
     code
 }
 
-/// The same of a controller.
+/// The channel takes a byte from a controller, and the lines are reported.
 fn take_telling(controller: &mut WholeController, byte: &mut u8, lines: &mut u8) -> u32
     ensures takes { TakesByte result (state_of controller.old) byte.old byte.new (state_of controller.new) }
     ensures drives { KeepsDrives controller.old controller.new }
@@ -39,7 +40,7 @@ fn take_telling(controller: &mut WholeController, byte: &mut u8, lines: &mut u8)
     code
 }
 
-/// The same without the lines.
+/// The channel takes a byte from a controller, and no lines are reported.
 fn take_byte(controller: &mut WholeController, byte: &mut u8) -> u32
     ensures takes { TakesByte result (state_of controller.old) byte.old byte.new (state_of controller.new) }
     ensures drives { KeepsDrives controller.old controller.new }
@@ -51,7 +52,8 @@ fn take_byte(controller: &mut WholeController, byte: &mut u8) -> u32
     DONE
 }
 
-/// The channel gives a byte, where one is asked for. The lines behind that are told, also where none is.
+/// The channel gives a byte, if one is asked for. Afterwards `lines` has the controller's lines, even if none was asked
+/// for.
 #[unsafe(no_mangle)]
 pub extern "C" fn telwyddus_controller_dack_write(
     alloc: Global,
@@ -70,7 +72,7 @@ pub extern "C" fn telwyddus_controller_dack_write(
     code
 }
 
-/// The same of a controller.
+/// The channel gives a byte to a controller, and the lines are reported.
 fn give_telling(controller: &mut WholeController, byte: u8, lines: &mut u8) -> u32
     ensures gives { GivesByte byte result (state_of controller.old) (state_of controller.new) }
     ensures drives { KeepsDrives controller.old controller.new }
@@ -81,7 +83,7 @@ fn give_telling(controller: &mut WholeController, byte: u8, lines: &mut u8) -> u
     code
 }
 
-/// The same without the lines.
+/// The channel gives a byte to a controller, and no lines are reported.
 fn give_byte(controller: &mut WholeController, byte: u8) -> u32
     ensures gives { GivesByte byte result (state_of controller.old) (state_of controller.new) }
     ensures drives { KeepsDrives controller.old controller.new }
@@ -93,7 +95,7 @@ fn give_byte(controller: &mut WholeController, byte: u8) -> u32
     }
 }
 
-/// The channel tells the terminal count. The lines behind that are told.
+/// The channel gives the terminal count. Afterwards `lines` has the controller's lines.
 #[unsafe(no_mangle)]
 pub extern "C" fn telwyddus_controller_tc(
     alloc: Global,
@@ -111,7 +113,7 @@ pub extern "C" fn telwyddus_controller_tc(
     DONE
 }
 
-/// The same of a controller.
+/// The channel gives a controller the terminal count, and the lines are reported.
 fn count_out(controller: &mut WholeController, lines: &mut u8)
     ensures counted { state_of controller.new ≡ told_chip (state_of controller.old) }
     ensures drives { KeepsDrives controller.old controller.new }

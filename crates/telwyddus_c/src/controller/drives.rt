@@ -11,13 +11,13 @@ use drive_model::Fault;
 use fault_plan::{FaultPlan, PlanError, plan_of};
 use std::alloc::Global;
 
-/// A bit for each track by cylinder, then head: that of track 0 is the lowest of byte 0.
+/// A bit for each track by cylinder, then head. The bit of track 0 is the lowest of byte 0.
 #[repr(C)]
 pub struct TrackBits {
     pub bytes: [u8; 20],
 }
 
-/// Puts the cable of a bay's drive in, or, where `on` is 0, pulls it. Where a medium is in it isn't pulled.
+/// Puts the cable of a bay's drive in, or, if `on` is 0, pulls it. The cable isn't pulled while a medium is in.
 #[unsafe(no_mangle)]
 pub extern "C" fn telwyddus_controller_attach(
     alloc: Global,
@@ -36,7 +36,7 @@ pub extern "C" fn telwyddus_controller_attach(
     code
 }
 
-/// The same of a controller.
+/// Puts the cable of a bay's drive in a controller in, or pulls it.
 fn attach_at(alloc: Global, controller: &mut WholeController, bay: u32, on: bool) -> u32
     ensures { InBay bay result (controller.new ≡ controller.old) (AttachesAt bay on result controller.old controller.new) }
 {
@@ -46,7 +46,7 @@ fn attach_at(alloc: Global, controller: &mut WholeController, bay: u32, on: bool
     attach(alloc, controller, bay as u8, on)
 }
 
-/// The same of a bay that there is.
+/// Puts the cable of the drive of bay 0 or 1 in, or pulls it.
 fn attach(alloc: Global, controller: &mut WholeController, bay: u8, on: bool) -> u32
     requires { bay ≤ 1 }
     ensures { AttachesAt bay on result controller.old controller.new }
@@ -58,7 +58,7 @@ fn attach(alloc: Global, controller: &mut WholeController, bay: u8, on: bool) ->
     DONE
 }
 
-/// Whether the cable isn't to be pulled, since a medium is in.
+/// Whether the cable isn't to be pulled, because a medium is in.
 fn keeps_cable(controller: &WholeController, bay: u8, on: bool) -> bool
     requires { bay ≤ 1 }
     ensures { result ≡ keeps_cable_of bay on controller.now }
@@ -77,8 +77,8 @@ fn set_cable(alloc: Global, controller: &mut WholeController, bay: u8, on: bool)
     controller.swap_drive(bay, &mut cabled);
 }
 
-/// Plans the faults that a plan's text has for a bay, in place of those that can still come there; the medium stays in, and turns on. Where a
-/// line isn't understood, its number is told, counted from 1; 0 where the text is too long.
+/// Plans the faults that a plan's text has for a bay, in place of those that can still come there. The medium stays in,
+/// and turns on. If a line isn't understood, its number is reported, counted from 1, or 0 if the text is too long.
 #[unsafe(no_mangle)]
 pub extern "C" fn telwyddus_controller_plan(
     alloc: Global,
@@ -98,7 +98,7 @@ pub extern "C" fn telwyddus_controller_plan(
     code
 }
 
-/// The same of a controller.
+/// Plans the faults of a text for a bay of a controller.
 fn plan_at(
     alloc: Global,
     controller: &mut WholeController,
@@ -115,7 +115,7 @@ fn plan_at(
     plan_bay(alloc, controller, bay as u8, plan, line)
 }
 
-/// The same of a bay that there is.
+/// Plans the faults of a text for bay 0 or 1.
 fn plan_bay(
     alloc: Global,
     controller: &mut WholeController,
@@ -158,7 +158,7 @@ pub(crate) fn replan(alloc: Global, controller: &mut WholeController, bay: u8, f
     controller.swap_drive(bay, &mut drive);
 }
 
-/// Tells which tracks of the medium in a bay were written since this was last asked, or since it was put in.
+/// Reports which tracks of the medium in a bay were written since this was last asked, or since it was put in.
 #[unsafe(no_mangle)]
 pub extern "C" fn telwyddus_controller_written_tracks(
     alloc: Global,
@@ -177,7 +177,7 @@ pub extern "C" fn telwyddus_controller_written_tracks(
     code
 }
 
-/// The same of a controller.
+/// Reports which tracks of the medium in a bay of a controller were written.
 fn tell_tracks(
     alloc: Global,
     controller: &mut WholeController,
@@ -194,7 +194,7 @@ fn tell_tracks(
     DONE
 }
 
-/// The same of a bay that there is.
+/// Reports which tracks of the medium in bay 0 or 1 were written.
 fn take_tracks(alloc: Global, controller: &mut WholeController, bay: u8, map: &mut TrackBits)
     requires { bay ≤ 1 }
     ensures { TellsTracks bay controller.old map.new.bytes controller.new }

@@ -19,7 +19,8 @@ const TO_MEMORY: u8 = 4;
 /// The index of the selected drive's medium passes.
 const INDEX: u8 = 8;
 
-/// The lines: 1 the interrupt's, 2 the DMA request's, 4 where bytes go to memory, 8 the index of the selected drive.
+/// The lines: 1 for the interrupt line, 2 for the DMA request line, 4 if bytes go to memory, 8 for the index of the
+/// selected drive.
 #[unsafe(no_mangle)]
 pub extern "C" fn telwyddus_controller_lines(
     alloc: Global,
@@ -37,7 +38,7 @@ pub extern "C" fn telwyddus_controller_lines(
     DONE
 }
 
-/// Tells the lines of what a slot holds, if anything.
+/// Reports the lines of what a slot holds, if anything.
 pub(crate) fn tell_lines(alloc: Global, slot: &mut ControllerSlot, lines: &mut u8)
     ensures stays { slot.new.held.controller ≡ slot.old.held.controller }
     ensures told { TellsLines slot.old.held.controller lines.old lines.new }

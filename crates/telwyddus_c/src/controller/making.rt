@@ -33,8 +33,9 @@ pub extern "C" fn telwyddus_controller_new(alloc: Global, slot: &mut ControllerS
     DONE
 }
 
-/// Makes a controller with two empty drives that have the faults of a plan's text; its gaps, holds and strays aren't used. Where
-/// a line isn't understood, its number is told, counted from 1; 0 where the text is too long.
+/// Makes a controller with two empty drives that have the faults of a plan's text. The plan's gaps, DMA latencies and
+/// spurious interrupts aren't used. If a line isn't understood, its number is reported, counted from 1, or 0 if the
+/// text is too long.
 #[unsafe(no_mangle)]
 pub extern "C" fn telwyddus_controller_new_planned(
     alloc: Global,

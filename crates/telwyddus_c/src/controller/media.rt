@@ -1,4 +1,4 @@
-// What a medium in a drive is, its tracks, and its flat file. It stays in, and turns on.
+// What a medium in a drive is, its tracks, and its flat file. The medium stays in, and turns on.
 ghost use Rattle.std.specs.Prelude.{◌≡◌};
 ghost use Rattle.telwyddus_c.specs.Controllers.{drive_of};
 ghost use Rattle.telwyddus_c.specs.Flats.{WritesFlat};
@@ -13,7 +13,7 @@ use crate::track::write_track;
 use c_slots::{ControllerSlot, WholeController};
 use std::alloc::Global;
 
-/// Tells the shape of the medium in a bay.
+/// Reports the shape of the medium in a bay.
 #[unsafe(no_mangle)]
 pub extern "C" fn telwyddus_controller_shape(
     alloc: Global,
@@ -33,7 +33,7 @@ pub extern "C" fn telwyddus_controller_shape(
     code
 }
 
-/// The same of a controller.
+/// Reports the shape of the medium in a bay of a controller.
 fn shape_at(controller: &WholeController, bay: u32, shape: &mut MediumShape) -> u32
     ensures { InBay bay result (shape.new ≡ shape.old) (TellsShape (drive_of controller.now bay).medium result shape.old shape.new) }
 {
@@ -43,7 +43,7 @@ fn shape_at(controller: &WholeController, bay: u32, shape: &mut MediumShape) -> 
     tell_shape(controller.medium(bay as u8), shape)
 }
 
-/// Writes the words of a track of the medium in a bay to a buffer, and tells how many.
+/// Writes the words of a track of the medium in a bay to a buffer, and reports how many.
 #[unsafe(no_mangle)]
 pub extern "C" fn telwyddus_controller_track(
     alloc: Global,
@@ -66,7 +66,7 @@ pub extern "C" fn telwyddus_controller_track(
     code
 }
 
-/// The same of a controller.
+/// Writes the words of a track of the medium in a bay of a controller.
 fn track_at(
     controller: &WholeController,
     bay: u32,
@@ -84,8 +84,8 @@ fn track_at(
     write_track(controller.medium(bay as u8), cylinder, head, out, length)
 }
 
-/// Writes the flat file of the medium in a bay to a buffer, and tells its length. Where there is none, the cylinder and head of the first
-/// track that isn't as such a file has it are told; both FF where the medium has another shape.
+/// Writes the flat file of the medium in a bay to a buffer, and reports its length. If there is no such file, the
+/// cylinder and head of the first track that doesn't fit it are reported. Both are FF if the medium has another shape.
 #[unsafe(no_mangle)]
 pub extern "C" fn telwyddus_controller_flat(
     alloc: Global,
@@ -110,7 +110,7 @@ pub extern "C" fn telwyddus_controller_flat(
     code
 }
 
-/// The same of a controller.
+/// Writes the flat file of the medium in a bay of a controller.
 fn flat_at(
     alloc: Global,
     controller: &WholeController,

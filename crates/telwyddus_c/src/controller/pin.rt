@@ -9,8 +9,8 @@ use crate::controller::lines::lines_of;
 use c_slots::{ControllerSlot, WholeController};
 use std::alloc::Global;
 
-/// The reset pin: the controller is as at power-up, held in reset, but for what SPECIFY set. Media, heads, straps, cables and plans
-/// stay. Afterwards `lines` has the controller's lines.
+/// The reset pin: the controller is as at power-up, held in reset, except for what SPECIFY set. Media, heads, straps,
+/// cables and plans stay. Afterwards `lines` has the controller's lines.
 #[unsafe(no_mangle)]
 pub extern "C" fn telwyddus_controller_reset(
     alloc: Global,
@@ -28,7 +28,7 @@ pub extern "C" fn telwyddus_controller_reset(
     DONE
 }
 
-/// The same of a controller.
+/// The reset pin of a controller. Reports the lines.
 fn reset(controller: &mut WholeController, lines: &mut u8)
     ensures resets { ResetsByPin (state_of controller.old) (state_of controller.new) }
     ensures told { lines.new ≡ lines_byte (state_of controller.new) }

@@ -1,4 +1,4 @@
-// The controller's straps, its ports, and what is looked at beside them.
+// The controller's straps, its ports, and what can be read beside them.
 ghost use Rattle.std.specs.Prelude.{◌≡◌, ◌==◌, not, ⊤};
 ghost use Rattle.fdc_adapter.specs.Adapters.{selected_at};
 ghost use Rattle.fdc_adapter.specs.WordTimes.{nanoseconds};
@@ -12,8 +12,8 @@ use crate::controller::lines::lines_of;
 use c_slots::{ControllerSlot, WholeController};
 use std::alloc::Global;
 
-/// Lets each command that names a cylinder seek it first, whatever CONFIGURE sets, as a strap of an adapter would; or, where `on`
-/// is 0, leaves that to CONFIGURE.
+/// Lets each command that names a cylinder seek it first, whatever CONFIGURE sets, as a strap of an adapter would. If
+/// `on` is 0, that is left to CONFIGURE.
 #[unsafe(no_mangle)]
 pub extern "C" fn telwyddus_controller_strap_seeks(
     alloc: Global,
@@ -31,8 +31,8 @@ pub extern "C" fn telwyddus_controller_strap_seeks(
     DONE
 }
 
-/// Lets the pulses of SEEK, RELATIVE SEEK and RECALIBRATE come in the time that SPECIFY sets; or, where `on` is 0, one in each word
-/// time.
+/// Lets the pulses of SEEK, RELATIVE SEEK and RECALIBRATE come in the time that SPECIFY sets. If `on` is 0, one comes
+/// in each word time.
 #[unsafe(no_mangle)]
 pub extern "C" fn telwyddus_controller_strap_steps(
     alloc: Global,
@@ -50,7 +50,7 @@ pub extern "C" fn telwyddus_controller_strap_steps(
     DONE
 }
 
-/// Reads a port, 3F0 to 3F7, and tells the lines behind that.
+/// Reads a port, 3F0 to 3F7. Afterwards `lines` has the controller's lines.
 #[unsafe(no_mangle)]
 pub extern "C" fn telwyddus_controller_read(
     alloc: Global,
@@ -70,7 +70,7 @@ pub extern "C" fn telwyddus_controller_read(
     DONE
 }
 
-/// The same of a controller.
+/// Reads a port of a controller, and reports the lines.
 fn read_port(controller: &mut WholeController, port: u16, lines: &mut u8) -> u8
     ensures reads { ReadsChip port (state_of controller.old) result (state_of controller.new) }
     ensures drives { KeepsDrives controller.old controller.new }
@@ -81,7 +81,7 @@ fn read_port(controller: &mut WholeController, port: u16, lines: &mut u8) -> u8
     value
 }
 
-/// Writes a port, 3F0 to 3F7, and tells the lines behind that.
+/// Writes a port, 3F0 to 3F7. Afterwards `lines` has the controller's lines.
 #[unsafe(no_mangle)]
 pub extern "C" fn telwyddus_controller_write(
     alloc: Global,
@@ -101,7 +101,7 @@ pub extern "C" fn telwyddus_controller_write(
     DONE
 }
 
-/// The same of a controller.
+/// Writes a port of a controller, and reports the lines.
 fn write_port(controller: &mut WholeController, port: u16, value: u8, lines: &mut u8)
     ensures writes { WritesChip port value (state_of controller.old) (state_of controller.new) }
     ensures told { lines.new ≡ lines_byte (state_of controller.new) }
@@ -110,7 +110,7 @@ fn write_port(controller: &mut WholeController, port: u16, value: u8, lines: &mu
     *lines = lines_of(controller);
 }
 
-/// The drive that DOR selects, 0 to 3: those of bays 2 and 3 are absent.
+/// The drive that DOR selects, 0 to 3. The drives of bays 2 and 3 are absent.
 #[unsafe(no_mangle)]
 pub extern "C" fn telwyddus_controller_selected(
     alloc: Global,

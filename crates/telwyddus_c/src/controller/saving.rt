@@ -12,8 +12,8 @@ use c_slots::{ControllerSlot, WholeController};
 use saved_state::RestoreError;
 use std::alloc::Global;
 
-/// Writes the controller's state, with its drives and their media, to the beginning of a buffer, and tells its length. The
-/// controller goes on.
+/// Writes the controller's state, with its drives and their media, to the beginning of a buffer, and reports its
+/// length. The controller goes on.
 #[unsafe(no_mangle)]
 pub extern "C" fn telwyddus_controller_save(
     alloc: Global,
@@ -33,14 +33,15 @@ pub extern "C" fn telwyddus_controller_save(
     code
 }
 
-/// The same of a controller.
+/// Writes the state of a controller.
 fn save(alloc: Global, controller: &WholeController, out: &mut [u8], length: &mut usize) -> u32
     ensures { WritesState ControllerFits spelled_controller controller.now result out.old out.new length.old length.new }
 {
     write_state(alloc, controller, out, length)
 }
 
-/// Makes the slot hold the controller whose state the bytes are, in place of what it holds, and tells the lines of what it holds then.
+/// Makes the slot hold the controller whose state the bytes are, in place of what it holds, and reports the lines of
+/// what it then holds.
 #[unsafe(no_mangle)]
 pub extern "C" fn telwyddus_controller_restore(
     alloc: Global,
@@ -56,7 +57,7 @@ pub extern "C" fn telwyddus_controller_restore(
     code
 }
 
-/// The same, and no lines are told.
+/// Makes the slot hold the controller whose state the bytes are, and reports no lines.
 fn restore(alloc: Global, slot: &mut ControllerSlot, bytes: &[u8]) -> u32
     ensures { RestoresState ControllerFits spelled_controller bytes.now result slot.old.held.controller slot.new.held.controller }
 {

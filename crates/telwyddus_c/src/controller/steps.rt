@@ -10,7 +10,7 @@ use crate::controller::lines::lines_of;
 use c_slots::{ControllerSlot, WholeController};
 use std::alloc::Global;
 
-/// One device step, and the lines behind it.
+/// One device step. Afterwards `lines` has the controller's lines.
 #[unsafe(no_mangle)]
 pub extern "C" fn telwyddus_controller_step(
     alloc: Global,
@@ -28,7 +28,7 @@ pub extern "C" fn telwyddus_controller_step(
     DONE
 }
 
-/// The same of a controller.
+/// One device step of a controller. Reports the lines.
 fn make_step(controller: &mut WholeController, lines: &mut u8)
     ensures steps { StepsChip (state_of controller.old) (state_of controller.new) }
     ensures told { lines.new ≡ lines_byte (state_of controller.new) }
@@ -37,8 +37,8 @@ fn make_step(controller: &mut WholeController, lines: &mut u8)
     *lines = lines_of(controller);
 }
 
-/// Device steps until the interrupt line or the request line changes, at most `most`, how many were made, and the lines behind
-/// them.
+/// Makes device steps until the interrupt line or the request line changes, at most `most`. Reports how many were made.
+/// Afterwards `lines` has the controller's lines.
 #[unsafe(no_mangle)]
 pub extern "C" fn telwyddus_controller_run(
     alloc: Global,
@@ -58,7 +58,7 @@ pub extern "C" fn telwyddus_controller_run(
     DONE
 }
 
-/// The same of a controller.
+/// Makes device steps of a controller until a line changes, and reports the lines.
 fn run_steps(controller: &mut WholeController, most: u32, lines: &mut u8) -> u32
     ensures runs { RunsChip most (state_of controller.old) result (state_of controller.new) }
     ensures told { lines.new ≡ lines_byte (state_of controller.new) }
@@ -68,7 +68,8 @@ fn run_steps(controller: &mut WholeController, most: u32, lines: &mut u8) -> u32
     made
 }
 
-/// So many device steps, `most` at most, surely change neither the interrupt line nor the request line. Nothing changes.
+/// How many device steps, at most `most`, surely change neither the interrupt line nor the request line. Nothing
+/// changes.
 #[unsafe(no_mangle)]
 pub extern "C" fn telwyddus_controller_quiet(
     alloc: Global,

@@ -7,8 +7,8 @@ use crate::code::{DONE, EMPTY, NO_MEDIUM, OUT_OF_RANGE};
 use c_slots::{ControllerSlot, WholeController};
 use std::alloc::Global;
 
-/// Protects the medium in a bay from writes, or, where `on` is 0, lets it be written. It stays in and turns on, and a write that is under way
-/// isn't ended: its further words are lost.
+/// Protects the medium in a bay from writes, or, if `on` is 0, lets it be written. The medium stays in and turns on. A
+/// write that is under way isn't ended, but its further words are lost.
 #[unsafe(no_mangle)]
 pub extern "C" fn telwyddus_controller_protect(
     alloc: Global,
@@ -27,7 +27,7 @@ pub extern "C" fn telwyddus_controller_protect(
     code
 }
 
-/// The same of a controller.
+/// Moves the tab of the medium in a bay of a controller.
 fn move_tab_at(controller: &mut WholeController, bay: u32, on: bool) -> u32
     ensures { InBay bay result (controller.new ≡ controller.old) (MovesTabAt bay on result controller.old controller.new) }
 {
@@ -37,7 +37,7 @@ fn move_tab_at(controller: &mut WholeController, bay: u32, on: bool) -> u32
     move_tab(controller, bay as u8, on)
 }
 
-/// The same of a bay that there is.
+/// Moves the tab of the medium in bay 0 or 1.
 fn move_tab(controller: &mut WholeController, bay: u8, on: bool) -> u32
     requires { bay ≤ 1 }
     ensures { MovesTabAt bay on result controller.old controller.new }

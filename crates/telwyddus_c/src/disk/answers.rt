@@ -1,4 +1,4 @@
-// The codes of what the driver answers.
+// The codes of the driver's answers.
 ghost use Rattle.std.specs.Prelude.{◌≡◌};
 ghost use Rattle.telwyddus_c.specs.Disks.{answer_code as answer_code_of, refusal_code as refusal_code_of};
 
@@ -7,7 +7,7 @@ use crate::code::{
 };
 use flop_base::Code;
 
-/// That of a refusal.
+/// The code of a refusal.
 pub(crate) fn refusal_code(code: Code) -> u32
     ensures { result ≡ refusal_code_of code }
 {
@@ -24,7 +24,7 @@ pub(crate) fn refusal_code(code: Code) -> u32
     }
 }
 
-/// That of an answer which tells nothing more.
+/// The code of an answer that has nothing but done or refused.
 pub(crate) fn answer_code(answer: Result<(), Code>) -> u32
     ensures { result ≡ answer_code_of answer }
 {

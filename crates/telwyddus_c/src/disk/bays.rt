@@ -10,7 +10,7 @@ use c_slots::{DiskSlot, MediumTray, TraySlot};
 use memory_files::SectorDesk;
 use std::alloc::Global;
 
-/// Puts the medium of a tray into a bay. Where one is in already, it stays in the tray.
+/// Puts the medium of a tray into a bay. If a medium is in already, the new one stays in the tray.
 #[unsafe(no_mangle)]
 pub extern "C" fn telwyddus_disk_insert(
     alloc: Global,
@@ -30,7 +30,7 @@ pub extern "C" fn telwyddus_disk_insert(
     code
 }
 
-/// The same of a desk.
+/// Puts the medium of a tray into a bay of a desk.
 fn insert_from(alloc: Global, desk: &mut SectorDesk, bay: u32, tray: &mut TraySlot) -> u32
     ensures { InBay bay result ((desk.new ≡ desk.old) × (tray.new.held.tray ≡ tray.old.held.tray))
         (InsertsFrom bay result tray.old.held.tray tray.new.held.tray desk.old desk.new) }
@@ -46,7 +46,7 @@ fn insert_from(alloc: Global, desk: &mut SectorDesk, bay: u32, tray: &mut TraySl
     code
 }
 
-/// The same of a desk and a tray.
+/// Puts the medium that a tray holds into a bay of a desk.
 fn insert(desk: &mut SectorDesk, bay: u8, tray: &mut MediumTray) -> u32
     requires { bay ≤ 1 }
     ensures { PutsInto bay result tray.old tray.new desk.old desk.new }
@@ -83,7 +83,7 @@ pub extern "C" fn telwyddus_disk_eject(
     code
 }
 
-/// The same of a desk.
+/// Takes the medium out of a bay of a desk, into a new tray.
 fn eject_into(alloc: Global, desk: &mut SectorDesk, bay: u32, tray: &mut TraySlot) -> u32
     ensures { InBay bay result ((desk.new ≡ desk.old) × (tray.new.held.tray ≡ tray.old.held.tray))
         (EjectsInto bay result tray.old.held.tray tray.new.held.tray desk.old desk.new) }
@@ -119,7 +119,7 @@ pub extern "C" fn telwyddus_disk_acknowledge(alloc: Global, slot: &mut DiskSlot,
     code
 }
 
-/// The same of a desk.
+/// Acknowledges the medium in a bay of a desk.
 fn acknowledge(desk: &mut SectorDesk, bay: u32) -> u32
     ensures { InBay bay result (desk.new ≡ desk.old) (Acknowledges bay result desk.old desk.new) }
 {
@@ -148,7 +148,7 @@ pub extern "C" fn telwyddus_disk_set_rate(
     code
 }
 
-/// The same of a desk.
+/// Sets the rate of an acknowledged bay of a desk.
 fn set_rate(desk: &mut SectorDesk, bay: u32, kilobits: u16) -> u32
     ensures { InBay bay result (desk.new ≡ desk.old) (SetsRate bay kilobits result desk.old desk.new) }
 {

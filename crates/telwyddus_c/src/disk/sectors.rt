@@ -12,8 +12,8 @@ use flop_base::{Chrn, sector_size};
 use memory_files::SectorDesk;
 use std::alloc::Global;
 
-/// Reads the sector of a key, cylinder, head, record and size code, to the beginning of a buffer, and tells by 1 or 0 whether it is
-/// marked deleted.
+/// Reads the sector of a sector ID (cylinder, head, record and size code) to the beginning of a buffer. Whether it is
+/// marked deleted is reported by 1 or 0.
 #[unsafe(no_mangle)]
 pub extern "C" fn telwyddus_disk_read(
     alloc: Global,
@@ -39,7 +39,7 @@ pub extern "C" fn telwyddus_disk_read(
     code
 }
 
-/// The same of a desk.
+/// Reads a sector from a bay of a desk.
 fn read_in(desk: &mut SectorDesk, bay: u32, key: Chrn, out: &mut [u8], deleted: &mut u8) -> u32
     ensures { InBay bay result ((desk.new ≡ desk.old) × (out.new ≡ out.old) × (deleted.new ≡ deleted.old))
         (ReadsAt bay key result out.old out.new deleted.old deleted.new desk.old desk.new) }
@@ -50,7 +50,7 @@ fn read_in(desk: &mut SectorDesk, bay: u32, key: Chrn, out: &mut [u8], deleted: 
     read_at(desk, bay as u8, key, out, deleted)
 }
 
-/// The same of a bay.
+/// Reads a sector from bay 0 or 1 of a desk.
 fn read_at(desk: &mut SectorDesk, bay: u8, key: Chrn, out: &mut [u8], deleted: &mut u8) -> u32
     requires { bay ≤ 1 }
     ensures { ReadsAt bay key result out.old out.new deleted.old deleted.new desk.old desk.new }
@@ -95,7 +95,7 @@ fn is_size_code(n: u8) -> bool
     1 <= n && n <= 6
 }
 
-/// Writes bytes to the sector of a key, marked deleted where `deleted` isn't 0, and reads them back.
+/// Writes bytes to the sector of a sector ID, and reads them back. The sector is marked deleted if `deleted` isn't 0.
 #[unsafe(no_mangle)]
 pub extern "C" fn telwyddus_disk_write(
     alloc: Global,
@@ -121,7 +121,7 @@ pub extern "C" fn telwyddus_disk_write(
     code
 }
 
-/// The same of a desk.
+/// Writes a sector in a bay of a desk.
 fn write_in(desk: &mut SectorDesk, bay: u32, key: Chrn, bytes: &[u8], deleted: u8) -> u32
     ensures { InBay bay result (desk.new ≡ desk.old) (WritesAt bay key bytes.now (not (deleted == 0)) result desk.old desk.new) }
 {
@@ -131,7 +131,7 @@ fn write_in(desk: &mut SectorDesk, bay: u32, key: Chrn, bytes: &[u8], deleted: u
     write_at(desk, bay as u8, key, bytes, deleted != 0)
 }
 
-/// The same of a bay.
+/// Writes a sector in bay 0 or 1 of a desk.
 fn write_at(desk: &mut SectorDesk, bay: u8, key: Chrn, bytes: &[u8], deleted: bool) -> u32
     requires { bay ≤ 1 }
     ensures { WritesAt bay key bytes.now deleted result desk.old desk.new }
@@ -165,7 +165,7 @@ pub extern "C" fn telwyddus_disk_format(
     code
 }
 
-/// The same of a desk.
+/// Formats a track in a bay of a desk.
 fn format(desk: &mut SectorDesk, bay: u32, c: u8, h: u8) -> u32
     ensures { InBay bay result (desk.new ≡ desk.old) (FormatsTrack bay c h result desk.old desk.new) }
 {

@@ -10,7 +10,7 @@ use crate::code::{DONE, EMPTY, FULL, HAS_MEDIUM, NO_MEDIUM, NO_MEMORY, OUT_OF_RA
 use c_slots::{BenchMachine, MachineSlot, MediumTray, TraySlot};
 use std::alloc::Global;
 
-/// Puts the medium of a tray into a bay. Where one is in already, it stays in the tray.
+/// Puts the medium of a tray into a bay. If a medium is in already, the new one stays in the tray.
 #[unsafe(no_mangle)]
 pub extern "C" fn telwyddus_machine_insert(
     alloc: Global,
@@ -30,7 +30,7 @@ pub extern "C" fn telwyddus_machine_insert(
     code
 }
 
-/// The same of a machine.
+/// Puts the medium of a tray into a bay of a machine.
 fn insert_from(alloc: Global, machine: &mut BenchMachine, bay: u32, tray: &mut TraySlot) -> u32
     ensures { InBay bay result ((machine.new ≡ machine.old) × (tray.new.held.tray ≡ tray.old.held.tray))
         (InsertsAt bay result tray.old.held.tray tray.new.held.tray machine.old machine.new) }
@@ -46,7 +46,7 @@ fn insert_from(alloc: Global, machine: &mut BenchMachine, bay: u32, tray: &mut T
     code
 }
 
-/// The same of a machine and a tray.
+/// Puts the medium that a tray holds into a bay of a machine.
 fn insert(machine: &mut BenchMachine, bay: u8, tray: &mut MediumTray) -> u32
     requires { bay ≤ 1 }
     ensures drive { PutsIn result tray.old tray.new (drive_in (board_of machine.old) bay) (drive_in (board_of machine.new) bay) }
@@ -84,7 +84,7 @@ pub extern "C" fn telwyddus_machine_eject(
     code
 }
 
-/// The same of a machine.
+/// Takes the medium out of a bay of a machine, into a new tray.
 fn eject_into(alloc: Global, machine: &mut BenchMachine, bay: u32, tray: &mut TraySlot) -> u32
     ensures { InBay bay result ((machine.new ≡ machine.old) × (tray.new.held.tray ≡ tray.old.held.tray))
         (EjectsAt bay result tray.old.held.tray tray.new.held.tray machine.old machine.new) }

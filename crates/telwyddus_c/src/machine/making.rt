@@ -37,8 +37,8 @@ pub extern "C" fn telwyddus_machine_new(alloc: Global, slot: &mut MachineSlot) -
     DONE
 }
 
-/// Makes a machine with two empty drives that have the faults of a plan's text, at the plan's pace. Where a line isn't
-/// understood, its number is told, counted from 1; 0 where the text is too long.
+/// Makes a machine with two empty drives that have the faults of a plan's text, with the plan's timing. If a line isn't
+/// understood, its number is reported, counted from 1, or 0 if the text is too long.
 #[unsafe(no_mangle)]
 pub extern "C" fn telwyddus_machine_new_planned(
     alloc: Global,

@@ -30,7 +30,7 @@ pub extern "C" fn telwyddus_machine_memory_get(
     code
 }
 
-/// The same of a machine.
+/// Copies bytes of a machine's memory out.
 fn get(machine: &BenchMachine, address: usize, out: &mut [u8]) -> u32
     ensures { CopiesOut address (memory_of (board_of machine.now)) result out.old out.new }
 {
@@ -62,7 +62,7 @@ pub extern "C" fn telwyddus_machine_memory_set(
     code
 }
 
-/// The same of a machine.
+/// Copies bytes into a machine's memory.
 fn set(machine: &mut BenchMachine, address: usize, bytes: &[u8]) -> u32
     ensures { CopiesIn address bytes.now result machine.old machine.new }
 {
@@ -71,7 +71,7 @@ fn set(machine: &mut BenchMachine, address: usize, bytes: &[u8]) -> u32
     }
     for i in 0..bytes.len() {
         let at = (address + i) as u32;
-        // What it tells of memory is its length.
+        // This read is only for what it says of memory: its length.
         let _before = machine.ram(at);
         machine.ram_set(at, bytes[i]);
     }

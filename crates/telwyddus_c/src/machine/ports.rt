@@ -63,7 +63,7 @@ pub extern "C" fn telwyddus_machine_wait(alloc: Global, slot: &mut MachineSlot, 
     DONE
 }
 
-/// Runs device steps until the latch is set, at most so many, and tells how many were made, and whether it is set.
+/// Runs device steps until the latch is set, at most `most`, and reports how many were made, and whether it is set.
 #[unsafe(no_mangle)]
 pub extern "C" fn telwyddus_machine_wait_irq(
     alloc: Global,
@@ -83,7 +83,7 @@ pub extern "C" fn telwyddus_machine_wait_irq(
     DONE
 }
 
-/// The same of a machine.
+/// Runs device steps of a machine until the latch is set.
 fn wait_irq(machine: &mut BenchMachine, most: u32, made: &mut u32, is_set: &mut u8)
     ensures { WaitsTelling most made.new is_set.new (board_of machine.old) (board_of machine.new) }
 {
@@ -91,7 +91,7 @@ fn wait_irq(machine: &mut BenchMachine, most: u32, made: &mut u32, is_set: &mut 
     *is_set = byte_of(machine.is_irq_set());
 }
 
-/// Takes the interrupt latch, and tells whether it was set.
+/// Takes the interrupt latch, and reports whether it was set.
 #[unsafe(no_mangle)]
 pub extern "C" fn telwyddus_machine_take_irq(
     alloc: Global,

@@ -9,8 +9,8 @@ use c_slots::{BenchMachine, MachineSlot};
 use saved_state::RestoreError;
 use std::alloc::Global;
 
-/// Writes the machine's state, with its memory, its drives and their media, to the beginning of a buffer, and tells its length. The
-/// machine goes on.
+/// Writes the machine's state, with its memory, its drives and their media, to the beginning of a buffer, and reports
+/// its length. The machine goes on.
 #[unsafe(no_mangle)]
 pub extern "C" fn telwyddus_machine_save(
     alloc: Global,
@@ -29,7 +29,7 @@ pub extern "C" fn telwyddus_machine_save(
     code
 }
 
-/// The same of a machine.
+/// Writes the state of a machine.
 fn save(alloc: Global, machine: &BenchMachine, out: &mut [u8], length: &mut usize) -> u32
     ensures { WritesState BenchFits spelled_bench machine.now result out.old out.new length.old length.new }
 {

@@ -21,7 +21,8 @@ pub(crate) fn answer(
     }
 }
 
-/// `bench`: what the lines of the file do to a driver that was set up on a bench. Each line, and behind it what came of it.
+/// `bench`: what the lines of the file do to a driver that was set up on a bench. Each line is printed, and then what
+/// came of it.
 fn calls(asked: Asked, out: &mut Draft) -> Result<(), Wrong> {
     let Ok(text) = std::str::from_utf8(asked.bytes) else {
         return Err(Wrong::Line);
@@ -50,8 +51,9 @@ fn serve(alloc: Global, bench: &mut DrivenBench, call: &str, out: &mut Draft) ->
     line.end()
 }
 
-/// `insert BAY RATE` and `blank BAY`: a diskette in place of the one in a bay. `plan TROUBLE..`: the troubles of the next data
-/// commands. `lose COUNT..`: the pulses that the next movements of heads lose. `tries COUNT`.
+/// Lines that plan. With `insert BAY RATE` and `blank BAY`, a diskette comes in place of the one in a bay. With `plan
+/// TROUBLE..`, the next data commands have these troubles. With `lose COUNT..`, the next movements of heads lose so
+/// many pulses. Last, `tries COUNT` sets the number of attempts.
 fn plan(
     alloc: Global,
     bench: &mut DrivenBench,
@@ -78,8 +80,8 @@ fn plan(
     Ok(())
 }
 
-/// A diskette of three cylinders and two heads with 900 words a track. Cylinders 0 and 1 have two sectors of 256 bytes under each
-/// head, of bytes 11 and 22 on cylinder 0, 33 and 44 on cylinder 1; cylinder 2 is blank.
+/// A diskette of three cylinders and two heads with 900 words a track. Cylinders 0 and 1 have two sectors of 256 bytes
+/// under each head. Their bytes are 11 and 22 on cylinder 0, and 33 and 44 on cylinder 1. Cylinder 2 is blank.
 fn small(alloc: Global, rate: Rate) -> Result<Medium, Wrong> {
     let mut medium = Medium::blank_at(alloc, 3, 2, 900, rate)?;
     for (c, h, fill) in [(0, 0, 0x11), (0, 1, 0x22), (1, 0, 0x33), (1, 1, 0x44)] {
@@ -184,8 +186,8 @@ fn put_read(out: &mut Draft, read: Result<bool, Code>) {
     }
 }
 
-/// `attempts`: how many are made. `commands`: the data commands that came. `faults BAY`. `rate BAY`. `byte ADDRESS`. `forget` and
-/// `calls`: the calls since they were last forgotten, or told
+/// `attempts`: how many attempts are made. `commands`: how many data commands came. `faults BAY`. `rate BAY`. `byte
+/// ADDRESS`. `forget` forgets the calls. `calls` prints the calls since they were last forgotten or printed.
 fn look(bench: &mut DrivenBench, verb: &[u8], line: &mut Line, out: &mut Draft) {
     if is_verb(verb, "attempts") {
         out.numbers(&[u64::from(bench.tries())]);

@@ -1,4 +1,4 @@
-// Cells and checks of bytes, and the words of fields.
+// Cells and CRCs of bytes, and the words of fields.
 use super::print::{Runs, put_words};
 use super::{Asked, key, tracks, words_of};
 use floppy_jobs::is_verb;
@@ -40,7 +40,7 @@ fn check(asked: Asked, out: &mut Draft) -> Result<(), Wrong> {
     Ok(())
 }
 
-/// `cells`: the cells of the bytes, behind a bit 0
+/// `cells`: the cells of the bytes, after a bit 0
 fn cells(asked: Asked, out: &mut Draft) -> Result<(), Wrong> {
     let mut last = false;
     let mut runs = Runs::of_words();
@@ -64,7 +64,7 @@ fn decoded(asked: Asked, out: &mut Draft) -> Result<(), Wrong> {
     Ok(())
 }
 
-/// `sixteen CELL`: the sixteen cells of the words from one on
+/// `sixteen CELL`: the sixteen cells of the words from a cell on
 fn sixteen(asked: Asked, line: &mut Line, out: &mut Draft) -> Result<(), Wrong> {
     let cell = line.count();
     let words = words_of(asked.alloc, asked.bytes)?;

@@ -20,7 +20,7 @@ pub(crate) fn answer(
     }
 }
 
-/// `command`: what each byte comes to, as they are sent to a controller that waits for a command
+/// `command`: what each byte comes to, when they are sent to a controller that waits for a command
 fn command(asked: Asked, out: &mut Draft) -> Result<(), Wrong> {
     let mut command = CommandBytes::new();
     for byte in asked.bytes {
@@ -68,7 +68,8 @@ fn accesses(asked: Asked, out: &mut Draft) -> Result<(), Wrong> {
 }
 
 impl Channel {
-    /// `out PORT BYTE`, `in PORT`, `poke ADDRESS BYTE`, `peek ADDRESS`, `take BYTE` from the device and `give` to it
+    /// Does a line: `out PORT BYTE`, `in PORT`, `poke ADDRESS BYTE`, `peek ADDRESS`, `take BYTE` from the device and
+    /// `give` to it.
     fn access(&mut self, line: &mut Line, out: &mut Draft) {
         let verb = line.word().as_bytes();
         if is_verb(verb, "out") {
@@ -132,13 +133,13 @@ impl Channel {
     }
 }
 
-/// One to four hexadecimal digits.
+/// A port: one to four hexadecimal digits.
 fn port(line: &mut Line) -> u16 {
     let [_, _, high, low] = line.hex(1, 4).to_be_bytes();
     u16::from_be_bytes([high, low])
 }
 
-/// One to five hexadecimal digits.
+/// An address: one to five hexadecimal digits.
 fn address(line: &mut Line) -> usize {
     line.hex(1, 5) as usize
 }

@@ -124,7 +124,7 @@ fn fault(alloc: Global, kind: Kind, bytes: &[u8]) -> Option<ImageError> {
     }
 }
 
-/// The same of the first bytes; 0 stands for their number, where a fault tells it.
+/// What is wrong with the first `have` bytes. If the fault tells their number, 0 stands for it.
 fn fault_of(asked: Asked, kind: Kind, have: usize) -> Option<ImageError> {
     let prefix = asked.bytes.get(..have).unwrap_or(&[]);
     match fault(asked.alloc, kind, prefix) {
@@ -136,8 +136,8 @@ fn fault_of(asked: Asked, kind: Kind, have: usize) -> Option<ImageError> {
     }
 }
 
-/// `prefixes image`, `prefixes bytes` (fed one by one) and `prefixes imd`: what is wrong with the first 0, 1 and so on bytes,
-/// once where only the length that is there differs
+/// `prefixes image`, `prefixes bytes` (fed one by one) and `prefixes imd`: what is wrong with the first 0, 1 and so on
+/// bytes. It is printed once for prefixes that differ only in the length that is there.
 fn prefixes(asked: Asked, line: &mut Line, out: &mut Draft) -> Result<(), Wrong> {
     let kind = kind_asked(line);
     let mut last = Some(ImageError::NoMemory);

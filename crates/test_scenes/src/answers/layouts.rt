@@ -24,7 +24,7 @@ pub(crate) fn answer(
     }
 }
 
-/// The keys of the first track of a disk with so many sectors of 512 bytes.
+/// The keys of the first track of a disk with `sectors` sectors of 512 bytes a track.
 fn first_keys(alloc: Global, sectors: u8) -> Result<Vec<Chrn>, Wrong> {
     let mut keys = Vec::new(alloc);
     for i in 0..sectors {
@@ -39,7 +39,7 @@ fn first_keys(alloc: Global, sectors: u8) -> Result<Vec<Chrn>, Wrong> {
     Ok(keys)
 }
 
-/// `layout SECTORS GAP3 FILL WORDS`: how many words a layout of 512 bytes a sector has, if it fits
+/// `layout SECTORS GAP3 FILL WORDS`: how many words a layout of sectors of 512 bytes has, if it fits
 fn laid(asked: Asked, line: &mut Line, out: &mut Draft) -> Result<(), Wrong> {
     let keys = first_keys(asked.alloc, line.byte())?;
     let (gap3, fill, words) = (line.byte(), line.byte(), line.count());
@@ -54,7 +54,8 @@ fn laid(asked: Asked, line: &mut Line, out: &mut Draft) -> Result<(), Wrong> {
     Ok(())
 }
 
-/// `stream SECTORS GAP3 FILL WORDS`: a layout word by word, whose key bytes are those of the file, as they are asked for
+/// `stream SECTORS GAP3 FILL WORDS`: a layout word by word; its key bytes are those of the file, when they are asked
+/// for
 fn stream(asked: Asked, line: &mut Line, out: &mut Draft) -> Result<(), Wrong> {
     let (sectors, gap3, fill) = (line.byte(), line.byte(), line.byte());
     let mut stream = FormatStream::new(2, sectors, gap3, fill);
@@ -80,7 +81,7 @@ fn stream(asked: Asked, line: &mut Line, out: &mut Draft) -> Result<(), Wrong> {
     Ok(())
 }
 
-/// `gap N SECTORS 500` and `gap N SECTORS 250`
+/// `gap N SECTORS 500` and `gap N SECTORS 250`: the largest gap 3 of such a track
 fn gap(line: &mut Line, out: &mut Draft) -> Result<(), Wrong> {
     let (n, sectors, rate) = (line.byte(), line.byte(), rate(line));
     if n < 1 || n > 6 {

@@ -27,7 +27,7 @@ struct Parts {
     gate: Gate,
 }
 
-/// `parts`: what the lines of the file do to a part as it begins, `fifo CALL`, `latch CALL` and `gate CALL`
+/// `parts`: what the lines of the file do to the parts, each as it begins: `fifo CALL`, `latch CALL` and `gate CALL`
 fn calls(asked: Asked, out: &mut Draft) -> Result<(), Wrong> {
     let Ok(text) = std::str::from_utf8(asked.bytes) else {
         return Err(Wrong::Line);
@@ -71,7 +71,8 @@ impl Parts {
     }
 }
 
-/// `on THRESHOLD`, `push BYTE`, `pop`, `len`, `empty`, `clear`, `to-memory` and `from-memory`: whether it wants a transfer
+/// `on THRESHOLD`, `push BYTE`, `pop`, `len`, `empty` and `clear`. `to-memory` and `from-memory` print whether the FIFO
+/// wants a transfer.
 fn serve_fifo(fifo: &mut Fifo, verb: &[u8], line: &mut Line, out: &mut Draft) {
     if is_verb(verb, "on") {
         turn_on(fifo, line);
@@ -116,7 +117,7 @@ fn put_popped(out: &mut Draft, byte: Option<u8>) {
     }
 }
 
-/// `high`, `low`, `stray`, `set` and `take`
+/// `high`, `low`, `stray` (a spurious interrupt), `set` and `take`
 fn serve_latch(latch: &mut IrqLatch, verb: &[u8], line: &mut Line, out: &mut Draft) {
     if is_verb(verb, "set") {
         put_answer(out, latch.is_set());
@@ -136,7 +137,7 @@ fn serve_latch(latch: &mut IrqLatch, verb: &[u8], line: &mut Line, out: &mut Dra
     }
 }
 
-/// `begins`, `changed`, `unchanged` and `acknowledge`: whether it is acknowledged then
+/// `begins`, `changed`, `unchanged` and `acknowledge`. Each prints whether the medium is acknowledged after it.
 fn serve_gate(gate: &mut Gate, verb: &[u8], line: &mut Line, out: &mut Draft) {
     if is_verb(verb, "changed") {
         gate.see(true);

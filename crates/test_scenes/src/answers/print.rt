@@ -1,11 +1,11 @@
-// What is printed: equal values behind one another as one with their number, and keys.
+// What is printed: a row of equal values as one value with their number, and keys.
 use flop_base::Chrn;
 use test_files::Draft;
 
-/// Equal values behind one another.
+/// A row of equal values.
 #[derive(Clone, Copy)]
 pub(crate) struct Runs {
-    /// They have two digits, or four.
+    /// Whether the values have two digits; otherwise they have four.
     are_bytes: bool,
     last: Option<u16>,
     times: u64,
@@ -28,7 +28,7 @@ impl Runs {
         }
     }
 
-    /// One more value. Prints those before it, if it differs.
+    /// Adds one more value. If it differs from those before it, prints them.
     pub(crate) fn add(&mut self, value: u16, out: &mut Draft) {
         if self.last != Some(value) {
             self.end(out);
@@ -37,7 +37,7 @@ impl Runs {
         self.times = self.times.saturating_add(1);
     }
 
-    /// Prints the values that weren't yet.
+    /// Prints the values that weren't printed yet.
     pub(crate) fn end(&mut self, out: &mut Draft) {
         if let Some(value) = self.last {
             self.put(value, out);
@@ -46,7 +46,7 @@ impl Runs {
         self.times = 0;
     }
 
-    /// Prints them, and the line's end.
+    /// Prints the values that weren't printed yet, and ends the line.
     pub(crate) fn end_line(&mut self, out: &mut Draft) {
         self.end(out);
         out.line("");
@@ -77,7 +77,7 @@ pub(crate) fn put_words(out: &mut Draft, words: &[u16]) {
     runs.end_line(out);
 }
 
-/// Prints bytes as a line that begins with a word.
+/// Prints bytes as a line that begins with `word`.
 pub(crate) fn put_bytes_of(out: &mut Draft, word: &str, bytes: &[u8]) {
     let mut runs = Runs::of_bytes();
     out.text(word);

@@ -1,4 +1,4 @@
-// The records that a rescue asks for, what follows each read, and how often an attempt is prepared.
+// The records that a rescue asks for, which record follows each read, and how an attempt is prepared.
 use super::print::put_key;
 use super::{Asked, chips, key, rate};
 use flop_base::{Chrn, Code};
@@ -39,14 +39,14 @@ fn put_keys(out: &mut Draft, keys: &[Chrn]) {
     }
 }
 
-/// `records RATE CYLINDERS HEADS`: those of a whole diskette
+/// `records RATE CYLINDERS HEADS`: the records of a whole diskette
 fn records(asked: Asked, line: &mut Line, out: &mut Draft) -> Result<(), Wrong> {
     let (rate, cylinders, heads) = (rate(line), line.byte(), line.byte());
     put_keys(out, &standard_keys(asked.alloc, rate, cylinders, heads)?);
     Ok(())
 }
 
-/// `logged-records`: those of a log of a diskette with 18 sectors on a track
+/// `logged-records`: the records of a log of a diskette with 18 sectors on a track
 fn logged(asked: Asked, out: &mut Draft) -> Result<(), Wrong> {
     let Ok(lines) = read_log(asked.alloc, asked.bytes, 18) else {
         return Err(Wrong::Line);

@@ -17,8 +17,8 @@ pub(crate) fn answer(
     calls(asked, out)
 }
 
-/// `int13`: what each line of the file asks for, and the registers after it. A line is `AX BX CX DX ES CODE MOVED`; its code and
-/// count are those of the work, where there is some.
+/// `int13`: what each line of the file asks for, and the registers after it. A line is `AX BX CX DX ES CODE MOVED`.
+/// CODE and MOVED are the answer and the count of the work, if the call asks for some.
 fn calls(asked: Asked, out: &mut Draft) -> Result<(), Wrong> {
     let Ok(text) = std::str::from_utf8(asked.bytes) else {
         return Err(Wrong::Line);

@@ -24,7 +24,7 @@ pub(crate) fn answer(
     }
 }
 
-/// What a text is of.
+/// The kind of a text.
 #[derive(Clone, Copy)]
 enum Kind {
     Job,
@@ -50,7 +50,8 @@ fn kind_asked(line: &mut Line) -> Kind {
     Kind::Plan
 }
 
-/// `text job`, `text ports`, `text calls` and `text plan`: the lines of a text as they are understood, or its first bad line
+/// `text job`, `text ports`, `text calls` and `text plan`: the lines of a text as they are understood, or its first bad
+/// line
 fn text(alloc: Global, kind: Kind, bytes: &[u8], out: &mut Draft) -> Result<(), Wrong> {
     match kind {
         Kind::Job => job(alloc, bytes, out),
@@ -60,7 +61,7 @@ fn text(alloc: Global, kind: Kind, bytes: &[u8], out: &mut Draft) -> Result<(), 
     }
 }
 
-/// `lines KIND`: each line of the file that has bytes, as a text of its own
+/// `lines KIND`: each line of the file that isn't empty, as a text of its own
 fn lines(asked: Asked, line: &mut Line, out: &mut Draft) -> Result<(), Wrong> {
     let kind = kind_asked(line);
     for bytes in asked.bytes.split(|byte| *byte == b'\n') {

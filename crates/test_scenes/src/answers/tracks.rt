@@ -38,7 +38,7 @@ pub(crate) fn answer(
     }
 }
 
-/// The key that words are, if its size code is one of a sector's.
+/// The key that four words spell, if its size code is that of a sector.
 pub(crate) fn sized_key(line: &mut Line) -> Result<Chrn, Wrong>
     ensures { IfOk result (λ key. IsSizeCode key.n) }
 {
@@ -84,7 +84,7 @@ fn put_look(out: &mut Draft, look: Look) {
     }
 }
 
-/// `look C H R N`
+/// `look C H R N`: what the look for a key gives
 fn look(asked: Asked, line: &mut Line, out: &mut Draft) -> Result<(), Wrong> {
     let key = sized_key(line)?;
     let track = first_track(asked)?;
@@ -108,7 +108,7 @@ fn fields(asked: Asked, out: &mut Draft) -> Result<(), Wrong> {
     Ok(())
 }
 
-/// `content CELL COUNT`: the bytes from a cell on
+/// `content CELL COUNT`: so many bytes from a cell on
 fn content(asked: Asked, line: &mut Line, out: &mut Draft) -> Result<(), Wrong> {
     let (place, length) = (line.count(), line.count());
     let track = first_track(asked)?;
@@ -137,7 +137,7 @@ fn put_regular(out: &mut Draft, regular: bool) {
     out.line(if regular { "regular" } else { "not regular" });
 }
 
-/// `regular C H`
+/// `regular C H`: whether the track is regular
 fn regular(asked: Asked, line: &mut Line, out: &mut Draft) -> Result<(), Wrong> {
     let (c, h) = (line.byte(), line.byte());
     let track = first_track(asked)?;
@@ -145,8 +145,8 @@ fn regular(asked: Asked, line: &mut Line, out: &mut Draft) -> Result<(), Wrong> 
     Ok(())
 }
 
-/// `torn CELL CUT C H R N`: the look for a key of size code 2 behind a write of 512 bytes 00, marked deleted, to the address
-/// field at a cell, which stopped after so many words
+/// `torn CELL CUT C H R N`: the look for a key after a write that stopped. The write is of 512 bytes 00, marked
+/// deleted, to the address field at CELL, and it stopped after CUT words.
 fn torn(asked: Asked, line: &mut Line, out: &mut Draft) -> Result<(), Wrong> {
     let (place, cut) = (line.count(), line.count());
     let key = sized_key(line)?;
@@ -156,7 +156,7 @@ fn torn(asked: Asked, line: &mut Line, out: &mut Draft) -> Result<(), Wrong> {
     Ok(())
 }
 
-/// The track behind that write.
+/// The track after that write.
 fn torn_track(asked: Asked, place: usize, cut: usize) -> Result<Vec<u16>, Wrong>
     ensures { IfOk result (λ track. IsTrackSized track.items) }
 {

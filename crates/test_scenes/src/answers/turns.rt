@@ -1,4 +1,4 @@
-// Turns of the first track of an image, word by word through a separator.
+// Revolutions of the first track of an image, word by word through a separator.
 use super::print::{Runs, put_bytes_of, put_key};
 use super::tracks::{first_track, sized_key};
 use super::{Asked, layouts};
@@ -25,7 +25,7 @@ pub(crate) fn answer(
     }
 }
 
-/// Asks for the data field behind an address field, where its size is one.
+/// Asks for the data field behind an address field, if its size code is that of a sector.
 fn want(separator: &mut Separator, seen: Seen) {
     if let Seen::Address { key } = seen {
         if key.n >= 1 && key.n <= 6 {
@@ -34,7 +34,7 @@ fn want(separator: &mut Separator, seen: Seen) {
     }
 }
 
-/// What a separator says, a word for each of the fields and the bytes between them.
+/// What a separator says: a word for each of the fields, and the bytes between them.
 fn put_seen(seen: Seen, runs: &mut Runs, out: &mut Draft) {
     match seen {
         Seen::Nothing => {}
@@ -60,7 +60,7 @@ fn put_word(seen: Seen, out: &mut Draft) {
     }
 }
 
-/// Feeds a turn of these words, and asks for the data of each address field.
+/// Feeds a revolution of these words, and asks for the data of each address field.
 fn feed(separator: &mut Separator, words: &[u16], out: &mut Draft) {
     out.text("turn");
     let mut runs = Runs::of_bytes();
@@ -74,13 +74,13 @@ fn feed(separator: &mut Separator, words: &[u16], out: &mut Draft) {
     runs.end_line(out);
 }
 
-/// The number that a word is.
+/// The number that a word spells.
 fn count(word: &str) -> usize {
     let words = [word];
     Line::of(&words).count()
 }
 
-/// `turns COUNT..`: turns of so many words each, from the first on, through one separator
+/// `turns COUNT..`: revolutions through one separator, each of the first COUNT words of the track
 fn turns(asked: Asked, line: &mut Line, out: &mut Draft) -> Result<(), Wrong> {
     let track = first_track(asked)?;
     let mut separator = Separator::new();
@@ -91,7 +91,7 @@ fn turns(asked: Asked, line: &mut Line, out: &mut Draft) -> Result<(), Wrong> {
     Ok(())
 }
 
-/// What the second turn gives where the first began at a word.
+/// What the second revolution gives if the first one began at word `start`.
 fn second_turn(alloc: Global, track: &[u16], start: usize) -> Draft {
     let mut separator = Separator::new();
     let mut first = Draft::new(alloc);
@@ -105,7 +105,8 @@ fn second_turn(alloc: Global, track: &[u16], start: usize) -> Draft {
     second
 }
 
-/// `starts COUNT`: what the second turn gives where the first began at words 0, 1 and so on, once for each answer
+/// `starts COUNT`: what the second revolution gives if the first one began at words 0, 1 and so on, once for each
+/// answer
 fn starts(asked: Asked, line: &mut Line, out: &mut Draft) -> Result<(), Wrong> {
     let track = first_track(asked)?;
     let mut last = Draft::new(asked.alloc);
@@ -123,7 +124,7 @@ fn starts(asked: Asked, line: &mut Line, out: &mut Draft) -> Result<(), Wrong> {
     Ok(())
 }
 
-/// `turn C H R N`: a whole turn that looks for one key
+/// `turn C H R N`: a whole revolution that looks for one key
 fn turn(asked: Asked, line: &mut Line, out: &mut Draft) -> Result<(), Wrong> {
     let key = sized_key(line)?;
     let track = first_track(asked)?;

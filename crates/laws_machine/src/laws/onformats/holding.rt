@@ -10,7 +10,8 @@ ghost use Rattle.laws_machine.specs.OnWrites.Timely.{IsOnTime};
 ghost use Rattle.pc_bus.specs.Boards.{Board, controller_of, holds_of};
 ghost use Rattle.pc_bus.specs.Ports.{Outputs};
 
-/// A FORMAT TRACK that begins with the FIFO on, threshold 8, DRQ let out and no request left from before is on time.
+/// A FORMAT TRACK that begins with the FIFO on, threshold 8, DRQ let out and no request left from before is on time, or
+/// a late DMA is counted.
 pub fn a_format_begins_on_time()
     ensures { (scene : Scene) (numbers : Numbers) (byte : ℕ) (old new : Board) → Outputs 0x3F5 byte old new → CanBegin (Write (Track numbers)) scene byte old
         → (controller_of old).fifo.on ≡ true → (controller_of old).fifo.threshold ≡ 8 → is_gated (controller_of old) ≡ true

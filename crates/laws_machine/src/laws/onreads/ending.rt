@@ -21,10 +21,12 @@ ghost use Rattle.laws_machine.specs.OnReads.Scenes.{Scene, track_met};
 ghost use Rattle.pc_bus.specs.Boards.{Board, controller_of, drive_in, holds_of};
 ghost use Rattle.pc_bus.specs.Ports.{Inputs, Outputs};
 
-/// A READ DATA that begins with DRQ let out and holds that are bytes, of a medium at speed, ends in its results before it took
-/// its 65,536 steps, whatever stalls are counted: it takes 258 more than two turns of the track at most, and so never more than
-/// 33,026. Each step keeps it so, and so does each call that
-/// leaves the chips and the drives, and each port read until the last result byte was read.
+/// A READ DATA that begins with DRQ let out, all DMA latencies below 256, and a medium at speed ends in its results
+/// before it has taken its 65,536 device steps, whatever late DMAs are counted. It takes at most 258 device steps more
+/// than two revolutions of the track have words, and so never more than 33,026.
+///
+/// Each device step keeps this true. So does each call that leaves the chips and the drives, and each port read until
+/// the last result byte was read.
 #[tactic(auto, using(crate::proofs::OnReads::EndSteps::soon_over, crate::proofs::OnReads::EndCalls::still_soon))]
 pub fn a_read_ends_in_time()
     ensures begins { (scene : Scene) (byte : ℕ) (old new : Board) → Outputs 0x3F5 byte old new → CanBegin Read scene byte old
@@ -39,8 +41,9 @@ pub fn a_read_ends_in_time()
     ensures no_late { (scene : Scene) (board : Board) → ReadSoon scene board → is_late (controller_of board).phase ≡ false }
 {}
 
-/// A READ DATA that begins with the FIFO on, threshold 8 and DRQ let out, of a medium at speed, ends in its results before it
-/// took its 65,536 steps, and without OR, whatever the holds are; or a stall was counted since.
+/// Take a READ DATA that begins with the FIFO on, threshold 8, DRQ let out, and a medium at speed. It ends in its
+/// results before it has taken its 65,536 device steps, and without OR, whatever the DMA latencies are. Otherwise a
+/// late DMA was counted since.
 #[tactic(auto, using(crate::proofs::OnReads::EndSteps::prompting, crate::proofs::OnReads::EndCalls::still_prompt))]
 pub fn a_read_is_prompt_until_a_stall()
     ensures begins { (scene : Scene) (byte : ℕ) (old new : Board) → Outputs 0x3F5 byte old new → CanBegin Read scene byte old
@@ -54,8 +57,8 @@ pub fn a_read_is_prompt_until_a_stall()
     ensures no_late { (scene : Scene) (board : Board) → ReadPrompt scene board → is_late (controller_of board).phase ≡ false }
 {}
 
-/// Where the results of a READ DATA or a READ ID tell MA, and not MD, and the drive had no fault since, no address mark is on
-/// the track, whatever stalls were counted.
+/// If the results of a READ DATA or a READ ID report MA, and not MD, and the drive had no fault since, no address mark
+/// is on the track. This holds whatever late DMAs were counted.
 pub fn a_missing_mark_is_not_on_the_track()
     ensures reads { (scene : Scene) (board : Board) → ReadSoon scene board → ReadEnded scene board
         → (ending : Ending) (results : Results) (read : ℕ) → IsGiving ending results read (controller_of board) → tells_no_mark results ≡ true

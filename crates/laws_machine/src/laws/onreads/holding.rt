@@ -21,9 +21,9 @@ pub fn a_served_request_falls()
     ensures rule { (most : ℕ) (chips : Chips) → IsRuled chips.controller → IsRuled (moved_up_to most chips).controller }
 {}
 
-/// A READ DATA that begins with the FIFO on, threshold 8 and DRQ let out ends with OR only where a stall was counted since:
-/// each step either keeps it in time or counts one; a call that leaves the chips and the drives keeps it, and so does a port
-/// that is read until the last result byte was.
+/// A READ DATA that begins with the FIFO on, threshold 8 and DRQ let out ends with OR only if a late DMA was counted
+/// since. Each device step either keeps the command in time or counts a late DMA. A call that leaves the chips and the
+/// drives keeps the command in time, and so does a port read until the last result byte was read.
 #[tactic(auto, using(crate::proofs::OnReads::InTime::in_time, crate::proofs::OnReads::HeldCalls::still_in_time))]
 pub fn a_read_overruns_only_by_a_stall()
     ensures begins { (scene : Scene) (byte : ℕ) (old new : Board) → Outputs 0x3F5 byte old new → CanBegin Read scene byte old

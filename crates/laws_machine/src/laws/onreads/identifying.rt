@@ -11,8 +11,8 @@ ghost use Rattle.pc_bus.specs.Boards.{Board, controller_of, memory_of};
 ghost use Rattle.pc_bus.specs.Ports.{Outputs};
 ghost use Rattle.raw_image.specs.Disk.{Disk};
 
-/// A READ ID can begin where all bytes but its last were sent to a machine at rest with a medium at speed. The last byte
-/// begins it, and counts one data command.
+/// A READ ID can begin on a machine at rest with a medium at speed, if all its bytes but the last were sent. The last
+/// byte begins the command, and counts one data command.
 #[tactic(auto, using(crate::proofs::OnReads::Beginnings::id_can_begin))]
 pub fn a_read_id_begins()
     ensures can_begin { (start board : Board) (set : Setting) (head_drive bay byte : ℕ) (disk : Disk) → IsReadyIn bay disk start → Stands set start board
@@ -22,7 +22,7 @@ pub fn a_read_id_begins()
         → GoesQuietly begun start old → GoesQuietly (counted begun) start new }
 {}
 
-/// What the results of a READ ID say of the track under the head. Memory is as it was, and DRQ low.
+/// What the results of a READ ID say of the track under the head. Memory is as it was, and DRQ is low.
 #[tactic(auto, using(crate::proofs::OnOrders::Ends::id_memory, crate::proofs::OnOrders::Ends::id_low))]
 pub fn a_read_id_tells_of_the_track()
     ensures ended { (scene : Scene) (board : Board) → Underway Identify scene board → IdEnded scene board }

@@ -7,23 +7,23 @@ ghost use Rattle.pc_bus.specs.Steps.{Step};
 ghost use Rattle.laws_machine.specs.OnSteps.Steady.{Marching, Progress, Steady};
 ghost use Rattle.raw_image.specs.Disk.{Disk};
 
-/// Whatever the machine is doing, a device step changes one word of an unprotected medium at most, and nothing of a protected
-/// one.
+/// Whatever the machine is doing, a device step changes at most one word of an unprotected medium, and nothing of a
+/// protected one.
 #[tactic(auto, using(crate::proofs::OnWrites::Guards::guarding))]
 pub fn device_steps_guard_media()
     ensures step { (old new : Board) → Step old new → GuardsMedia old new }
     ensures guards { (bay : ℕ) (medium : Option Disk) → is_protected medium ≡ true → Steady (λ board. (drive_in board bay).medium ≡ medium) }
 {}
 
-/// Device steps leave the selection, and the medium of the drive that isn't selected.
+/// Device steps leave the selection as it is, and the medium of the drive that isn't selected.
 #[tactic(auto, using(crate::proofs::OnWrites::Guards::leaving))]
 pub fn device_steps_leave_other_media()
     ensures { Progress LeavesOthers }
 {}
 
-/// Whatever was accessed before, and however the gates stood, a drive's gate is closed in each device step in which it isn't given
-/// a word of a write or a format that is in execution, and such a word is recorded through its open gate alone. So behind a device
-/// step an open gate is that of the selected drive, and the command goes on.
+/// A drive's gate is closed in each device step in which the drive isn't given a word of a write or a format that is in
+/// execution. This holds whatever was accessed before, and however the gates stood. Such a word is recorded through the
+/// drive's open gate alone. So an open gate after a device step is that of the selected drive, and the command goes on.
 #[tactic(auto, using(crate::proofs::OnWrites::Gates::gating))]
 pub fn device_steps_gate_writes()
     ensures step { (old new : Board) → Step old new → GatesDrives old new }

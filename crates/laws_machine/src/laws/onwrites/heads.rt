@@ -7,7 +7,7 @@ ghost use Rattle.pc_bus.specs.Ports.{Inputs, Outputs};
 ghost use Rattle.pc_bus.specs.Boards.{Board};
 ghost use Rattle.laws_machine.specs.OnSteps.Steady.{Steady};
 
-/// Where no seek was begun, device steps move no heads, change no change line and stop no medium, whatever command is in
+/// If no seek was begun, device steps move no heads, change no change line and stop no medium, whatever command is in
 /// execution.
 #[tactic(auto, using(crate::proofs::OnWrites::Stillness::stays_none, crate::proofs::OnWrites::Stillness::stilling, crate::proofs::OnWrites::Stillness::no_bits))]
 pub fn device_steps_move_no_heads()
@@ -23,8 +23,8 @@ pub fn an_idle_machine_stays()
     ensures steady { (start : Board) → Steady (StaysIdle start) }
 {}
 
-/// A read of a port moves no heads and leaves an idle machine; and so does a write, where the controller stays idle: then no
-/// request is left for the next command.
+/// A read of a port moves no heads and leaves an idle machine as it is. A write leaves an idle machine as it is if the
+/// controller stays idle; then no request is left for the next command.
 pub fn port_accesses_leave_an_idle_machine()
     ensures still { (port value : ℕ) (old new : Board) → Inputs port old value new → HasNoSeek old → StaysStill old new }
     ensures others { (port value : ℕ) (old new : Board) → Inputs port old value new → LeavesOthers old new }

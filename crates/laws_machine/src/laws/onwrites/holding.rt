@@ -9,14 +9,15 @@ ghost use Rattle.laws_machine.specs.OnWrites.Timely.{IsOnTime};
 ghost use Rattle.pc_bus.specs.Boards.{Board, controller_of, holds_of};
 ghost use Rattle.pc_bus.specs.Ports.{Outputs};
 
-/// A WRITE DATA, WRITE DELETED or FORMAT TRACK on time stays so, and doesn't end with OR, or a stall is counted: in each device
-/// step one or the other.
+/// In each device step, a WRITE DATA, WRITE DELETED or FORMAT TRACK that is on time stays on time and doesn't end with
+/// OR, or else a late DMA is counted.
 #[tactic(auto, using(crate::proofs::OnWrites::OnTime::on_time))]
 pub fn device_steps_are_on_time()
     ensures { Keeping IsOnTime }
 {}
 
-/// A write that begins with the FIFO on, threshold 8, DRQ let out and no request left from before is on time.
+/// A write that begins with the FIFO on, threshold 8, DRQ let out and no request left from before is on time, or a late
+/// DMA is counted.
 pub fn a_write_begins_on_time()
     ensures { (scene : Scene) (deleted : Bool) (byte : ℕ) (old new : Board) → Outputs 0x3F5 byte old new → CanBegin (Write (Window deleted)) scene byte old
         → (controller_of old).fifo.on ≡ true → (controller_of old).fifo.threshold ≡ 8 → is_gated (controller_of old) ≡ true

@@ -7,7 +7,7 @@ use Rattle.memory_files.specs.Words.{words_in}
 use Rattle.memory_files.specs.declared.words.WordsError.TheVariants.{NotText}
 use Rattle.memory_files.proofs.words.split_words.Goals as goal
 
--- where all words are UTF-8, each part is
+-- if all words are UTF-8, each part is
 utf8_at : {X : Type 0} (now : X → List ℕ) (items : List X) (texts : List (List ℕ)) → map now items ≡ texts → All IsUtf8 texts
     → (k : ℕ) (d : X) → k < length items → IsUtf8 (now (get_or items k d))
 utf8_at now items texts same all k d below =

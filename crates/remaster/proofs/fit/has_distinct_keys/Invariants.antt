@@ -3,6 +3,6 @@ use Rattle.std.specs.List.{AllPairs}
 use Rattle.remaster.specs.declared.sectors.Sector.{Sector}
 use Rattle.remaster.proofs.fit.has_distinct_keys.Given as goal
 
--- the sectors so far have keys of their own
+-- no two of the sectors so far have the same key
 abbrev pub invariant-loop-i : goal.invariant-loop-i
 invariant-loop-i l = AllPairs (λ (a b : Sector). a.key ≢ b.key) (take l.i l.sectors)

@@ -2,6 +2,6 @@ use Rattle.std.proofs.Common.{take, All}
 use Rattle.remaster.specs.Fit.{HasSizeCode}
 use Rattle.remaster.proofs.fit.has_one_size.Given as goal
 
--- so the keys of the sectors so far
+-- the keys of the sectors so far have this size code
 abbrev pub invariant-loop-sector : goal.invariant-loop-sector
 invariant-loop-sector l = All (HasSizeCode l.n) (take l.sector-index l.sectors)

@@ -3,6 +3,6 @@ use Rattle.remaster.specs.declared.sectors.Sector.{Sector}
 use Rattle.remaster.specs.Fit.{IsOwnKey}
 use Rattle.remaster.proofs.fit.has_own_keys.Given as goal
 
--- so the keys of the sectors so far
+-- the keys of the sectors so far name this cylinder and head
 abbrev pub invariant-loop-sector : goal.invariant-loop-sector
 invariant-loop-sector l = All (λ (sector : Sector). IsOwnKey l.c l.h sector.key) (take l.sector-index l.sectors)

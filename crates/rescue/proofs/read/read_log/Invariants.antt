@@ -2,7 +2,7 @@ use Rattle.std.proofs.Common.{◌≡◌, ◌+◌, ◌≤◌, ◌++◌, length}
 use Rattle.rescue.specs.Log.{log_text, IsLog}
 use Rattle.rescue.proofs.read.read_log.Given as goal
 
--- the lines so far are a log, and what is left is the text behind them
+-- the lines so far are a log, and what is left is the text after them
 abbrev pub invariant-loop-rest : goal.invariant-loop-rest
 invariant-loop-rest l = record {
   begins : l.bytes ≡ log_text l.lines.items ++ l.rest;

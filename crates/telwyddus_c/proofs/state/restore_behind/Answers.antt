@@ -7,7 +7,7 @@ returns-then-eq-clause-only g c state fits is =
     let left = c.part.ensures.gives c.args.name.now (g.T.SavedWhole.spelled state []) refl (c.new-from.ensures ∙ is) in
     inl (ap Ok (c.in_ok-state.ensures.gives state [] fits left.1).0)
 
--- what is spelled again are the same bytes, so they are equal
+-- the bytes that are spelled again are the same, so they are equal to the given ones
 pub returns-else-eq-clause-only : goal.returns-else-eq-clause-only
 returns-else-eq-clause-only g c state fits is =
     let left = c.part.ensures.gives c.args.name.now (g.T.SavedWhole.spelled state []) refl (c.new-from.ensures ∙ is) in
