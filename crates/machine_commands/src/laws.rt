@@ -18,7 +18,7 @@ ghost use Rattle.machine_commands.specs.Shown.{rig_of};
 ghost use Rattle.machine_commands.specs.Started.{IsFreshBoard};
 ghost use Rattle.pc_bus.specs.Boards.{AreSetIfEmpty, Board, controller_of, holds_of};
 ghost use Rattle.pc_bus.specs.Calls.{AreCalled};
-ghost use Rattle.std.specs.Prelude.{◌≡◌, ◌+◌, ℕ, Bool, false, Result};
+ghost use Rattle.std.specs.Prelude.{◌≡◌, ◌+◌, ℕ, Bool, false, List, Result};
 
 /// A driver can be set up on every machine that was new and was then used in any way, because each empty drive has its
 /// change line set.
@@ -41,6 +41,7 @@ pub fn commands_last()
     ensures recalibrates { (motors : Motors) (bay status : ℕ) (old new : Board) → SendsRecalibrate motors bay old status new → Lasts 81 old new }
     ensures seeks { (motors : Motors) (bay target : ℕ) (old new : Board) → SendsSeek motors bay target old new → Lasts 81 old new }
     ensures prepares { (motors : Motors) (bay : ℕ) (rate : Rate) (old new : Board) → Prepares motors bay rate old new → Lasts 0 old new }
+    ensures sends { (bytes : List ℕ) (old new : Board) → Sends bytes old new → Lasts 0 old new }
     ensures channel { (mode address last : ℕ) (old new : Board) → SetsChannel mode address last old new → Lasts 0 old new }
     ensures finishes { (order : Order) (scene : Scene) (start : Board) → is_held (controller_of start) ≡ false → AreShort (holds_of start)
         → (outcome : Result Done Code) (sent new : Board) → GoesOn order scene start sent → Finishes sent outcome new

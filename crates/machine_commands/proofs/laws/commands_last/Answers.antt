@@ -22,6 +22,9 @@ returns-clause-seeks c = lasting.seek_lasts
 pub returns-clause-prepares : goal.returns-clause-prepares
 returns-clause-prepares c = lasting.prepares_last
 
+pub returns-clause-sends : goal.returns-clause-sends
+returns-clause-sends c = lasting.sends_last
+
 pub returns-clause-channel : goal.returns-clause-channel
 returns-clause-channel c = lasting.channel_lasts
 
