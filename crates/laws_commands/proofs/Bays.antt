@@ -1,4 +1,5 @@
--- Which requests that put media in, make bays ready and take media out are done where nothing disturbs them, and what stands behind them.
+-- The requests that put media in, make bays ready and take media out. They are done when nothing disturbs them. Also
+-- here is what holds after them.
 use Rattle.std.proofs.Common.{arith, ◌≡◌, ◌∙◌, ◌<◌, ◌≤◌, ℕ, Bool, true, false, true≢false, List, length, refl, sym, ap, subst, inl, inr, Option, Some, None, Result, Ok, Err, IsOk, le-leb, unwrap_or}
 use Rattle.std.specs.Prelude.{◌&&◌, ◌==◌, not, is_some, IsSomeAnd, MatchBool, if◌then◌else◌}
 use Rattle.std.specs.Option.{option_map}
@@ -39,7 +40,7 @@ use Rattle.laws_commands.proofs.Going.{Stage, at, calm_in, IsSafe, IsDone, GoesW
 pub both_true : (a b : Bool) → a ≡ true → b ≡ true → (a && b) ≡ true
 both_true a b e f = rw (e, f) refl
 
--- a request that puts no file in is stopped by the outside alone
+-- if a request puts no file in, only the outside can stop it
 stops_outside : (asked : Request) (old new : State) (told after : Option Files) (cause : Stop)
     → ((bay : ℕ) (name : List ℕ) → asked ≡ request.Insert bay name → ⊥) → StopsAt asked old told cause new after → IsEndStop cause
 stops_outside asked old new told after stop.FileFault other stops = tt
@@ -54,12 +55,12 @@ safe asked old keeps other = record {
   stops = λ cause new stops. stops_outside asked old.state new.state old.files new.files cause other stops;
 }
 
--- what was answered Ok isn't refused
+-- a call that answered Ok isn't refused
 pub ok_taken : (called : Result (Unit {0}) Code) (answer : Reply) → answer ≡ reply_of called → IsOk called → is_refusal answer ≡ false
 ok_taken (Ok u) answer is ok = ap is_refusal is
 ok_taken (Err code) answer is ok = absurd (true≢false (sym ok))
 
--- what is done with one bay leaves the other
+-- what is done with one bay leaves the other bay as it is
 abbrev pub AreApart : ℕ → ℕ → Type 0
 AreApart bay other = (station : StationState) (value : Bay) → bay_of (set_bay station bay value) other ≡ bay_of station other
 
@@ -80,7 +81,7 @@ fresh_empty state bay fresh = ap (λ (bays : Two Bay). is_some (in_bay bays bay)
 blank_order : (good loaded : Bool) → good ≡ true → loaded ≡ false → unless_bad good (if loaded then Some reason.Busy else None) ≡ None
 blank_order good loaded e f = rw (e, f) refl
 
--- a request for a blank medium: it is safe, and isn't refused where this order of refusals refuses none
+-- A request for a blank medium is safe. It isn't refused if the checks in this order refuse nothing.
 blank_fine : (bay : ℕ) (rate : Rate) (name : List ℕ) (count : ℕ) (old : Stage)
     → unless_bad (is_blank_request bay count) (if is_loaded old.state bay then Some reason.Busy else None) ≡ None
     → IsSafe (blank_request bay name count rate) old
@@ -122,7 +123,7 @@ ready_still bay disk old new same ready = record {
   kept = ap (λ (b : Bay). is_some b.acknowledged) same ∙ ready.kept;
 }
 
--- and the other bay is as it was
+-- one bay is ready for this disk, and the other bay is as it was
 pub record IsReadyAlone (bay other : ℕ) (disk : Disk) (old new : Stage) : Type 0 where
   pub ready : IsReadyFor bay disk new.state.station
   pub same : bay_of new.state.station other ≡ bay_of old.state.station other
@@ -176,7 +177,7 @@ module _ (bay other : ℕ) (disk : Disk) (is_one : is_bay bay ≡ true) (apart :
         );
   }
 
-  -- behind an acknowledgement the bay gets the rate of its disk
+  -- after an acknowledgement the bay gets the rate of its disk
   rate_goes : (rate : Rate) (rest : Unit {0} → Script) (old mid : Stage) → disk.rate ≡ rate → IsAcked bay disk old.state old.files mid.state mid.files
       → ((new : Stage) → IsReadyAlone bay other disk old new → GoesWell (rest tt) new) → GoesWell (sets_rate bay rate rest) mid
   unfolding sets_rate
@@ -222,12 +223,12 @@ pub record IsPutIn (disk : Disk) (told : Option Files) (stage : Stage) : Type 0 
   pub empty : is_loaded stage.state 1 ≡ false
   pub files_are : stage.files ≡ told
 
--- what is so of a file in two ways is so of one
+-- two facts about a file that is there are facts about one content
 pub of_one : {P Q : List ℕ → Type 0} (o : Option (List ℕ)) → IsSomeAnd o P → IsSomeAnd o Q → (bytes : List ℕ) × (o ≡ Some bytes) × P bytes × Q bytes
 of_one None p q = absurd p
 of_one (Some bytes) p q = (bytes, refl, p, q)
 
--- no stop but one of the outside comes, as the file is there and is the image of a disk
+-- only the outside can stop an insert, if the file is there and is the image of a disk
 pub insert_stops : (bay : ℕ) (from : List ℕ) (files : Files) (disk : Disk) (old new : State) (after : Option Files) (cause : Stop)
     → IsImageOf (Some files) from disk → StopsAt (request.Insert bay from) old (Some files) cause new after → IsEndStop cause
 insert_stops bay from files disk old new after stop.FileFault image stops = tt
@@ -255,7 +256,7 @@ insert_stops bay from files disk old new after (stop.Absent name) image stops =
     clash : {bytes : List ℕ} (o : Option (List ℕ)) → o ≡ None → o ≡ Some bytes → ⊥
     clash o e f = cc (e, f)
 
--- it is put into an empty bay 0, and its shape is found
+-- the disk is put into the empty bay 0, and its shape is found
 pub opens_goes : (from : List ℕ) (files : Files) (disk : Disk) (rest : Shape → Script) (old : State) → IsImageOf (Some files) from disk
     → IsFresh old.station → ((new : Stage) → IsPutIn disk (Some files) new → GoesWell (rest (shape_of disk)) new)
     → GoesWell (opens from rest) (at old (Some files))

@@ -1,4 +1,4 @@
--- A blank disk is regular: nothing is recorded on it.
+-- A blank disk is regular, since nothing is recorded on it.
 use Rattle.std.proofs.Common.{arith, ◌≡◌, ◌∙◌, ◌+◌, ◌-◌, ◌*◌, take, replicate, ℕ, List, length, sym, ap, subst, inl, inr}
 use Rattle.std.proofs.lemmas.Bool.{cases_lt}
 use Rattle.std.proofs.lemmas.List.{take_all, take-replicate, drop-replicate, length-replicate}
@@ -13,7 +13,7 @@ use Rattle.sector_map.proofs.MetTracks.{nothing_unrecorded}
 use Rattle.sector_model.specs.Steps.{blank_of}
 use Rattle.laws_commands.specs.LaidFields.{HasLaidFields}
 
--- a track with nothing recorded is regular
+-- a track on which nothing is recorded is regular
 none_regular : (track : List ℕ) (c h : ℕ) → HasNothing track → IsRegular track c h
 none_regular track c h none = record {
   plain = λ p mark. absurd (none.marks (p, mark));
@@ -54,6 +54,6 @@ blank_nothing count rate c h =
 pub blank_regular : (count : ℕ) (rate : Rate) → IsRegularDisk (blank_of count rate)
 blank_regular count rate c h has = none_regular (track_of (blank_of count rate) c h) c h (blank_nothing count rate c h)
 
--- it has no address field
+-- a blank disk has no address field, so it has Laid fields
 pub blank_fields : (count : ℕ) (rate : Rate) → HasLaidFields (blank_of count rate)
 blank_fields count rate c h p key has address = absurd ((blank_nothing count rate c h).addresses p key address)

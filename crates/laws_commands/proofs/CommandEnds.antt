@@ -1,4 +1,4 @@
--- The commands go to their end where nothing disturbs them, or the outside failed.
+-- The commands go to their end when nothing can disturb them, or the outside failed.
 use Rattle.std.proofs.Common.{sym, ◌≡◌, ◌≤◌, ℕ, List, [], length, refl, ap, ◌∙◌, subst, inl, Option, Some, arith, false, ◌-◌, Bool, get_or, true≢false}
 use Rattle.std.proofs.lemmas.List.{length-replicate}
 use Rattle.flop_base.specs.Shelf.{Files}
@@ -47,7 +47,7 @@ use Rattle.laws_commands.proofs.Going.{Stage, at, GoesWell, PartGoes, goes_asks,
 
 -- ---- Format.
 
--- where nothing is left to go wrong, a format goes to its end, or the outside failed
+-- if nothing is left that can go wrong, a format goes to its end, or the outside failed
 pub format_complete : (rate : Rate) (name : List ℕ) (count : ℕ) (old new : World) (ended : Status) → 1 ≤ count → count ≤ 80 → BeginsSound old
     → Runs (RunsScript (format_script name count rate)) old new ended → EndsWellOrOutside (StoresFormatted rate name count old.files new.files) ended
 unfolding format_script formats_disk
@@ -69,7 +69,7 @@ format_complete rate name count old new ended least most begins runs =
 
 -- ---- Copy.
 
--- bay 0 has the source, and in bay 1 a disk of its cylinders and rate is made, of which this holds
+-- Bay 0 has the source. In bay 1 a disk of the source's cylinders and rate is being made, and this holds of that disk.
 pub record IsCopying (source : Disk) (Also : Disk → Type 0) (stage : Stage) : Type 0 where
   pub first : IsReadyFor 0 source stage.state.station
   pub second : IsMaking 1 source.rate source.cylinders Also stage.state.station
@@ -78,11 +78,11 @@ module _ (source : Disk) (readable : IsReadable source) (few_cylinders : source.
   abbrev sectors : ℕ
   sectors = sectors_at source.rate
 
-  -- the track is formatted in bay 1
+  -- the track was formatted in bay 1
   abbrev IsOnTrack : Stage → Type 0
   IsOnTrack stage = IsCopying source (HasRecords sectors c h) stage
 
-  -- something was done in bay 1
+  -- a call changed bay 1 alone
   made_on : (old new : Stage) → IsReadyFor 0 source old.state.station → MakesAlone 1 0 source.rate source.cylinders (HasRecords sectors c h) old new
       → IsOnTrack new
   made_on old new ready alone = record { first = ready_still 0 source old.state.station new.state.station alone.same ready; second = alone.made }
@@ -99,7 +99,7 @@ module _ (source : Disk) (readable : IsReadable source) (few_cylinders : source.
             (λ disk has. has) (ap (λ (bays : Two Bay). in_bay bays 1) alone.same) copying.second;
       }))
 
-  -- whatever its mark is
+  -- a write of a record goes well, whatever the record's mark is
   write_goes : (marks : List Bool) (r : ℕ) (old : Stage) → 1 ≤ r → r ≤ sectors → IsOnTrack old
       → PartGoes (λ none new. IsOnTrack new) (writes_record marks c h r tt) old
   unfolding writes_record
@@ -131,7 +131,7 @@ length-zeroes count = length-replicate count 0
 pub fresh_memory : (station : StationState) → IsFresh station → length station.memory ≡ user_bytes
 fresh_memory station fresh = ap (λ (m : List ℕ). length m) fresh.memory ∙ length-zeroes user_bytes
 
--- the sectors that the reads gave are those of the disk
+-- if the reads are sure, the sectors that they gave are those of the disk
 same_sectors : (disk : Disk) (to : List ℕ) (old new : Counters) (course : List Taken) (told after : Option Files) → IsSure disk old new
     → StoresCopy disk to old told course new after → StoresSameSectors disk to told after
 same_sectors disk to old new course told after sure stores = record {
@@ -152,7 +152,7 @@ same_sectors disk to old new course told after sure stores = record {
   files = stores.files;
 }
 
--- so does a copy of a readable disk
+-- if nothing is left that can go wrong, a copy of a readable disk goes to its end, or the outside failed
 pub copy_complete : (from to : List ℕ) (old new : World) (ended : Status) (files : Files) (disk : Disk) → BeginsSound old → old.files ≡ Some files
     → IsImageOf (Some files) from disk → IsReadable disk → Runs (RunsScript (copy_script from to)) old new ended
     → EndsWellOrOutside (StoresSameSectors disk to (Some files) new.files) ended
@@ -210,7 +210,8 @@ module _ (disk : Disk) (readable : IsReadable disk) (few_cylinders : disk.cylind
       tells_none (key_of c h r) answer _ new fine
       (behind (one_more tally (is_refusal answer)) new (record { ready = alone.ready; fine = none_more tally.refused (is_refusal answer) reading.fine fine })))
 
--- so does a verify of a readable disk, which finds each key
+-- if nothing is left that can go wrong, a verify of a readable disk finds each key and goes to its end, or the outside
+-- failed
 pub verify_complete : (name : List ℕ) (old new : World) (ended : Status) (files : Files) (disk : Disk) → BeginsSound old → old.files ≡ Some files
     → IsImageOf (Some files) name disk → IsReadable disk → Runs (RunsScript (verify_script name)) old new ended
     → EndsWellOrOutside (TellsFailing disk [] old new status.AllOk) ended

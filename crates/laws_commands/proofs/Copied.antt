@@ -47,8 +47,8 @@ copies_keep rate (track ∷ tracks) marks =
     (keeps-append (read_records 0 keys) (write_records 1 keys (take (sectors_at rate) marks)) (reads_keep keys) (writes_keep 1 keys (take (sectors_at rate) marks)))
     (copies_keep rate tracks (drop (sectors_at rate) marks))
 
--- what the copies of tracks made of the disk in bay 1: each of them is Laid, with its sectors as they were given; so stays
--- what was so before
+-- What the copies of tracks made of the disk in bay 1. Each copied track is Laid, with its sectors as they were given.
+-- Tracks that were so before stay so.
 pub record CopiesTracks (sure : Type 0) (source : Disk) (at : Rate) (tracks : List Track) (whole : List Taken) (disk : Disk) (old : State) (told : Option Files) (new : State) (after : Option Files) : Type 0 where
   pub final : Disk
   pub ready : IsReady at source final new
@@ -60,7 +60,7 @@ pub record CopiesTracks (sure : Type 0) (source : Disk) (at : Rate) (tracks : Li
   pub names : new.names ≡ old.names
   pub files : after ≡ told
 
--- the course is a part of the whole one
+-- what the reads of the course gave, they also gave in the whole course
 abbrev IsPart : List Taken → List Taken → Type 0
 IsPart course whole = (c h r : ℕ) (deleted : Bool) (content : List ℕ) → SomeStep (Gave (key_of c h r) deleted content) course → SomeStep (Gave (key_of c h r) deleted content) whole
 
@@ -71,7 +71,7 @@ given_elsewhere sure source whole disk b g next c h r keeps other (place, delete
     (place, deleted, content, step, (elsewhere_on_map disk b g next keeps (copied_entry c h r place deleted content) other).0 on, sector, field)
 
 module _ (rate : Rate) (b g : ℕ) (later : List Track) (disk next : Disk) (keeps : KeepsTracks disk b g next) where
-  -- after the first track
+  -- after the first track was copied
   pub laid_still : IsLaid (track_of next b g) → (c h : ℕ) → HasTrack disk c h → (Among ((b, g) ∷ later) c h ⊎ IsLaid (track_of disk c h))
       → (Among later c h ⊎ IsLaid (track_of next c h))
   laid_still first c h has (inl (inr among)) = inl among

@@ -1,4 +1,4 @@
--- The run of the command that copies, from its opening to its last request.
+-- The run of the command that copies a disk, from its opening to its last request.
 use Rattle.std.proofs.Common.{◌≡◌, ◌∙◌, ℕ, true, List, [], ◌∷◌, ◌++◌, length, refl, sym, ap, subst, Option, Some, arith, Bool, inl}
 use Rattle.std.specs.List.{list_all}
 use Rattle.std.proofs.lemmas.List.{append-nil}
@@ -33,7 +33,7 @@ use Rattle.laws_commands.proofs.BlankDisk.{blank_regular, blank_fields}
 use Rattle.laws_commands.proofs.Tracks.{Among, among_all, among_only}
 use Rattle.laws_commands.proofs.Written.{AllTidy}
 
--- both media are in
+-- both media are in their bays
 record AreIn (disk : Disk) (to : List ℕ) (files : Files) (rest : List Request) (new : State) (after : Option Files) : Type 0 where
   pub mid : State
   pub mid_files : Option Files
@@ -71,7 +71,7 @@ are_in from to disk files rest old new after course image all size =
       behind = two.behind;
     }
 
--- bay 1 after the opening
+-- both bays after the opening
 pub record IsCopyOpened (disk : Disk) (to : List ℕ) (files : Files) (new : State) (after : Option Files) : Type 0 where
   pub valid : IsDisk (blank_of disk.cylinders disk.rate)
   pub first : (bay_of new.station 0).medium ≡ Some disk

@@ -1,4 +1,4 @@
--- One track of a copy: formatted, its records read, and written.
+-- The copy of one track: it is formatted, its records are read, and they are written.
 use Rattle.std.proofs.Common.{arith, ◌≡◌, ◌∙◌, ◌+◌, ◌<◌, ◌≤◌, ℕ, Bool, false, List, [], ◌∷◌, ◌++◌, take, length, refl, sym, ap, subst, inl, inr, Option, Some}
 use Rattle.std.proofs.lemmas.Bool.{cases_eq}
 use Rattle.std.proofs.lemmas.List.{append-nil, take_at}
@@ -35,7 +35,7 @@ use Rattle.laws_commands.proofs.Sectors.{few_sectors, track_regular, track_laid,
 use Rattle.laws_commands.proofs.Steps.{NeverFell, splits, begins, ends_there, never_fell, ok_called, reached}
 use Rattle.laws_commands.proofs.Written.{AllTidy, AreCopied, HasSome, all_writes, writes_keep}
 
--- bay 0 has the source, bay 1 a disk of this rate that can be written, and memory has its size
+-- Bay 0 has the source. Bay 1 has a disk of this rate that can be written. Memory has its size.
 pub record IsReady (at : Rate) (source disk : Disk) (state : State) : Type 0 where
   pub first : (bay_of state.station 0).medium ≡ Some source
   pub medium : (bay_of state.station 1).medium ≡ Some disk
@@ -46,7 +46,7 @@ pub record IsReady (at : Rate) (source disk : Disk) (state : State) : Type 0 whe
   pub words : disk.words_per_track ≡ words_at at
   pub size : length state.station.memory ≡ user_bytes
 
--- what the copy of a track made of the disk in bay 1
+-- what the copy of a track did to the disk in bay 1
 pub record CopiesTrack (sure : Type 0) (source : Disk) (at : Rate) (c h : ℕ) (disk : Disk) (old : State) (told : Option Files) (course : List Taken) (new : State) (after : Option Files) : Type 0 where
   pub final : Disk
   pub ready : IsReady at source final new
@@ -112,7 +112,7 @@ pub track_keys_from : (sectors c h : ℕ) → track_keys sectors c h ≡ keys_fr
 unfolding track_keys
 track_keys_from sectors c h = refl
 
--- a record that was read and written
+-- a record that was read and then written is on the copy as it was given
 given_copied : (sure : Type 0) (source : Disk) (course : List Taken) (memory : List ℕ) (final : Disk) (c h a : ℕ) (marks : List Bool)
     → AreGiven sure source course memory c h a marks → AreCopied final memory c h a marks → (r : ℕ) → a ≤ r → r < a + length marks
     → HasAsGiven sure course source final c h r
@@ -122,7 +122,7 @@ given_copied sure source course memory final c h a (deleted ∷ marks) given cop
   | inr other ↦ given_copied sure source course memory final c h (a + 1) marks given.1 copied.1 r (omega arith) (omega arith)
 ]
 
--- in a longer course
+-- what was given in a course was also given in a longer course
 pub given_in : (sure : Type 0) (source : Disk) (course whole : List Taken) (copied : Disk) (c h r : ℕ)
     → ((deleted : Bool) (content : List ℕ) → SomeStep (Gave (key_of c h r) deleted content) course → SomeStep (Gave (key_of c h r) deleted content) whole)
     → HasAsGiven sure course source copied c h r → HasAsGiven sure whole source copied c h r

@@ -1,4 +1,4 @@
--- The command that copies asks the requests of a copy, and stores one.
+-- The command that copies runs the requests of a copy, and stores a copy.
 use Rattle.std.proofs.Common.{arith, ◌≡◌, ◌∙◌, ℕ, Bool, true, false, List, [], ◌∷◌, ◌++◌, length, take, drop, refl, sym, ap, subst, append_assoc, Option, Some}
 use Rattle.std.specs.List.{list_all}
 use Rattle.std.proofs.lemmas.List.{append-nil, length-replicate, take_at, drop_at}
@@ -46,13 +46,13 @@ record CopiedTrack (rate : Rate) (track : Track) (old : World) (course : List Ta
   pub did : Did (copy_track rate track (marks_read course)) old course mid
   pub count : length (marks_read course) ≡ sectors_at rate
 
--- of three courses, the second alone reads
+-- if the second of three courses is the only one with reads, the marks are those of its reads
 middle_marks : (one two three : List Taken) → marks_read one ≡ [] → marks_read three ≡ [] → marks_read (one ++ (two ++ three)) ≡ marks_read two
 middle_marks one two three first last =
     marks-append one (two ++ three) ∙ ap (λ (row : List Bool). row ++ marks_read (two ++ three)) first
     ∙ marks-append two three ∙ ap (λ (row : List Bool). marks_read two ++ row) last ∙ append-nil (marks_read two)
 
--- no mark comes from requests that are no reads
+-- requests that are no reads tell no marks
 silent : (requests : List Request) (old mid : World) (course : List Taken) → Did requests old course mid → list_all is_no_read requests ≡ true
     → marks_read course ≡ []
 silent requests old mid course did none = no_marks course (ap (λ (row : List Request). list_all is_no_read row) did.all ∙ none)
@@ -137,7 +137,7 @@ all_did from to disk old mid last new one two three opening tracks eject course 
     (subst (λ (row : List Bool). Did (copy_requests from to disk row) old (one ++ (two ++ three)) new) (sym told)
     (three_did (copy_opening from to disk) _ (request.Eject 1 ∷ []) old mid last new one two three opening tracks eject))
 
--- what a copy of a disk of this shape opens with, behind the disk that is put in
+-- the requests with which a copy of a disk of this shape opens, after the disk was put in
 abbrev preparing : List ℕ → Shape → List Request
 preparing to shape = blank_request 1 to shape.cylinders shape.rate ∷ request.Ack 0 ∷
     (rate_requests shape.rate 0 ++ (request.Ack 1 ∷ rate_requests shape.rate 1))
@@ -173,7 +173,7 @@ copy_done from to old new course files disk runs there image =
           (over_all requests old course eject.mid did new end.1.state end.1.files);
     }
 
--- a copy that succeeds stores a copy
+-- a copy that succeeds stores a copy of the disk
 pub copy_stores : (from to : List ℕ) (old new : World) (course : List Taken) (files : Files) (disk : Disk)
     → RunsScript (copy_script from to) old course new status.AllOk → old.files ≡ Some files → IsImageOf (Some files) from disk
     → length old.state.station.memory ≡ user_bytes → IsFaultless 1 old.state.station.counters new.state.station.counters

@@ -1,4 +1,4 @@
--- The opening of a verify isn't refused where bay 0 was empty and nothing disturbs its drive.
+-- The opening of a verify isn't refused if bay 0 was empty and nothing disturbs its drive.
 use Rattle.std.proofs.Common.{arith, ◌≡◌, ◌∙◌, ℕ, false, true≢false, List, [], ◌∷◌, refl, ap, subst, Option, Some, None, Result, Ok, Err, inl, inr}
 use Rattle.flop_base.specs.Shelf.{Files}
 use Rattle.flop_base.specs.declared.answers.Code.{Code}
@@ -32,7 +32,7 @@ use Rattle.laws_commands.proofs.Steps.{NeverFell, done_does, step_never_fell}
 use Rattle.laws_commands.proofs.TrackParts.{did_step}
 use Rattle.laws_commands.proofs.Verified.{one_image}
 
--- a disk is put into an empty bay
+-- an insert into an empty bay isn't refused
 insert_taken : (name : List ℕ) (old new : State) (told after : Option Files) (answer : Reply) → (bay_of old.station 0).medium ≡ None
     → Step (request.Insert 0 name) old told answer new after → is_refusal answer ≡ false
 insert_taken name old new told after answer empty step =
@@ -40,7 +40,7 @@ insert_taken name old new told after answer empty step =
     let does = reaches _ (refusal_of old (request.Insert 0 name)) free step in
     ap is_refusal does.0
 
--- a bay with a medium is acknowledged
+-- an undisturbed acknowledgement of a bay with a medium isn't refused
 ack_taken : (disk : Disk) (old new : State) (told after : Option Files) (answer : Reply) → (bay_of old.station 0).medium ≡ Some disk
     → IsUndisturbed 0 old.station.counters new.station.counters → NeverFell old.station.counters new.station.counters
     → Step (request.Ack 0) old told answer new after → is_refusal answer ≡ false
@@ -53,7 +53,7 @@ ack_taken disk old new told after answer medium quiet fell step = ap is_refusal 
       | inr rose ↦ absurd (omega (arith, rose, quiet.faults, quiet.together, fell.stalls))
     ]
 
--- an acknowledged bay gets a rate
+-- setting the rate of an acknowledged bay isn't refused
 rate_taken : (count : ℕ) (old new : State) (told after : Option Files) (answer : Reply) → (bay_of old.station 0).acknowledged ≡ Some count
     → Step (request.SetRate 0 R250) old told answer new after → is_refusal answer ≡ false
 rate_taken count old new told after answer acknowledged step =
@@ -70,7 +70,7 @@ rate_taken count old new told after answer acknowledged step =
 not_done : (cause : Reason) → is_refusal (reply.Refused cause) ≡ false → ⊥
 not_done cause done = absurd (true≢false done)
 
--- the disk is in
+-- the disk is in bay 0
 record IsIn (disk : Disk) (old mid : World) : Type 0 where
   pub medium : (bay_of mid.state.station 0).medium ≡ Some disk
   pub fell : NeverFell old.state.station.counters mid.state.station.counters

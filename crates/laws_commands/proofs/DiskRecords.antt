@@ -1,4 +1,4 @@
--- The records of a track in memory: reads of each to its own place.
+-- The records of a track in memory, where each was read to its own place.
 use Rattle.std.proofs.Common.{arith, ◌≡◌, ◌∙◌, ◌+◌, ◌*◌, ◌≤◌, ℕ, zero, suc, Bool, true, false, true≢false, List, [], ◌∷◌, ◌++◌, map, length, refl, sym, ap, subst, inl, inr, Option, Some, Result, Ok, Err, IsOk}
 use Rattle.std.specs.List.{range_with_len, list_all}
 use Rattle.std.proofs.lemmas.List.FromFn.{length-map-range_with_len}
@@ -55,7 +55,7 @@ pub record ReadsOne (c h r : ℕ) (source : Disk) (old : State) (told : Option F
   pub field : (b : ℕ) × HasTrack source b h × IsUnder (track_of source b h) (key_of c h r) deleted content
   pub sector : IsSure source old.station.counters new.station.counters → IsSector (track_of source c h) (key_of c h r) deleted content
 
--- a field that was read of a regular disk is a sector of the track of its key
+-- what is read of a regular disk is a sector on the track of its key
 pub read_sector : (key : Chrn) (address : ℕ) (deleted : Bool) (source : Disk) (old new : StationState) (found : IsRead 0 key address old deleted new)
     → (bay_of old 0).medium ≡ Some source → IsSure source old.counters new.counters
     → IsSector (track_of source key.c key.h) key deleted found.content
@@ -102,7 +102,7 @@ one_record c h r source old new told after answer does done medium =
       sector = read_sector key address ok.0 source old.station new.station found medium;
     }
 
--- sureness of two parts
+-- reads that are sure are sure in both parts of the run
 pub sure_parts : (source : Disk) (old mid new : Counters) → NeverFell old mid → NeverFell mid new → IsSure source old new
     → IsSure source old mid × IsSure source mid new
 sure_parts source old mid new one two (regular, inl faultless) = (
@@ -113,18 +113,18 @@ sure_parts source old mid new one two (regular, inr lone) = ((regular, inr lone)
 
 -- ---- the records of a track
 
--- a record has been read with this mark, and its content stands at its place
+-- the record was read with this mark, and its content is at its place in memory
 pub record IsGiven (sure : Type 0) (source : Disk) (course : List Taken) (memory : List ℕ) (c h r : ℕ) (deleted : Bool) : Type 0 where
   pub step : SomeStep (Gave (key_of c h r) deleted (bytes_from memory (record_address r) 512)) course
   pub sector : sure → IsSector (track_of source c h) (key_of c h r) deleted (bytes_from memory (record_address r) 512)
   pub field : IsFieldOf source (key_of c h r) deleted (bytes_from memory (record_address r) 512)
 
--- so each from a on
+-- each record from a on was read with its mark, and its content is at its place in memory
 abbrev pub AreGiven : Type 0 → Disk → List Taken → List ℕ → ℕ → ℕ → ℕ → List Bool → Type 0
 AreGiven sure source course memory c h a [] = Unit {0}
 AreGiven sure source course memory c h a (deleted ∷ marks) = IsGiven sure source course memory c h a deleted × AreGiven sure source course memory c h (a + 1) marks
 
--- also of a longer course
+-- what was given in a course was also given in a longer course
 pub given_later : (sure : Type 0) (source : Disk) (taken : Taken) (course : List Taken) (memory : List ℕ) (c h a : ℕ) (marks : List Bool)
     → AreGiven sure source course memory c h a marks → AreGiven sure source (taken ∷ course) memory c h a marks
 given_later sure source taken course memory c h a [] given = tt

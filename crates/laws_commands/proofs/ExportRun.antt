@@ -1,4 +1,4 @@
--- The command that exports, where it ends well: what its reads gave, one behind the other, and what it stores.
+-- The command that exports, if it ends well: what its reads gave, joined one after the other, and what it stores.
 use Rattle.std.proofs.Common.{arith, ◌≡◌, ◌∙◌, ◌+◌, ◌-◌, ◌*◌, ◌<◌, ◌≤◌, ℕ, Bool, List, [], ◌∷◌, ◌++◌, length, drop, take, refl, sym, ap, subst, inl, inr, Option, Some, append-nil, append_assoc}
 use Rattle.std.specs.Prelude.{◌⊎◌}
 use Rattle.std.proofs.lemmas.Bool.{cases_eq, cases_lt}
@@ -46,7 +46,7 @@ use Rattle.laws_commands.proofs.Taking.{some_sectors, one_track, next_track, pla
 
 -- ---- one read
 
--- what is found behind an answer
+-- the state after an answer, which is what is found
 abbrev behind : Reply → State → State
 behind answer after = after
 
@@ -100,7 +100,7 @@ read_gives source c h r old new course found given least most medium size =
       fell = step_never_fell old.state new.state old.files new.files asked taken.answer step refl;
     }
 
--- ---- bytes behind bytes
+-- ---- bytes appended to bytes
 
 before_stays : (xs ys : List ℕ) (p : ℕ) → p + 512 ≤ length xs → bytes_from (xs ++ ys) p 512 ≡ bytes_from xs p 512
 before_stays xs ys p inside =
@@ -112,16 +112,16 @@ behind_stands xs ys p long sized = ap (λ (l : List ℕ). take 512 l) (drop_at x
 
 -- ---- the reads so far
 
--- of the tracks before this one, or of so many records of it
+-- the record is on one of the first t tracks, or is one of the first i records of track t
 abbrev pub IsBefore : ℕ → ℕ → ℕ → ℕ → ℕ → Type 0
 IsBefore t i c h r = (c * 2 + h < t) ⊎ ((c * 2 + h ≡ t) × (r ≤ i))
 
--- the record stands among these bytes as a course read it
+-- the record is at its place among these bytes, as a course read it
 pub record IsGivenAt (sure : Type 0) (disk : Disk) (sectors c h r : ℕ) (bytes : List ℕ) (course : List Taken) : Type 0 where
   pub inside : sector_place sectors c h r + 512 ≤ length bytes
   pub read : IsAsRead sure course disk c h r (sector_bytes bytes sectors c h r)
 
--- so do the records of so many tracks, and so many of the next one
+-- the records of the first t tracks, and the first i of the next track, are at their places among these bytes
 pub record IsGathered (start : Counters) (disk : Disk) (told : Option Files) (t i : ℕ) (bytes : List ℕ) (course : List Taken) (now : World) : Type 0 where
   pub fell : NeverFell start (counts now)
   pub medium : (bay_of now.state.station 0).medium ≡ Some disk
@@ -131,7 +131,7 @@ pub record IsGathered (start : Counters) (disk : Disk) (told : Option Files) (t 
   pub given : (c h r : ℕ) → IsSector (sectors_at disk.rate) c h r → IsBefore t i c h r
       → IsGivenAt (IsSure disk start (counts now)) disk (sectors_at disk.rate) c h r bytes course
 
--- what was given stays
+-- what was given stays when bytes are appended
 given_stays : (sure later : Type 0) (disk : Disk) (sectors c h r : ℕ) (bytes more : List ℕ) (before steps : List Taken) → (later → sure)
     → IsGivenAt sure disk sectors c h r bytes before → IsGivenAt later disk sectors c h r (bytes ++ more) (before ++ steps)
 given_stays sure later disk sectors c h r bytes more before steps less given =
@@ -185,7 +185,7 @@ module _ (start : Counters) (disk : Disk) (told : Option Files) where
         ];
       }
 
-  -- all records of a track
+  -- after all records of a track, the next track begins
   whole_track : (t : ℕ) (bytes : List ℕ) (course : List Taken) (now : World) → IsGathered start disk told t (sectors_at disk.rate) bytes course now
       → IsGathered start disk told (t + 1) 0 bytes course now
   whole_track t bytes course now holds =
@@ -275,7 +275,7 @@ put_in name shape old new course opened =
       fell = did_fell (request.Insert 0 name ∷ []) old new course opened.did refl;
     }
 
--- and ready for its reads
+-- before the first read, nothing is gathered, and bay 0 is ready
 begun : (name : List ℕ) (shape : Shape) (old one two : World) (row course : List Taken) → (put : IsPutIn name shape old one)
     → Did (request.Ack 0 ∷ rate_requests shape.rate 0) one course two → length old.state.station.memory ≡ user_bytes
     → IsGathered (counts old) put.disk old.files 0 0 [] row two
@@ -293,7 +293,7 @@ begun name shape old one two row course put did size =
       ];
     }
 
--- a file that was stored, where the status tells it
+-- if the status says so, the file was stored
 stored_well : (flat bytes line : List ℕ) (mid new : World) → StoresLast flat bytes line status.AllOk mid new status.AllOk
     → (new.state ≡ mid.state) × (new.files ≡ stored mid.files flat bytes)
 stored_well flat bytes line mid new (IsStored state files prints) = (state, files)

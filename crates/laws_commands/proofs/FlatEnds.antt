@@ -121,7 +121,7 @@ import_goes bytes name rate old empty =
 
 -- ---- The flat file.
 
--- a flat file is taken, unless the outside fails
+-- a flat file is taken unless the outside fails
 pub taken_flat : (files : Files) (flat bytes : List ℕ) (rate : Rate) (cause : Stop) → IsFlatFile (Some files) flat bytes rate
     → IsNotTaken (Some files) flat cause → IsEndStop cause
 taken_flat files flat bytes rate stop.FileFault is not = tt
@@ -141,7 +141,7 @@ taken_flat files flat bytes rate (stop.Absent named) is not =
     let there = one.1 in
     absurd (cc (none, there))
 
--- the flat file of a name has one content
+-- a name has only one flat file
 one_flat : (files : Files) (flat one two : List ℕ) (a b : Rate) → IsFlatFile (Some files) flat one a → IsFlatFile (Some files) flat two b → one ≡ two
 one_flat files flat one two a b first second = let both = of_one (file_at files flat) first.there second.there in sym both.2.0 ∙ both.3.0
 
@@ -160,7 +160,7 @@ one_rate a b one two same first second =
 
 -- ---- The command.
 
--- a disk of what the flat file of this name has
+-- the disk that was stored is that of the flat file of this name
 same_file : (files : Files) (flat name bytes : List ℕ) (rate : Rate) (after : Option Files) → IsFlatFile (Some files) flat bytes rate
     → StoresImported flat name (Some files) after → StoresDisk bytes name rate (Some files) after
 same_file files flat name bytes rate after is made =
@@ -183,7 +183,7 @@ module _ (flat name : List ℕ) (old new : World) (course : List Taken) (ended :
       let only = taken_flat files flat bytes rate cause is (subst (λ (f : Option Files). IsNotTaken f flat cause) told not) in
       prints_outside _ _ _ _ ended _ (stop_outside _ cause only) (last_run (stop_lines cause) (stop_status cause) old course new ended runs).1.report
 
--- where nothing is left to go wrong, an import goes to its end, or the outside failed
+-- if nothing is left that can go wrong, an import goes to its end, or the outside failed
 pub import_complete : (flat name : List ℕ) (old new : World) (ended : Status) (files : Files) (bytes : List ℕ) (rate : Rate) → BeginsSound old
     → old.files ≡ Some files → IsFlatFile (Some files) flat bytes rate → Runs (Imports flat name) old new ended
     → EndsWellOrOutside (StoresDisk bytes name rate (Some files) new.files) ended
@@ -194,7 +194,7 @@ import_complete flat name old new ended files bytes rate begins told is runs =
 -- ---- Export.
 
 module _ (disk : Disk) (is : IsWholeDisk disk) where
-  -- the disk is in bay 0, which is ready, whatever was read so far
+  -- the disk is in bay 0, and the bay is ready, whatever was read so far
   abbrev IsReady : List ℕ → Stage → Type 0
   IsReady bytes stage = IsReadyFor 0 disk stage.state.station
 
@@ -210,7 +210,7 @@ module _ (disk : Disk) (is : IsWholeDisk disk) where
       (read_done disk c h r r old is.readable (omega (arith, count)) (omega (arith, heads)) track least most least (omega (arith, most, few)) ready)
       (λ answer new alone. behind (bytes ++ bytes_from new.state.station.memory (record_address r) 512) new alone.ready)
 
--- the flat file of what the reads gave is that of the disk
+-- if the drive of bay 0 had no fault, the flat file of what the reads gave is that of the disk
 same_flat : (disk : Disk) (files : Files) (name flat : List ℕ) (old new : Counters) (course : List Taken) (after : Option Files) → IsWholeDisk disk
     → IsImageOf (Some files) name disk → IsFaultless 0 old new → StoresExported name flat old (Some files) course new after
     → StoresFlatOf disk flat (Some files) after
@@ -223,7 +223,7 @@ same_flat disk files name flat old new course after whole image faultless stores
       files = stores.files;
     }) whole
 
--- where nothing is left to go wrong, an export of such a disk goes to its end, or the outside failed
+-- if nothing is left that can go wrong, an export of such a disk goes to its end, or the outside failed
 pub export_complete : (name flat : List ℕ) (old new : World) (ended : Status) (files : Files) (disk : Disk) → BeginsSound old → old.files ≡ Some files
     → IsImageOf (Some files) name disk → IsWholeDisk disk → Runs (RunsScript (export_script name flat)) old new ended
     → EndsWellOrOutside (StoresFlatOf disk flat (Some files) new.files) ended

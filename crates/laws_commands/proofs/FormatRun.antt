@@ -1,4 +1,4 @@
--- The command that formats asks the requests of a format, and stores a formatted disk.
+-- The command that formats runs the requests of a format, and stores a formatted disk.
 use Rattle.std.proofs.Common.{◌*◌, ℕ, List, [], ◌∷◌, ◌++◌, sym, subst, append_assoc}
 use Rattle.flop_base.specs.declared.answers.Rate.{Rate}
 use Rattle.flop_base.specs.declared.answers.Status.TheVariants as status

@@ -27,7 +27,7 @@ pub blank_keeps : (bay : ℕ) (rate : Rate) (name : List ℕ) (cylinders : ℕ) 
 blank_keeps bay R500 name cylinders = refl
 blank_keeps bay R250 name cylinders = refl
 
--- the disk after all formats
+-- the disk is a formatted one after all formats
 is_formatted : (rate : Rate) (cylinders : ℕ) (old new : State) (told after : Option Files)
     → FormatsTracks rate (tracks_of cylinders 2) (blank_of cylinders rate) old told new after
     → (disk : Disk) × ((bay_of new.station 0).medium ≡ Some disk) × IsFormattedDisk rate cylinders disk
@@ -74,7 +74,7 @@ formats_disk rate name cylinders old new told after course all faultless =
       files = laid.files ∙ ready.same_files ∙ put.files;
     }
 
--- and stored
+-- the formatted disk is stored
 pub stores_disk : (rate : Rate) (name : List ℕ) (cylinders : ℕ) (old new : State) (told after : Option Files) (course : List Taken)
     → DoesAll (format_requests rate name cylinders) old told course new after → IsFaultless 0 old.station.counters new.station.counters
     → StoresFormatted rate name cylinders told after

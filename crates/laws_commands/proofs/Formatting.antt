@@ -42,7 +42,7 @@ lays_keep format disk (laying ∷ later) after valid only lays =
           rest.others b g ((alike_tracks disk lays.0 b g first.alike).0 has) other ∙ first.others b g has other;
     }
 
--- what one format made of the disk in bay 0
+-- what one format did to the disk in bay 0
 pub record FormatsOne (rate : Rate) (c h : ℕ) (disk : Disk) (old : State) (told : Option Files) (new : State) (after : Option Files) : Type 0 where
   pub next : Disk
   pub medium : (bay_of new.station 0).medium ≡ Some next
@@ -56,7 +56,7 @@ pub record FormatsOne (rate : Rate) (c h : ℕ) (disk : Disk) (old : State) (tol
 same_some : {X : Type 0} (o : Option X) (x y : X) → o ≡ Some x → o ≡ Some y → x ≡ y
 same_some o x y e f = cc
 
--- the disks before and after, from what is in the bay
+-- a list of layings leads from the disk before to the disk after, if these are in the bay
 lays_in : (format : Format) (before after : Option Disk) (disk next : Disk) (layings : List Laying) → before ≡ Some disk → after ≡ Some next
     → Lays format before layings after → LaysDisk format disk layings next
 lays_in format before after disk next layings e f lays =
@@ -98,7 +98,8 @@ one_format rate c h disk old new told after answer does done faultless medium ba
       files = does.0.files;
     }
 
--- what formats of tracks made of the disk in bay 0: each of them is laid, and a track that was laid so before stays
+-- What formats of tracks did to the disk in bay 0. Each of these tracks is laid, and a track that was laid in this way
+-- before stays.
 pub record FormatsTracks (rate : Rate) (tracks : List Track) (disk : Disk) (old : State) (told : Option Files) (new : State) (after : Option Files) : Type 0 where
   pub final : Disk
   pub medium : (bay_of new.station 0).medium ≡ Some final
@@ -109,7 +110,7 @@ pub record FormatsTracks (rate : Rate) (tracks : List Track) (disk : Disk) (old 
   pub names : new.names ≡ old.names
   pub files : after ≡ told
 
--- the formatted track of a place
+-- the formatted track at a place
 abbrev at_place : Rate → ℕ → ℕ → ℕ → List ℕ
 at_place rate words c h = formatted (format_at c h rate (gap_at rate) standard_fill) words
 

@@ -1,4 +1,4 @@
--- Scripts that go to their end where nothing disturbs them.
+-- Scripts that go to their end when nothing disturbs them.
 use Rattle.std.proofs.Common.{arith, ◌≡◌, ◌+◌, ◌<◌, ◌≤◌, ℕ, zero, suc, true, false, true≢false, List, [], ◌∷◌, refl, sym, subst, inl, inr, Option}
 use Rattle.std.proofs.lemmas.Bool.{leb-true}
 use Rattle.flop_base.specs.Shelf.{Files}
@@ -28,7 +28,7 @@ use Rattle.floppy_jobs.specs.declared.request.Request.TheVariants as request
 
 -- ---- Steps that nothing disturbs.
 
--- neither a fault nor a stall disturbed a step, in any bay
+-- neither a fault nor a late DMA request (stall) disturbed a step, in either bay
 pub record IsCalm (asked : Request) (answer : Reply) (old new : Counters) : Type 0 where
   pub first : IsUndisturbed 0 (entered_by old asked answer) new
   pub second : IsUndisturbed 1 (entered_by old asked answer) new
@@ -50,7 +50,7 @@ calm_in bay asked answer old new is_one keeps calm =
     go (suc zero) is first second = second
     go (suc (suc n)) is first second = absurd (omega (arith, leb-true (suc (suc n)) 1 is))
 
--- neither drive had a fault, and no stall came
+-- neither drive had a fault, and no DMA request was late (no stall came)
 pub record IsStill (old new : Counters) : Type 0 where
   pub first : new.drives.first.faults ≡ old.drives.first.faults
   pub second : new.drives.second.faults ≡ old.drives.second.faults
@@ -85,18 +85,19 @@ pub record Stage : Type 0 where
 abbrev pub at : State → Option Files → Stage
 at state files = record { state = state; files = files }
 
--- only the outside can stop the request, which leaves the drives in their bays
+-- Only the outside can stop the request. The request leaves the drives in their bays.
 pub record IsSafe (asked : Request) (old : Stage) : Type 0 where
   pub keeps : keeps_drives asked ≡ true
   pub stops : (cause : Stop) (new : Stage) → StopsAt asked old.state old.files cause new.state new.files → IsEndStop cause
 
--- and where nothing disturbs it, it isn't refused, and then this holds
+-- The request is safe. If nothing disturbs it, it isn't refused, and then this holds.
 pub record IsDone (Then : Stage → Type 0) (asked : Request) (old : Stage) : Type 0 where
   pub safe : IsSafe asked old
   pub answers : (answer : Reply) (new : Stage) → Step asked old.state old.files answer new.state new.files
       → IsCalm asked answer old.state.station.counters new.state.station.counters → (is_refusal answer ≡ false) × Then new
 
--- where nothing disturbs its requests, each is safe and none is refused, and the script ends well; where it fails, the outside did
+-- The script goes well. If nothing disturbs its requests, each is safe, none is refused, and the script ends well. If
+-- it fails, the outside failed.
 abbrev pub GoesWell : Script → Stage → Type 0
 GoesWell (Ends line wanted) old = wanted ≡ status.AllOk
 GoesWell (Says line rest) old = GoesWell rest old
@@ -139,12 +140,12 @@ pub goes_carries : (P : Stage → Type 0) (asked : Request) (rest : Unit {0} →
 unfolding carries
 goes_carries P asked rest old done next = goes_needs P asked (λ answer after. rest tt) old done (λ answer new holds. next new holds)
 
--- a part goes well, to where this holds of what it found
+-- a part goes well, and leads to a stage where this holds of what the part found
 abbrev pub PartGoes : {Found : Type 0} → (Found → Stage → Type 0) → Part Found → Stage → Type 0
 PartGoes {Found = Found} Then part old =
     (rest : Found → Script) → ((found : Found) (new : Stage) → Then found new → GoesWell (rest found) new) → GoesWell (part rest) old
 
--- parts for numbers that each keep what holds
+-- parts for several numbers go well if each of them keeps what holds
 pub goes_each : {Found : Type 0} (P : Found → Stage → Type 0) (part : ℕ → Found → Part Found) (a n : ℕ) (found : Found) (old : Stage)
     → ((i : ℕ) → a ≤ i → i < a + n → (now : Found) (mid : Stage) → P now mid → PartGoes P (part i now) mid)
     → P found old → PartGoes P (each a n part found) old
@@ -154,7 +155,7 @@ goes_each P part a (suc n) found old keeps holds = λ rest behind.
     keeps a (omega arith) (omega arith) found old holds (λ now. each (a + 1) n part now rest)
     (λ now mid there. goes_each P part (a + 1) n now mid (λ i least below. keeps i (omega arith) (omega arith)) there rest behind)
 
--- so each track, by cylinder, then head
+-- parts for all tracks, by cylinder, then head, go well if each of them keeps what holds
 pub goes_tracks : {Found : Type 0} (P : Found → Stage → Type 0) (cylinders heads : ℕ) (part : ℕ → ℕ → Found → Part Found) (found : Found) (old : Stage)
     → ((c h : ℕ) → c < cylinders → h < heads → (now : Found) (mid : Stage) → P now mid → PartGoes P (part c h now) mid) → P found old
     → PartGoes P (by_track cylinders heads part found) old
@@ -179,13 +180,13 @@ stop_outside Holds stop.FileFault only = tt
 stop_outside Holds stop.NoMemory only = tt
 stop_outside Holds _ only = absurd only
 
--- a last line whose status is such a one
+-- a last line whose status says that all is well, or that the outside failed
 pub prints_outside : (Holds : Type 0) (report : Option (List (List ℕ))) (line : List (List ℕ)) (wanted ended : Status) (after : Option (List (List ℕ)))
     → EndsWellOrOutside Holds wanted → Prints line wanted report after ended → EndsWellOrOutside Holds ended
 prints_outside Holds report line wanted ended after well (plays.Whole told same) = subst (λ (s : Status). EndsWellOrOutside Holds s) (sym same) well
 prints_outside Holds report line wanted ended after well (plays.Part grows fault) = put_fault_outside Holds ended fault
 
--- and what holds where it ends well
+-- the same with what follows from a good end
 pub ends_with : (Here Holds : Type 0) (ended : Status) → EndsWellOrOutside Here ended → (ended ≡ status.AllOk → Here → Holds) → EndsWellOrOutside Holds ended
 ends_with Here Holds status.AllOk here holds = holds refl here
 ends_with Here Holds status.FileFault ends holds = tt
@@ -195,7 +196,8 @@ ends_with Here Holds _ ends holds = absurd ends
 
 -- ---- The end.
 
--- an undisturbed run of a script that goes well ends well, no request was refused, and no count of faults or stalls rose; or the outside failed
+-- An undisturbed run of a script that goes well ends well, or the outside failed. If it ends well, no request was
+-- refused, and no count of faults or late DMA requests (stalls) rose.
 module _ (start : Counters) where
   abbrev EndsStill : List Taken → World → Status → Type 0
   EndsStill course new ended = EndsWellOrOutside (IsStill start new.state.station.counters × (has_refusal course ≡ false)) ended
@@ -206,7 +208,7 @@ module _ (start : Counters) where
       prints_outside _ old.report (line ∷ []) status.AllOk ended new.report (subst (λ (s : State). IsStill start s.station.counters) (sym state) still, refl) prints
   stored_ends name bytes line old new ended still (NotStored same fault) = store_fault_outside _ ended fault
 
-  -- behind an answer that is no refusal
+  -- the same for a course with one more step in front, whose answer is no refusal
   answered_ends : (taken : Taken) (later : List Taken) (new : World) (ended : Status) → is_refusal taken.answer ≡ false → EndsStill later new ended
       → EndsStill (taken ∷ later) new ended
   answered_ends taken later new ended fine ends = ends_with _ _ ended ends (λ well both. (both.0, rw fine both.1))
@@ -242,7 +244,7 @@ module _ (start : Counters) where
       subst (λ (s : Status). EndsStill [] new s) (sym runs.1) (ends_with _ _ cause fails (λ well none. (here, refl)))
   goes_ends (Fails cause) old new (taken ∷ later) ended fails still calm runs = absurd runs
 
--- the drives of both bays had no fault, and nothing disturbed that of bay 0
+-- the drives of both bays had no fault, and nothing disturbed the drive of bay 0
 pub record AreFaultless (old new : Counters) : Type 0 where
   pub first : IsFaultless 0 old new
   pub second : IsFaultless 1 old new
@@ -263,8 +265,8 @@ still_faultless old new begins still =
       };
     }
 
--- where nothing is left to go wrong, a script that goes well ends well and faultless, with no request refused, with what holds then; or the
--- outside failed
+-- If nothing is left that can go wrong, a script that goes well ends well, or the outside failed. If it ends well, it
+-- ends faultless, no request was refused, and what follows from this holds.
 pub completes_unrefused : (script : Script) (Holds : Type 0) (old new : World) (course : List Taken) (ended : Status) (told : Option Files) → old.files ≡ told
     → BeginsSound old → GoesWell script (at old.state told) → AreUndisturbed old.state.station.counters course → RunsScript script old course new ended
     → (RunsScript script old course new status.AllOk → AreFaultless old.state.station.counters new.state.station.counters

@@ -1,4 +1,5 @@
--- Parts of a rescue that went on to its end: requests that were done, and records that were read, and written where they were read.
+-- Parts of a rescue that went on to its end: requests that were done, and records that were read. A record that could
+-- be read was then written.
 use Rattle.std.proofs.Common.{arith, ◌≡◌, ◌∙◌, Bool, true, false, true≢false, List, [], ◌∷◌, ◌++◌, refl, sym, ap, subst, inl, inr, append-nil, append_assoc, Option, Result, Ok, Err, ◌+◌, ℕ, length, ap₂}
 use Rattle.std.specs.List.{AllByRecursion}
 use Rattle.flop_base.specs.Shelf.{Files}
@@ -79,13 +80,13 @@ call_fell old new told after call = record {
   stalls = call.counts.stalls;
 }
 
--- ---- how it shows
+-- ---- how the outcome of a read shows
 
 told_mark : (key : Chrn) (deleted : Bool) → mark_of (read_of key) (read_reply (Ok deleted)) ≡ deleted ∷ []
 told_mark key true = refl
 told_mark key false = refl
 
--- it gave its mark, and what is in memory then
+-- a read that was done gave its mark, and the bytes that are in memory then
 pub gave : (key : Chrn) (deleted : Bool) (read : Taken) → read.asked ≡ read_of key → read.answer ≡ read_reply (Ok deleted)
     → Gave key deleted (bytes_from read.after.station.memory 0x10000 (content_size key.n)) read
 gave key deleted read asked answered = record {
@@ -99,19 +100,19 @@ pub gave_reads : (key : Chrn) (deleted : Bool) (content : List ℕ) (taken : Tak
     → (address : ℕ) × (taken.asked ≡ request.Read 0 key address)
 gave_reads key deleted content taken given = (given.address, given.asked)
 
--- or it was refused
+-- a step that gave something wasn't refused
 pub never_both : (key : Chrn) (code : Code) (deleted : Bool) (bytes : List ℕ) (read : Taken) → WasRefused key code read → Gave key deleted bytes read → ⊥
 never_both key code deleted bytes read refused given =
     let none : mark_of read.asked read.answer ≡ [] = ap₂ (λ (q : Request) (r : Reply). mark_of q r) refused.0 refused.1 in
     let some = given.mark in
     cc (none, some)
 
--- its line in the log
+-- the log line of a refused read
 pub line_of_refused : (key : Chrn) (cause : Code) (read : Taken) → read.asked ≡ read_of key → read.answer ≡ read_reply (Err cause)
     → line_at read.asked read.answer ≡ (record { key = key; code = cause }) ∷ []
 line_of_refused key cause read asked answered = ap₂ (λ (q : Request) (r : Reply). line_at q r) asked answered
 
--- what isn't refused has none
+-- a request that isn't refused has no log line
 pub line_of_done : (asked : Request) (answer : Reply) → is_refusal answer ≡ false → line_at asked answer ≡ []
 line_of_done asked reply.Done fine = refl
 line_of_done asked reply.DoneDeleted fine = refl
@@ -122,7 +123,7 @@ pub read_done : (deleted : Bool) → is_refusal (read_reply (Ok deleted)) ≡ fa
 read_done true = refl
 read_done false = refl
 
--- the request of a write is no read
+-- the request for a write is no read
 pub write_no_read : (key other : Chrn) (deleted : Bool) (address : ℕ) → write_of key deleted ≡ request.Read 0 other address → ⊥
 write_no_read key other true address same = cc same
 write_no_read key other false address same = cc same
@@ -137,12 +138,12 @@ write_keeps key false = refl
 
 -- ---- requests
 
--- a run that no refusal stopped has none at the end of its later part
+-- if no refusal stopped a run, none stopped its later part
 pub later_fine : (one two course : List Taken) → course ≡ one ++ two → IsNotStopped course → IsNotStopped two
 later_fine one two course whole fine before last is =
     fine (one ++ before) last (whole ∙ ap (λ (row : List Taken). one ++ row) is ∙ sym (append_assoc one before (last ∷ [])))
 
--- nor was its last request refused
+-- if no refusal stopped a run, its last request wasn't refused
 pub not_refused : (asked : Request) (old : World) (course : List Taken) (new : World) (ended : Status) → IsNotStopped course
     → IsRefused asked old course new ended → ⊥
 not_refused asked old course new ended fine run = true≢false (sym (ap is_refusal run.answered) ∙ fine [] run.taken run.course_is)
@@ -152,7 +153,7 @@ abbrev pub carries_all : List Request → Script → Script
 carries_all [] rest = rest
 carries_all (asked ∷ requests) rest = carries asked (λ none. carries_all requests rest)
 
--- they were done, and then what follows was run
+-- such requests were done, and then what follows was run
 pub carried : (requests : List Request) (rest : Script) (old : World) (course : List Taken) (new : World) (ended : Status)
     → IsEndStatus ended → IsNotStopped course → RunsScript (carries_all requests rest) old course new ended
     → Passed {Found = Unit {0}} (Does requests) (λ none. rest) old course new ended
@@ -164,7 +165,8 @@ carried (asked ∷ requests) rest old course new ended whole fine runs =
 
 -- ---- what follows the read of a record
 
--- it is written, or its line comes behind the log; or the rescue ends there, by the code, or for want of memory
+-- Either the record is written, or its line is added to the log, or the rescue ends there. It ends by the code of the
+-- refusal, or because memory ran out.
 pub data FollowRun (key : Chrn) (called : Result Bool Code) (lines : List LogLine) (rest : List LogLine → Script) (old : World) (course : List Taken)
     (new : World) (ended : Status) : Type 0 where
   Writes : (deleted : Bool) → called ≡ Ok deleted → RunsScript (carries (write_of key deleted) (λ none. rest lines)) old course new ended
@@ -209,20 +211,20 @@ pub record IsRead (key : Chrn) (called : Result Bool Code) (old : World) (read :
   pub call : IsDriverCall old.state old.files read.after files
   pub reads : Reads 0 key 0x10000 old.state.station called read.after.station
 
--- it was written, with this mark
+-- a record was written, with this mark
 pub record IsWrite (key : Chrn) (deleted : Bool) (old : World) (write : Taken) (files : Option Files) : Type 0 where
   pub asked : write.asked ≡ write_of key deleted
   pub done : is_refusal write.answer ≡ false
   pub step : Step (write_of key deleted) old.state old.files write.answer write.after files
 
--- a record that was read was written, and one that was refused wasn't; and then the course went on
+-- A record that could be read was written, and one whose read was refused wasn't. Then the course went on.
 abbrev pub GoesAfter : Chrn → Result Bool Code → (World → List Taken → World → Type 0) → World → List Taken → World → Type 0
 GoesAfter key (Err cause) rest old course new = rest old course new
 GoesAfter key (Ok deleted) rest old [] new = ⊥
 GoesAfter key (Ok deleted) rest old (write ∷ later) new =
     (files : Option Files) × IsWrite key deleted old write files × rest (with_report write.after files old.report) later new
 
--- a course goes through the records of these keys
+-- a course goes through the records of these keys, one after the other
 abbrev pub GoesKeys : List Chrn → World → List Taken → World → Type 0
 GoesKeys [] old course new = (course ≡ []) × (new ≡ old)
 GoesKeys (key ∷ keys) old [] new = ⊥
@@ -258,22 +260,22 @@ keys_fell (key ∷ keys) old (read ∷ write ∷ later) new (Ok deleted, files, 
 
 -- ---- by a script that went on to its end
 
--- the world behind a step
+-- the world after a step
 abbrev pub behind_step : {asked : Request} {rest : Reply → State → Script} {old new : World} {course : List Taken} {ended : Status}
     → IsAnswered asked rest old course new ended → World
 behind_step {old = old} run = with_report run.taken.after run.files old.report
 
--- each line has a refusal of the drive
+-- each line is that of a refusal by the drive
 abbrev pub AreRefusals : List LogLine → Type 0
 AreRefusals lines = AllByRecursion (λ (line : LogLine). IsDeviceRefusal line.code) lines
 
--- the records were gone through, and the log is what it was, with their lines
+-- The records of these keys were gone through. The lines of their refusals were added to the log.
 abbrev pub RescuesKeys : List Chrn → List LogLine → Known (List LogLine)
 RescuesKeys keys lines old course found mid =
     GoesKeys keys old course mid × (found ≡ lines ++ log_of course) × (mid.report ≡ old.report) × AreRefusals (log_of course)
 
 module _ (rest : List LogLine → Script) (new : World) (ended : Status) (whole : IsEndStatus ended) where
-  -- how the keys behind the first one go on
+  -- the keys after the first one are gone through in this way
   abbrev Goes : List Chrn → Type 0
   Goes keys = (lines : List LogLine) (old : World) (course : List Taken) → IsNotStopped course
       → RunsScript (through rescues keys lines rest) old course new ended → Passed (RescuesKeys keys lines) rest old course new ended
@@ -285,7 +287,7 @@ module _ (rest : List LogLine → Script) (new : World) (ended : Status) (whole 
     abbrev Run : Type 0
     Run = IsAnswered (read_of key) (λ answer after. follows key answer lines Rest) old course new ended
 
-    -- it was written
+    -- the record was read, so it was written
     wrote : (run : Run) (deleted : Bool) → IsRead key (Ok deleted) old run.taken run.files → IsNotStopped run.later
         → RunsScript (carries (write_of key deleted) (λ none. Rest lines)) (behind_step run) run.later new ended
         → Passed (RescuesKeys (key ∷ keys) lines) rest old course new ended
@@ -315,7 +317,7 @@ module _ (rest : List LogLine → Script) (new : World) (ended : Status) (whole 
           left = all.left;
         }
 
-    -- its line came behind the log
+    -- the read was refused, so its line was added to the log
     logged : (run : Run) (cause : Code) → IsDeviceRefusal cause → IsRead key (Err cause) old run.taken run.files → IsNotStopped run.later
         → RunsScript (Rest (lines ++ (record { key = key; code = cause }) ∷ [])) (behind_step run) run.later new ended
         → Passed (RescuesKeys (key ∷ keys) lines) rest old course new ended

@@ -1,4 +1,5 @@
--- The command that imports, where it ends well: a track is formatted, its records put into memory byte by byte, and written.
+-- The command that imports, if it ends well. Each track is formatted, its records are put into memory byte by byte, and
+-- they are written.
 use Rattle.std.proofs.Common.{arith, ◌≡◌, ◌∙◌, ◌+◌, ◌-◌, ◌*◌, ◌<◌, ◌≤◌, ℕ, List, [], ◌∷◌, length, get_or, refl, sym, ap, subst, inl, inr, Option, zero, suc, false, ◌++◌, replicate, append_assoc, Some, Bool, true, Result, Ok, Err}
 use Rattle.std.specs.Prelude.{slice_index, ◌==◌, nat_lt, if◌then◌else◌}
 use Rattle.std.proofs.lemmas.Bool.{cases_eq, cases_lt, eqb-true}
@@ -62,7 +63,8 @@ use Rattle.laws_commands.proofs.Formatted.{blank_keeps}
 use Rattle.laws_commands.specs.Imported.{sector_bytes, HasFlatSector, StoresDisk, StoresImported}
 use Rattle.laws_commands.proofs.Taking.{Takes, each_takes, counts, did_fell, one_done, place_is, some_sectors, place_inside, one_track, Since, since_on, readied, tracks_take}
 
--- so many bytes of a flat file stand in memory, from the first record's address on; nothing else was changed
+-- The first n bytes of a part of a flat file are in memory, from the first record's address on. The bays, the names and
+-- the files are as they were.
 pub record IsFilled (bytes : List ℕ) (from n : ℕ) (bays : Two Bay) (names : Two (Option (List ℕ))) (told : Option Files) (now : World) : Type 0 where
   pub bays_stay : now.state.station.bays ≡ bays
   pub names_stay : now.state.names ≡ names
@@ -107,11 +109,11 @@ fills_one bytes from n address byte bays names told old new steps at few is did 
 -- ---- the records of a track
 
 module _ (ready : World) (bytes : List ℕ) (sectors c h w : ℕ) (few : sectors ≤ 18) (before_it : (c * 2 + h) * sectors ≡ w) where
-  -- so many bytes of the track's records
+  -- the first n bytes of the track's records are in memory
   abbrev pub Fills : ℕ → World → Type 0
   Fills n now = IsFilled bytes (w * 512) n ready.state.station.bays ready.state.names ready.files now
 
-  -- so it is where memory had its size, and no count fell
+  -- this holds if memory had its size before, and no count fell
   pub record HasFilled (n : ℕ) (none : Unit {0}) (course : List Taken) (now : World) : Type 0 where
     pub fell : NeverFell (counts ready) (counts now)
     pub fills : length ready.state.station.memory ≡ user_bytes → Fills n now
@@ -169,7 +171,7 @@ module _ (ready : World) (bytes : List ℕ) (sectors c h w : ℕ) (few : sectors
       (each_takes (λ r. HasFilled (512 * (r - 1))) (λ r. fills_record bytes (sector_place sectors c h r) (record_address r)) 1 sectors (1 + sectors) refl
       (λ r least most none. record_takes r least most none) tt))
 
-  -- then each record stands at its own place
+  -- each record is then at its own place in memory
   pub record_stands : (now : World) (r : ℕ) → Fills (512 * sectors) now → 1 ≤ r → r ≤ sectors → sector_place sectors c h r + 512 ≤ length bytes
       → bytes_from now.state.station.memory (record_address r) 512 ≡ sector_bytes bytes sectors c h r
   record_stands now r holds least most inside =
@@ -191,7 +193,7 @@ module _ (ready : World) (bytes : List ℕ) (sectors c h w : ℕ) (few : sectors
 
 -- ---- The track.
 
--- bay 0 has a disk of 80 cylinders with the sectors of the flat file on its first tracks, so many of them
+-- bay 0 has a disk of 80 cylinders, and its first tracks, this many, have the sectors of the flat file
 pub record IsImporting (bytes : List ℕ) (rate : Rate) (name : List ℕ) (told : Option Files) (tracks : ℕ) (now : World) : Type 0 where
   pub disk : Disk
   pub medium : (bay_of now.state.station 0).medium ≡ Some disk
@@ -215,7 +217,7 @@ record_written : (c h r : ℕ) → Passes status.AllOk (writes_record c h r tt) 
 unfolding writes_record
 record_written c h r = carries_passes (request.Write 0 (key_of c h r) (record_address r))
 
--- they mark none of the track's records deleted
+-- the writes of all records of a track, none of them marked as deleted
 abbrev writes_of : ℕ → ℕ → ℕ → List Request
 writes_of sectors c h = write_records 0 (keys_from c h 1 sectors) (replicate sectors false)
 
@@ -225,7 +227,7 @@ writes_pass sectors c h =
     subst (λ (all : List Request). Passes status.AllOk (writes_track sectors c h) (Does all)) (writes_are c h 1 sectors)
     (each_does status.AllOk 1 sectors (writes_record c h) (λ r. request.Write 0 (key_of c h r) (record_address r) ∷ []) (λ r. record_written c h r))
 
--- a record of those that were written
+-- a record that was written is on the disk's map
 one_copied : (disk : Disk) (memory : List ℕ) (c h a n : ℕ) → AreCopied disk memory c h a (replicate n false) → (r : ℕ) → a ≤ r → r < a + n
     → (place : ℕ) × IsOnMap disk (copied_entry c h r place false (bytes_from memory (record_address r) 512))
 one_copied disk memory c h a zero copied r least below = absurd (omega (arith, least, below))
@@ -236,7 +238,7 @@ one_copied disk memory c h a (suc n) copied r least below = elim (cases_eq r a) 
 
 -- ---- the track
 
--- a sector of a track that was imported before stays
+-- a sector of another track stays as it was imported
 sector_stays : (bytes : List ℕ) (sectors : ℕ) (disk : Disk) (c h : ℕ) (after : Disk) (b g r : ℕ) → KeepsTracks disk c h after → (b ≡ c → g ≡ h → ⊥)
     → HasFlatSector bytes sectors disk b g r → HasFlatSector bytes sectors after b g r
 sector_stays bytes sectors disk c h after b g r keeps other had =
@@ -250,14 +252,14 @@ module _ (bytes : List ℕ) (rate : Rate) (name : List ℕ) (told : Option Files
   abbrev before : ℕ
   before = (c * 2 + h) * sectors
 
-  -- no count fell since the start, and so many tracks were imported, where there was no fault
+  -- no count fell since the start, and the first t tracks were imported, if the drive had no fault since the start
   abbrev IsSoFar : Counters → ℕ → World → Type 0
   IsSoFar start t now = Since start (IsImporting bytes rate name told t) now
 
   few : sectors ≤ 18
   few = (some_sectors rate).1
 
-  -- memory of a world was filled with so many bytes of the track's records, from another on
+  -- the first n bytes of the track's records were put into memory, from the world `ready` on
   abbrev FilledFrom : World → ℕ → Unit {0} → List Taken → World → Type 0
   FilledFrom ready = HasFilled ready bytes sectors c h before few refl
 
@@ -369,7 +371,7 @@ flat_size rate n told = go (n == 737280) (n == 1474560) (nat_lt n 737280) (nat_l
     go false false false false is other same = absurd (cc same)
 
 module _ (bytes name : List ℕ) (rate : Rate) (whole : length bytes ≡ flat_length (sectors_at rate)) where
-  -- so many tracks were imported, where there was no fault since the start
+  -- the first t tracks were imported, if the drive had no fault since the start
   abbrev WasSoFar : World → ℕ → World → Type 0
   WasSoFar old t now = Since (counts old) (IsImporting bytes rate name old.files t) now
 
@@ -398,7 +400,7 @@ module _ (bytes name : List ℕ) (rate : Rate) (whole : length bytes ≡ flat_le
         };
       }
 
-  -- it is taken out, and stored
+  -- the disk is taken out, and stored
   ejected : (old full new : World) (course : List Taken) → Did (request.Eject 0 ∷ []) full course new → IsFaultless 0 (counts old) (counts new)
       → WasSoFar old 160 full → StoresDisk bytes name rate old.files new.files
   ejected old full new course did faultless so_far =

@@ -1,4 +1,5 @@
--- Address fields on Laid tracks: those of formatted disks, and those of a disk of which one track was replaced by a Laid one.
+-- Address fields on Laid tracks. Formatted disks have them, and so do disks of which one track was replaced by a Laid
+-- one.
 use Rattle.std.proofs.Common.{arith, ◌≡◌, ℕ, List, sym, subst, inl, inr}
 use Rattle.std.proofs.lemmas.Bool.{cases_eq}
 use Rattle.flop_base.specs.declared.key.Chrn.{Chrn}
@@ -12,7 +13,7 @@ use Rattle.laws_commands.specs.Formatted.{IsFormattedDisk}
 use Rattle.laws_commands.specs.LaidFields.{HasLaidFields}
 use Rattle.laws_commands.proofs.Sectors.{track_laid}
 
--- where one track was replaced by a Laid one, each address field still is on a Laid track
+-- if one track was replaced by a Laid one, each address field is still on a Laid track
 module _ (disk next : Disk) (c h : ℕ) (keeps : KeepsTracks disk c h next) where
   elsewhere_laid : HasLaidFields disk → (b g p : ℕ) (key : Chrn) → HasTrack disk b g → (b ≡ c → g ≡ h → ⊥) → IsAddressAt (track_of next b g) p key
       → IsLaid (track_of next b g)

@@ -1,4 +1,4 @@
--- What a read tells of a track where no address field can be mistaken.
+-- What a read tells of a track on which no address field can be mistaken.
 use Rattle.std.proofs.Common.{arith, ◌≡◌, ◌+◌, ◌<◌, ◌≤◌, ℕ, Bool, List, [], ◌∷◌, refl, inl, inr}
 use Rattle.flop_base.specs.Counts.{RoseBy, last_count}
 use Rattle.flop_base.specs.declared.key.Chrn.{Chrn}
@@ -26,18 +26,18 @@ module _ (track : List ℕ) (key : Chrn) (plain : IsPlain track) (single : (p q 
     none_before = λ k before other. let same = single k p other address in absurd (omega arith);
   }
 
-  -- a look that was had
+  -- a sector that the track has is found by the look for its key
   pub found_look : (deleted : Bool) (content : List ℕ) → IsSector track key deleted content → (place : ℕ) × LookFor track key (Found deleted place)
   found_look deleted content (p, place, address, look, is) = (place, (p, first_of p address, look))
 
-  -- no address mark is there, where none is Clear
+  -- if no address mark is Clear, the look for a key answers NoMark
   no_mark : HasNoClearMark track → LookFor track key NoMark
   no_mark none (p, mark) = none p (plain_clear track p plain mark)
 
   no_sector : HasAddressMark track → (HasClearAddress track key → ⊥) → LookFor track key NoSector
   no_sector marked none = (marked, λ p address. none (p, record { clear = plain_clear track p plain address.mark; address = address }))
 
-  -- why a read was refused without a disturbance
+  -- the code with which an undisturbed read was refused is that of the look for its key
   pub cause_look : (tries bay : ℕ) (cause : Code) (old new : StationState) → IsReadCause track key tries bay old cause new
       → IsUndisturbed bay old.counters new.counters → old.counters.stalls ≤ new.counters.stalls
       → faults_of old.counters bay ≤ faults_of new.counters bay

@@ -1,4 +1,5 @@
--- The marks that the reads of a course told, and the reads and writes of a copied track: each record is written with its mark.
+-- The marks that the reads of a course told, and the reads and writes of a copied track. Each record is written with
+-- its own mark.
 use Rattle.std.proofs.Common.{◌≡◌, Bool, true, false, true≢false, List, [], ◌∷◌, ◌++◌, refl, sym, inl, inr, arith, ◌∙◌, ◌+◌, ◌-◌, ◌<◌, ◌≤◌, ℕ, suc, length, set, get_or, ap, subst, Option, Result, Ok, Err}
 use Rattle.std.specs.List.{list_all, flat_map, range_with_len}
 use Rattle.std.proofs.lemmas.Grind.{flat_map-append}
@@ -28,7 +29,7 @@ use Rattle.laws_commands.proofs.DiskRecords.{keys_from}
 pub marks-append : (one two : List Taken) → marks_read (one ++ two) ≡ marks_read one ++ marks_read two
 marks-append one two = flat_map-append (λ (taken : Taken). mark_of taken.asked taken.answer) one two
 
--- the request is no read
+-- whether the request is no read
 abbrev pub is_no_read : Request → Bool
 is_no_read (request.Read bay key address) = false
 is_no_read _ = true
@@ -92,19 +93,19 @@ read_mark bay key address old new told after answer step done =
 
 -- ---- the reads
 
--- the marks of the records from one on are kept at their places
+-- the marks of the records from r on are kept in the list, at the places of these records
 abbrev pub AreKept : List Bool → ℕ → List Bool → Type 0
 AreKept found r [] = Unit {0}
 AreKept found r (deleted ∷ marks) = (get_or found (r - 1) false ≡ deleted) × AreKept found (r + 1) marks
 
--- the records of a track from one on were read, and their marks are kept in a list that has room for them
+-- The records of a track from `first` on were read. If the list has room for their marks, it keeps them.
 pub record ReadsMarks (c h first count : ℕ) (begun : List Bool) (old : World) (course : List Taken) (found : List Bool) (mid : World) : Type 0 where
   pub did : Did (read_records 0 (keys_from c h first count)) old course mid
   pub count_is : length (marks_read course) ≡ count
   pub kept : 1 ≤ first → first + count ≤ length begun + 1 → AreKept found first (marks_read course)
   pub still : (i : ℕ) → i + 1 < first → get_or found i false ≡ get_or begun i false
 
--- what a read finds
+-- the list of marks after a read
 abbrev finds : List Bool → ℕ → Reply → State → List Bool
 finds marks r answer after = set marks (r - 1) (tells_deleted answer)
 
@@ -161,7 +162,7 @@ write_is : (deleted : Bool) (key : Chrn) → write_request deleted key (record_a
 write_is true key = refl
 write_is false key = refl
 
--- of so many records from one on, with the marks that are kept
+-- the writes of this many records, from `first` on, with the marks that are kept
 abbrev pub writes_of : List Bool → ℕ → ℕ → ℕ → ℕ → List Request
 writes_of found c h first count =
     flat_map (λ r. write_request (get_or found (r - 1) false) (key_of c h r) (record_address r) ∷ []) (range_with_len first count)

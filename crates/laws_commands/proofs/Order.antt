@@ -1,4 +1,4 @@
--- What a rescue stores, however it ends, and in which order.
+-- What a rescue stores, and in which order, however the rescue ends.
 use Rattle.std.proofs.Common.{◌≡◌, ◌∙◌, ℕ, Bool, true, false, List, [], ◌∷◌, ◌++◌, length, append-nil, append_assoc, refl, sym, ap, subst, inl, inr, Option, Some, Result}
 use Rattle.std.specs.Prelude.{is_some}
 use Rattle.flop_base.specs.Shelf.{Files, stored}
@@ -39,14 +39,14 @@ use Rattle.laws_commands.proofs.Gone.{behind_step, line_of_refused, line_of_done
 use Rattle.laws_commands.proofs.RescueOpening.{ready_requests, formats_for, second_request, prepares_carried, second_put}
 use Rattle.laws_commands.proofs.RescueRecords.{write_does}
 
--- nothing was stored, or the other diskette alone, or that and then the new log
+-- Nothing was stored, or the other diskette alone was, or the other diskette and then the new log.
 data StoresInOrder (to log : List ℕ) (lines : List LogLine) (told after : Option Files) : Type 0 where
   Nothing : after ≡ told → StoresInOrder to log lines told after
   DiskAlone : (disk : Disk) → after ≡ stored told to (file_of disk) → StoresInOrder to log lines told after
   DiskThenLog : (disk : Disk) → after ≡ stored (stored told to (file_of disk)) log (log_text lines)
       → StoresInOrder to log lines told after
 
--- as a list of stores
+-- the same, said by a list of stores
 in_order : (to log : List ℕ) (lines : List LogLine) (told after : Option Files) → StoresInOrder to log lines told after
     → StoresDiskThenLog to log lines told after
 in_order to log lines told after (Nothing same) = (blank_disk 1 1 1 R500, nothing_first _ told after same)
@@ -56,11 +56,11 @@ in_order to log lines told after (DiskAlone disk is) = (
 )
 in_order to log lines told after (DiskThenLog disk is) = (disk, all_first _ told after is)
 
--- whatever the state is
+-- a condition that any state meets
 abbrev Any : State → Type 0
 Any state = Unit {0}
 
--- the other diskette was put in under this name
+-- the medium in bay 1 has this name
 abbrev Named : List ℕ → State → Type 0
 Named to state = in_bay state.names 1 ≡ Some to
 
@@ -75,13 +75,13 @@ second_stores to shape false old new told after answer step = go shape.rate step
     go R250 blank = either (refusal_of old (request.BlankDd 1 to shape.cylinders)) blank (λ does. does.1) (λ cause refused. refused.files)
 
 module _ (to log : List ℕ) where
-  -- however a script is run from such a state, with these lines of the new log so far
+  -- however a script is run, from such a state and with these lines of the new log so far, it stores in this order
   abbrev InOrder : (State → Type 0) → List LogLine → Script → Type 0
   InOrder Such lines script =
       (old : World) (course : List Taken) (new : World) (ended : Status) → Such old.state → RunsScript script old course new ended
       → StoresInOrder to log (lines ++ log_of course) old.files new.files
 
-  -- behind a step that stores nothing
+  -- the stores of a course with one more step in front, which stores nothing
   behind : {asked : Request} {rest : Reply → State → Script} {old new : World} {course : List Taken} {ended : Status}
       → (run : IsAnswered asked rest old course new ended) (lines now : List LogLine) → run.files ≡ old.files
       → lines ++ line_at run.taken.asked run.taken.answer ≡ now → StoresInOrder to log (now ++ log_of run.later) run.files new.files
@@ -93,11 +93,11 @@ module _ (to log : List ℕ) where
       subst (λ (f : Option Files). StoresInOrder to log (lines ++ log_of course) f new.files) same
       (subst (λ (row : List LogLine). StoresInOrder to log row run.files new.files) all stores)
 
-  -- a step that wasn't refused has no line
+  -- a step that wasn't refused adds no line
   no_line : (lines : List LogLine) (taken : Taken) → is_refusal taken.answer ≡ false → lines ++ line_at taken.asked taken.answer ≡ lines
   no_line lines taken fine = ap (λ (row : List LogLine). lines ++ row) (line_of_done taken.asked taken.answer fine) ∙ append-nil lines
 
-  -- a request that stores nothing, and what follows it
+  -- a request that stores nothing, followed by a script that stores in this order
   need_in_order : (One Two : State → Type 0) (asked : Request) (lines : List LogLine) (rest : Reply → State → Script)
       → ((old new : State) (told after : Option Files) (answer : Reply) → Step asked old told answer new after → after ≡ told)
       → ((old new : State) (told after : Option Files) (answer : Reply) → Step asked old told answer new after → is_refusal answer ≡ false → One old → Two new)
@@ -113,7 +113,7 @@ module _ (to log : List ℕ) where
       go (Refused run) = Nothing (same old.state new.state old.files new.files (reply.Refused run.cause) run.step)
       go (Halted run) = Nothing run.stops.files
 
-  -- a call of the driver
+  -- a call of the driver, followed by a script that stores in this order
   call_in_order : (asked : Request)
       → ((old new : State) (told after : Option Files) (answer : Reply) → Step asked old told answer new after → IsDriverCall old told new after)
       → (lines : List LogLine) (rest : Script) → InOrder (Named to) lines rest → InOrder (Named to) lines (carries asked (λ none. rest))
@@ -126,7 +126,7 @@ module _ (to log : List ℕ) where
 
   -- ---- the end
 
-  -- behind the store of the disk, the log is stored or not, and nothing is asked
+  -- after the store of the disk, the log is stored or isn't, and no request is made
   log_in_order : (lines : List LogLine) (asked : ℕ) (old : World) (course : List Taken) (new : World) (ended : Status) (told : Option Files) (disk : Disk)
       → old.files ≡ stored told to (file_of disk) → RunsScript (stores_log log asked lines) old course new ended
       → (course ≡ []) × StoresInOrder to log lines told new.files
@@ -160,7 +160,7 @@ module _ (to log : List ℕ) where
 
   -- ---- the records
 
-  -- what is to be done for every log so far
+  -- for any lines of the log so far, the script stores in this order
   abbrev AllInOrder : (List LogLine → Script) → Type 0
   AllInOrder rest = (lines : List LogLine) → InOrder (Named to) lines (rest lines)
 

@@ -1,4 +1,5 @@
--- A bay made ready for the requests of a whole disk: a medium is put in, acknowledged, and met at its rate.
+-- A bay that was made ready for the requests of a whole disk. A medium was put in and acknowledged, and the bay got its
+-- rate.
 use Rattle.std.proofs.Common.{arith, ◌≡◌, ◌∙◌, ◌*◌, ◌<◌, ◌≤◌, ◌^◌, ℕ, Bool, true, false, true≢false, List, ◌∷◌, ◌++◌, length, get_or, replicate, refl, sym, ap, subst, inl, inr, Option, Some, Result, IsOk, lit≤}
 use Rattle.std.specs.Prelude.{MatchOption, MatchBool, ◌==◌, if◌then◌else◌}
 use Rattle.flop_base.specs.declared.answers.Code.{Code}
@@ -57,14 +58,14 @@ blank_valid cylinders rate least most = record {
   each = zero_words (cylinders * 2 * words_at rate);
 }
 
--- a request that wasn't refused was a good one
+-- a request that wasn't refused had good arguments
 good_request : (old new : State) (told after : Option Files) (good : Bool) (next : Option Reason) (answer : Reply) (P : Type 0)
     → MatchOption (unless_bad good next) P (λ cause. IsRefused cause old told answer new after) → is_refusal answer ≡ false → good ≡ true
 good_request old new told after true next answer P holds done = refl
 good_request old new told after false next answer P holds done =
     absurd (true≢false (subst (λ (r : Reply). is_refusal r ≡ false) holds.answered done))
 
--- the value that a bay was given
+-- a bay has the value that it was given
 pub in_with : {T : Type 0} (two : Two T) (bay : ℕ) (value : T) → in_bay (with_bay two bay value) bay ≡ value
 in_with {T} two bay value = go (bay == 0)
   where
@@ -108,7 +109,7 @@ blanks bay R250 name cylinders old new told after answer step done =
 
 -- ---- acknowledged
 
--- a bay was acknowledged with this disk in it
+-- a bay with this disk in it was acknowledged
 pub record IsAcked (bay : ℕ) (disk : Disk) (old : State) (told : Option Files) (new : State) (after : Option Files) : Type 0 where
   pub medium : (bay_of new.station bay).medium ≡ Some disk
   pub high : disk.rate ≡ R500 → (bay_of new.station bay).rate ≡ R500
@@ -154,9 +155,9 @@ acks bay disk old new told after answer does done medium =
       files = does.0.files;
     }
 
--- ---- at its rate
+-- ---- the bay gets the rate of its disk
 
--- what is left to do once a bay has the rate of its disk
+-- a bay has the rate of its disk, and these requests are left to do
 pub record IsRated (bay : ℕ) (disk : Disk) (old : State) (told : Option Files) (rest : List Request) (new : State) (after : Option Files) : Type 0 where
   pub mid : State
   pub files : Option Files
@@ -223,7 +224,7 @@ rates bay R250 disk rest old new told after course all is medium high =
 
 -- ---- both
 
--- what is left to do once a bay with a disk was acknowledged, and has the rate of the disk
+-- a bay with a disk was acknowledged and has the rate of the disk, and these requests are left to do
 pub record IsReadied (bay : ℕ) (disk : Disk) (old : State) (told : Option Files) (rest : List Request) (new : State) (after : Option Files) : Type 0 where
   pub mid : State
   pub files : Option Files
@@ -241,7 +242,7 @@ pub record IsReadied (bay : ℕ) (disk : Disk) (old : State) (told : Option File
   pub later : NeverFell acked.station.counters mid.station.counters
   pub behind : DoesAll rest mid files course new after
 
--- a bay that was given twice
+-- of two values that a bay was given one after the other, the last one stays
 abbrev put_by : Bool → Two Bay → Bay → Two Bay
 put_by first two value = if first then record two { first = value } else record two { second = value }
 

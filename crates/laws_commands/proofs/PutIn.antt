@@ -28,7 +28,7 @@ put_shape name disk files old new after answer image step done =
     let medium : (bay_of new.station 0).medium ≡ Some disk = ap (λ (s : StationState). (bay_of s 0).medium) put.2.exchanged.becomes ∙ ap (λ (d : Disk). Some d) same in
     ap (λ (m : Option Disk). option_map shape_of m) medium
 
--- so it has in a script that opens it
+-- a script that opens a disk finds the shape of the disk's image
 pub opened_shape : (name : List ℕ) (disk : Disk) (files : Files) (old mid : World) (course : List Taken) (shape : Shape) → IsImageOf (Some files) name disk
     → old.files ≡ Some files → Opened name old course shape mid → shape ≡ shape_of disk
 opened_shape name disk files old mid course shape image there opened =

@@ -1,4 +1,4 @@
--- The ranges of a disk that an image tells.
+-- The ranges of the fields of a disk that an image gives.
 use Rattle.std.proofs.Common.{◌≡◌, ℕ, ◌+◌, ◌*◌, ◌≤◌, Bool, true, false, cond, leb, ltb, ◌&&◌, List, length, get_or, take, drop, refl, subst, arith, Option, Some, None, Result, Ok, Err}
 use Rattle.std.specs.Option.{ok_or}
 use Rattle.std.proofs.lemmas.Bool.{leb-true, and_parts}
@@ -33,7 +33,7 @@ within_range least most n m e = go (leb least n && leb n most) refl e
         (omega (arith, same, high), omega (arith, same, low))
     go false is e = absurd (cc e)
 
--- the steps of reading a header, each with those after it
+-- the steps of reading a header, each together with the steps after it
 abbrev words_then : List ℕ → Bool → ℕ → ℕ → Rate → Result Header ImageError
 words_then bytes p c h r =
     field 12 (within 64 16384 (256 * get_or bytes 12 0 + get_or bytes 13 0)) >>= λ w. Ok (record { protected = p; cylinders = c; heads = h; rate = r; words_per_track = w })

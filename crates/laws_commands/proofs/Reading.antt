@@ -1,4 +1,4 @@
--- Reads of the standard keys of a disk, one after the other, where nothing disturbs them.
+-- Reads of the standard keys of a disk, one after the other, which nothing disturbs.
 use Rattle.std.proofs.Common.{arith, ◌≡◌, ◌∙◌, ◌≤◌, ℕ, suc, Bool, true, false, All, List, [], ◌∷◌, ◌++◌, refl, sym, ap, subst, inl, Option, Some, None, Result, Ok, Err, le-leb, nat_le}
 use Rattle.std.specs.Prelude.{MatchOption}
 use Rattle.std.specs.List.{list_all}
@@ -39,7 +39,7 @@ pub record Holds (disk : Disk) (count : ℕ) (station : StationState) : Type 0 w
   pub acknowledged : (bay_of station 0).acknowledged ≡ Some count
   pub faults : faults_of station.counters 0 ≡ count
 
--- such a read reaches the drive
+-- a read of a standard key in an acknowledged bay reaches the drive
 pub not_refused : (station : StationState) (c h r count : ℕ) → c ≤ 79 → h ≤ 1 → 1 ≤ r → (bay_of station 0).acknowledged ≡ Some count
     → read_refusal station 0 (key_of c h r) 0x10000 ≡ None
 not_refused station c h r count cylinder head sector acknowledged =
@@ -52,7 +52,7 @@ pub reaches : {C P : Type 0} (Q : C → Type 0) (refusal : Option C) → refusal
 reaches Q None e p = p
 reaches Q (Some code) e q = absurd (cc e)
 
--- the bays after a call that changed memory and counters alone
+-- a call that changed memory and counters alone leaves bay 0 as it was
 pub bays_stay : (old new : StationState) (memory : List ℕ) → new ≡ record (record old { memory = memory }) { counters = new.counters }
     → bay_of new 0 ≡ bay_of old 0
 bays_stay old new memory becomes = ap (λ (s : StationState). bay_of s 0) becomes
@@ -96,7 +96,7 @@ module _ (disk : Disk) (unmistaken : IsUnmistaken disk) (count : ℕ) (key : Chr
       → (look : Look) × LookFor (track_of disk key.c key.h) key look × (told_of key look ≡ (key, cause) ∷ [])
   cause_tells tries cause is = cause_look (track_of disk key.c key.h) key plain single tries 0 cause old new is quiet fell.stalls fell.first
 
-  -- what the driver answered
+  -- what the driver's answer to a read tells
   drive_tells : (called : Result Bool Code) → ReadsDrive 0 key 0x10000 old called new → Tells disk count key (read_reply called) new
   drive_tells (Ok deleted) drive =
       let found = read_tells deleted drive.found in
@@ -137,7 +137,7 @@ one_read disk count key old new told after answer few_cylinders few_heads unmist
     let tells = drive_tells disk unmistaken count key standard old.station new.station holds quiet fell does.1.0 drive in
     subst (λ (r : Reply). Tells disk count key r new.station) (sym does.1.1) tells
 
--- a call without disturbance, in two parts
+-- if nothing disturbed a call of two parts, nothing disturbed either part
 pub quiet_parts : (old mid new : Counters) → NeverFell old mid → NeverFell mid new → IsUndisturbed 0 old new → IsUndisturbed 0 old mid × IsUndisturbed 0 mid new
 quiet_parts old mid new one two quiet = (
   record {
@@ -168,7 +168,7 @@ told_more key look rest =
     flat_map-append (λ (pair : Chrn × Look). told_of pair.0 pair.1) (unless_found key look) rest
     ∙ ap (λ (row : List (Chrn × Code)). row ++ all_told_of rest) (told_alone key look)
 
--- the reads of some keys tell of those that aren't found
+-- the reads of some keys tell which of these keys aren't found
 pub reads_tell : (disk : Disk) (count : ℕ) (keys : List Chrn) (failed : List (Chrn × Look)) (old new : State) (told after : Option Files)
     (course : List Taken)
     → disk.cylinders ≤ 80 → disk.heads ≤ 2 → IsUnmistaken disk → All (IsStandardKey disk) keys → AreFailing disk keys failed

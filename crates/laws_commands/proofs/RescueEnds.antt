@@ -1,4 +1,4 @@
--- A rescue with no log yet ends well where nothing can go wrong, or the outside failed.
+-- A rescue with no log yet ends well when nothing can go wrong, or the outside failed.
 use Rattle.std.proofs.Common.{arith, ◌≡◌, ◌≢◌, ◌∙◌, ◌+◌, ◌<◌, ◌≤◌, ℕ, zero, suc, false, List, [], ◌∷◌, ◌++◌, length, map, refl, sym, ap, subst, inl, inr, Option, Some, None}
 use Rattle.std.specs.Prelude.{is_some}
 use Rattle.std.specs.List.{AllByRecursion, flat_map, range_with_len}
@@ -49,7 +49,7 @@ use Rattle.laws_commands.proofs.RescueSteps.{IsSaving, StandsOnBoth, HasRecordsB
 -- ---- The script.
 
 module _ (disk : Disk) (readable : IsReadable disk) (few_cylinders : disk.cylinders ≤ 80) (few_heads : disk.heads ≤ 2) where
-  -- the formatted disk is saved to
+  -- the formatted disk is the one to which records are saved
   formatted_saving : (stage : Stage) (formatted : IsCopying disk (HasRecordsBut disk few_heads []) stage) → IsSaving disk formatted.second.disk stage
   formatted_saving stage formatted =
       let made = formatted.second in
@@ -130,7 +130,7 @@ from_flat P f a (suc n) all k least below =
       | inr other ↦ from_flat P f (a + 1) n both.1 k (omega arith) (omega arith)
     ]
 
--- what holds of all standard keys holds of each
+-- a fact that holds of all standard keys holds of each
 pub each_standard : (P : Chrn → Type 0) (disk : Disk) → AllByRecursion P (standard_keys disk.rate disk.cylinders disk.heads) → (key : Chrn)
     → IsStandardKey disk key → P key
 unfolding standard_keys cylinder_keys track_keys
@@ -176,7 +176,8 @@ module _ (from to log : List ℕ) (old new : World) (course : List Taken) (files
         log_there = saves.log_there;
       }
 
--- where nothing is left to go wrong, a rescue of a readable disk with no log yet goes to its end, or the outside failed
+-- if nothing is left that can go wrong, a rescue of a readable disk with no log yet goes to its end, or the outside
+-- failed
 pub new_rescue_complete : (from to log : List ℕ) (old new : World) (ended : Status) (files : Files) (disk : Disk) → BeginsSound old → old.files ≡ Some files
     → IsImageOf (Some files) from disk → IsReadable disk → file_at files log ≡ None → to ≢ log → Runs (Rescues from to log) old new ended
     → EndsWellOrOutside (StoresSameAndLog disk to log (Some files) new.files) ended

@@ -1,4 +1,4 @@
--- A rescue that goes on by a log ends well where nothing can go wrong, or the outside failed.
+-- A rescue that goes on by a log ends well when nothing can go wrong, or the outside failed.
 use Rattle.std.proofs.Common.{arith, ◌≡◌, ◌≢◌, ◌∙◌, ◌<◌, ◌≤◌, ℕ, false, List, [], ◌∷◌, length, refl, sym, ap, subst, inl, Option, Some, None, All}
 use Rattle.std.specs.Prelude.{IsSomeAnd, is_some}
 use Rattle.std.specs.List.{AllByRecursion}
@@ -47,7 +47,7 @@ use Rattle.laws_commands.proofs.RescueSteps.{StandsOnBoth, records_go, unstopped
 
 -- ---- The script.
 
--- a key that is on the map of a regular disk stands on the track of the key
+-- a key that is on the map of a regular disk is on the track of its own cylinder and head
 module _ (disk : Disk) (key : Chrn) (regular : IsRegularDisk disk) (there : HasKey disk key) where
   at_places : (entry_of : ℕ → ℕ → Chrn → Entry) → IsOnMap disk (entry_of there.0.cylinder there.0.head there.0.key) → IsOnMap disk (entry_of key.c key.h key)
   at_places entry_of on =
@@ -98,7 +98,7 @@ asked_stand disk target (key ∷ keys) regular other asked has takes = (
   asked_stand disk target keys regular other asked.1 has.1 takes.1,
 )
 
--- the script is no last line
+-- the script isn't a last line
 abbrev IsNoEnd : Script → Type 0
 IsNoEnd (Ends line wanted) = ⊥
 IsNoEnd other = Unit {0}
@@ -107,7 +107,7 @@ found_goes_on : (to log : List ℕ) (shape : Shape) (asked : Option (List LogLin
 unfolding rescue_found may_starve
 found_goes_on to log shape asked = tt
 
--- a name has the text of one log
+-- a name has the text of only one log
 same_lines : (files : Files) (log : List ℕ) (count : ℕ) (lines asked : List LogLine) → count < 256 → IsLogFound (Some files) log count (Some lines)
     → IsLogFound (Some files) log count (Some asked) → asked ≡ lines
 same_lines files log count lines asked few found other = go (file_at files log) found other
@@ -117,7 +117,7 @@ same_lines files log count lines asked few found other = go (file_at files log) 
     go None one two = absurd one
     go (Some text) one two = one_spelling count asked lines few two.1.0 one.1.0 (sym two.1.1 ∙ one.1.1)
 
--- where there is a log, what is found under its name is that log
+-- if there is a log, it is what is found under its name
 one_log : (files : Files) (log : List ℕ) (count : ℕ) (lines : List LogLine) (found : Option (List LogLine)) → count < 256
     → IsLogFound (Some files) log count (Some lines) → IsLogFound (Some files) log count found → found ≡ Some lines
 one_log files log count lines None few there other = absurd (none_found files log count lines other there)
@@ -182,7 +182,7 @@ module _ (from to log : List ℕ) (old new : World) (course : List Taken) (files
         log_there = saves.log_there;
       })
 
--- where nothing is left to go wrong, a rescue that goes on by a log goes to its end, or the outside failed
+-- if nothing is left that can go wrong, a rescue that goes on by a log goes to its end, or the outside failed
 pub further_rescue_complete : (from to log : List ℕ) (old new : World) (ended : Status) (files : Files) (disk target : Disk) (lines : List LogLine)
     → BeginsSound old → old.files ≡ Some files → IsImageOf (Some files) from disk → IsImageOf (Some files) to target
     → IsLogFound (Some files) log (sectors_at disk.rate) (Some lines) → to ≢ log → IsRegularDisk disk → All (HasKey disk) (logged_keys lines)

@@ -1,4 +1,5 @@
--- What the reads of a rescue gave: intact fields of the disk in bay 0, whatever faults there were, and sectors where the reads are sure.
+-- What the reads of a rescue gave. They are intact fields of the disk in bay 0, whatever faults there were, and sectors
+-- if the reads are sure.
 use Rattle.std.proofs.Common.{arith, ◌≡◌, ◌∙◌, ◌+◌, ◌≤◌, ℕ, Bool, List, [], ◌∷◌, length, refl, sym, ap, subst, inl, inr, Option, Some, Result, Ok, Err}
 use Rattle.std.specs.List.{AllByRecursion}
 use Rattle.flop_base.specs.Shelf.{Files}
@@ -27,12 +28,12 @@ module _ (disk : Disk) where
     pub medium : (bay_of station 0).medium ≡ Some disk
     pub size : length station.memory ≡ user_bytes
 
-  -- what a read gave is an intact field of its key, and its sector where the reads are sure
+  -- What a read gave is an intact field of its key. If the reads are sure, it is the key's sector.
   pub record IsGivenOf (sure : Type 0) (key : Chrn) (deleted : Bool) (content : List ℕ) : Type 0 where
     pub field : IsFieldOf disk key deleted content
     pub sector : sure → IsSector (track_of disk key.c key.h) key deleted content
 
-  -- so it is with a read that was done
+  -- a read that was done gave such a field
   done_gives : (sure : Type 0) (key : Chrn) (mark : Bool) (old : World) (read : Taken) (files : Option Files) → key.n ≡ 2
       → IsRead key (Ok mark) old read files → IsAtHand old.state.station
       → (sure → IsSure disk old.state.station.counters read.after.station.counters) → (deleted : Bool) (content : List ℕ)
@@ -79,14 +80,14 @@ module _ (disk : Disk) where
       by_answer (Ok mark) is given = done_gives sure key mark old read files sized is hand calm deleted content given
       by_answer (Err cause) is given = absurd (never_both key cause deleted content read (is.asked, is.answered) given)
 
-  -- it leaves the bays, and memory its size
+  -- a read leaves the bays as they are, and memory keeps its size
   read_at_hand : (key : Chrn) (called : Result Bool Code) (old : World) (read : Taken) (files : Option Files) → key.n ≡ 2
       → IsRead key called old read files → IsAtHand old.state.station → IsAtHand read.after.station
   read_at_hand key called old read files sized is hand =
       let keeps = read_keeps key old.state.station read.after.station called sized hand.size is.reads in
       record { medium = ap (λ (bays : Two Bay). (in_bay bays 0).medium) keeps.bays ∙ hand.medium; size = keeps.size ∙ hand.size }
 
-  -- so does a write, which goes to bay 1
+  -- a write goes to bay 1, and also leaves bay 0 and the size of memory
   write_at_hand : (key : Chrn) (deleted : Bool) (old : World) (write : Taken) (files : Option Files) → IsWrite key deleted old write files
       → IsAtHand old.state.station → IsAtHand write.after.station
   write_at_hand key deleted old write files wrote hand =

@@ -1,4 +1,5 @@
--- The new log of a rescue: its lines are of some of the records that were asked for, in their order, so that the next run finds a log.
+-- The new log of a rescue. Its lines are those of some of the records that were asked for, in their order, so that the
+-- next run finds a log.
 use Rattle.std.proofs.Common.{arith, ◌≡◌, ◌∙◌, ◌+◌, ◌*◌, ◌/◌, ◌%◌, ◌≤◌, ℕ, suc, true, lit<, All, List, [], ◌∷◌, ◌++◌, length, length-append, refl, sym, ap, subst, inl, inr, Option, Some, None, Ok, Err}
 use Rattle.std.specs.Prelude.{◌⊎◌, Contains, IsSomeAnd}
 use Rattle.std.specs.List.{AllByRecursion, AllPairs}
@@ -30,7 +31,7 @@ use Rattle.laws_commands.proofs.VerifyRun.{standard_count}
 use Rattle.laws_commands.proofs.Gone.{GoesKeys, AreRefusals, line_of_refused, line_of_done, read_done}
 use Rattle.laws_commands.proofs.RescueRecords.{IsAsked, asked_all, asked_rises}
 
--- ---- its lines
+-- ---- the lines of the log
 
 -- the lines are of some of the keys, in their order
 abbrev AreOf : List LogLine → List Chrn → Type 0
@@ -59,7 +60,7 @@ all_of P (key ∷ keys) lines (inl are) all = all_of P keys lines are all.1
 all_of P (key ∷ keys) lines (inr (line, later, is, same, are)) all =
     subst (AllByRecursion (λ (line : LogLine). P line.key)) (sym is) (subst P (sym same) all.0, all_of P keys later are all.1)
 
--- none but of these keys
+-- the lines are those of these keys alone
 pub only_of : (keys : List Chrn) (old : World) (course : List Taken) (new : World) → GoesKeys keys old course new
     → All (Contains keys) (logged_keys (log_of course))
 only_of keys old course new goes =
@@ -99,9 +100,9 @@ valid_of disk (line ∷ later) asked refused = (
   valid_of disk later asked.1 refused.1,
 )
 
--- ---- how long it is
+-- ---- how long the log is
 
--- the line of a record, with its line feed: three numbers, a code of two digits, three spaces
+-- the length of a record's line with its line feed: three numbers, a code of two digits, three spaces
 abbrev line_size : Chrn → ℕ
 line_size key = length (decimal key.c) + length (decimal key.h) + length (decimal key.r) + 6
 
@@ -124,7 +125,7 @@ line_long : (line : LogLine) → length (line_text line ++ 10 ∷ []) ≡ line_s
 line_long line =
     words_long (decimal line.key.c) (decimal line.key.h) (decimal line.key.r) (code_text line.code) (two_digits (code_number line.code))
 
--- those of some records
+-- the length of the lines of some records
 abbrev text_size : List Chrn → ℕ
 text_size [] = 0
 text_size (key ∷ keys) = line_size key + text_size keys
@@ -181,7 +182,7 @@ module _ (disk : Disk) (files : Files) (log : List ℕ) (few_cylinders : disk.cy
           let same = ap (λ (row : List ℕ). length row) there.1.1 in
           omega (arith, there.0, long, same)
 
-  -- what a rescue logs is a log again, and not too long for the next run
+  -- what a rescue logs is a log again, and isn't too long for the next run
   pub logs_again : (found : Option (List LogLine)) → IsLogFound (Some files) log (sectors_at disk.rate) found
       → (old : World) (course : List Taken) (new : World) → GoesKeys (asked_keys (shape_of disk) found) old course new → AreRefusals (log_of course)
       → IsLog (sectors_at disk.rate) (log_of course) × (length (log_text (log_of course)) ≤ most_log_bytes)

@@ -1,4 +1,4 @@
--- What comes before the records of a rescue: both diskettes are put in and made ready.
+-- What comes before the records of a rescue. Both diskettes are put in, and both bays are made ready.
 use Rattle.std.proofs.Common.{true≢false, ◌↔◌, arith, ◌≡◌, ◌∙◌, ◌≤◌, ℕ, List, ◌∷◌, ◌++◌, refl, ap, Option, Some, Bool, true, false, [], subst, sym, inl, inr, length, ◌<◌}
 use Rattle.std.specs.List.{list_all}
 use Rattle.std.specs.Prelude.{if◌then◌else◌}
@@ -47,14 +47,14 @@ use Rattle.laws_commands.proofs.Gone.{carries_all}
 use Rattle.laws_commands.proofs.LaidDisks.{still_laid}
 use Rattle.laws_commands.proofs.RescueRecords.{shape_itself, shape_both, alike_shape}
 
--- ---- its requests
+-- ---- the requests of the opening
 
--- the formats, where there is no log
+-- the formats of all tracks, if there is no log
 abbrev pub formats_for : Shape → Bool → List Request
 formats_for shape true = []
 formats_for shape false = format_each 1 (tracks_of shape.cylinders shape.heads)
 
--- the other diskette is put in
+-- the request that puts in the other diskette: that of an earlier run, or a blank one
 abbrev pub second_request : List ℕ → Shape → Bool → Request
 second_request to shape true = request.Insert 1 to
 second_request to shape false = blank_request 1 to shape.cylinders shape.rate
@@ -68,7 +68,7 @@ abbrev pub opening : List ℕ → List ℕ → Shape → Bool → List Request
 opening from to shape logged =
     request.Insert 0 from ∷ second_request to shape logged ∷ ready_requests shape.rate (formats_for shape logged)
 
--- ---- they neither read nor write
+-- ---- the requests of the opening neither read nor write
 
 abbrev is_read : Request → Bool
 is_read (request.Read bay key address) = true
@@ -111,7 +111,7 @@ pub opening_plain : (from to : List ℕ) (shape : Shape) (logged : Bool) → lis
 opening_plain from to shape true = ready_plain shape.rate [] refl
 opening_plain from to shape false = blank_plain from to shape.cylinders shape.rate (format_each 1 (tracks_of shape.cylinders shape.heads)) (formats_plain (tracks_of shape.cylinders shape.heads))
 
--- ---- the script carries them
+-- ---- the script runs these requests
 
 pub formats_carried : (tracks : List Track) (rest : Unit {0} → Script)
     → through (λ (track : Track). formats 1 track.0 track.1) tracks tt rest ≡ carries_all (format_each 1 tracks) (rest tt)
@@ -146,7 +146,7 @@ disk_in from disk files old new after answer image step done =
     let put = (done_does old new (Some files) after (request.Insert 0 from) answer step done).2 in
     ap (λ (s : StationState). (bay_of s 0).medium) put.2.exchanged.becomes ∙ ap (λ (d : Disk). Some d) (one_image files from put.0 disk put.1 image)
 
--- a disk that can be formatted to this shape
+-- a disk that can be formatted and that has this shape
 pub record IsFresh (shape : Shape) (disk : Disk) : Type 0 where
   pub valid : IsDisk disk
   pub regular : IsRegularDisk disk
@@ -162,7 +162,7 @@ abbrev pub IsOther : Option Files → List ℕ → Shape → Bool → Disk → T
 IsOther told to shape true disk = IsImageOf told to disk
 IsOther told to shape false disk = IsFresh shape disk
 
--- it was put into bay 1
+-- such a disk was put into bay 1
 pub record IsPut (Such : Disk → Type 0) (to : List ℕ) (old : State) (told : Option Files) (new : State) (after : Option Files) : Type 0 where
   pub target : Disk
   pub such : Such target
@@ -213,7 +213,7 @@ second_put to shape false old new told after answer step done =
 
 -- ---- both bays made ready
 
--- bay 1 was set to a rate, where that isn't the one after an acknowledgement
+-- bay 1 was set to this rate, unless it has this rate after an acknowledgement anyway
 record IsSet (rate : Rate) (old : State) (told : Option Files) (rest : List Request) (new : State) (after : Option Files) : Type 0 where
   pub mid : State
   pub files : Option Files
@@ -261,7 +261,7 @@ sets R250 rest old new told after course all =
       behind = one.behind;
     }
 
--- both disks are in, and both bays ready; and the formats are left, if there is no log
+-- Both disks are in, and both bays are ready. If there is no log, the formats are left to do.
 pub record AreOpen (disk : Disk) (to : List ℕ) (files : Files) (logged : Bool) (old new : State) (after : Option Files) : Type 0 where
   pub mid : State
   pub mid_files : Option Files
@@ -331,7 +331,7 @@ are_open from to disk files logged old new after course image all =
 
 -- ---- the formats
 
--- the formats leave bay 0 as it is
+-- formats in bay 1 leave bay 0 as it is
 pub first_stays : (tracks : List Track) (old new : State) (told after : Option Files) (course : List Taken)
     → DoesAll (format_each 1 tracks) old told course new after → bay_of new.station 0 ≡ bay_of old.station 0
 first_stays [] old new told after course all = ap (λ (s : State). bay_of s.station 0) (ends_there old new told after course all).0
@@ -342,7 +342,7 @@ first_stays (track ∷ later) old new told after course all =
     let drive = reached (format_refusal old.station 1 track.0 track.1 (gap_at (bay_of old.station 1).rate)) does.1.0 old.station one.mid.station does.1.2 ok in
     first_stays later one.mid new one.files after one.later one.behind ∙ ap (λ (s : StationState). bay_of s 0) drive.becomes
 
--- what the formats made of the disk in bay 1
+-- what the formats did to the disk in bay 1
 pub record LaysTracks (at : Rate) (source : Disk) (tracks : List Track) (disk : Disk) (old : State) (told : Option Files) (new : State) (after : Option Files) : Type 0 where
   pub final : Disk
   pub ready : IsReady at source final new
@@ -390,7 +390,7 @@ lays_tracks rate source (track ∷ later) disk old new told after course all has
       files = rest.files ∙ made.files;
     }
 
--- so bay 0, whether or not there is a log
+-- bay 0 stays as it is, whether or not there is a log
 formats_stay : (shape : Shape) (logged : Bool) (old new : State) (told after : Option Files) (course : List Taken)
     → DoesAll (formats_for shape logged) old told course new after
     → (bay_of new.station 0 ≡ bay_of old.station 0) × NeverFell old.station.counters new.station.counters
@@ -404,7 +404,7 @@ formats_stay shape false old new told after course all =
 
 -- ---- the whole opening
 
--- bay 0 holds the disk to rescue
+-- after the opening, bay 0 is ready with the disk to rescue
 pub holds_first : (from to : List ℕ) (disk : Disk) (files : Files) (logged : Bool) (old new : State) (after : Option Files) (course : List Taken)
     → IsImageOf (Some files) from disk → DoesAll (opening from to (shape_of disk) logged) old (Some files) course new after
     → IsUndisturbed 0 old.station.counters new.station.counters → (count : ℕ) × Holds disk count new.station
@@ -423,7 +423,7 @@ holds_first from to disk files logged old new after course image all quiet =
     } in
     (it.count, holds)
 
--- also where something disturbed the opening
+-- the disk is in bay 0, even if something disturbed the opening
 pub first_in : (from to : List ℕ) (disk : Disk) (files : Files) (logged : Bool) (old new : State) (after : Option Files) (course : List Taken)
     → IsImageOf (Some files) from disk → DoesAll (opening from to (shape_of disk) logged) old (Some files) course new after
     → (bay_of new.station 0).medium ≡ Some disk
@@ -432,7 +432,7 @@ first_in from to disk files logged old new after course image all =
     let same = formats_stay (shape_of disk) logged it.mid new it.mid_files after it.course it.formats_left in
     ap (λ (b : Bay). b.medium) same.0 ∙ it.first
 
--- a regular disk is in bay 1 under its name
+-- a regular disk is in bay 1, under its name
 pub record HasOther (start : Disk) (to : List ℕ) (files : Files) (state : State) (told : Option Files) : Type 0 where
   pub medium : (bay_of state.station 1).medium ≡ Some start
   pub regular : IsRegularDisk start
@@ -440,7 +440,7 @@ pub record HasOther (start : Disk) (to : List ℕ) (files : Files) (state : Stat
   pub named : in_bay state.names 1 ≡ Some to
   pub files_are : told ≡ Some files
 
--- a new one has the shape of a blank one, and Laid fields
+-- a new disk has the shape of a blank one, and Laid fields
 pub record IsNew (disk start : Disk) : Type 0 where
   pub shape : HasShapeOf (blank_of disk.cylinders disk.rate) start
   pub valid : IsDisk start
@@ -484,7 +484,7 @@ begins_new from to disk files old new after course image all size faultless =
     } in
     (lays.final, there, new_one)
 
--- that of an earlier run
+-- the disk of an earlier run is in bay 1
 pub begins_again : (from to : List ℕ) (disk target : Disk) (files : Files) (old new : State) (after : Option Files) (course : List Taken)
     → IsImageOf (Some files) from disk
     → IsImageOf (Some files) to target → IsRegularDisk target → DoesAll (opening from to (shape_of disk) true) old (Some files) course new after

@@ -1,4 +1,5 @@
--- The records of a rescue, one after the other: each is saved, and all others of the disk stay, or its line is in the log.
+-- The records of a rescue, one after the other. Either a record is saved and all others on the disk stay, or its line
+-- is in the log.
 use Rattle.std.proofs.Common.{arith, ◌≡◌, ℕ, suc, ◌<◌, ◌≤◌, All, List, [], ◌∷◌, length, get_or, subst, inl, inr, Option, Some, None, ◌≢◌, ◌↔◌, ◌∙◌, ◌+◌, Bool, true, false, ◌++◌, sym, ap, Result, IsOk, refl, Ok, Err}
 use Rattle.std.specs.Prelude.{◌⊎◌, IsSomeAnd, Contains}
 use Rattle.std.specs.List.{AllByRecursion, AllPairs}
@@ -52,19 +53,19 @@ use Rattle.laws_commands.specs.LaidFields.{HasLaidFields}
 use Rattle.laws_commands.proofs.LaidDisks.{still_laid}
 use Rattle.laws_commands.proofs.Gone.{GoesKeys, keys_fell, write_fell, line_of_refused, line_of_done, read_done, write_no_read, write_writes, read_keeps, call_fell, gave, gave_reads}
 
--- ---- each once
+-- ---- each record comes once
 
--- the key is one of these
+-- whether the key is one of these keys
 abbrev pub IsAmong : Chrn → List Chrn → Type 0
 IsAmong key [] = ⊥
 IsAmong key (first ∷ later) = (first ≡ key) ⊎ IsAmong key later
 
--- each key is none of those behind it
+-- no key is among those after it
 abbrev pub AreDistinct : List Chrn → Type 0
 AreDistinct [] = Unit {0}
 AreDistinct (key ∷ later) = (IsAmong key later → ⊥) × AreDistinct later
 
--- where it stands
+-- where the key is in the list
 pub index_of : (key : Chrn) (keys : List Chrn) → IsAmong key keys → (j : ℕ) × (j < length keys) × ((d : Chrn) → get_or keys j d ≡ key)
 index_of key [] among = absurd among
 index_of key (first ∷ later) (inl here) = (0, omega arith, λ d. here)
@@ -85,7 +86,7 @@ rising_distinct (key ∷ later) pairs = (
   rising_distinct later (λ i j d order inside. pairs (suc i) (suc j) d (omega arith) (omega arith)),
 )
 
--- ---- which they are
+-- ---- which records are asked for
 
 -- a key that is asked for: on a cylinder and a head of a drive, with a record of the disk's rate
 pub record IsAsked (disk : Disk) (key : Chrn) : Type 0 where
@@ -141,19 +142,19 @@ asked_distinct disk files log found there = rising_distinct _ (asked_rises disk 
 abbrev pub ReadsKey : Chrn → Taken → Type 0
 ReadsKey key taken = (address : ℕ) × (taken.asked ≡ request.Read 0 key address)
 
--- of a step of a course more is known
+-- a fact about a step of a course, replaced by a weaker one
 pub some_apart : (P Q : Taken → Type 0) (course : List Taken) → ((taken : Taken) → P taken → Q taken) → SomeStep P course → SomeStep Q course
 some_apart P Q [] f some = absurd some
 some_apart P Q (taken ∷ later) f (inl here) = inl (f taken here)
 some_apart P Q (taken ∷ later) f (inr there) = inr (some_apart P Q later f there)
 
--- the reads of a course are those of keys, and two reads of a key are one
+-- The reads of a course are reads of these keys. Two reads of one key are the same step.
 pub record ReadsOnce (keys : List Chrn) (course : List Taken) : Type 1 where
   pub only : (key : Chrn) → SomeStep (ReadsKey key) course → IsAmong key keys
   pub once : (key : Chrn) (P Q : Taken → Type 0) → ((taken : Taken) → P taken → ReadsKey key taken) → ((taken : Taken) → Q taken → ReadsKey key taken)
       → SomeStep P course → SomeStep Q course → (taken : Taken) × P taken × Q taken
 
--- a record is read before others
+-- a record is read, and the reads of others follow
 reads_first : (key : Chrn) (keys : List Chrn) (read : Taken) (later : List Taken) → (IsAmong key keys → ⊥) → read.asked ≡ read_of key
     → ReadsOnce keys later → ReadsOnce (key ∷ keys) (read ∷ later)
 reads_first key keys read later distinct asked reads = record {
@@ -170,7 +171,7 @@ reads_first key keys read later distinct asked reads = record {
     again : (other : Chrn) (P : Taken → Type 0) → ((taken : Taken) → P taken → ReadsKey other taken) → ReadsKey other read → SomeStep P later → ⊥
     again other P p here there = distinct (subst (λ (k : Chrn). IsAmong k keys) (sym (same other here)) (reads.only other (some_apart P _ later p there)))
 
--- a write is none of them
+-- a write adds no read
 reads_write : (key : Chrn) (deleted : Bool) (keys : List Chrn) (write : Taken) (later : List Taken) → write.asked ≡ write_of key deleted
     → ReadsOnce keys later → ReadsOnce keys (write ∷ later)
 reads_write key deleted keys write later asked reads = record {
@@ -195,7 +196,7 @@ keys_read (key ∷ keys) distinct old (read ∷ write ∷ later) new (Ok deleted
     reads_first key keys read (write ∷ later) distinct.0 is.asked
     (reads_write key deleted keys write later wrote.asked (keys_read keys distinct.1 (with_report write.after more old.report) later new goes))
 
--- each is written, or has its line
+-- each record is either written or has its line in the log
 pub keys_counted : (keys : List Chrn) (old : World) (course : List Taken) (new : World) → GoesKeys keys old course new
     → count_writes course + length (log_of course) ≡ length keys
 keys_counted [] old course new goes = rw goes.0 refl
@@ -237,7 +238,7 @@ alike_shape disk after alike = record {
   words_per_track = alike.words_per_track;
 }
 
--- the disk of a list of changes that isn't empty has an address field for the first of them
+-- if a list of changes isn't empty, its first change is possible on the disk
 first_change : (written : Written) (disk : Disk) (earlier : List Change) (last : Change) (after : Disk)
     → ChangesDisk written disk (earlier ++ last ∷ []) after → (change : Change) × (next : Disk) × IsChange written disk change next
 first_change written disk [] last after changes = (last, changes.0, changes.1)
@@ -285,7 +286,7 @@ tidy_write : (key : Chrn) (deleted : Bool) (state : State) → IsTidyFor state (
 tidy_write key true state tidy = tidy
 tidy_write key false state tidy = tidy
 
--- what it made of the disk in bay 1
+-- what the write did to the disk in bay 1
 pub record SavesKey (disk : Disk) (key : Chrn) (deleted : Bool) (old : State) (told : Option Files) (new : State) (after : Option Files) (later : List Taken) : Type 0 where
   pub place : ℕ
   pub wrote : WritesHere 1 disk key place 0x10000 deleted old.station new.station
@@ -361,7 +362,7 @@ saves_key tidy disk key deleted old told taken after later regular size sized as
 
 -- ---- the records, one after the other
 
--- what became of the keys, and of the disk in bay 1; in a longer course
+-- what became of the keys and of the disk in bay 1; the course is a part of a longer one
 pub record SavesKeys (whole : List Taken) (lines : List LogLine) (keys : List Chrn) (disk : Disk) (old : World) (course : List Taken)
     (new : World) : Type 0 where
   pub final : Disk
@@ -375,14 +376,14 @@ pub record SavesKeys (whole : List Taken) (lines : List LogLine) (keys : List Ch
   pub settled : AllByRecursion (λ key. IsLogged whole lines key ⊎ IsSaved whole final key) keys
   pub others : (entry : Entry) → WasNotRead course entry.key → IsOnMap disk entry ↔ IsOnMap final entry
 
--- nor does the rest of a course bring up a mark
+-- the rest of such a course brings up no address mark either
 unmarked_later : (disk : Disk) (old : State) (first : Taken) (later : List Taken) → BringsUpNoMark disk old (first ∷ later)
     → BringsUpNoMark disk first.after later
 unmarked_later disk old first later (inl laid) = inl laid
 unmarked_later disk old first later (inr neat) = inr neat.1
 
 module _ (tidy : AllTidy) (source : Disk) (whole : List Taken) (lines : List LogLine) where
-  -- the steps and the lines of a course are among those of the longer one
+  -- the steps and the lines of a course are among those of the longer course
   pub record IsPart (course : List Taken) : Type 1 where
     pub steps : (P : Taken → Type 0) → SomeStep P course → SomeStep P whole
     pub lines_are : (line : LogLine) → Contains (log_of course) line → Contains lines line

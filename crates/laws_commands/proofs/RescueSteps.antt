@@ -1,4 +1,4 @@
--- Parts of a rescue that go to their end where nothing disturbs them: the formats of a new disk, and the records.
+-- Parts of a rescue that go to their end when nothing disturbs them: the formats of a new disk, and the records.
 use Rattle.std.proofs.Common.{arith, ◌≡◌, ◌∙◌, ◌-◌, ◌<◌, ◌≤◌, ℕ, Bool, true, false, true≢false, List, [], ◌∷◌, ◌++◌, refl, sym, ap, subst, inl, inr, Option, Some, None}
 use Rattle.std.specs.Prelude.{◌⊎◌, IsSomeAnd}
 use Rattle.std.specs.List.{AllByRecursion}
@@ -47,11 +47,11 @@ module _ (disk : Disk) (few_heads : disk.heads ≤ 2) where
   abbrev sectors : ℕ
   sectors = sectors_at disk.rate
 
-  -- a disk has each record of the tracks of the first one, but of these
+  -- a disk has each record on all tracks of the first disk, besides these tracks
   abbrev pub HasRecordsBut : List Track → Disk → Type 0
   HasRecordsBut left made = (c h : ℕ) → c < disk.cylinders → h < disk.heads → Among left c h ⊎ HasRecords sectors c h made
 
-  -- a record stays where another track is laid
+  -- a record stays when another track is laid
   record_stays : (made next : Disk) (b g : ℕ) → KeepsTracks made b g next → (c h r : ℕ) → (c ≡ b → h ≡ g → ⊥) → HasSome made c h r → HasSome next c h r
   record_stays made next b g keeps c h r other had =
       let on = had.3 in
@@ -105,7 +105,7 @@ module _ (disk : Disk) (few_heads : disk.heads ≤ 2) where
 
 -- ---- The records.
 
--- bay 0 has the source, and bay 1 a disk that can be written, with each record that another one has
+-- Bay 0 has the source. Bay 1 has a disk that can be written, with each record that `begun` has.
 pub record IsSaving (source begun : Disk) (stage : Stage) : Type 0 where
   pub first : IsReadyFor 0 source stage.state.station
   pub now : Disk
@@ -114,7 +114,7 @@ pub record IsSaving (source begun : Disk) (stage : Stage) : Type 0 where
   pub regular : IsRegularDisk now
   pub kept : (c h r : ℕ) → HasSome begun c h r → HasSome now c h r
 
--- a record stands on the source, and some record of its key on the other disk
+-- the record is on the source, and the other disk has some record under its key
 pub record StandsOnBoth (source begun : Disk) (key : Chrn) : Type 0 where
   pub size : key.n ≡ standard_code
   pub track : HasTrack source key.c key.h
@@ -127,7 +127,7 @@ write_is key true = refl
 write_is key false = refl
 
 module _ (source begun : Disk) (regular : IsRegularDisk source) (few_cylinders : source.cylinders ≤ 80) (few_heads : source.heads ≤ 2) where
-  -- and the new log is empty so far
+  -- the records are being saved, and the new log is empty so far
   abbrev IsRescuing : List LogLine → Stage → Type 0
   IsRescuing lines stage = (lines ≡ []) × IsSaving source begun stage
 
@@ -202,7 +202,7 @@ module _ (source begun : Disk) (regular : IsRegularDisk source) (few_cylinders :
   unfolding stores_log may_starve
   stores_goes log asked stage = ends_all asked
 
-  -- the records, and what comes behind them
+  -- the records go well, and so does what comes after them
   pub records_go : (log : List ℕ) (asked : ℕ) (keys : List Chrn) (old : Stage) → AllByRecursion (StandsOnBoth source begun) keys → IsSaving source begun old
       → GoesWell (through rescues keys [] (λ lines. carries (request.Eject 1) (λ still. stores_log log asked lines))) old
   records_go log asked keys old all saving =
@@ -217,11 +217,11 @@ last_fine : (before : List Taken) (last : Taken) → has_refusal (before ++ last
 last_fine [] last fine = (or_false (is_refusal last.answer) false fine).0
 last_fine (taken ∷ before) last fine = last_fine before last (or_false (is_refusal taken.answer) (has_refusal (before ++ last ∷ [])) fine).1
 
--- a run in which nothing was refused isn't stopped by a refusal
+-- a run in which no request was refused wasn't stopped by a refusal
 pub unstopped : (course : List Taken) → has_refusal course ≡ false → IsNotStopped course
 unstopped course fine before last is = last_fine before last (subst (λ (row : List Taken). has_refusal row ≡ false) is fine)
 
--- no log is found where no file has its name
+-- if no file has this name, no log is found under it
 pub none_found : (files : Files) (log : List ℕ) (count : ℕ) (lines : List LogLine) → file_at files log ≡ None → IsLogFound (Some files) log count (Some lines) → ⊥
 none_found files log count lines absent found = go _ (file_at files log) absent found
   where

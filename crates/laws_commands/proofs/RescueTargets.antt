@@ -27,7 +27,7 @@ use Rattle.laws_commands.proofs.SectorRequests.{formatted_readable}
 use Rattle.laws_commands.proofs.StoredFiles.{stands_under, image_there}
 use Rattle.laws_commands.proofs.Verified.{image_ranges}
 
--- the disk whose file was stored last has its image under the name
+-- if the file of a disk was stored last, its image is under that name
 image_stands : (told : Option Files) (name : List ℕ) (disk : Disk) (after : Option Files) → IsDisk disk → after ≡ stored told name (file_of disk)
     → IsImageOf after name disk
 image_stands told name disk after valid is = image_there after name disk (stands_under told name (file_of disk) after is) valid
@@ -68,7 +68,7 @@ on_map : (disk : Disk) (key : Chrn) → HasTrack disk key.c key.h → HasSector 
 on_map disk key has (deleted, content, (place, found, address, look, is)) =
     (entry_at key place deleted content, record { track = has; address = address; content = (found, look, is) }, refl)
 
--- a disk of the shape of a copy that has a sector of each standard key of the first disk was stored
+-- the disk that was stored has the shape of a copy and a sector of each standard key of the first disk; it is a target
 pub sectors_target : (from to : List ℕ) (disk copied : Disk) (files : Files) (after : Option Files) → IsImageOf (Some files) from disk → IsDisk copied
     → IsRegularDisk copied → copied.protected ≡ false → HasLaidFields copied → copied.cylinders ≡ disk.cylinders → copied.heads ≡ 2
     → copied.rate ≡ disk.rate → ((key : Chrn) → IsStandardKey disk key → HasSector copied key) → after ≡ stored (Some files) to (file_of copied)
@@ -113,7 +113,7 @@ imported_target bytes name at told after stores = record {
       (copied_entry key.c key.h key.r has.0 false (sector_bytes bytes (sectors_at at) key.c key.h key.r), has.1, sym (key_is key standard.size));
 }
 
--- sectors of its standard keys can be written to it
+-- sectors of the standard keys can be written to such a disk
 pub target_takes : (name : List ℕ) (keyed disk : Disk) (after : Option Files) (keys : List Chrn) → HoldsTarget name keyed disk after
     → All (IsStandardKey keyed) keys → TakesKeys keyed.rate keys disk
 target_takes name keyed disk after keys holds standard = record {

@@ -31,12 +31,12 @@ use Rattle.disk_commands.specs.Copy.{write_request, reads_record, writes_record,
 use Rattle.laws_commands.proofs.VerifyRun.{Tally}
 use Rattle.laws_commands.specs.Accesses.{AccessesAtMost}
 
--- a request that stopped the run
+-- how much the count of accesses rises in a request that stopped the run
 stopped_rises : (old new : State) (asked : Request) → AfterStop asked old new → new.station.counters.direct ≤ old.station.counters.direct + accesses_of asked
 stopped_rises old new (request.Eject bay) stopped = stopped.exchanged.access.accesses
 stopped_rises old new other stopped = let idle = stopped.idle.accesses in omega (arith, idle)
 
--- the requests of a script make at most so many accesses, whatever the answers are
+-- the requests of a script make at most this many accesses, whatever the answers are
 abbrev AsksAtMost : ℕ → Script → Type 0
 AsksAtMost n (Ends line wanted) = Unit {0}
 AsksAtMost n (Says line rest) = AsksAtMost n rest
@@ -54,7 +54,7 @@ stored_rises : (n : ℕ) (name bytes line : List ℕ) (wanted : Status) (old new
 stored_rises n name bytes line wanted old new ended (IsStored state files prints) = same_rises n old new state
 stored_rises n name bytes line wanted old new ended (NotStored same fault) = same_rises n old new (ap (λ (w : World). w.state) same)
 
--- then so does each run of it
+-- each run of such a script makes at most this many accesses
 script_rises : (n : ℕ) (script : Script) (old new : World) (course : List Taken) (ended : Status) → AsksAtMost n script → RunsScript script old course new ended
     → AccessesAtMost n old new
 script_rises n (Ends line wanted) old new [] ended most runs = same_rises n old new runs.state
@@ -103,7 +103,7 @@ unfolding opens
 opens_most n name rest most =
     needs_most n (1 + n) (request.Insert 0 name) (λ answer after. rest (shape_at after 0)) (omega arith) (λ answer after. most (shape_at after 0))
 
--- a part that makes none
+-- a part that makes no access
 abbrev IsQuiet : {Found : Type 0} → Part Found → Type 0
 IsQuiet {Found = Found} part = (n : ℕ) (rest : Found → Script) → ((found : Found) → AsksAtMost n (rest found)) → AsksAtMost n (part rest)
 

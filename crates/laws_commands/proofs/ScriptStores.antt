@@ -1,4 +1,4 @@
--- Which stores the scripts of commands make, however they end.
+-- Which stores the scripts of the commands make, however the scripts end.
 use Rattle.std.proofs.Common.{◌≡◌, ◌∙◌, ◌+◌, ◌-◌, ℕ, zero, suc, Bool, true, false, List, [], ◌∷◌, ◌++◌, get_or, Option, Some, None, Result, Ok, Err, refl, sym, ap, subst, inl, inr}
 use Rattle.std.specs.Prelude.{◌==◌, ◌%◌, ◌*◌, sum, if◌then◌else◌, slice_index}
 use Rattle.flop_base.specs.Bays.{Two, in_bay, with_bay}
@@ -53,7 +53,7 @@ type_of {T = T} value = T
 abbrev Worked : Type 0
 Worked = type_of work.no_work
 
--- a request that stores nothing and leaves the names of the media
+-- a request that stores nothing and leaves the names of the media as they are
 abbrev IsCalm : Request → Type 0
 IsCalm asked = (old new : State) (told after : Option Files) (answer : Reply) → Step asked old told answer new after → (after ≡ told) × (new.names ≡ old.names)
 
@@ -81,11 +81,11 @@ fill_calm address count byte old new told after answer step =
 
 -- ---- names
 
--- a bay's medium has this name
+-- the medium in this bay has this name
 abbrev Named : ℕ → List ℕ → Names → Type 0
 Named bay name names = in_bay names bay ≡ Some name
 
--- whatever the names are
+-- a condition that any names meet
 abbrev Any : Names → Type 0
 Any names = Unit {0}
 
@@ -111,13 +111,13 @@ blank_still : (bay : ℕ) (name : List ℕ) (count : ℕ) (rate : Rate) (old new
 blank_still bay name count R500 old new told after answer step = step_stores (request.Blank bay name count) old new told after answer step
 blank_still bay name count R250 old new told after answer step = step_stores (request.BlankDd bay name count) old new told after answer step
 
--- ---- Runs of scripts, where a first part of some stores is made.
+-- ---- Runs of scripts, in which a first part of some stores is made.
 
 module _ {Kind : Type 0} (stores : Kind → List Store) (some : Kind) where
   abbrev MakesFirst : Option Files → Option Files → Type 0
   MakesFirst told after = (kind : Kind) × StoresFirst (stores kind) told after
 
-  -- however a script is run from such names
+  -- however a script is run from such names, it makes a first part of the stores
   abbrev From : (Names → Type 0) → Script → Type 0
   From Such script =
       (old : World) (course : List Taken) (new : World) (ended : Status) → Such old.state.names → RunsScript script old course new ended
@@ -145,7 +145,7 @@ module _ {Kind : Type 0} (stores : Kind → List Store) (some : Kind) where
       go (Refused run) = nothing_made old.files new.files (same old.state new.state old.files new.files (reply.Refused run.cause) run.step)
       go (Halted run) = nothing_made old.files new.files run.stops.files
 
-  -- a request whose refusal goes on
+  -- a request after whose refusal the script goes on
   ask_from : (Such : Names → Type 0) (asked : Request) (rest : Reply → State → Script) → IsCalm asked
       → ((answer : Reply) (after : State) → From Such (rest answer after)) → From Such (asks asked rest)
   ask_from Such asked rest calm next old course new ended such runs = go (ask_run asked rest old course new ended runs)
@@ -195,7 +195,7 @@ module _ {Kind : Type 0} (stores : Kind → List Store) (some : Kind) where
 
   -- ---- parts
 
-  -- a part that makes none
+  -- a part that makes no store
   abbrev IsQuiet : (Names → Type 0) → {Found : Type 0} → Part Found → Type 0
   IsQuiet Such {Found = Found} part = (rest : Found → Script) → ((found : Found) → From Such (rest found)) → From Such (part rest)
 
@@ -221,7 +221,7 @@ module _ {Kind : Type 0} (stores : Kind → List Store) (some : Kind) where
   tracks_quiet Such part none cylinders heads found =
       each_quiet Such (λ c. each 0 heads (part c)) (λ c now. each_quiet Such (part c) (none c) 0 heads now) 0 cylinders found
 
-  -- ---- those of the commands
+  -- ---- the parts of the commands
 
   read_quiet : (Such : Names → Type 0) (c h r : ℕ) (marks : List Bool) → IsQuiet Such (reads_record c h r marks)
   unfolding reads_record
@@ -256,7 +256,7 @@ module _ {Kind : Type 0} (stores : Kind → List Store) (some : Kind) where
       ask_from Such (request.Read 0 (key_of c h r) track_address) _ (read_calm 0 (key_of c h r) track_address)
       (λ answer after. told_quiet Such (key_of c h r) answer _ (λ none. next (one_more tally (is_refusal answer))))
 
-  -- the medium of a bay is stored under its name, and that is all
+  -- the medium of a bay is stored under its name, and nothing else is
   ejected : (bay : ℕ) (name : List ℕ) → ((disk : Disk) → (kind : Kind) × (stores kind ≡ store_of name (file_of disk) ∷ []))
       → (lines : List (List ℕ)) (wanted : Status) → From (Named bay name) (carries (request.Eject bay) (λ none. Ends lines wanted))
   unfolding carries
@@ -277,7 +277,7 @@ module _ {Kind : Type 0} (stores : Kind → List Store) (some : Kind) where
           (either (refusal_of old.state (request.Eject bay)) run.step (λ does. absurd (cc does.0)) (λ cause refused. refused.files))
       go (Halted run) = nothing_made old.files new.files run.stops.files
 
-  -- so it is with a last file
+  -- a last file is stored under its name, and nothing else is
   filed : (Such : Names → Type 0) (name bytes line : List ℕ) (wanted : Status) → (kind : Kind) → stores kind ≡ store_of name bytes ∷ []
       → From Such (Stores name bytes line wanted)
   filed Such name bytes line wanted kind is old course new ended such runs = go (last_stored name bytes line wanted old course new ended runs).1

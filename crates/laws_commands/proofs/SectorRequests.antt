@@ -1,4 +1,5 @@
--- Which reads, formats and writes are done where nothing disturbs them: those of records that stand on a regular disk, and those that make one.
+-- Which reads, formats and writes are done when nothing disturbs them: those of records that are on a regular disk, and
+-- the formats and writes that make such a disk.
 use Rattle.std.proofs.Common.{arith, ◌≡◌, ◌↔◌, ◌∙◌, ◌+◌, ◌-◌, ◌≤◌, ℕ, nat_le, Bool, true, false, List, refl, sym, ap, subst, Some, None, Result, Ok, Err, le-leb, suc, [], ◌∷◌, ◌≢◌, ◌<◌, inl, inr, Option, IsOk, lit≤}
 use Rattle.std.specs.Prelude.{◌/◌, ◌==◌, not, if◌then◌else◌, All, is_some, IfErr}
 use Rattle.flop_base.specs.Standard.{sectors_at, standard_code, words_at, gap_at, standard_fill}
@@ -63,11 +64,11 @@ use Rattle.laws_commands.proofs.Bays.{IsReadyFor, both_true, ready_still, safe, 
 same_page : (a b : ℕ) → a ≡ 1 → b ≡ 1 → not (a == b) ≡ false
 same_page a b e f = rw (e, f) refl
 
--- the records of a track lie in one page
+-- each record of a track lies within one page of memory
 pub within_page : (r : ℕ) → 1 ≤ r → r ≤ 18 → crosses_page (record_address r) (content_size standard_code) ≡ false
 within_page r least most = same_page (record_address r / 65536) ((record_address r + content_size standard_code - 1) / 65536) (omega arith) (omega arith)
 
--- such a key can be asked for
+-- the driver can be asked for such a key
 pub sector_asked : (bay c h r place : ℕ) → nat_le bay 1 ≡ true → c ≤ 79 → h ≤ 1 → 1 ≤ r → 1 ≤ place → place ≤ 18
     → is_sector_request bay (key_of c h r) (record_address place) ≡ true
 sector_asked bay c h r place is_one cylinder head least from few =
@@ -79,7 +80,7 @@ read_order : (good crosses acknowledged : Bool) → good ≡ true → crosses �
     → (if not good then Some BadRequest else (if crosses then Some Page else (if not acknowledged then Some Changed else None))) ≡ None
 read_order good crosses acknowledged e f g = rw (e, f, g) refl
 
--- an undisturbed call is disturbed less than its attempts stand
+-- an undisturbed call is disturbed less often than its attempts allow
 pub disturbed_less : (tries bay : ℕ) (old new : Counters) → IsUndisturbed bay old new → DisturbedLess (spoilable tries) bay old new
 disturbed_less tries bay old new calm = record {
   faults = calm.faults;
@@ -128,12 +129,12 @@ module _ (source : Disk) (regular : IsRegularDisk source) (c h r : ℕ) (has : H
   called_taken address (Ok false) drive = (refl, ap (λ (s : StationState). s.bays) drive.found.becomes)
   called_taken address (Err code) drive = absurd (read_never code drive.refused.cause)
 
--- bay 0 is ready as before, and so is bay 1
+-- bay 0 is still ready, and both bays are as they were
 pub record ReadsAlone (source : Disk) (old new : Stage) : Type 0 where
   pub ready : IsReadyFor 0 source new.state.station
   pub same : new.state.station.bays ≡ old.state.station.bays
 
--- a read of a record that stands on its track, to the place of any in memory
+-- a read of a record that is on its track is done; it may go to the place of any record in memory
 pub stands_read : (source : Disk) (c h r place : ℕ) (old : Stage) → IsRegularDisk source → source.cylinders ≤ 80 → source.heads ≤ 2 → HasTrack source c h → 1 ≤ r
     → HasData (track_of source c h) (key_of c h r) → 1 ≤ place → place ≤ 18 → IsReadyFor 0 source old.state.station
     → IsDone (λ new. ReadsAlone source old new) (request.Read 0 (key_of c h r) (record_address place)) old
@@ -153,7 +154,7 @@ stands_read source c h r place old regular few_cylinders few_heads has least fie
       );
 }
 
--- so a read of a standard key
+-- a read of a standard key of a readable disk is done
 pub read_done : (source : Disk) (c h r place : ℕ) (old : Stage) → IsReadable source → source.cylinders ≤ 80 → source.heads ≤ 2 → HasTrack source c h → 1 ≤ r
     → r ≤ sectors_at source.rate → 1 ≤ place → place ≤ 18 → IsReadyFor 0 source old.state.station
     → IsDone (λ new. ReadsAlone source old new) (request.Read 0 (key_of c h r) (record_address place)) old
@@ -164,7 +165,7 @@ read_done source c h r place old readable few_cylinders few_heads has least most
 
 -- ---- No key fails.
 
--- a formatted disk is such a one
+-- a formatted disk is readable
 pub formatted_readable : (rate : Rate) (count : ℕ) (disk : Disk) → IsFormattedDisk rate count disk → IsReadable disk
 formatted_readable rate count disk is = record {
   regular = formatted_regular rate count disk is;
@@ -180,7 +181,7 @@ readable_unmistaken disk readable = record {
 }
 
 module _ (disk : Disk) (readable : IsReadable disk) where
-  -- the look for a standard key
+  -- the look for a standard key of a readable disk finds it
   looks : (key : Chrn) → IsStandardKey disk key → (place : ℕ) × (deleted : Bool) × LookOn disk key (Found deleted place)
   looks key standard =
       let there = readable.sectors key standard in
@@ -200,14 +201,14 @@ module _ (disk : Disk) (readable : IsReadable disk) where
       let here = looks key (all 0 key (omega arith)) in
       (Found here.1 here.0, [], here.2, refl, none_of keys (λ k d below. all (suc k) d (omega (arith, below))))
 
-  -- none of its standard keys fails
+  -- none of the standard keys of a readable disk fails
   pub none_failing : AreFailing disk (standard_keys disk) []
   none_failing = none_of (standard_keys disk) (standard_all disk)
 
 -- ---- A disk that is made in a bay.
 
--- a bay has a disk of a rate and so many cylinders, of which this holds: it is regular, and protected and laid out as a blank one; the bay is
--- acknowledged, at that rate
+-- A disk of this rate and count of cylinders is in the bay, and `Also` holds of it. It is regular, and has the shape
+-- and protection of a blank one. The bay is acknowledged, at that rate.
 pub record IsMaking (bay : ℕ) (rate : Rate) (count : ℕ) (Also : Disk → Type 0) (station : StationState) : Type 0 where
   pub disk : Disk
   pub medium : (bay_of station bay).medium ≡ Some disk
@@ -217,11 +218,11 @@ pub record IsMaking (bay : ℕ) (rate : Rate) (count : ℕ) (Also : Disk → Typ
   pub regular : IsRegularDisk disk
   pub also : Also disk
 
--- of any disk
+-- a condition that any disk meets
 abbrev pub AnyDisk : Disk → Type 0
 AnyDisk disk = Unit {0}
 
--- all records but one stay where it was written, and it is there
+-- All records but the written one stay, and there is some record under the written one's key.
 pub record KeepsRecords (disk next : Disk) (c h r : ℕ) : Type 0 where
   pub others : (entry : Entry) → entry.key ≢ key_of c h r → IsOnMap disk entry ↔ IsOnMap next entry
   pub some : HasSome next c h r
@@ -231,7 +232,7 @@ abbrev pub HasRecords : ℕ → ℕ → ℕ → Disk → Type 0
 HasRecords sectors c h disk = (r : ℕ) → 1 ≤ r → r ≤ sectors → HasSome disk c h r
 
 module _ (bay : ℕ) (rate : Rate) (count : ℕ) where
-  -- a blank disk, once its bay is ready
+  -- once its bay is ready, a blank disk is such a disk
   pub blank_made : (station : StationState) → IsDisk (blank_of count rate) → IsReadyFor bay (blank_of count rate) station
       → IsMaking bay rate count AnyDisk station
   blank_made station valid ready = record {
@@ -244,7 +245,7 @@ module _ (bay : ℕ) (rate : Rate) (count : ℕ) where
     also = tt;
   }
 
-  -- where less is wanted of the disk, and the bay stays
+  -- such a disk stays one if a weaker condition is asked of it and the bay stays as it is
   pub made_still : (Also Less : Disk → Type 0) (old new : StationState) → ((disk : Disk) → Also disk → Less disk) → bay_of new bay ≡ bay_of old bay
       → IsMaking bay rate count Also old → IsMaking bay rate count Less new
   made_still Also Less old new less same made = record {
@@ -260,12 +261,12 @@ module _ (bay : ℕ) (rate : Rate) (count : ℕ) where
   pub any_made : (Also : Disk → Type 0) (station : StationState) → IsMaking bay rate count Also station → IsMaking bay rate count AnyDisk station
   any_made Also station made = made_still Also AnyDisk station station (λ disk also. tt) refl made
 
--- the disk is so in one bay, and the other bay is as it was
+-- the bay has such a disk, and the other bay is as it was
 pub record MakesAlone (bay other : ℕ) (rate : Rate) (count : ℕ) (Also : Disk → Type 0) (old new : Stage) : Type 0 where
   pub made : IsMaking bay rate count Also new.state.station
   pub same : bay_of new.state.station other ≡ bay_of old.state.station other
 
--- a call that changed the medium of a bay alone
+-- a call that changed only the medium of one bay leaves such a disk there
 remade : (bay other : ℕ) (rate : Rate) (count : ℕ) (Before Also : Disk → Type 0) (old new : Stage) (next : Disk) → AreApart bay other
     → IsMaking bay rate count Before old.state.station
     → Becomes (set_bay old.state.station bay (record (bay_of old.state.station bay) { medium = (bay_of new.state.station bay).medium })) new.state.station
@@ -290,7 +291,7 @@ remade bay other rate count Before Also old new next apart made becomes medium a
 
 -- ---- A track is formatted.
 
--- the sectors of a rate fit on its tracks
+-- the standard sectors of a rate fit on the tracks of that rate
 standard_fits : (rate : Rate) (c h words : ℕ) → words ≡ words_at rate
     → Fits (format_keys (format_at c h rate (gap_at rate) standard_fill)) standard_code (gap_at rate) words
 standard_fits rate c h words same = (format_fits (format_at c h rate (gap_at rate) standard_fill) words).1 (go rate words same)
@@ -303,7 +304,7 @@ gap_asked : (rate : Rate) → (nat_le 16 (gap_at rate) ≡ true) × (nat_le (gap
 gap_asked R500 = (refl, refl)
 gap_asked R250 = (refl, refl)
 
--- a medium that isn't protected
+-- the medium in a bay isn't protected
 pub protected_by : (medium : Option Disk) (disk : Disk) → medium ≡ Some disk → disk.protected ≡ false
     → option_map_or (λ (d : Disk). d.protected) medium false ≡ false
 protected_by medium disk is free = rw (is, free) refl
@@ -372,7 +373,7 @@ module _ (bay other : ℕ) (rate : Rate) (count c h : ℕ) (is_one : is_bay bay 
         (calm_in bay (request.Format bay c h) answer station.counters new.state.station.counters is_one refl calm);
   }
 
--- it has its records
+-- after a format, the track has its records
 pub format_done : (bay other : ℕ) (rate : Rate) (count c h : ℕ) → is_bay bay ≡ true → AreApart bay other → c < count → h < 2 → (Also : Disk → Type 0) (old : Stage)
     → IsMaking bay rate count Also old.state.station
     → IsDone (λ new. MakesAlone bay other rate count (HasRecords (sectors_at rate) c h) old new) (request.Format bay c h) old
@@ -385,7 +386,7 @@ format_done bay other rate count c h is_one apart cylinder head Also old made =
 abbrev pub write_to : ℕ → Bool → Chrn → ℕ → Request
 write_to bay deleted key address = if deleted then request.WriteDeleted bay key address else request.Write bay key address
 
--- what it calls
+-- the write is a call of the driver, with this mark
 abbrev Calls : ℕ → Chrn → ℕ → Bool → State → Option Files → Reply → State → Option Files → Type 0
 Calls bay key address deleted old told answer new after =
     IsDriverCall old told new after × ((called : Result (Unit {0}) Code) × (answer ≡ reply_of called) × WritesTo bay key address deleted old.station called new.station)
@@ -399,7 +400,7 @@ write_order : (good crosses acknowledged protected : Bool) → good ≡ true →
     → (if not good then Some BadRequest else (if crosses then Some Page else (if not acknowledged then Some Changed else (if protected then Some Protected else None)))) ≡ None
 write_order good crosses acknowledged protected e f g i = rw (e, f, g, i) refl
 
--- any record is still there, or is the one that was written
+-- any record that was there is still there, or was the one that was written
 pub some_still : (disk next : Disk) (c h r : ℕ) → KeepsRecords disk next c h r → (b g s : ℕ) → HasSome disk b g s → HasSome next b g s
 some_still disk next c h r keeps b g s had = elim (cases_eq s r) [
   | inr other ↦ stays (λ e. other (ap (λ (k : Chrn). k.r) e))
@@ -418,7 +419,7 @@ some_still disk next c h r keeps b g s had = elim (cases_eq s r) [
     stays : key_of b g s ≢ key_of c h r → HasSome next b g s
     stays differ = (had.0, had.1, had.2, (keeps.others (copied_entry b g s had.0 had.1 had.2) differ).0 had.3)
 
--- what a write of a record made of the disk in a bay; the other bay is as it was
+-- What a write of a record did to the disk in a bay. The other bay is as it was.
 pub record WritesInto (bay other : ℕ) (disk : Disk) (c h r : ℕ) (old new : Stage) : Type 0 where
   pub next : Disk
   pub ready : IsReadyFor bay next new.state.station
@@ -503,7 +504,7 @@ module _ (bay other : ℕ) (disk : Disk) (c h r slot : ℕ) (deleted : Bool) (is
   write_safe true = safe (request.WriteDeleted bay (key_of c h r) (record_address slot)) old refl (λ at name same. cc same)
   write_safe false = safe (request.Write bay (key_of c h r) (record_address slot)) old refl (λ at name same. cc same)
 
-  -- a record that stands on its track is written, from the place of any in memory
+  -- a record that is on its track is written; the content may come from the place of any record in memory
   pub stands_written : IsDone (λ new. WritesInto bay other disk c h r old new) (write_to bay deleted (key_of c h r) (record_address slot)) old
   stands_written = record {
     safe = write_safe deleted;
@@ -515,12 +516,12 @@ module _ (bay other : ℕ) (disk : Disk) (c h r slot : ℕ) (deleted : Bool) (is
         (ok_taken call.1.0 answer call.1.1 (ok new quiet call.0.counts.stalls call.1.0 drive), writes new quiet call.0.counts.stalls call.1.0 drive);
   }
 
--- a disk that is made in a bay
+-- a bay with a disk that is being made is ready for that disk
 pub made_ready : (bay : ℕ) (rate : Rate) (count : ℕ) (Also : Disk → Type 0) (now : StationState) (made : IsMaking bay rate count Also now)
     → IsReadyFor bay made.disk now
 made_ready bay rate count Also now made = record { medium = made.medium; bay_rate = made.bay_rate ∙ sym made.alike.rate; kept = made.kept }
 
--- a record is written to the track that it stands on, from its own place in memory
+-- a record is written to its track, from the record's own place in memory
 pub write_done : (bay other : ℕ) (rate : Rate) (count c h r : ℕ) (deleted : Bool) → is_bay bay ≡ true → AreApart bay other → c < count → h < 2
     → 1 ≤ r → r ≤ sectors_at rate → (old : Stage) → IsMaking bay rate count (HasRecords (sectors_at rate) c h) old.state.station
     → IsDone (λ new. MakesAlone bay other rate count (HasRecords (sectors_at rate) c h) old new) (write_to bay deleted (key_of c h r) (record_address r)) old

@@ -104,7 +104,7 @@ are_track_keys : (rate : Rate) (c h : ℕ) → All (IsTrackKey rate c h) (keys r
 are_track_keys rate c h = all_track_keys (sectors_at rate) c h (IsTrackKey rate c h)
     (λ r least most. record { cylinder = refl; head = refl; sector = (least, most); size = refl })
 
--- what is at an address field of a track
+-- the track has an address field of the key at this place, with this content
 pub record HasContent (track : List ℕ) (place : ℕ) (key : Chrn) (content : List ℕ) : Type 0 where
   pub address : IsAddressAt track place key
   pub found : (data_place : ℕ) × LookAt track place key.n (Found false data_place) × (content ≡ content_at track data_place key.n)

@@ -1,4 +1,4 @@
--- What the requests of a run did, one by one.
+-- What the requests of a run did, each on its own.
 use Rattle.std.proofs.Common.{arith, ◌≡◌, ◌∙◌, take, length, ◌≤◌, ◌&&◌, Bool, true, false, true≢false, List, [], ◌∷◌, ◌++◌, refl, sym, ap, subst, Option, Some, None, Result, Ok, Err, IsOk}
 use Rattle.std.specs.Prelude.{◌||◌, MatchOption}
 use Rattle.std.specs.List.{list_all}
@@ -16,7 +16,7 @@ use Rattle.sector_model.specs.Texts.{is_refusal}
 use Rattle.sector_model.specs.Runs.{Taken, Run, requests_of, has_refusal}
 use Rattle.laws_commands.specs.Done.{DoesAll}
 
--- one of two cases holds, and each gives the fact
+-- a fact that follows in both of two cases holds
 pub either : {A : Type 0} {P R : Type 0} {Q : A → Type 0} (value : Option A) → MatchOption value P Q → (P → R) → ((x : A) → Q x → R) → R
 either None holds none some = none holds
 either (Some x) holds none some = some x holds
@@ -32,7 +32,7 @@ done_does old new told after asked answer step done =
     either (refusal_of old asked) step (λ does. does)
     (λ cause refused. absurd (true≢false (subst (λ (r : Reply). is_refusal r ≡ false) refused.answered done)))
 
--- the first request of a run, and those behind it
+-- the first request of a run, and then the others
 pub record Begins (old : State) (told : Option Files) (asked : Request) (rest : List Request) (new : State) (after : Option Files) : Type 0 where
   pub mid : State
   pub files : Option Files
@@ -63,7 +63,7 @@ begins old new told after asked rest (taken ∷ later) all =
       behind = record { run = all.run.2; all = there; done = parts.1 };
     }
 
--- a run of no requests
+-- a run of no requests leaves all as it was
 pub ends_there : (old new : State) (told after : Option Files) (course : List Taken) → DoesAll [] old told course new after → (new ≡ old) × (after ≡ told)
 ends_there old new told after [] all = all.run
 ends_there old new told after (taken ∷ later) all = let e = all.all in absurd (cc e)
@@ -74,7 +74,7 @@ pub ok_called : (called : Result (Unit {0}) Code) (answer : Reply) → answer �
 ok_called (Ok u) answer e done = refl
 ok_called (Err code) answer e done = absurd (true≢false (subst (λ (r : Reply). is_refusal r ≡ false) e done))
 
--- a call that was Ok wasn't refused at once
+-- a call that answered Ok wasn't refused at once
 pub reached : {A P : Type 0} (refusal : Option Code) (called : Result A Code) (old new : StationState)
     → MatchOption refusal P (λ code. IsRefusedAtOnce code old called new) → IsOk called → P
 reached {A} {P} refusal called old new holds ok =
@@ -104,7 +104,7 @@ does_goes old new told after (request.Unit bay) answer does keeps = absurd (true
 does_goes old new told after (request.SetRate bay rate) answer does keeps = does.0.counts
 does_goes old new told after (request.Tries tries) answer does keeps = does.0.counts
 
--- no count of faults or stalls fell
+-- no count of faults or of late DMA requests (stalls) fell
 pub record NeverFell (old new : Counters) : Type 0 where
   pub first : old.drives.first.faults ≤ new.drives.first.faults
   pub second : old.drives.second.faults ≤ new.drives.second.faults
@@ -121,7 +121,7 @@ pub and_both : (a b : Bool) → (a && b) ≡ true → (a ≡ true) × (b ≡ tru
 and_both true b e = (refl, e)
 and_both false b e = absurd (true≢false (sym e))
 
--- nor in a run, whatever its answers
+-- no count falls in a run either, whatever its answers are
 pub run_never_fell : (old new : State) (told after : Option Files) (course : List Taken) → Run old told course new after
     → list_all keeps_drives (requests_of course) ≡ true → NeverFell old.station.counters new.station.counters
 run_never_fell old new told after [] run keeps =
@@ -137,7 +137,7 @@ pub never_fell : (old new : State) (told after : Option Files) (requests : List 
 never_fell old new told after requests course all keeps =
     run_never_fell old new told after course all.run (ap (λ (l : List Request). list_all keeps_drives l) all.all ∙ keeps)
 
--- ---- one list of requests behind another
+-- ---- one list of requests after another
 
 -- a run of two lists of requests is two runs
 pub record SplitsRun (old : State) (told : Option Files) (first second : List Request) (course : List Taken) (new : State) (after : Option Files) : Type 0 where
@@ -184,7 +184,7 @@ splits_run old new told after (asked ∷ first) second (taken ∷ later) run all
       all_two = rest.all_two;
     }
 
--- so it is where all are done
+-- a run of two lists of requests that were all done is two such runs
 pub record Splits (old : State) (told : Option Files) (first second : List Request) (course : List Taken) (new : State) (after : Option Files) : Type 0 where
   pub mid : State
   pub files : Option Files

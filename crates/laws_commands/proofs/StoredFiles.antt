@@ -1,4 +1,4 @@
--- Files behind a store: what stands under each name, and when it is the image of a disk, or a log.
+-- Files after a store: what is under each name, and when it is the image of a disk, or a log.
 use Rattle.std.proofs.Common.{arith, ◌≡◌, ◌≢◌, ◌∙◌, ◌+◌, ◌*◌, ◌≤◌, ℕ, Bool, true, false, cond, List, length, take, drop, Option, Some, None, Ok, refl, sym, ap, subst, inl}
 use Rattle.std.specs.Prelude.{IfSome, IsSomeAnd}
 use Rattle.std.proofs.lemmas.List.{length-take, length-drop}
@@ -35,7 +35,7 @@ at_stored : (files : Files) (name bytes other : List ℕ)
     → file_at (after_store files name bytes) other ≡ cond (same_name other name) (Some bytes) (file_at files other)
 at_stored files name bytes other = fin.get-insert nat_list_cmp_total files.held name bytes other
 
--- what was stored last stands there
+-- a name has what was stored last under it
 last_there : (files : Files) (name bytes : List ℕ) → file_at (after_store files name bytes) name ≡ Some bytes
 last_there files name bytes = at_stored files name bytes name ∙ ap (λ (t : Bool). cond t (Some bytes) (file_at files name)) ((eq_by_cmp_equiv nat_list_cmp_total).refl name)
 
@@ -49,7 +49,7 @@ stores_both files to log disk lines after differ is =
     subst (λ (f : Option Files). IfSome f (λ files. file_at files to ≡ Some disk) × IfSome f (λ files. file_at files log ≡ Some lines)) (sym is)
     (other_there (after_store files to disk) log lines to differ ∙ last_there files to disk, last_there (after_store files to disk) log lines)
 
--- what was stored last stands under its name
+-- a name has what was stored last under it, if the files are told
 pub stands_under : (before : Option Files) (name bytes : List ℕ) (after : Option Files) → after ≡ stored before name bytes
     → IfSome after (λ files. file_at files name ≡ Some bytes)
 stands_under None name bytes after is = subst (λ (f : Option Files). IfSome f (λ files. file_at files name ≡ Some bytes)) (sym is) tt
@@ -71,7 +71,7 @@ file_fits d valid =
     let words = mul-le (d.cylinders * d.heads) d.words_per_track 160 16384 (omega (arith, tracks)) valid.words_per_track.1 in
     omega (arith, length-file d, valid.count, words)
 
--- where the file of a disk stands, its image does
+-- if the file of a disk is under a name, its image is too
 pub image_there : (told : Option Files) (name : List ℕ) (d : Disk) → IfSome told (λ files. file_at files name ≡ Some (file_of d)) → IsDisk d
     → IsImageOf told name d
 image_there None name d there valid = tt
@@ -81,7 +81,7 @@ image_there (Some files) name d there valid =
 
 -- ---- logs
 
--- where the text of a log stands, the log is found, if it isn't too long
+-- if the text of a log is under a name and isn't too long, the log is found there
 pub log_stands : (told : Option Files) (log : List ℕ) (sectors : ℕ) (lines : List LogLine) → IfSome told (λ files. file_at files log ≡ Some (log_text lines))
     → IsLog sectors lines → length (log_text lines) ≤ most_log_bytes → IsLogFound told log sectors (Some lines)
 log_stands None log sectors lines there is fits = tt

@@ -22,7 +22,7 @@ pub append_stored : (told : Option Files) (one two : List Store) → all_stored 
 append_stored told [] two = refl
 append_stored told (store ∷ one) two = append_stored (stored told store.name store.bytes) one two
 
--- files after stores, and the stores that they list
+-- the files after these stores, and the stores that the files list
 record IsListed (files : Files) (made : List Store) : Type 0 where
   after : Files
   files_are : all_stored (Some files) made ≡ Some after
@@ -58,7 +58,7 @@ stores_listed files after made is =
 pub nothing_first : (wanted : List Store) (told after : Option Files) → after ≡ told → StoresFirst wanted told after
 nothing_first wanted told after same = record { made = []; rest = wanted; first = refl; files = same }
 
--- all was
+-- all wanted stores were made
 pub all_first : (wanted : List Store) (told after : Option Files) → after ≡ all_stored told wanted → StoresFirst wanted told after
 all_first wanted told after is = record { made = wanted; rest = []; first = sym (append-nil wanted); files = is }
 
@@ -113,7 +113,7 @@ pub run_leads : (old new : State) (told after : Option Files) (course : List Tak
 run_leads old new told after [] run = run.0
 run_leads old new told after (taken ∷ later) run = run_leads taken.after new run.0 after later run.2
 
--- ---- its end
+-- ---- the end of a run
 
 no_medium : (medium : Option Disk) (name : Option (List ℕ)) → is_some medium ≡ false → medium_store medium name ≡ []
 no_medium None name empty = refl
@@ -150,7 +150,7 @@ end_stops old new told after (AtSecond mid first drops) = record {
   files = bay_ends 0 old mid told after first;
 }
 
--- ---- both
+-- ---- a run and its end
 
 -- a run, and then a first part of its end's stores
 pub run_then : (old mid : State) (told between after : Option Files) (course : List Taken) → Run old told course mid between

@@ -1,4 +1,5 @@
--- Parts of a script for each number that each take what holds of it to what holds of the next; places, and a bay that is made ready.
+-- Parts of a script for several numbers. If each part leads from what holds of its number to what holds of the next,
+-- they lead from the first to the last. Also here: places of sectors, and a bay that is made ready.
 use Rattle.std.proofs.Common.{arith, ◌≡◌, ◌+◌, ◌-◌, ◌*◌, ◌<◌, ◌≤◌, ℕ, ◌∙◌, zero, suc, true, List, [], ◌∷◌, ◌++◌, refl, sym, ap, subst, append-nil, append_assoc, inl, inr, Option, false, Some}
 use Rattle.flop_base.specs.Standard.{sectors_at}
 use Rattle.flop_base.specs.declared.answers.Rate.{Rate}
@@ -27,9 +28,9 @@ use Rattle.sector_model.specs.Stations.{bay_of}
 use Rattle.laws_commands.specs.Done.{DoesAll}
 use Rattle.laws_commands.proofs.Prepared.{readies}
 
--- ---- Where the sectors of a flat file stand.
+-- ---- Where the sectors are in a flat file.
 
--- the sectors before a track
+-- the number of sectors before the next track
 pub next_track : (rate : Rate) (t : ℕ) → (t + 1) * sectors_at rate ≡ t * sectors_at rate + sectors_at rate
 next_track R500 t = omega arith
 next_track R250 t = omega arith
@@ -43,7 +44,7 @@ pub place_inside : (rate : Rate) (c h r : ℕ) → IsSector (sectors_at rate) c 
 place_inside R500 c h r is = omega (arith, is.cylinder, is.head, is.from_first, is.to_last)
 place_inside R250 c h r is = omega (arith, is.cylinder, is.head, is.from_first, is.to_last)
 
--- it stands behind the sectors of the tracks before its own
+-- a sector comes after all sectors of the tracks before its own
 pub place_is : (sectors c h r w : ℕ) → 1 ≤ r → (c * 2 + h) * sectors ≡ w → sector_place sectors c h r ≡ w * 512 + 512 * (r - 1)
 place_is sectors c h r w least same = omega (arith, same, least)
 
@@ -53,11 +54,11 @@ one_track c h b g small other same = (omega arith, omega arith)
 
 -- ---- Parts for numbers.
 
--- what holds at some time: of what was found, the course so far, and the world
+-- a fact at some time about what was found, the course so far, and the world
 abbrev pub Fact : Type 0 → Type 1
 Fact Found = Found → List Taken → World → Type 0
 
--- one fact before a part, and another behind it
+-- if one fact holds before a part, another holds after it
 abbrev pub Takes : {Found : Type 0} → Fact Found → Fact Found → Found → Known Found
 Takes {Found = Found} P Q begun old course found mid = (before : List Taken) → P begun before old → Q found (before ++ course) mid
 
@@ -92,7 +93,7 @@ each_takes P part a (suc n) end sum takes found rest old course new runs =
       left = later.left;
     }
 
--- each track of 80 cylinders with two heads, by its number
+-- the parts for each track of 80 cylinders with two heads, by the number of the track
 pub tracks_take : {Found : Type 0} (P : ℕ → Fact Found) (part : ℕ → ℕ → Found → Part Found)
     → ((c h : ℕ) → c < 80 → h < 2 → (found : Found) → Passes status.AllOk (part c h found) (Takes (P (c * 2 + h)) (P (c * 2 + h + 1)) found))
     → (found : Found) → Passes status.AllOk (by_track 80 2 part found) (Takes (P 0) (P 160) found)
@@ -106,7 +107,7 @@ tracks_take {Found} P part takes =
     let more : c * 2 + h + 1 ≡ c * 2 + (h + 1) = omega arith in
     subst (λ k. Passes status.AllOk (part c h now) (Takes (P (c * 2 + h)) (P k) now)) more (takes c h small below now)) found)))
 
--- memory that was there
+-- if a run ended well, memory was there
 pub fed : (rest : Unit {0} → Script) (old : World) (course : List Taken) (new : World) → RunsScript (may_starve rest) old course new status.AllOk
     → RunsScript (rest tt) old course new status.AllOk
 unfolding may_starve
@@ -144,7 +145,7 @@ one_done asked old new course did =
           done_does old.state new.state old.files new.files asked first.answer step first.done;
     }
 
--- no count fell since the start, and this holds where the drive of bay 0 had no fault since
+-- No count fell since the start. If the drive of bay 0 had no fault since then, this holds.
 pub record Since (start : Counters) (P : World → Type 0) (now : World) : Type 0 where
   pub fell : NeverFell start (counts now)
   pub holds : IsFaultless 0 start (counts now) → P now

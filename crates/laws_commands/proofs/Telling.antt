@@ -1,4 +1,5 @@
--- What the reads of a rescue tell, and what its log has, where nothing disturbs them and no address field can be mistaken.
+-- What the reads of a rescue tell, and what its log has, if nothing disturbs the reads and no address field can be
+-- mistaken.
 use Rattle.std.proofs.Common.{arith, ◌≡◌, ◌∙◌, ◌≤◌, ℕ, Bool, true, false, List, [], ◌∷◌, refl, sym, subst, inl, inr, Option, None, Result, Ok, Err, ◌++◌, map, ap}
 use Rattle.std.proofs.lemmas.Bool.{cases_lt}
 use Rattle.std.specs.List.{AllByRecursion}
@@ -35,7 +36,7 @@ use Rattle.laws_commands.specs.Rescued.{failing_lines, line_at, log_of, IsNotFou
 use Rattle.laws_commands.proofs.Gone.{call_fell, line_of_refused, line_of_done, read_done, IsRead, IsWrite, GoesKeys, fell_both, write_fell, keys_fell}
 use Rattle.laws_commands.proofs.RescueRecords.{IsAsked, write_does}
 
--- the refusal of a read, if it was one
+-- the refusal of a read, if the read was refused
 abbrev pub told_by : Chrn → Result Bool Code → List (Chrn × Code)
 told_by key called = refused_read (request.Read 0 key 0x10000) (read_reply called)
 
@@ -43,14 +44,14 @@ none_told : (key : Chrn) (deleted : Bool) → told_by key (Ok deleted) ≡ []
 none_told key true = refl
 none_told key false = refl
 
--- a read told the one look for its key
+-- a read told the answer of the look for its key, which has only one answer
 pub record TellsKey (disk : Disk) (count : ℕ) (key : Chrn) (called : Result Bool Code) (new : StationState) : Type 0 where
   pub look : Look
   pub one : (other : Look) → LookOn disk key other → other ≡ look
   pub told : told_by key called ≡ told_of key look
   pub holds : Holds disk count new
 
--- a key of no track
+-- a key on whose cylinder and head the disk has no track
 module _ (disk : Disk) (count : ℕ) (key : Chrn) (asked : IsAsked disk key) (none : HasTrack disk key.c key.h → ⊥) (old new : StationState)
     (holds : Holds disk count old) (quiet : IsUndisturbed 0 old.counters new.counters) (fell : NeverFell old.counters new.counters) where
   nothing : HasNothing (met (bay_of old 0) key.c key.h)
@@ -95,11 +96,11 @@ module _ (disk : Disk) (count : ℕ) (key : Chrn) (asked : IsAsked disk key) (no
 
 -- ---- what the log has
 
--- the lines of refusals
+-- the log lines of refusals
 abbrev lines_of : List (Chrn × Code) → List LogLine
 lines_of refused = map (λ (told : Chrn × Code). record { key = told.0; code = told.1 }) refused
 
--- the lines of one key more
+-- the log lines of one more key
 lines_more : (key : Chrn) (look : Look) (failed rest : List (Chrn × Look)) (refused : List (Chrn × Code)) (lines later : List LogLine)
     → failed ≡ unless_found key look ++ rest → refused ≡ told_of key look → lines ≡ lines_of refused → later ≡ failing_lines rest
     → lines ++ later ≡ failing_lines failed
@@ -152,7 +153,7 @@ module _ (disk : Disk) (few_cylinders : disk.cylinders ≤ 80) (few_heads : disk
       holds_on disk count old.state.station new.state.station holds
       (ap (λ (s : State). bay_of s.station 0) same ∙ ap (λ (s : StationState). bay_of s 0) drive.becomes) faults
 
-  -- what is logged isn't found
+  -- the records that are logged aren't found on the disk
   pub lost_keys : (keys : List Chrn) (old : World) (course : List Taken) (new : World) → GoesKeys keys old course new
       → AllByRecursion (IsAsked disk) keys → Holds disk count old.state.station
       → IsUndisturbed 0 old.state.station.counters new.state.station.counters

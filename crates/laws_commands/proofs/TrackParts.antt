@@ -19,7 +19,7 @@ use Rattle.laws_commands.specs.Requests.{Track, heads_of, tracks_of, format_each
 use Rattle.laws_commands.specs.Done.{DoesAll}
 use Rattle.laws_commands.proofs.Steps.{begins, ends_there}
 
--- a part for each track is one for each of a list
+-- a part for each track of a disk is a part for each track of a list
 pub tracks_part : {Found : Type 0} (cylinders heads : ℕ) (part : ℕ → ℕ → Found → Part Found) (found : Found) (rest : Found → Script)
     → by_track cylinders heads part found rest ≡ through (λ (track : Track). part track.0 track.1) (tracks_of cylinders heads) found rest
 unfolding tracks_of
@@ -28,7 +28,7 @@ tracks_part {Found} cylinders heads part found rest =
     each_nested on 0 cylinders (λ c. each 0 heads (part c)) (heads_of heads)
     (λ c now next. each_named on 0 heads (part c) (λ h. (c, h)) (λ h then last. refl) now next) found rest
 
--- a part for each record of a track is one for each key
+-- a part for each record of a track is a part for each key of a list
 pub records_part : {Found : Type 0} (sectors c h : ℕ) (part : ℕ → Found → Part Found) (on : Chrn → Found → Part Found)
     → ((r : ℕ) (found : Found) (rest : Found → Script) → part r found rest ≡ on (key_of c h r) found rest)
     → (found : Found) (rest : Found → Script) → each 1 sectors part found rest ≡ through on (track_keys sectors c h) found rest
@@ -48,7 +48,7 @@ formats_pass bay cylinders heads =
     (tracks_part cylinders heads (formats bay) tt)
     (through_does status.AllOk (λ (track : Track). formats bay track.0 track.1) one (λ track. carries_passes (request.Format bay track.0 track.1)) tracks))
 
--- the requests of a part, and of one that the last line follows
+-- the requests of a part were done, and below it the same when a last line follows
 pub did_all : (requests : List Request) (old : World) (course : List Taken) (new : World) → Did requests old course new
     → DoesAll requests old.state old.files course new.state new.files
 did_all requests old course new did = record { run = did.run; all = did.all; done = did.fine }

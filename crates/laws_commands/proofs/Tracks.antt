@@ -33,7 +33,7 @@ among_cylinders heads a (suc n) c h least most head = elim (cases_eq a c) [
   | inr other ↦ among_second (heads_of heads a) _ c h (among_cylinders heads (a + 1) n c h (omega arith) (omega arith) head)
 ]
 
--- all tracks of a disk are among its tracks
+-- each track of a disk is among the disk's list of tracks
 pub among_all : (cylinders heads c h : ℕ) → c < cylinders → h < heads → Among (tracks_of cylinders heads) c h
 unfolding tracks_of
 among_all cylinders heads c h cylinder head = among_cylinders heads 0 cylinders c h (omega arith) (omega arith) head
@@ -55,7 +55,7 @@ only_cylinders heads a (suc n) c h among = elim (among_apart (heads_of heads a) 
   | inr later ↦ let rest = only_cylinders heads (a + 1) n c h later in (omega (arith, rest.0), rest.1)
 ]
 
--- and no others
+-- the list has no other tracks
 pub among_only : (cylinders heads c h : ℕ) → Among (tracks_of cylinders heads) c h → (c < cylinders) × (h < heads)
 unfolding tracks_of
 among_only cylinders heads c h among = let at = only_cylinders heads 0 cylinders c h among in (omega (arith, at.0), at.1)

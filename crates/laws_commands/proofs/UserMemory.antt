@@ -16,7 +16,7 @@ byte_from memory place count k below = get_or-take count (drop place memory) k 0
 pub length-bytes_from : (memory : List ℕ) (place count : ℕ) → place + count ≤ length memory → length (bytes_from memory place count) ≡ count
 length-bytes_from memory place count inside = omega (arith, length-take count (drop place memory), length-drop place memory)
 
--- what is before a range stays
+-- the bytes before a range stay when the range is set
 pub below_stays : (memory : List ℕ) (address : ℕ) (bytes : List ℕ) (place count : ℕ) → address + length bytes ≤ length memory
     → place + count ≤ address → bytes_from (with_items memory address bytes) place count ≡ bytes_from memory place count
 below_stays memory address bytes place count fits below =
@@ -30,7 +30,7 @@ below_stays memory address bytes place count fits below =
     ∙ with_items_before memory address bytes fits (place + k) (omega arith)
     ∙ sym (byte_from memory place count k inside))
 
--- what is put at a range stands there
+-- the bytes that are put at a range are there
 pub at_stands : (memory : List ℕ) (address : ℕ) (bytes : List ℕ) (count : ℕ) → length bytes ≡ count → address + length bytes ≤ length memory
     → bytes_from (with_items memory address bytes) address count ≡ bytes
 at_stands memory address bytes count sized fits =

@@ -50,7 +50,7 @@ standard_all disk =
 
 -- ---- the disk of a name
 
--- the file of a name is the image of one disk
+-- the file of a name is the image of only one disk
 pub one_image : (files : Files) (name : List ℕ) (a b : Disk) → IsImageOf (Some files) name a → IsImageOf (Some files) name b → a ≡ b
 one_image files name a b one two = go (file_at files name) one two
   where
@@ -62,7 +62,7 @@ one_image files name a b one two = go (file_at files name) one two
     go None x y = absurd x
     go (Some bytes) x y = same (image_of bytes) x.1 y.1
 
--- such a disk has ranges
+-- the fields of such a disk are in range
 pub image_ranges : (files : Files) (name : List ℕ) (disk : Disk) → IsImageOf (Some files) name disk
     → (disk.cylinders ≤ 80) × (disk.heads ≤ 2) × (1 ≤ disk.cylinders)
 image_ranges files name disk is = go (file_at files name) is
@@ -74,7 +74,7 @@ image_ranges files name disk is = go (file_at files name) is
 
 -- ---- the opening
 
--- bay 0 after the opening of a run that ends with these counters
+-- bay 0 is ready after the opening, and nothing disturbs it until the run ends with these counters
 record IsOpened (disk : Disk) (new : State) (end : Counters) : Type 0 where
   pub count : ℕ
   pub holds : Holds disk count new.station
@@ -135,7 +135,7 @@ opening_tells name disk (one ∷ two ∷ later) all =
         ap (λ (q : Request). refused_read q taken.answer ++ []) asked
     go R250 (taken ∷ next ∷ later) all = absurd (cc all)
 
--- the reads of a whole disk tell of its standard keys that aren't found
+-- the reads of a whole disk tell which of its standard keys aren't found
 pub disk_tells : (old new : State) (files : Files) (name : List ℕ) (disk : Disk) (course : List Taken) (after : Option Files) (failed : List (Chrn × Look))
     → ReadsDisk name disk old files course new after → IsUndisturbed 0 old.station.counters new.station.counters → IsUnmistaken disk
     → AreFailing disk (standard_keys disk) failed → refused_reads course ≡ all_told_of failed

@@ -1,4 +1,4 @@
--- The command that verifies tells of the keys that aren't found.
+-- The command that verifies tells which keys aren't found.
 use Rattle.std.proofs.Common.{arith, map, ◌≡◌, ◌∙◌, ◌+◌, ◌*◌, ℕ, nat_le, Bool, true, false, List, [], ◌∷◌, ◌++◌, length, refl, sym, ap, subst, append_assoc, Option, Some, None, Result, Ok, Err, le-leb, ◌-◌}
 use Rattle.std.specs.Prelude.{◌||◌}
 use Rattle.std.specs.List.{flat_map, range_with_len}
@@ -53,12 +53,12 @@ type_of {T = T} value = T
 abbrev pub Tally : Type 0
 Tally = type_of no_reads
 
--- so it is after so many reads, so many of which were refused
+-- the tally after this many reads, of which this many were refused
 pub record IsTally (reads refused : ℕ) (tally : Tally) : Type 0 where
   pub well : tally.well + refused ≡ reads
   pub some : tally.refused ≡ nat_le 1 refused
 
--- keys were read, each that was refused was told, and the others were counted
+-- The keys were read. A line was printed for each read that was refused, and the others were counted.
 pub record Verifies (keys : List Chrn) (begun : Tally) (old : World) (course : List Taken) (found : Tally) (mid : World) : Type 0 where
   pub run : Run old.state old.files course mid.state mid.files
   pub all : requests_of course ≡ read_each 0 keys
@@ -73,7 +73,7 @@ pub grown_twice : (report : Option (List (List ℕ))) (one two : List (List ℕ)
 grown_twice None one two = refl
 grown_twice (Some told) one two = ap (λ (l : List (List ℕ)). Some l) (append_assoc told one two)
 
--- after one more read
+-- the tally after one more read that wasn't refused
 one_well : (tally : Tally) (n before : ℕ) → IsTally n before tally → IsTally (n + 1) (before + 0) (one_more tally false)
 one_well tally n before is = record {
   well = let well = is.well in omega (arith, well);
@@ -91,16 +91,16 @@ one_bad tally n before is = record { well = let well = is.well in omega (arith, 
     go true = refl
     go false = refl
 
--- a record is read, and told where it can't be
+-- a record is read, and a line is printed if it can't be read
 abbrev verifies_key : Chrn → Tally → Part Tally
 verifies_key key tally rest = asks (request.Read 0 key 0x10000) (λ answer after. tells_failure key answer (λ none. rest (one_more tally (is_refusal answer))))
 
 module _ (ended : Status) (whole : IsWhole ended) (rest : Tally → Script) (new : World) where
-  -- these keys are left, and were read
+  -- these keys were left, and were read
   abbrev KeysPassed : List Chrn → Tally → World → List Taken → Type 0
   KeysPassed keys tally old course = Passed (Verifies keys tally) rest old course new ended
 
-  -- behind a read that was answered, and what was told of it
+  -- the keys left after a read that was answered, with what was printed of it
   more : (key : Chrn) (keys : List Chrn) (tally : Tally) (old mid : World) (taken : Taken) (later : List Taken) (refused : Bool) (failed : List (Chrn × Code))
       → taken.asked ≡ request.Read 0 key 0x10000 → Step taken.asked old.state old.files taken.answer taken.after mid.files → mid.state ≡ taken.after
       → refused_read (request.Read 0 key 0x10000) taken.answer ≡ failed → mid.report ≡ grown old.report (map failing_line failed)
@@ -249,7 +249,7 @@ module _ (name : List ℕ) (disk : Disk) (files : Files) (old : World) (course :
   whole : IsWhole ended
   whole = end_is_whole ended ends
 
-  -- what was asked
+  -- the requests of a verify were run
   all_read : (mid last : World) (one two : List Taken) (found : Tally) → Did (verify_opening name disk) old one mid
       → Verifies (standard_keys disk) no_reads mid two found last → new.state ≡ last.state
       → ReadsDisk name disk old.state files (one ++ two) new.state last.files
@@ -266,7 +266,7 @@ module _ (name : List ℕ) (disk : Disk) (files : Files) (old : World) (course :
         opened = ap has_refusal (take_at one two (length (verify_opening name disk)) same_length) ∙ opening.fine;
       }
 
-  -- what was told
+  -- the lines of a verify were printed
   all_told : (failed : List (Chrn × Code)) (mid last : World) (two : List Taken) (found : Tally) → mid.report ≡ old.report
       → Verifies (standard_keys disk) no_reads mid two found last → refused_reads two ≡ failed
       → Prints (verify_text found.well (sectors_of (shape_of disk)) ∷ [])

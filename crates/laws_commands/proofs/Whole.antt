@@ -1,4 +1,5 @@
--- Rescues, by the status with which they end: what is stored and told, and when the log is exactly the keys that aren't found.
+-- Rescues, by the status with which they end. This file has what they store and tell, and when the log is exactly the
+-- keys that aren't found.
 use Rattle.std.proofs.Common.{◌≡◌, ◌∙◌, List, [], ◌∷◌, ◌++◌, ℕ, length, ap, subst, inl, inr, append-nil, Option, Some, arith, ◌+◌, Bool, true, false, true≢false, refl, sym, append_assoc, ◌↔◌, None, ◌≢◌, ◌≤◌, ◌-◌}
 use Rattle.std.specs.Prelude.{is_some, ◌⊎◌, Contains, IfSome, All}
 use Rattle.std.specs.List.{list_all}
@@ -60,7 +61,7 @@ use Rattle.laws_commands.proofs.Telling.{lost_keys, tells_keys}
 
 -- ---- the new log
 
--- it was stored, and the last line printed
+-- the new log was stored, and the last line was printed
 pub record StoresLog (log : List ℕ) (asked : ℕ) (lines : List LogLine) (old : World) (course : List Taken) (new : World) (ended : Status) : Type 0 where
   pub nothing : course ≡ []
   pub state : new.state ≡ old.state
@@ -94,20 +95,21 @@ module _ (log : List ℕ) (asked : ℕ) (lines : List LogLine) (old : World) (co
   log_stored (inl runs) = let last = last_stored log (log_text lines) _ _ old course new ended runs in file_stored last.0 last.1
   log_stored (inr starved) = absurd (subst IsEndStatus starved.2 whole)
 
--- a last line with another status than 0 or 1 was no such end
+-- a last line with another status than 0 or 1 isn't such an end
 ends_not : (line : List (List ℕ)) (wanted : Status) (old : World) (course : List Taken) (new : World) (ended : Status)
     → IsEndStatus ended → (IsEndStatus wanted → ⊥) → RunsScript (Ends line wanted) old course new ended → ⊥
 ends_not line wanted old course new ended whole bad runs =
     let last = last_run line wanted old course new ended runs in
     bad (subst IsEndStatus (prints_status old.report line wanted ended new.report (not_put ended whole) last.1.report).1 whole)
 
--- what comes behind a line of the new log for each record that wasn't read
+-- what comes after the records, with the lines of those that weren't read
 abbrev Behind : List ℕ → List Chrn → List LogLine → Script
 Behind log keys lines = carries (request.Eject 1) (λ still. stores_log log (length keys) lines)
 
 -- ---- the whole
 
--- requests were done, then records were gone through, and the other diskette was stored, each with its part of the course; then the log
+-- The requests were done. Then the records were gone through, and the other diskette was stored. Each of these has its
+-- part of the course. Then the log was stored.
 pub record GoesThrough (requests : List Request) (keys : List Chrn) (log : List ℕ) (files : Files)
     (old : World) (course : List Taken) (new : World) (ended : Status) : Type 0 where
   pub opened : World
@@ -162,7 +164,7 @@ pub record RescuesDisk (from to log : List ℕ) (disk : Disk) (files : Files) (o
 
 module _ (from to log : List ℕ) (disk : Disk) (files : Files) (old : World) (course : List Taken) (new : World) (ended : Status) (whole : IsEndStatus ended)
     (fine : IsNotStopped course) (told : old.files ≡ Some files) where
-  -- behind the disk that was put in, by the log that was found
+  -- the script after the disk was put in, by the log that was found
   by_found : {rest : Shape → Script} (a : Passed (Opened from) rest old course new ended) (found : Option (List LogLine))
       → IsLogFound (Some files) log (sectors_at disk.rate) found
       → RunsScript (rescue_found to log (shape_of disk) found) a.mid a.two new ended → RescuesDisk from to log disk files old course new ended
@@ -214,7 +216,7 @@ plain_reads (taken ∷ later) e key (inr there) =
     let both = and_both (is_plain taken.asked) (list_all is_plain (requests_of later)) e in
     plain_reads later both.1 key there
 
--- nor writes one
+-- no step of the course writes a key
 plain_writes : (course : List Taken) → list_all is_plain (requests_of course) ≡ true → count_writes course ≡ 0
 plain_writes [] e = refl
 plain_writes (taken ∷ later) e =
@@ -233,7 +235,7 @@ log_join (taken ∷ one) two =
     ap (λ (row : List LogLine). line_at taken.asked taken.answer ++ row) (log_join one two)
     ∙ sym (append_assoc (line_at taken.asked taken.answer) (log_of one) (log_of two))
 
--- no line where nothing was refused
+-- a course in which nothing was refused has no log lines
 done_lines : (course : List Taken) → has_refusal course ≡ false → log_of course ≡ []
 done_lines [] e = refl
 done_lines (taken ∷ later) e =
@@ -241,7 +243,7 @@ done_lines (taken ∷ later) e =
     let first = line_of_done taken.asked taken.answer parts.0 in
     rw first (done_lines later parts.1)
 
--- a step of a course is one of either part
+-- a step of a course is a step of one of the course's two parts
 some_either : (P : Taken → Type 0) (one two : List Taken) → SomeStep P (one ++ two) → SomeStep P one ⊎ SomeStep P two
 some_either P [] two some = inr some
 some_either P (taken ∷ one) two (inl here) = inl (inl here)
@@ -249,7 +251,8 @@ some_either P (taken ∷ one) two (inr there) = elim (some_either P one two ther
 
 -- ---- the other diskette
 
--- where the records are saved to, in the beginning: a new diskette with Laid fields, or that of an earlier run
+-- The diskette to which records are saved, as it is in the beginning. It is a new diskette with Laid fields, or that of
+-- an earlier run.
 pub record IsDiskette (disk target : Disk) (found : Option (List LogLine)) (start : Disk) : Type 0 where
   pub shape : HasShapeOf (diskette_for found disk target) start
   pub valid : StillHolds IsDisk found target start
@@ -261,7 +264,7 @@ new_diskette disk target start is = record { shape = is.shape; valid = is.valid;
 pub same_diskette : (disk target : Disk) (lines : List LogLine) → IsDiskette disk target (Some lines) target
 same_diskette disk target lines = record { shape = shape_itself target; valid = λ is. is; laid = λ is. is }
 
--- what it keeps it has in the end, too
+-- if saving keeps a fact about the diskette, the fact also holds in the end
 holds_on : (Such : Disk → Type 0) (found : Option (List LogLine)) (target start final : Disk) → (Such start → Such final) → StillHolds Such found target start
     → StillHolds Such found target final
 holds_on Such None target start final keeps such = keeps such
@@ -269,7 +272,7 @@ holds_on Such (Some lines) target start final keeps such = λ had. keeps (such h
 
 -- ---- what is stored
 
--- parts of a run whose writes are Tidy
+-- if the writes of a run are Tidy, those of its parts are
 tidy_first : (old : State) (one two : List Taken) → AreTidy old (one ++ two) → AreTidy old one
 tidy_first old [] two tidy = tt
 tidy_first old (taken ∷ one) two tidy = (tidy.0, tidy_first taken.after one two tidy.1)
@@ -278,7 +281,7 @@ tidy_later : (old new : State) (told after : Option Files) (one two : List Taken
 tidy_later old new told after [] two run tidy = subst (λ (s : State). AreTidy s two) (sym run.0) tidy
 tidy_later old new told after (taken ∷ one) two run tidy = tidy_later taken.after new run.0 after one two run.2 tidy.1
 
--- a part of a run brings up no mark where the whole doesn't
+-- if a run brings up no address mark, a part of it doesn't either
 unmarked_part : (old new : State) (told after : Option Files) (one two last : List Taken) (disk : Disk) → Run old told one new after
     → BringsUpNoMark disk old (one ++ (two ++ last)) → BringsUpNoMark disk new two
 unmarked_part old new told after one two last disk run (inl laid) = inl laid
@@ -306,7 +309,7 @@ module _ (from to log : List ℕ) (disk : Disk) (found : Option (List LogLine)) 
   last_plain : list_all is_plain (requests_of p.last) ≡ true
   last_plain = ap (λ (row : List Request). list_all is_plain row) p.ejects.all
 
-  -- the log and the writes are those of the records
+  -- the log lines of the whole course are those of the records
   pub log_is : log_of course ≡ log_of p.body
   log_is =
       ap log_of p.is ∙ log_join p.top (p.body ++ p.last) ∙ ap (λ (row : List LogLine). row ++ log_of (p.body ++ p.last)) (done_lines p.top p.opens.done)
@@ -322,7 +325,7 @@ module _ (from to log : List ℕ) (disk : Disk) (found : Option (List LogLine)) 
       let all = keys_counted keys p.opened p.body p.rescued p.goes in
       omega (arith, above, below, first, more, lines, all)
 
-  -- and so are its reads
+  -- the reads of the whole course are those of the records
   inner : (P : Taken → Type 0) (key : Chrn) → ((taken : Taken) → P taken → ReadsKey key taken) → SomeStep P course → SomeStep P p.body
   inner P key reads some = elim (some_either P p.top (p.body ++ p.last) (subst (SomeStep P) p.is some)) [
     | inl above ↦ absurd (plain_reads p.top top_plain key (some_apart P (ReadsKey key) p.top reads above))
@@ -349,7 +352,7 @@ module _ (from to log : List ℕ) (disk : Disk) (found : Option (List LogLine)) 
   pub fell_opened : Fell p.opened new
   fell_opened = fell_both p.opened p.rescued new (keys_fell keys p.opened p.body p.rescued p.goes) fell_rescued
 
-  -- what isn't asked for wasn't read
+  -- a record that wasn't asked for wasn't read
   unread : (key : Chrn) → (Contains keys key → ⊥) → WasNotRead course key
   unread key never deleted content some =
       let reads = keys_read keys (asked_distinct disk files log found there) p.opened p.body p.rescued p.goes in
@@ -381,7 +384,7 @@ module _ (from to log : List ℕ) (disk : Disk) (found : Option (List LogLine)) 
           never_both key logged.code kept.deleted kept.content one.0 one.1 one.2;
     }
 
-    -- what the reads gave is of the first disk
+    -- what the reads gave comes from the first disk
     given_of : (sure : Type 0) → (sure → IsSure disk p.opened.state.station.counters p.rescued.state.station.counters) → (key : Chrn) (deleted : Bool)
         (content : List ℕ) → SomeStep (Gave key deleted content) course → IsGivenOf disk sure key deleted content
     given_of sure calm key deleted content some =
@@ -443,7 +446,8 @@ module _ (from to log : List ℕ) (disk : Disk) (found : Option (List LogLine)) 
           };
         }
 
-    -- a record that was saved is the sector of the first disk, where its drive had no fault, and nothing was refused
+    -- A record that was saved is the first disk's sector, if the first disk is regular, its drive had no fault, and
+    -- nothing was refused.
     same_sector : IsRegularDisk disk → IsFaultless 0 old.state.station.counters new.state.station.counters → log_of course ≡ [] → (key : Chrn)
         → IsLogged course (log_of course) key ⊎ IsSaved course saves.final key → HaveSameSector disk saves.final key
     same_sector regular faultless none key (inl logged) =
@@ -458,7 +462,7 @@ module _ (from to log : List ℕ) (disk : Disk) (found : Option (List LogLine)) 
         let found = saved.entry.content in
         (saved.deleted, saved.content, given.sector tt, (saved.place, found.0, saved.entry.address, found.1, found.2))
 
-  -- the records are saved to the other disk, as it is in the beginning
+  -- the records are saved to the other disk, from how it is in the beginning
   saves_all : (start : Disk) → HasOther start to files p.opened.state p.opened.files → BringsUpNoMark start p.opened.state p.body
       → IsFaultless 1 old.state.station.counters new.state.station.counters → SavesKeys course (log_of course) keys start p.opened p.body p.rescued
   saves_all start has unmarked faultless =
@@ -472,7 +476,8 @@ module _ (from to log : List ℕ) (disk : Disk) (found : Option (List LogLine)) 
       (asked_all disk files log found few.0 few.1 there) (asked_distinct disk files log found there)
       has.regular has.size has.medium unmarked (omega (arith, fell_top.second, fell.second, faultless.0), omega (arith, fell.second, faultless.1))
 
-  -- where nothing was refused, and no drive had a fault, a disk with the same sectors for the asked keys is stored, and then an empty log
+  -- If nothing was refused, and no drive had a fault, a disk with the same sectors for the asked keys is stored, and
+  -- then an empty log.
   pub record SavesSame (target start : Disk) : Type 0 where
     pub final : Disk
     pub shape : HasShapeOf (diskette_for found disk target) final
@@ -540,7 +545,7 @@ module _ (from to log : List ℕ) (disk : Disk) (found : Option (List LogLine)) 
             p.opened p.body p.rescued p.goes (asked_all disk files log found few.0 few.1 there) failing first.1 calm.0;
       }
 
--- ---- both ways to begin
+-- ---- both ways to begin: with a new diskette, and with that of an earlier run
 
 pub rescue_stores : (from to log : List ℕ) (disk target : Disk) (files : Files) (old : World) (course : List Taken) (new : World) (ended : Status)
     → Rescues from to log old course new ended → IsEndStatus ended → IsNotStopped course → to ≢ log → old.files ≡ Some files → IsImageOf (Some files) from disk

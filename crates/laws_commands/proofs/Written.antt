@@ -1,4 +1,4 @@
--- Writes of the records of a formatted track in a bay.
+-- Writes of the records of a formatted track, in one bay.
 use Rattle.std.proofs.Common.{arith, ◌≡◌, ◌≢◌, ◌↔◌, ◌∙◌, ◌+◌, ◌<◌, ◌≤◌, ℕ, zero, suc, Bool, true, false, List, [], ◌∷◌, length, refl, sym, ap, subst, Option, Some, Result, IsOk}
 use Rattle.std.specs.List.{list_all}
 use Rattle.std.specs.Prelude.{◌==◌, if◌then◌else◌}
@@ -35,17 +35,17 @@ use Rattle.laws_commands.proofs.UserMemory.{length-bytes_from}
 use Rattle.laws_commands.proofs.Steps.{NeverFell, begins, ends_there, step_never_fell, never_fell, keeps_drives, ok_called, reached}
 use Rattle.laws_commands.proofs.WrittenHere.{WritesHere, writes_here}
 
--- on Laid tracks no write brings up an address mark, however short it stops
+-- writes to Laid tracks are Tidy: they bring up no address mark, however short they stop
 abbrev pub AllTidy : Type 0
 AllTidy = (track : List ℕ) (p : ℕ) (deleted : Bool) (content : List ℕ) → IsLaid track → HasFieldFor track p content → IsTidy track p deleted content
 
 -- ---- one bay of two
 
--- bay 0 stays where the other gets a value
+-- bay 0 stays when the other bay gets a value
 pub first_stays : {T : Type 0} (two : Two T) (bay : ℕ) (value : T) → (bay == 0) ≡ false → in_bay (with_bay two bay value) 0 ≡ two.first
 first_stays {T} two bay value other = rw other refl
 
--- no count of a bay's faults fell
+-- the count of faults of a bay's drive didn't fall
 pub fell_at : (bay : ℕ) (old new : Counters) → NeverFell old new → faults_of old bay ≤ faults_of new bay
 fell_at bay old new fell = go (bay == 0)
   where
@@ -55,14 +55,14 @@ fell_at bay old new fell = go (bay == 0)
 
 -- ---- one write
 
--- both writes are the driver's, with their marks
+-- a write with either mark is a call of the driver
 write_does : (bay : ℕ) (key : Chrn) (deleted : Bool) (old new : State) (told after : Option Files) (answer : Reply)
     → Does (write_record bay key deleted) old told answer new after
     → IsDriverCall old told new after × ((called : Result (Unit {0}) Code) × (answer ≡ reply_of called) × WritesTo bay key (record_address key.r) deleted old.station called new.station)
 write_does bay key true old new told after answer does = does
 write_does bay key false old new told after answer does = does
 
--- what the write of a record to a formatted track made of the disk in a bay
+-- what the write of a record to a formatted track did to the disk in a bay
 pub record WritesOne (bay : ℕ) (disk : Disk) (c h r : ℕ) (deleted : Bool) (old : State) (told : Option Files) (new : State) (after : Option Files) : Type 0 where
   pub next : Disk
   pub medium : (bay_of new.station bay).medium ≡ Some next
@@ -78,7 +78,7 @@ pub record WritesOne (bay : ℕ) (disk : Disk) (c h r : ℕ) (deleted : Bool) (o
   pub names : new.names ≡ old.names
   pub files : after ≡ told
 
--- such a write is Tidy, so its whole window stands
+-- such a write is Tidy, so that the track then has its whole window
 module _ (tidy : AllTidy) (bay c h r : ℕ) (deleted : Bool) (disk : Disk) (regular : IsRegularDisk disk) (has : HasTrack disk c h) (laid : IsLaid (track_of disk c h)) (p : ℕ) (address : IsAddressAt (track_of disk c h) p (key_of c h r)) (old new : StationState) (size : length old.memory ≡ user_bytes) (few : record_address r + 512 ≤ user_bytes) (called : Result (Unit {0}) Code) (drive : WritesDrive (written_from old (key_of c h r) (record_address r) deleted) bay old called new) (ok : IsOk called) (faultless : IsFaultless bay old.counters new.counters) (medium : (bay_of old bay).medium ≡ Some disk) (rate : (bay_of old bay).rate ≡ disk.rate) where
   abbrev content : List ℕ
   content = bytes_from old.memory (record_address r) 512
@@ -124,7 +124,7 @@ one_write tidy bay disk c h r p deleted old new told after answer regular has la
 
 -- ---- the records of a track
 
--- the disk has each record from a on with its mark and what memory has at its place
+-- the disk has each record from a on, with its mark and with what is at its place in memory
 abbrev pub AreCopied : Disk → List ℕ → ℕ → ℕ → ℕ → List Bool → Type 0
 AreCopied disk memory c h a [] = Unit {0}
 AreCopied disk memory c h a (deleted ∷ marks) =
@@ -135,7 +135,7 @@ AreCopied disk memory c h a (deleted ∷ marks) =
 abbrev pub HasSome : Disk → ℕ → ℕ → ℕ → Type 0
 HasSome disk c h r = (place : ℕ) × (deleted : Bool) × (content : List ℕ) × IsOnMap disk (copied_entry c h r place deleted content)
 
--- what the writes of records from a on, with these marks, made of the disk in a bay
+-- what the writes of the records from a on, with these marks, did to the disk in a bay
 pub record WritesAll (bay : ℕ) (disk : Disk) (c h a : ℕ) (marks : List Bool) (old : State) (told : Option Files) (new : State) (after : Option Files) : Type 0 where
   pub final : Disk
   pub medium : (bay_of new.station bay).medium ≡ Some final

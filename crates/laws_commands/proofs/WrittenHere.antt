@@ -1,4 +1,5 @@
--- A write to a regular disk, behind the one address field of its key, where that is Tidy: the whole window stands.
+-- A write to a regular disk, behind the only address field of its key. If it is Tidy there, the track then has the
+-- whole window.
 use Rattle.std.proofs.Common.{arith, ◌≡◌, ◌≢◌, ◌↔◌, ◌+◌, ◌≤◌, ℕ, Bool, List, [], ◌∷◌, ◌++◌, length, sym, subst, inl, Option, Some, Result, IsOk}
 use Rattle.flop_base.specs.declared.key.Chrn.{Chrn}
 use Rattle.flop_base.specs.declared.answers.Code.{Code}
@@ -35,7 +36,7 @@ reaches_in written before after disk next changes e f reach =
 
 -- ---- the write
 
--- what such a write made of the disk
+-- what such a write did to the disk
 pub record WritesHere (bay : ℕ) (disk : Disk) (key : Chrn) (p address : ℕ) (deleted : Bool) (old new : StationState) : Type 0 where
   pub next : Disk
   pub medium : (bay_of new bay).medium ≡ Some next
@@ -70,7 +71,7 @@ module _ (bay : ℕ) (key : Chrn) (address : ℕ) (deleted : Bool) (disk : Disk)
   has_after : HasTrack alone.after key.c key.h
   has_after = (alike_tracks disk alone.after key.c key.h keeps_others.alike).0 has
 
-  -- the track is a cut of such a track, at this cylinder and place, by so many words
+  -- the track is a cut of the track of `mid`, at this cylinder and place, with this many words
   abbrev HasCut : Disk → ℕ → ℕ → ℕ → Type 0
   HasCut mid b q k =
       (track_of alone.after b key.h ≡ cut_of (track_of mid b key.h) q k (window_of written)) × (window_word q + k ≤ length (track_of mid b key.h))
@@ -95,7 +96,7 @@ module _ (bay : ℕ) (key : Chrn) (address : ℕ) (deleted : Bool) (disk : Disk)
       let at_place = subst (λ (q : ℕ). HasCut mid key.c q change.words) place at_cylinder in
       (mid, subst (λ (k : ℕ). HasCut mid key.c p k) last.3 at_place)
 
-  -- so the track has the whole window
+  -- the track therefore has the whole window
   window_stands : track_of alone.after key.c key.h ≡ with_window (track_of disk key.c key.h) p deleted content
   window_stands =
       whole_is (track_of disk key.c key.h) (track_of last_whole.0 key.c key.h) (window_of written) (track_of alone.after key.c key.h) (window_word p) alone.words

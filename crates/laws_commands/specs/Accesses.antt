@@ -2,6 +2,6 @@
 use Rattle.std.specs.Prelude.{ℕ, ◌+◌, ◌≤◌}
 use Rattle.sector_model.specs.Plays.{World}
 
--- between two worlds the station was accessed past the driver at most so often: media that were put in or taken out
+-- Between two worlds the station was accessed past the driver at most this often: media were put in or taken out.
 abbrev pub AccessesAtMost : ℕ → World → World → Type 0
 AccessesAtMost most old new = new.state.station.counters.direct ≤ old.state.station.counters.direct + most

@@ -1,4 +1,4 @@
--- Where nothing can go wrong with a command on whole disks, and how it ends there.
+-- When nothing can go wrong with a command on whole disks, and how the command ends then.
 use Rattle.std.specs.Prelude.{◌≡◌, ◌↔◌, ℕ, Bool, false, List, [], All, Contains, Option, Some, IfSome}
 use Rattle.flop_base.specs.Shelf.{Files, file_at, stored}
 use Rattle.flop_base.specs.declared.key.Chrn.{Chrn}
@@ -17,12 +17,13 @@ use Rattle.rescue.specs.Log.{log_text}
 use Rattle.laws_commands.specs.LaidFields.{HasLaidFields}
 use Rattle.laws_commands.specs.Verified.{IsStandardKey}
 
--- a session begins before the first request of its station, and nothing is left there that could go wrong
+-- The session begins with a fresh station, before any request, and nothing that could go wrong is left there.
 pub record BeginsSound (world : World) : Type 0 where
   pub fresh : IsFresh world.state.station
   pub sound : HasNothingLeft world.state.station.counters
 
--- a command went to its end, and this holds; or the outside failed: the shelf, the sink, or who gives memory
+-- The command went to its end, and this holds. Otherwise the outside failed: the shelf, the sink, or the source of
+-- memory.
 abbrev pub EndsWellOrOutside : Type 0 → Status → Type 0
 EndsWellOrOutside Holds status.AllOk = Holds
 EndsWellOrOutside Holds status.FileFault = Unit {0}
@@ -34,19 +35,19 @@ EndsWellOrOutside Holds _ = ⊥
 abbrev pub HasKey : Disk → Chrn → Type 0
 HasKey disk key = (entry : Entry) × IsOnMap disk entry × (entry.key ≡ key)
 
--- each standard key of a regular disk is on its map
+-- the disk is regular, and each of its standard keys is on its map
 pub record IsReadable (disk : Disk) : Type 0 where
   pub regular : IsRegularDisk disk
   pub sectors : (key : Chrn) → IsStandardKey disk key → HasKey disk key
 
--- two disks have the same sector under a key: one mark, and one content
+-- two disks have the same sector under a key: the same mark and the same content
 abbrev pub HaveSameSector : Disk → Disk → Chrn → Type 0
 HaveSameSector disk copied key =
     (deleted : Bool) × (content : List ℕ) × IsSector (track_of disk key.c key.h) key deleted content
     × IsSector (track_of copied key.c key.h) key deleted content
 
--- a regular disk of the cylinders and the rate of this one and two heads, unprotected and with Laid fields, with each of its standard
--- sectors, was stored under a name, and no other file changed
+-- A disk was stored under a name, and no other file changed. It is regular, unprotected and with Laid fields. It has
+-- the cylinders and the rate of this disk, two heads, and each of this disk's standard sectors.
 pub record StoresSameSectors (disk : Disk) (to : List ℕ) (told after : Option Files) : Type 0 where
   pub copied : Disk
   pub valid : IsDisk copied
@@ -59,7 +60,7 @@ pub record StoresSameSectors (disk : Disk) (to : List ℕ) (told after : Option 
   pub sectors : (key : Chrn) → IsStandardKey disk key → HaveSameSector disk copied key
   pub files : after ≡ stored told to (file_of copied)
 
--- such a disk was stored under one name, and then an empty log under the other; each file stands under its name
+-- Such a disk was stored under one name, and then an empty log under the other. Both files are there under their names.
 pub record StoresSameAndLog (disk : Disk) (to log : List ℕ) (told after : Option Files) : Type 0 where
   pub between : Option Files
   pub disk_stored : StoresSameSectors disk to told between
@@ -68,8 +69,8 @@ pub record StoresSameAndLog (disk : Disk) (to log : List ℕ) (told after : Opti
   pub image : IsImageOf after to disk_stored.copied
   pub log_there : IfSome after (λ files. file_at files log ≡ Some (log_text []))
 
--- sectors of these keys can be written to a disk at this rate: it is regular, not protected, with each of the keys on its map, and its
--- address fields are on Laid tracks
+-- Sectors of these keys can be written to a disk at this rate. The disk is regular and not protected, has each of the
+-- keys on its map, and has its address fields on Laid tracks.
 pub record TakesKeys (at : Rate) (keys : List Chrn) (target : Disk) : Type 0 where
   pub regular : IsRegularDisk target
   pub protected : target.protected ≡ false
@@ -77,9 +78,9 @@ pub record TakesKeys (at : Rate) (keys : List Chrn) (target : Disk) : Type 0 whe
   pub sectors : All (HasKey target) keys
   pub laid : HasLaidFields target
 
--- a disk of the cylinders and the rate of `target`, unprotected and with Laid fields, with the sectors of these keys as the first disk
--- has them, and all others as `target` has them, was stored under one name, and then an empty log under the other; each file stands
--- under its name
+-- A disk was stored under one name, and then an empty log under the other. Both files are there under their names. The
+-- disk has the cylinders and the rate of `target`, is unprotected, and has Laid fields. It has the sectors of these
+-- keys as the first disk has them, and all other sectors as `target` has them.
 pub record StoresRestAndLog (disk target : Disk) (keys : List Chrn) (to log : List ℕ) (told after : Option Files) : Type 0 where
   pub saved : Disk
   pub protected : saved.protected ≡ false

@@ -12,15 +12,16 @@ use Rattle.sector_model.specs.Steps.{IsImageOf}
 use Rattle.laws_commands.specs.Copied.{SomeStep, Gave, IsFieldOf, IsSure}
 use Rattle.laws_commands.specs.Imported.{sector_bytes}
 
--- a read of a key in the course gave these bytes: those of an intact field of the key, and of its sector where that is sure
+-- A read of a key in the course gave these bytes. They are those of an intact field of the key, and those of its sector
+-- if the reads are sure.
 pub record IsAsRead (sure : Type 0) (course : List Taken) (disk : Disk) (c h r : ℕ) (bytes : List ℕ) : Type 0 where
   pub deleted : Bool
   pub step : SomeStep (Gave (key_of c h r) deleted bytes) course
   pub field : IsFieldOf disk (key_of c h r) deleted bytes
   pub sector : sure → track.IsSector (track_of disk c h) (key_of c h r) deleted bytes
 
--- the disk under one name was stored as a flat file under another, and no other file changed: the file has at the place of
--- each sector what the read of its key gave
+-- The disk of one name was stored as a flat file under another name, and no other file changed. At the place of each
+-- sector, the file has what the read of its key gave.
 pub record StoresExported (name flat : List ℕ) (old : Counters) (told : Option Files) (course : List Taken) (new : Counters) (after : Option Files) : Type 0 where
   pub disk : Disk
   pub image : IsImageOf told name disk
@@ -30,7 +31,7 @@ pub record StoresExported (name flat : List ℕ) (old : Counters) (told : Option
       → IsAsRead (IsSure disk old new) course disk c h r (sector_bytes bytes (sectors_at disk.rate) c h r)
   pub files : after ≡ stored told flat bytes
 
--- the disk has the sector of a key, with this content and some mark
+-- the disk has the sector of a key, with this content and with some mark
 abbrev pub HasContent : Disk → ℕ → ℕ → ℕ → List ℕ → Type 0
 HasContent disk c h r content = (deleted : Bool) × track.IsSector (track_of disk c h) (key_of c h r) deleted content
 

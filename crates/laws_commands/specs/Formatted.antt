@@ -18,7 +18,7 @@ use Rattle.sector_model.specs.States.{State}
 abbrev pub standard_track : Rate → ℕ → ℕ → List ℕ
 standard_track rate c h = formatted (format_at c h rate (gap_at rate) standard_fill) (words_at rate)
 
--- a disk of a rate, with these cylinders and two heads, as it is formatted: each track is that of the standard format
+-- A formatted disk of a rate, with these cylinders and two heads. Each track is that of the standard format.
 pub record IsFormattedDisk (at : Rate) (count : ℕ) (disk : Disk) : Type 0 where
   pub valid : IsDisk disk
   pub protected : disk.protected ≡ false
@@ -33,24 +33,24 @@ pub record IsInBay (state : State) (bay : ℕ) (name : List ℕ) (disk : Disk) :
   pub medium : (bay_of state.station bay).medium ≡ Some disk
   pub named : in_bay state.names bay ≡ Some name
 
--- a disk that was formatted is in bay 0, and no file changed
+-- a formatted disk is in bay 0, and no file changed
 pub record LeavesFormatted (at : Rate) (name : List ℕ) (count : ℕ) (told : Option Files) (new : State) (after : Option Files) : Type 0 where
   pub disk : Disk
   pub there : IsInBay new 0 name disk
   pub is : IsFormattedDisk at count disk
   pub files : after ≡ told
 
--- a disk that was formatted is stored, and no other file changed
+-- a formatted disk was stored, and no other file changed
 pub record StoresFormatted (at : Rate) (name : List ℕ) (count : ℕ) (told after : Option Files) : Type 0 where
   pub disk : Disk
   pub is : IsFormattedDisk at count disk
   pub files : after ≡ stored told name (file_of disk)
 
--- so many bytes F6
+-- the content of a formatted sector, which is bytes F6
 unfoldable pub standard_content : List ℕ
 standard_content = replicate (content_size standard_code) standard_fill
 
--- a sector of a formatted disk, where its address field is at this place
+-- a sector of a formatted disk, whose address field is at this place
 abbrev pub formatted_entry : ℕ → ℕ → ℕ → ℕ → Entry
 formatted_entry c h r place = record {
   cylinder = c;
@@ -61,7 +61,7 @@ formatted_entry c h r place = record {
   content = standard_content;
 }
 
--- a sector of the map is one of a standard format, as it was formatted
+-- this sector of the map is one of the standard format, as it was formatted
 pub record IsFormattedEntry (disk : Disk) (entry : Entry) : Type 0 where
   pub cylinder : entry.key.c ≡ entry.cylinder
   pub head : entry.key.h ≡ entry.head

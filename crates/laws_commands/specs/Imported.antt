@@ -12,17 +12,17 @@ use Rattle.disk_commands.specs.FlatFiles.{IsFlatFile}
 use Rattle.laws_commands.specs.Copied.{copied_entry}
 use Rattle.laws_commands.specs.LaidFields.{HasLaidFields}
 
--- the bytes of a sector in a flat file with so many sectors on each track
+-- the bytes of a sector in a flat file with this many sectors on each track
 abbrev pub sector_bytes : List ℕ → ℕ → ℕ → ℕ → ℕ → List ℕ
 sector_bytes bytes sectors c h r = bytes_from bytes (sector_place sectors c h r) 512
 
--- a disk has the sector of a key, not deleted, with its bytes of a flat file
+-- a disk has the sector of a key, not deleted, with the sector's bytes in a flat file
 abbrev pub HasFlatSector : List ℕ → ℕ → Disk → ℕ → ℕ → ℕ → Type 0
 HasFlatSector bytes sectors disk c h r =
     (place : ℕ) × IsOnMap disk (copied_entry c h r place false (sector_bytes bytes sectors c h r))
 
--- a disk of these bytes was stored under a name, and no other file changed: a regular disk of this rate, of 80 cylinders and two
--- heads, with Laid fields, that has each sector of the flat file
+-- A disk of these bytes was stored under a name, and no other file changed. It is a regular disk of this rate, of 80
+-- cylinders and two heads, with Laid fields. It has each sector of the flat file.
 pub record StoresDisk (bytes name : List ℕ) (at : Rate) (told after : Option Files) : Type 0 where
   pub disk : Disk
   pub valid : IsDisk disk
@@ -36,7 +36,7 @@ pub record StoresDisk (bytes name : List ℕ) (at : Rate) (told after : Option F
   pub sectors : (c h r : ℕ) → IsSector (sectors_at at) c h r → HasFlatSector bytes (sectors_at at) disk c h r
   pub files : after ≡ stored told name (file_of disk)
 
--- the disk of the flat file of one name was stored under another
+-- the disk of the flat file under one name was stored under another name
 abbrev pub StoresImported : List ℕ → List ℕ → Option Files → Option Files → Type 0
 StoresImported flat name told after =
     (bytes : List ℕ) × (at : Rate) × IsFlatFile told flat bytes at × StoresDisk bytes name at told after

@@ -5,6 +5,7 @@ use Rattle.raw_image.specs.Disk.{Disk, HasTrack, track_of}
 use Rattle.track_model.specs.Fields.{IsAddressAt}
 use Rattle.track_model.specs.Laid.{IsLaid}
 
--- each address field of the disk is on a Laid track: no write to it brings up an address mark, however short it stops
+-- Each address field of the disk is on a Laid track. No write to it brings up an address mark, however short the write
+-- stops.
 abbrev pub HasLaidFields : Disk → Type 0
 HasLaidFields disk = (c h p : ℕ) (key : Chrn) → HasTrack disk c h → IsAddressAt (track_of disk c h) p key → IsLaid (track_of disk c h)

@@ -1,4 +1,4 @@
--- The requests of the commands on whole disks, one list each. Tracks go by cylinder, then head.
+-- The requests of the commands on whole disks, one list for each command. Tracks are listed by cylinder, then head.
 use Rattle.std.specs.Prelude.{ℕ, Bool, true, false, List, [], ◌∷◌, ◌++◌, map, take, drop}
 use Rattle.std.specs.List.{flat_map, range_with_len}
 use Rattle.flop_base.specs.Standard.{sectors_at}
@@ -15,7 +15,7 @@ use Rattle.floppy_session.specs.Blanks.{blank_request}
 use Rattle.commands.specs.Parts.{rate_requests}
 use Rattle.commands.specs.Records.{record_address}
 
--- a track: its cylinder, and its head
+-- a track: its cylinder and its head
 abbrev pub Track : Type 0
 Track = ℕ × ℕ
 
@@ -31,16 +31,16 @@ tracks_of cylinders heads = flat_map (heads_of heads) (range_with_len 0 cylinder
 abbrev pub format_each : ℕ → List Track → List Request
 format_each bay tracks = map (λ (track : Track). request.Format bay track.0 track.1) tracks
 
--- what a formatted disk of a rate, with these cylinders and two heads, is made by in bay 0
+-- the requests in bay 0 that make a formatted disk of a rate, with these cylinders and two heads
 abbrev pub formatting : Rate → List ℕ → ℕ → List Request
 formatting rate name cylinders =
     blank_request 0 name cylinders rate ∷ request.Ack 0 ∷ (rate_requests rate 0 ++ format_each 0 (tracks_of cylinders 2))
 
--- the command that formats: 1.44 MB at 500 kbit/s, 720 KB at 250 kbit/s
+-- the requests of the command that formats: 1.44 MB at 500 kbit/s, 720 KB at 250 kbit/s
 abbrev pub format_requests : Rate → List ℕ → ℕ → List Request
 format_requests rate name cylinders = formatting rate name cylinders ++ request.Eject 0 ∷ []
 
--- a read of each key to one address
+-- a read of each key, all to one address
 abbrev pub read_each : ℕ → List Chrn → List Request
 read_each bay keys = map (λ key. request.Read bay key 0x10000) keys
 
@@ -48,43 +48,44 @@ read_each bay keys = map (λ key. request.Read bay key 0x10000) keys
 abbrev pub verify_opening : List ℕ → Disk → List Request
 verify_opening name disk = request.Insert 0 name ∷ request.Ack 0 ∷ rate_requests disk.rate 0
 
--- the command that reads every sector of the disk of this name
+-- the requests of the command that reads every sector of the disk of this name
 abbrev pub verify_requests : List ℕ → Disk → List Request
 verify_requests name disk = verify_opening name disk ++ read_each 0 (standard_keys disk)
 
--- a read of each record of a track, to its own place
+-- a read of each record of a track, to the record's own place
 abbrev pub read_records : ℕ → List Chrn → List Request
 read_records bay keys = map (λ key. request.Read bay key (record_address key.r)) keys
 
--- a write of a record from its place, with a mark
+-- a write of a record from its own place, with a mark
 abbrev pub write_record : ℕ → Chrn → Bool → Request
 write_record bay key true = request.WriteDeleted bay key (record_address key.r)
 write_record bay key false = request.Write bay key (record_address key.r)
 
--- a write of each record of a track, with its mark
+-- a write of each record of a track, with the record's mark
 abbrev pub write_records : ℕ → List Chrn → List Bool → List Request
 write_records bay (key ∷ keys) (deleted ∷ marks) = write_record bay key deleted ∷ write_records bay keys marks
 write_records bay keys marks = []
 
--- a track is formatted in bay 1, its records are read in bay 0, and written in bay 1 with the marks that were read
+-- A track is formatted in bay 1. Its records are read in bay 0, and then written in bay 1 with the marks that were
+-- read.
 abbrev pub copy_track : Rate → Track → List Bool → List Request
 copy_track rate track marks =
     request.Format 1 track.0 track.1 ∷ (read_records 0 (track_keys (sectors_at rate) track.0 track.1)
     ++ write_records 1 (track_keys (sectors_at rate) track.0 track.1) marks)
 
--- so each track, with as many marks as it has records
+-- each track is copied in this way, with as many of the marks as it has records
 abbrev pub copy_each : Rate → List Track → List Bool → List Request
 copy_each rate [] marks = []
 copy_each rate (track ∷ tracks) marks =
     copy_track rate track (take (sectors_at rate) marks) ++ copy_each rate tracks (drop (sectors_at rate) marks)
 
--- the disk of one name is put into bay 0 and a blank one for another name into bay 1, and both bays are made ready
+-- The disk of one name is put into bay 0, and a blank disk for another name into bay 1. Then both bays are made ready.
 abbrev pub copy_opening : List ℕ → List ℕ → Disk → List Request
 copy_opening from to disk =
     request.Insert 0 from ∷ blank_request 1 to disk.cylinders disk.rate ∷ request.Ack 0
     ∷ (rate_requests disk.rate 0 ++ (request.Ack 1 ∷ rate_requests disk.rate 1))
 
--- the command that copies the disk of one name to another, where the reads give these marks
+-- the requests of the command that copies the disk of one name to another, if the reads give these marks
 abbrev pub copy_requests : List ℕ → List ℕ → Disk → List Bool → List Request
 copy_requests from to disk marks =
     copy_opening from to disk

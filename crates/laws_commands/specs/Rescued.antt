@@ -1,4 +1,4 @@
--- Rescues that went through all their requests: what they stored.
+-- Rescues that went through all their requests, and what they stored.
 use Rattle.std.specs.Prelude.{◌≡◌, ◌↔◌, ◌⊎◌, ℕ, ◌+◌, Bool, true, false, List, [], ◌∷◌, ◌++◌, length, map, All, Contains, Option, Some, None, IfSome, if◌then◌else◌}
 use Rattle.flop_base.specs.Shelf.{Files, file_at, stored}
 use Rattle.flop_base.specs.Sink.{grown}
@@ -37,7 +37,7 @@ use Rattle.rescue.specs.declared.outcome.Outcome.{Outcome}
 use Rattle.disk_commands.specs.Logs.{IsLogFound}
 use Rattle.disk_commands.specs.Rescue.{asked_keys, last_text}
 
--- ---- The lines of a new log, by the course of a rescue.
+-- ---- The lines of a new log, from the course of a rescue.
 
 -- the line of a refused read
 abbrev pub line_for : Request → Code → List LogLine
@@ -49,63 +49,65 @@ abbrev pub line_at : Request → Reply → List LogLine
 line_at asked (reply.Refused (reason.Driver code)) = line_for asked code
 line_at asked other = []
 
--- those of a course: the reads that were refused
+-- the log lines of a course: those of the reads that were refused
 abbrev pub log_of : List Taken → List LogLine
 log_of [] = []
 log_of (taken ∷ later) = line_at taken.asked taken.answer ++ log_of later
 
--- ---- Runs whose writes can't bring up an address mark, however short they stop.
+-- ---- Runs whose writes can't bring up an address mark, however short the writes stop.
 
--- each address field of the key on the disk in the bay is Tidy for what is written from memory
+-- each address field of the key on the disk in the bay is Tidy for what is written there from memory
 abbrev pub IsTidyWrite : StationState → ℕ → Chrn → ℕ → Bool → Type 0
 IsTidyWrite station bay key address deleted =
     (disk : Disk) (c p : ℕ) → (bay_of station bay).medium ≡ Some disk → HasTrack disk c key.h
     → IsAddressAt (track_of disk c key.h) p key
     → IsTidy (track_of disk c key.h) p deleted (bytes_from station.memory address (content_size key.n))
 
--- so it is where the request is a write
+-- if the request is a write, it is Tidy in this way
 abbrev pub IsTidyFor : State → Request → Type 0
 IsTidyFor state (request.Write bay key address) = IsTidyWrite state.station bay key address false
 IsTidyFor state (request.WriteDeleted bay key address) = IsTidyWrite state.station bay key address true
 IsTidyFor state _ = Unit {0}
 
--- at the beginning of each write of a course
+-- each write of a course is Tidy in the state in which it begins
 abbrev pub AreTidy : State → List Taken → Type 0
 AreTidy state [] = Unit {0}
 AreTidy state (taken ∷ later) = IsTidyFor state taken.asked × AreTidy taken.after later
 
--- no refusal stopped the run: its last answer is none
+-- no refusal stopped the run: its last answer isn't a refusal
 abbrev pub IsNotStopped : List Taken → Type 0
 IsNotStopped course = (before : List Taken) (last : Taken) → course ≡ before ++ last ∷ [] → is_refusal last.answer ≡ false
 
--- no write of a course to the disk brings up an address mark: its address fields are on Laid tracks, or each write is Tidy
+-- No write of a course to the disk brings up an address mark. Either the disk's address fields are on Laid tracks, or
+-- each write is Tidy.
 abbrev pub BringsUpNoMark : Disk → State → List Taken → Type 0
 BringsUpNoMark disk old course = HasLaidFields disk ⊎ AreTidy old course
 
--- the other diskette, as it is loaded where there is a log: the image of a regular disk, on which no write brings up an address mark
+-- The other diskette, as it is loaded if there is a log. It is the image of a regular disk on which no write brings up
+-- an address mark.
 pub record IsTarget (to : List ℕ) (target : Disk) (files : Files) (old : State) (course : List Taken) : Type 0 where
   pub image : IsImageOf (Some files) to target
   pub regular : IsRegularDisk target
   pub unmarked : BringsUpNoMark target old course
 
--- where there is a log, the other diskette is such a one
+-- if there is a log, the other diskette is as described above
 abbrev pub HasTarget : Option (List LogLine) → List ℕ → Disk → Files → State → List Taken → Type 0
 HasTarget None to target files old course = Unit {0}
 HasTarget (Some lines) to target files old course = IsTarget to target files old course
 
 -- ---- What became of a record.
 
--- its read was refused with this code
+-- the read of the record was refused with this code
 abbrev pub WasRefused : Chrn → Code → Taken → Type 0
 WasRefused key code taken = (taken.asked ≡ read_of key) × (taken.answer ≡ reply.Refused (reason.Driver code))
 
--- the log has it with the code that its read gave
+-- the log has the record, with the code that its read gave
 pub record IsLogged (course : List Taken) (lines : List LogLine) (key : Chrn) : Type 0 where
   pub code : Code
   pub read : SomeStep (WasRefused key code) course
   pub line : Contains lines (record { key = key; code = code })
 
--- an entry on the cylinder and the head of its key
+-- an entry of the map on the cylinder and the head of its key
 abbrev pub entry_at : Chrn → ℕ → Bool → List ℕ → Entry
 entry_at key place deleted content = record {
   cylinder = key.c;
@@ -116,7 +118,7 @@ entry_at key place deleted content = record {
   content = content;
 }
 
--- the disk has it with the mark and the content that its read gave
+-- the disk has the record, with the mark and the content that its read gave
 pub record IsSaved (course : List Taken) (saved : Disk) (key : Chrn) : Type 0 where
   pub deleted : Bool
   pub content : List ℕ
@@ -124,24 +126,25 @@ pub record IsSaved (course : List Taken) (saved : Disk) (key : Chrn) : Type 0 wh
   pub read : SomeStep (Gave key deleted content) course
   pub entry : IsOnMap saved (entry_at key place deleted content)
 
--- exactly one of both
+-- exactly one of both holds: the record is in the log, or it is saved
 pub record IsSettled (course : List Taken) (saved : Disk) (lines : List LogLine) (key : Chrn) : Type 0 where
   pub either : IsLogged course lines key ⊎ IsSaved course saved key
   pub never_both : IsLogged course lines key → IsSaved course saved key → ⊥
 
--- no read of it gave anything
+-- no read of the record gave anything
 abbrev pub WasNotRead : List Taken → Chrn → Type 0
 WasNotRead course key = (deleted : Bool) (content : List ℕ) → SomeStep (Gave key deleted content) course → ⊥
 
--- where there was a log, all entries of the other diskette stay but those of the records that were read
+-- If there was a log, all entries of the other diskette stay, besides those of the records that were read.
 abbrev pub KeepsEntries : Option (List LogLine) → List Taken → Disk → Disk → Type 0
 KeepsEntries None course target saved = Unit {0}
 KeepsEntries (Some lines) course target saved =
     (entry : Entry) → WasNotRead course entry.key → IsOnMap target entry ↔ IsOnMap saved entry
 
--- ---- The diskette that is stored, by the one that it was.
+-- ---- The diskette that is stored, compared with the one that was there.
 
--- what is written to: a blank diskette of the first one's cylinders and rate where there was no log, and else the other one
+-- The diskette that is written to. If there was no log, it is a blank one of the first disk's cylinders and rate.
+-- Otherwise it is the other diskette.
 abbrev pub diskette_for : Option (List LogLine) → Disk → Disk → Disk
 diskette_for None disk target = blank_of disk.cylinders disk.rate
 diskette_for (Some lines) disk target = target
@@ -154,7 +157,7 @@ pub record HasShapeOf (disk after : Disk) : Type 0 where
   pub rate : after.rate ≡ disk.rate
   pub words_per_track : after.words_per_track ≡ disk.words_per_track
 
--- it holds of the new diskette where there was no log, and else it still holds if it did
+-- If there was no log, this holds of the new diskette. If there was one, this still holds if it held before.
 abbrev pub StillHolds : (Disk → Type 0) → Option (List LogLine) → Disk → Disk → Type 0
 StillHolds Such None target saved = Such saved
 StillHolds Such (Some lines) target saved = Such target → Such saved
@@ -167,16 +170,17 @@ is_write (request.Write bay key address) = true
 is_write (request.WriteDeleted bay key address) = true
 is_write _ = false
 
--- how many requests of a course did
+-- how many requests of a course write a record
 abbrev pub count_writes : List Taken → ℕ
 count_writes [] = 0
 count_writes (taken ∷ later) = (if is_write taken.asked then 1 else 0) + count_writes later
 
--- so many of the asked records were written as the course has writes
+-- the outcome of a rescue: it wrote as many of the asked records as its course has writes
 abbrev pub outcome_in : List Taken → ℕ → Outcome
 outcome_in course asked = record { written = count_writes course; asked = asked }
 
--- the last line tells how many of the asked records were written, and the status whether all were; the others are in the log
+-- The last line tells how many of the asked records were written, and the status tells whether all were. The others are
+-- in the log.
 pub record TellsRescue (asked : ℕ) (old : World) (course : List Taken) (new : World) (ended : Status) : Type 0 where
   pub report : new.report ≡ grown old.report (last_text (outcome_in course asked) ∷ [])
   pub status : ended ≡ outcome_status (outcome_in course asked)
@@ -187,8 +191,9 @@ abbrev pub GivesFields : Disk → List Taken → Type 0
 GivesFields disk course =
     (key : Chrn) (deleted : Bool) (content : List ℕ) → SomeStep (Gave key deleted content) course → IsFieldOf disk key deleted content
 
--- the other diskette was stored under its name, then the new log under its own, and no other file changed; the next run finds both: a
--- regular disk of the same shape, with Laid fields if it is new or had them, and a log
+-- The other diskette was stored under its name, and then the new log under its own, and no other file changed. The next
+-- run finds both: a regular disk of the same shape, and a log. The disk has Laid fields if it is new or had them
+-- before.
 pub record StoresRescue (disk target : Disk) (found : Option (List LogLine)) (to log : List ℕ) (files : Files) (course : List Taken) (new : World) : Type 0 where
   pub saved : Disk
   pub shape : HasShapeOf (diskette_for found disk target) saved
@@ -206,12 +211,12 @@ pub record StoresRescue (disk target : Disk) (found : Option (List LogLine)) (to
   pub kept : KeepsEntries found course target saved
   pub given : GivesFields disk course
 
--- the lines of records that aren't found, each with the code of its look: 02 where the track has no address mark or the record
--- no data, 04 where no address field has its key, and 10 where its data is damaged
+-- The log lines of records that aren't found, each with the code of its look. The code is 02 if the track has no
+-- address mark or the record has no data, 04 if no address field has its key, and 10 if its data are damaged.
 abbrev pub failing_lines : List (Chrn × Look) → List LogLine
 failing_lines failed = map (λ (told : Chrn × Code). record { key = told.0; code = told.1 }) (all_told_of failed)
 
--- a rescue of the records that the log asks for, or of all where there was none, to its end
+-- a rescue that went to its end, of the records that the log asks for, or of all records if there was no log
 pub record IsRescue (disk target : Disk) (to log : List ℕ) (files : Files) (old : World) (course : List Taken) (new : World) (ended : Status) : Type 0 where
   pub found : Option (List LogLine)
   pub there : IsLogFound (Some files) log (sectors_at disk.rate) found
@@ -222,7 +227,7 @@ pub record IsRescue (disk target : Disk) (to log : List ℕ) (files : Files) (ol
 abbrev pub IsNotFound : Disk → Chrn → Type 0
 IsNotFound disk key = (deleted : Bool) (place : ℕ) → LookOn disk key (Found deleted place) → ⊥
 
--- the new log is the asked records that aren't found, in their order
+-- the new log is exactly the asked records that aren't found, in their order
 pub record LogsNotFound (disk : Disk) (log : List ℕ) (files : Files) (course : List Taken) (new : World) : Type 0 where
   pub found : Option (List LogLine)
   pub there : IsLogFound (Some files) log (sectors_at disk.rate) found

@@ -25,22 +25,22 @@ abbrev pub all_stored : Option Files → List Store → Option Files
 all_stored told [] = told
 all_stored told (store ∷ later) = all_stored (stored told store.name store.bytes) later
 
--- a first part of these stores was made, and nothing else: none of them, or some, or all
+-- A first part of these stores was made, and nothing else. The part may be none of them, some, or all.
 pub record StoresFirst (wanted : List Store) (told after : Option Files) : Type 0 where
   pub made : List Store
   pub rest : List Store
   pub first : wanted ≡ made ++ rest
   pub files : after ≡ all_stored told made
 
--- ---- Those of a run.
+-- ---- The stores of a run.
 
--- the store of a medium under its name, where a bay has both
+-- the store of a medium under its name, if the bay has both
 abbrev pub medium_store : Option Disk → Option (List ℕ) → List Store
 medium_store None name = []
 medium_store (Some disk) None = []
 medium_store (Some disk) (Some name) = store_of name (file_of disk) ∷ []
 
--- that of a bay
+-- the store of the medium that is in a bay
 abbrev pub bay_store : State → ℕ → List Store
 bay_store state bay = medium_store (bay_of state.station bay).medium (in_bay state.names bay)
 
@@ -54,7 +54,7 @@ abbrev pub stores_of : State → List Taken → List Store
 stores_of state [] = []
 stores_of state (taken ∷ later) = stores_by taken.asked taken.answer state ++ stores_of taken.after later
 
--- those of the end of a run: of the medium in bay 0, and then of that in bay 1
+-- the stores at the end of a run: of the medium in bay 0, and then of the one in bay 1
 abbrev pub end_stores : State → List Store
 end_stores state = bay_store state 0 ++ bay_store state 1
 
@@ -63,21 +63,21 @@ abbrev pub state_after : State → List Taken → State
 state_after state [] = state
 state_after state (taken ∷ later) = state_after taken.after later
 
--- a run stored what its ejects took out, and then, at its end, a first part of what was left in; and nothing else
+-- A run stored what its ejects took out. At its end it then stored a first part of what was left in, and nothing else.
 abbrev pub StoresRun : State → List Taken → Option Files → Option Files → Type 0
 StoresRun start course told after = StoresFirst (end_stores (state_after start course)) (all_stored told (stores_of start course)) after
 
--- ---- Those of a command.
+-- ---- The stores of a command.
 
--- a disk was stored under this name, and nothing else; or nothing was
+-- a disk was stored under this name and nothing else was, or nothing was stored
 abbrev pub StoresDiskAlone : List ℕ → Option Files → Option Files → Type 0
 StoresDiskAlone name told after = (disk : Disk) × StoresFirst (store_of name (file_of disk) ∷ []) told after
 
--- so it is with a file of any bytes
+-- a file of any bytes was stored under this name and nothing else was, or nothing was stored
 abbrev pub StoresFileAlone : List ℕ → Option Files → Option Files → Type 0
 StoresFileAlone name told after = (bytes : List ℕ) × StoresFirst (store_of name bytes ∷ []) told after
 
--- a disk was stored under one name, and then a log under the other; or the disk alone, or nothing
+-- A disk was stored under one name, and then a log under the other. Or the disk alone was stored, or nothing.
 abbrev pub StoresDiskThenLog : List ℕ → List ℕ → List LogLine → Option Files → Option Files → Type 0
 StoresDiskThenLog to log lines told after =
     (disk : Disk) × StoresFirst (store_of to (file_of disk) ∷ store_of log (log_text lines) ∷ []) told after

@@ -9,8 +9,9 @@ use Rattle.laws_commands.specs.EndsComplete.{HasKey}
 use Rattle.laws_commands.specs.LaidFields.{HasLaidFields}
 use Rattle.laws_commands.specs.Verified.{IsStandardKey}
 
--- the name has the image of a disk that a rescue may go on with: a regular disk in its ranges, not protected, each of whose address fields
--- is on a Laid track; it has the rate and each of the standard keys of another disk
+-- The name has the image of a disk that a rescue may go on with. It is a regular disk with its fields in range, isn't
+-- protected, and has each of its address fields on a Laid track. It has the rate and each of the standard keys of
+-- another disk.
 pub record HoldsTarget (name : List ℕ) (keyed disk : Disk) (files : Option Files) : Type 0 where
   pub valid : IsDisk disk
   pub image : IsImageOf files name disk

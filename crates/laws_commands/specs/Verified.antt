@@ -27,13 +27,13 @@ pub record IsStandardKey (disk : Disk) (key : Chrn) : Type 0 where
   pub sector : (1 ≤ key.r) × (key.r ≤ sectors_at disk.rate)
   pub size : key.n ≡ standard_code
 
--- no address field of the disk can be mistaken, and each standard key has at most one
+-- no address field of the disk can be mistaken, and each standard key has at most one address field
 pub record IsUnmistaken (disk : Disk) : Type 0 where
   pub plain : (c h : ℕ) → HasTrack disk c h → IsPlain (track_of disk c h)
   pub single : (key : Chrn) → IsStandardKey disk key → (p q : ℕ) → IsAddressAt (track_of disk key.c key.h) p key
       → IsAddressAt (track_of disk key.c key.h) q key → p ≡ q
 
--- what is told of a key, by the look for it: nothing, or a code
+-- what a read tells of a key, by the look for the key: nothing, or a code
 abbrev pub told_of : Chrn → Look → List (Chrn × Code)
 told_of key (Found deleted place) = []
 told_of key NoMark = (key, code.NoMark) ∷ []
@@ -41,7 +41,7 @@ told_of key NoData = (key, code.NoMark) ∷ []
 told_of key NoSector = (key, code.NotFound) ∷ []
 told_of key BadCrc = (key, code.BadCrc) ∷ []
 
--- of keys with their looks, in their order
+-- what the reads tell of several keys with their looks, in their order
 abbrev pub all_told_of : List (Chrn × Look) → List (Chrn × Code)
 all_told_of failed = flat_map (λ (pair : Chrn × Look). told_of pair.0 pair.1) failed
 
@@ -50,11 +50,12 @@ abbrev pub refused_read : Request → Reply → List (Chrn × Code)
 refused_read (request.Read bay key address) (reply.Refused (reason.Driver cause)) = (key, cause) ∷ []
 refused_read _ _ = []
 
--- those of a course, in their order
+-- the refused reads of a course, in their order
 abbrev pub refused_reads : List Taken → List (Chrn × Code)
 refused_reads course = flat_map (λ taken. refused_read taken.asked taken.answer) course
 
--- the command that reads every sector was run on the disk of this name: its opening was done, and the reads had any answers
+-- The command that reads every sector was run on the disk of this name. Its opening was done, and its reads had any
+-- answers.
 pub record ReadsDisk (name : List ℕ) (disk : Disk) (old : State) (files : Files) (course : List Taken) (new : State) (after : Option Files) : Type 0 where
   pub image : IsImageOf (Some files) name disk
   pub run : Run old (Some files) course new after

@@ -16,11 +16,11 @@ use Rattle.disk_commands.specs.Verify.{failure_line, verify_text}
 abbrev pub failing_line : Chrn × Code → List ℕ
 failing_line failed = failure_line failed.0 (reason.Driver failed.1)
 
--- a line for each key that can't be read, and how many of all sectors can
+-- a line for each key that can't be read, and then one that says how many of all sectors can be read
 abbrev pub verify_report : ℕ → List (Chrn × Code) → List (List ℕ)
 verify_report all failed = map failing_line failed ++ verify_text (all - length failed) all ∷ []
 
--- a verify of a disk printed these failing keys and no others, and its status says whether there are any
+-- A verify of a disk printed these failing keys and no others. Its status says whether there are any.
 pub record TellsFailing (disk : Disk) (failed : List (Chrn × Code)) (old new : World) (ended : Status) : Type 0 where
   pub report : new.report ≡ grown old.report (verify_report (sectors_of (shape_of disk)) failed)
   pub status : ended ≡ whole_status (nat_le 1 (length failed))

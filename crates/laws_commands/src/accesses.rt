@@ -11,19 +11,21 @@ ghost use Rattle.laws_commands.specs.Accesses.{AccessesAtMost};
 
 use flop_base::Rate;
 
-/// A law: however it ends, a format accesses the station past the driver twice at most: it puts a blank disk in, and takes it out.
+/// A law: however a format ends, it accesses the station past the driver at most twice. It puts a blank disk in, and
+/// takes it out.
 pub fn format_accesses(_rate: Rate, _name: &str, _cylinders: u8)
     ensures { (old new : World) (course : List Taken) (ended : Status)
         → RunsScript (format_script _name.now _cylinders _rate) old course new ended → AccessesAtMost 2 old new }
 {}
 
-/// A law: a copy does so three times at most: it puts two disks in, and takes one out.
+/// A law: however a copy ends, it accesses the station past the driver at most three times. It puts two disks in, and
+/// takes one out.
 pub fn copy_accesses(_from: &str, _to: &str)
     ensures { (old new : World) (course : List Taken) (ended : Status)
         → RunsScript (copy_script _from.now _to.now) old course new ended → AccessesAtMost 3 old new }
 {}
 
-/// A law: a verify does so once at most: it puts a disk in.
+/// A law: however a verify ends, it accesses the station past the driver at most once. It puts a disk in.
 pub fn verify_accesses(_name: &str)
     ensures { (old new : World) (course : List Taken) (ended : Status)
         → RunsScript (verify_script _name.now) old course new ended → AccessesAtMost 1 old new }

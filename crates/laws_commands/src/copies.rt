@@ -8,10 +8,11 @@ ghost use Rattle.sector_model.specs.States.{State};
 ghost use Rattle.sector_model.specs.Runs.{Taken};
 ghost use Rattle.laws_commands.specs.Copied.{CopiesDisk, StoresCopy};
 
-/// A law: where each request of the command that copies was done, and the drive of bay 1 had no fault meanwhile, the stored disk
-/// has each standard key of the other with the mark and the content that its read gave, also where DMA requests waited: those of
-/// an intact field of the key on the other disk, whatever faults bay 0's drive had. These are its sectors where it is regular,
-/// and bay 0's drive had no fault or none of its fields has two data marks.
+/// A law on a run in which each request of the command that copies was done, while the drive of bay 1 had no fault. The
+/// stored disk has each standard key of the source, with the mark and the content that the read of the key gave. This
+/// holds also if DMA requests waited. Whatever faults the drive of bay 0 had, mark and content are those of an intact
+/// field of the key on the source. They are the source's sector if the source is regular, and if the drive of bay 0 had
+/// no fault or no field of the source has two data marks.
 pub fn copies_disk(_from: &str, _to: &str)
     ensures { (old new : State) (files : Files) (disk : Disk) (course : List Taken)
         (after : Option Files)

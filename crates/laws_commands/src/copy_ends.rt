@@ -1,4 +1,4 @@
-// The command that copies, where nothing can go wrong.
+// The command that copies, when nothing can go wrong.
 ghost use Rattle.std.specs.Prelude.{◌≡◌, Some};
 ghost use Rattle.flop_base.specs.Shelf.{Files};
 ghost use Rattle.flop_base.specs.declared.answers.Status.{Status};
@@ -10,10 +10,10 @@ ghost use Rattle.commands.specs.Leading.{Runs};
 ghost use Rattle.disk_commands.specs.Copy.{copy_script};
 ghost use Rattle.laws_commands.specs.EndsComplete.{BeginsSound, EndsWellOrOutside, IsReadable, StoresSameSectors};
 
-/// A law: where no drive of a fresh station can have a fault any more and no DMA request can wait too long, the command that
-/// copies ends well, unless the shelf, the sink or memory fails, if the first name has the image of a regular disk that has each
-/// of its standard keys: no request of it is refused, whatever the marks and the contents are. A disk with the same standard
-/// sectors is stored under the second name then, and no other file changed.
+/// A law on a copy in a fresh station, where no drive can have a fault any more and no DMA request can wait too long.
+/// The first name has the image of a regular disk that has each of its standard keys. Then the copy ends well, unless
+/// the shelf, the sink or memory fails: no request of it is refused, whatever the marks and the contents are. A disk
+/// with the same standard sectors is then stored under the second name, and no other file changed.
 pub fn copy_ends_well(_from: &str, _to: &str)
     ensures { (old new : World) (ended : Status) (files : Files) (disk : Disk)
         → BeginsSound old → old.files ≡ Some files → IsImageOf (Some files) _from.now disk → IsReadable disk

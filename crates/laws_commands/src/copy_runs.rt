@@ -13,9 +13,10 @@ ghost use Rattle.laws_commands.specs.Copied.{StoresCopy};
 
 use flop_base::Status;
 
-/// A law: where the command that copies ends well, the first name has the image of a disk, and the drive of bay 1 had no fault
-/// meanwhile, a copy of the disk is stored under the second name, and no other file changed: it has each standard key with the
-/// mark and the content that the read of the key gave, which are those of an intact field of the key on that disk.
+/// A law on a copy that ends well, where the first name has the image of a disk, and the drive of bay 1 had no fault
+/// during the copy. A copy of the disk is stored under the second name, and no other file changed. The copy has each
+/// standard key with the mark and the content that the read of the key gave. These are the mark and the content of an
+/// intact field of the key on that disk.
 pub fn copy_stores_a_copy(_from: &str, _to: &str)
     ensures { (old new : World) (course : List Taken) (files : Files) (disk : Disk)
         → RunsScript (copy_script _from.now _to.now) old course new Status.AllOk

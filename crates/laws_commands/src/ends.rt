@@ -1,4 +1,4 @@
-// The commands on flat files, where nothing can go wrong.
+// The commands on flat files, when nothing can go wrong.
 ghost use Rattle.std.specs.Prelude.{◌≡◌, ℕ, List, Some};
 ghost use Rattle.flop_base.specs.Shelf.{Files};
 ghost use Rattle.flop_base.specs.declared.answers.Rate.{Rate};
@@ -16,9 +16,10 @@ ghost use Rattle.laws_commands.specs.Imported.{StoresDisk};
 ghost use Rattle.laws_commands.specs.Exported.{StoresFlatOf};
 ghost use Rattle.laws_commands.specs.FlatComplete.{IsWholeDisk};
 
-/// A law: where no drive of a fresh station can have a fault any more and no DMA request can wait too long, the command that
-/// imports ends well, unless the shelf, the sink or memory fails, if the first name has a flat file: no request of it is refused.
-/// A disk with the sectors of the flat file is stored under the second name then, and no other file changed.
+/// A law on an import in a fresh station, where no drive can have a fault any more and no DMA request can wait too
+/// long. The first name has a flat file. Then the import ends well, unless the shelf, the sink or memory fails: no
+/// request of it is refused. A disk with the sectors of the flat file is then stored under the second name, and no
+/// other file changed.
 pub fn import_ends_well(_flat: &str, _name: &str)
     ensures { (old new : World) (ended : Status) (files : Files) (bytes : List ℕ) (at : Rate)
         → BeginsSound old → old.files ≡ Some files → IsFlatFile (Some files) _flat.now bytes at
@@ -26,9 +27,10 @@ pub fn import_ends_well(_flat: &str, _name: &str)
         → EndsWellOrOutside (StoresDisk bytes _name.now at (Some files) new.files) ended }
 {}
 
-/// A law: so does the command that exports, if the first name has the image of a regular disk of 80 cylinders and two heads that
-/// has each of its standard keys. A flat file with the contents of its sectors is stored under the second name then, and no
-/// other file changed.
+/// A law on an export in a fresh station, where no drive can have a fault any more and no DMA request can wait too
+/// long. The first name has the image of a regular disk of 80 cylinders and two heads that has each of its standard
+/// keys. Then the export ends well, unless the shelf, the sink or memory fails. A flat file with the contents of the
+/// disk's sectors is then stored under the second name, and no other file changed.
 pub fn export_ends_well(_name: &str, _flat: &str)
     ensures { (old new : World) (ended : Status) (files : Files) (disk : Disk)
         → BeginsSound old → old.files ≡ Some files → IsImageOf (Some files) _name.now disk → IsWholeDisk disk

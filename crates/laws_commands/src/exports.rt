@@ -9,10 +9,10 @@ ghost use Rattle.laws_commands.specs.Exported.{StoresExported};
 
 use flop_base::Status;
 
-/// A law: where the command that exports ends well, a flat file of the disk is stored under the second name, and no other file
-/// changed: it has at the place of each sector what the read of its key gave, whatever faults there were. These are the bytes
-/// of an intact field of the key; and those of its sector, where the disk is regular, and bay 0's drive had no fault or no
-/// field of the disk has two data marks.
+/// A law on an export that ends well. A flat file of the disk is stored under the second name, and no other file
+/// changed. The file has at the place of each sector what the read of its key gave, whatever faults there were. These
+/// are the bytes of an intact field of the key. They are the bytes of the key's sector if the disk is regular, and if
+/// the drive of bay 0 had no fault or no field of the disk has two data marks.
 pub fn export_stores_what_was_read(_name: &str, _flat: &str)
     ensures { (old new : World) (course : List Taken)
         → RunsScript (export_script _name.now _flat.now) old course new Status.AllOk

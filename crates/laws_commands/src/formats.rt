@@ -13,9 +13,9 @@ ghost use Rattle.laws_commands.specs.Formatted.{IsFormattedDisk, LeavesFormatted
 
 use flop_base::Rate;
 
-/// A law: where each request of the command that formats was done, and the drive of bay 0 had no fault meanwhile, the disk
-/// in bay 0 is a formatted one, whatever else the run met: DMA requests that waited, stray interrupts, what was in the
-/// other bay. It is what the command's last request stores.
+/// A law on a run in which each request of the command that formats was done, while the drive of bay 0 had no fault.
+/// The disk in bay 0 is then a formatted one, whatever else the run met: DMA requests that waited, spurious interrupts,
+/// or anything in the other bay. This disk is what the command's last request stores.
 pub fn formats_disk(_rate: Rate, _name: &str, _cylinders: u8)
     ensures leaves { (old new : State) (told after : Option Files) (course : List Taken)
         → DoesAll (formatting _rate _name.now _cylinders) old told course new after
@@ -27,8 +27,8 @@ pub fn formats_disk(_rate: Rate, _name: &str, _cylinders: u8)
         → StoresFormatted _rate _name.now _cylinders told after }
 {}
 
-/// A law: a formatted disk is regular, and has each sector of the standard format, not deleted and filled with F6, and no
-/// other.
+/// A law: a formatted disk is regular. It has each sector of the standard format, not deleted and filled with F6, and
+/// no other sector.
 pub fn formatted_disk_has_sectors(_rate: Rate, _cylinders: u8)
     ensures regular { (disk : Disk) → IsFormattedDisk _rate _cylinders disk → IsRegularDisk disk }
     ensures sectors { (disk : Disk) (c h r : ℕ) → IsFormattedDisk _rate _cylinders disk

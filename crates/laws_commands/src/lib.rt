@@ -1,5 +1,6 @@
-//! Laws over runs of the scripts of the program: what a format, a copy, an import, an export and a rescue store, what a verify tells, when
-//! they end well, how often they access media past the driver, and which stores they make.
+//! Laws over runs of the program's scripts. They say what a format, a copy, an import, an export and a rescue store,
+//! and what a verify tells. They also say when these end well, how often they access media past the driver, and which
+//! stores they make.
 #![tactic(auto)]
 
 mod accesses;

@@ -11,10 +11,10 @@ ghost use Rattle.sector_model.specs.States.{State};
 ghost use Rattle.sector_model.specs.Runs.{Taken};
 ghost use Rattle.laws_commands.specs.Verified.{ReadsDisk, IsUnmistaken, refused_reads, all_told_of};
 
-/// A law: where neither a fault of bay 0's drive nor a stall disturbed the reads of a whole disk, whose address fields can't
-/// be mistaken, the reads that are refused are those of its standard keys that aren't found, in their order, each with
-/// the code of its look: 02 where the track has no address mark or the key no data, 04 where no address field has the key, and
-/// 10 where its data is damaged.
+/// A law on the reads of a whole disk whose address fields can't be mistaken, where neither a fault of bay 0's drive
+/// nor a late DMA request (stall) disturbed them. The reads that are refused are exactly those of the disk's standard
+/// keys that aren't found, in their order. Each is refused with the code of its look. The code is 02 if the track has
+/// no address mark or the key has no data, 04 if no address field has the key, and 10 if its data are damaged.
 pub fn reads_tell_of_disk(_name: &str)
     ensures { (old new : State) (files : Files) (disk : Disk) (course : List Taken)
         (after : Option Files) (failed : List (Chrn × Look))

@@ -1,4 +1,4 @@
-// The command that rescues, where nothing can go wrong.
+// The command that rescues, when nothing can go wrong.
 ghost use Rattle.std.specs.Prelude.{◌≡◌, ◌≢◌, All, List, Some, None};
 ghost use Rattle.flop_base.specs.Shelf.{Files, file_at};
 ghost use Rattle.flop_base.specs.Standard.{sectors_at};
@@ -14,10 +14,11 @@ ghost use Rattle.disk_commands.specs.Logs.{IsLogFound};
 ghost use Rattle.disk_commands.specs.Rescue.{Rescues};
 ghost use Rattle.laws_commands.specs.EndsComplete.{BeginsSound, EndsWellOrOutside, HasKey, IsReadable, StoresSameAndLog, StoresRestAndLog, TakesKeys};
 
-/// A law: where no drive of a fresh station can have a fault any more and no DMA request can wait too long, a rescue with no log yet
-/// ends well, unless the shelf, the sink or memory fails, if the first name has the image of a regular disk that has each of its
-/// standard keys: no request of it is refused. A disk with the same standard sectors, on Laid tracks, is stored under the second name
-/// then, and an empty log under the third, which is another name.
+/// A law on a rescue with no log yet, in a fresh station, where no drive can have a fault any more and no DMA request
+/// can wait too long. The first name has the image of a regular disk that has each of its standard keys. Then the
+/// rescue ends well, unless the shelf, the sink or memory fails: no request of it is refused. A disk with the same
+/// standard sectors, on Laid tracks, is then stored under the second name, and an empty log under the third, which is
+/// another name.
 pub fn new_rescue_ends_well(_from: &str, _to: &str, _log: &str)
     ensures { (old new : World) (ended : Status) (files : Files) (disk : Disk)
         → BeginsSound old → old.files ≡ Some files → IsImageOf (Some files) _from.now disk → IsReadable disk
@@ -26,9 +27,10 @@ pub fn new_rescue_ends_well(_from: &str, _to: &str, _log: &str)
         → EndsWellOrOutside (StoresSameAndLog disk _to.now _log.now (Some files) new.files) ended }
 {}
 
-/// A law: so does one that goes on by a log, whose records the image of the first name has, if it is regular, and the second name has the
-/// image of a disk that takes them at its rate. That disk is stored again, with these sectors as the first has them, and all others as
-/// they were, and then an empty log.
+/// A law on a rescue that goes on by a log, in such a station. The image of the first name is regular and has the
+/// records of the log. The second name has the image of a disk that takes these records at the first disk's rate. Then
+/// the rescue ends well, unless the shelf, the sink or memory fails. That disk is stored again, with these sectors as
+/// the first disk has them and all others as they were, and then an empty log.
 pub fn further_rescue_ends_well(_from: &str, _to: &str, _log: &str)
     ensures { (old new : World) (ended : Status) (files : Files) (disk target : Disk) (lines : List LogLine)
         → BeginsSound old → old.files ≡ Some files → IsImageOf (Some files) _from.now disk → IsImageOf (Some files) _to.now target

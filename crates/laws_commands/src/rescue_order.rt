@@ -7,8 +7,9 @@ ghost use Rattle.disk_commands.specs.Rescue.{Rescues};
 ghost use Rattle.laws_commands.specs.Rescued.{log_of};
 ghost use Rattle.laws_commands.specs.Stores.{StoresDiskThenLog};
 
-/// A law: however a rescue ends, the stores that it made are a first part of two: of the other diskette, and then of the new log. So where the
-/// log couldn't be stored, the diskette is the new one, and the log is as it was, so that the next run asks for the same records.
+/// A law: however a rescue ends, it made a first part of two stores: that of the other diskette, and then that of the
+/// new log. If the log couldn't be stored, the diskette is therefore the new one and the log is as it was, so that the
+/// next run asks for the same records.
 pub fn rescue_stores_the_log_last(_from: &str, _to: &str, _log: &str)
     ensures { (old new : World) (course : List Taken) (ended : Status)
         → Rescues _from.now _to.now _log.now old course new ended

@@ -15,14 +15,17 @@ ghost use Rattle.disk_commands.specs.Rescue.{Rescues};
 ghost use Rattle.disk_commands.specs.Logs.{IsLogFound};
 ghost use Rattle.laws_commands.specs.Rescued.{IsNotStopped, HasTarget, IsRescue};
 
-/// A law: where a rescue ends with status 0 or 1, no refusal stopped it, and the drive of bay 1 had no fault meanwhile, each
-/// record that was asked for is either in the new log, with the code that its read gave, or on the stored disk, with the mark and
-/// the content that its read gave, and never in both; whatever faults the drive of bay 0 had, these are those of an intact
-/// field of the record on the first disk; the last line counts those on the disk, and all. Where there was a log, all
-/// other sectors of the disk stay as they were, if that disk was regular, and no address mark could come up in a write that stopped
-/// short, since its address fields are on Laid tracks, or each write was Tidy; where there was none, this is so by itself. The disk is
-/// stored first, and then the log, and the next run finds both as it asks for them: a regular disk, unprotected, of the first disk's
-/// cylinders and rate and with Laid fields if it is new, and else as the other one was; and a log.
+/// A law on a rescue that ends with status 0 or 1 and that no refusal stopped, where the drive of bay 1 had no fault
+/// during it. Each record that was asked for is either in the new log, with the code that its read gave, or on the
+/// stored disk, with the mark and the content that its read gave. No record is in both. Whatever faults the drive of
+/// bay 0 had, mark and content are those of an intact field of the record on the first disk. The last line counts the
+/// records on the stored disk, and all records that were asked for.
+/// If there was a log, there is a premise: the disk of the second name was regular, and no write that stops short could
+/// bring up an address mark. The latter holds if the disk's address fields are on Laid tracks, or if each write was
+/// Tidy. All other sectors of this disk then stay as they were. If there was no log, the premise isn't needed.
+/// The disk is stored first, and then the log. The next run finds both as it needs them: a regular disk and a log. If
+/// the disk is new, it is unprotected, has the first disk's cylinders and rate, and has Laid fields. Otherwise it is in
+/// these respects as the other disk was.
 pub fn rescue_settles_each_record(_from: &str, _to: &str, _log: &str)
     ensures { (old new : World) (course : List Taken) (ended : Status) (files : Files) (disk target : Disk)
         → Rescues _from.now _to.now _log.now old course new ended → IsEndStatus ended

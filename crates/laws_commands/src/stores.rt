@@ -17,15 +17,16 @@ ghost use Rattle.laws_commands.specs.Stores.{all_stored, stores_of, end_stores, 
 
 use flop_base::Rate;
 
-/// A law: a shelf that tells which stores were made lists the ones that a law says, after those that it listed before.
+/// A law: a shelf that tells which stores were made lists those that a law says, after those that it listed before.
 #[tactic(auto, using(crate::proofs::Storing::stores_listed))]
 pub fn stores_are_listed()
     ensures { (files after : Files) (made : List Store) → Some after ≡ all_stored (Some files) made
         → after.stores ≡ option_map (λ before. before ++ made) files.stores }
 {}
 
-/// A law: a run stores what its ejects took out, in their order, each medium once under its name, and nothing else. Its end stores the
-/// medium in bay 0 and then that in bay 1; where it stops, a first part of these was stored.
+/// A law: a run stores what its ejects took out, in their order, each medium once under its name, and it stores nothing
+/// else. The end of a run stores the medium in bay 0 and then the one in bay 1. If the end stops, it stored a first
+/// part of these.
 #[tactic(auto, using(crate::proofs::Storing::run_stores, crate::proofs::Storing::ends_store, crate::proofs::Storing::end_stops))]
 pub fn a_run_stores_what_it_takes_out()
     ensures run { (old new : State) (told after : Option Files) (course : List Taken) → Run old told course new after
@@ -35,14 +36,14 @@ pub fn a_run_stores_what_it_takes_out()
         → StoresFirst (end_stores old) told after }
 {}
 
-/// A law: however it ends, a verify stores nothing.
+/// A law: however a verify ends, it stores nothing.
 #[tactic(auto, using(crate::proofs::ScriptStores::verify_stores))]
 pub fn verify_stores_nothing(_name: &str)
     ensures { (old new : World) (course : List Taken) (ended : Status)
         → RunsScript (verify_script _name.now) old course new ended → new.files ≡ old.files }
 {}
 
-/// A law: nor does an exercise.
+/// A law: however an exercise ends, it stores nothing.
 #[tactic(auto, using(crate::proofs::ScriptStores::exercise_stores))]
 pub fn exercise_stores_nothing(_seed: u32, _count: u16)
     ensures { (old new : World) (course : List Taken) (ended : Status)

@@ -1,4 +1,4 @@
-// The command that verifies, where nothing can go wrong.
+// The command that verifies, when nothing can go wrong.
 ghost use Rattle.std.specs.Prelude.{◌≡◌, Some, []};
 ghost use Rattle.flop_base.specs.Shelf.{Files};
 ghost use Rattle.flop_base.specs.declared.answers.Status.{Status};
@@ -11,9 +11,9 @@ ghost use Rattle.disk_commands.specs.Verify.{verify_script};
 ghost use Rattle.laws_commands.specs.VerifyRuns.{TellsFailing};
 ghost use Rattle.laws_commands.specs.EndsComplete.{BeginsSound, EndsWellOrOutside, IsReadable};
 
-/// A law: where no drive of a fresh station can have a fault any more and no DMA request can wait too long, the command that
-/// verifies ends well, unless the shelf, the sink or memory fails, if the name has the image of a regular disk that has each of
-/// its standard keys. It lists no key then, and tells that all sectors were read.
+/// A law on a verify in a fresh station, where no drive can have a fault any more and no DMA request can wait too long.
+/// The name has the image of a regular disk that has each of its standard keys. Then the verify ends well, unless the
+/// shelf, the sink or memory fails. It lists no key, and tells that all sectors were read.
 pub fn verify_ends_well(_name: &str)
     ensures { (old new : World) (ended : Status) (files : Files) (disk : Disk)
         → BeginsSound old → old.files ≡ Some files → IsImageOf (Some files) _name.now disk → IsReadable disk

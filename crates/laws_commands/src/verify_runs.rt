@@ -17,10 +17,10 @@ ghost use Rattle.disk_commands.specs.Verify.{verify_script};
 ghost use Rattle.laws_commands.specs.Verified.{IsUnmistaken, all_told_of};
 ghost use Rattle.laws_commands.specs.VerifyRuns.{TellsFailing, IsEndStatus};
 
-/// A law: where the command that verifies goes on to its end in a bay that was empty, and neither a fault of its drive nor a
-/// stall disturbed it, on a disk whose address fields can't be mistaken, it prints a line for each standard key that isn't
-/// found, in their order, with the code of its look, and no other line but the last, which counts the others. It ends with
-/// status 1 exactly where there is such a key, and else with status 0.
+/// A law on a verify that goes on to its end, of a disk whose address fields can't be mistaken. Bay 0 was empty before,
+/// and neither a fault of its drive nor a late DMA request (stall) disturbed the verify. Then it prints a line for each
+/// standard key that isn't found, in their order, with the code of its look. After these comes only the last line,
+/// which counts the other keys. The status is 1 if there is a key that isn't found, and otherwise 0.
 pub fn verify_tells_failing_keys(_name: &str)
     ensures { (old new : World) (course : List Taken) (ended : Status) (files : Files) (disk : Disk)
         (failed : List (Chrn × Look))

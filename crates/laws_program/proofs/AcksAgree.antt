@@ -1,4 +1,4 @@
--- Two acknowledgements of alike bays: they answer alike, and find the same rate.
+-- Two acknowledgements of alike bays: they are answered alike, and find the same rate.
 use Rattle.std.proofs.Common.{arith, ◌≡◌, ◌∙◌, ℕ, refl, sym, ap, subst, inl, inr, Option, Some, None, Result, Ok, Err}
 use Rattle.flop_base.specs.declared.answers.Code.{Code}
 use Rattle.flop_base.specs.declared.answers.Rate.{Rate}
@@ -17,7 +17,7 @@ use Rattle.laws_program.proofs.AlikeDisks.{AlikeDisks, AlikeMedia, AlikeBays, re
 use Rattle.laws_program.proofs.AfterDisks.{in_both}
 use Rattle.laws_program.proofs.Calm.{few_faults, no_loss}
 
--- a rate that one drive heard on the track of cylinder 0 and head 0, and the other didn't
+-- it can't be that one drive heard a rate on the track of cylinder 0 and head 0, and the other drive didn't
 clash : (d e : Disk) → IsRegularDisk d → HasTrack d 0 0 → ((p : ℕ) (key : Chrn) → IsAddressAt (track_of e 0 0) p key → IsAddressAt (track_of d 0 0) p key) → d.rate ≡ e.rate → (r s : Rate) → r ≡ R500 → s ≡ R250 → (s ≡ R250 → e.rate ≡ R250) → (HasClearStart d → r ≡ d.rate) → (HasNoStart e → s ≡ R500) → ⊥
 clash d e regular has back rates r s high low double told untold =
     let of_disk = double low in
@@ -37,7 +37,7 @@ alone m n d is none same = subst (λ (o : Option Disk). AlikeMedia (Some d) o) n
 alone_too : (m n : Option Disk) (d : Disk) → m ≡ None → n ≡ Some d → AlikeMedia m n → ⊥
 alone_too m n d none is same = subst (λ (o : Option Disk). AlikeMedia None o) is (subst (λ (o : Option Disk). AlikeMedia o n) none same)
 
--- what two acknowledgements make of two bays
+-- what two acknowledgements of alike bays leave: the same reply, and alike bays
 pub record AckedAlike (bay : ℕ) (called called_too : Result (Unit {0}) Code) (one one_new two two_new : StationState) : Type 0 where
   pub replies : reply_of called_too ≡ reply_of called
   pub value : Bay

@@ -1,4 +1,4 @@
--- Disks, bays and stations that differ in contents alone.
+-- Disks, bays and stations that differ only in contents.
 use Rattle.std.proofs.Common.{◌≡◌, ◌∙◌, ℕ, Bool, true, false, List, length, refl, sym, subst, Option, Some, None}
 use Rattle.std.specs.Prelude.{is_some, ◌==◌, if◌then◌else◌}
 use Rattle.std.specs.Option.{option_map_or}
@@ -65,7 +65,7 @@ regular_in_too None (Some two) same regular disk is = absurd same
 regular_in_too (Some one) None same regular disk is = absurd same
 regular_in_too (Some one) (Some two) same regular disk is = subst IsRegularDisk (some_one two disk is) (regular_too one two same (regular one refl))
 
--- what is met on them shows the same
+-- the tracks that are met on two alike media show the same
 met_media : (one two : Option Disk) (rate : Rate) (c h : ℕ) → AlikeMedia one two → ShowSame (met_in one rate c h) (met_in two rate c h)
 met_media None None rate c h same = show_itself (unrecorded 64)
 met_media None (Some two) rate c h same = absurd same
@@ -79,7 +79,7 @@ met_media (Some one) (Some two) rate c h same =
     none_show (unrecorded one.words_per_track) (met_on two rate c h) (nothing_unrecorded one.words_per_track)
     (on_nothing two rate c h (λ has is. none ((alike_tracks one two c h same.alike).1 has) (sym same.alike.rate ∙ is))))
 
--- and is regular where they are
+-- a track that is met on a regular medium is regular
 pub regular_met : (medium : Option Disk) (rate : Rate) (c h : ℕ) → IsRegularIn medium → IsRegular (met_in medium rate c h) c h
 regular_met None rate c h regular = none_regular (unrecorded 64) c h (nothing_unrecorded 64)
 regular_met (Some disk) rate c h regular =
@@ -100,7 +100,7 @@ met_bays one two c h same =
 
 -- ---- stations
 
--- the parts of two stations on which answers rest
+-- the parts of two stations on which answers depend
 pub record AlikeParts (one : Two Bay) (memory : List ℕ) (spares : ℕ) (two : Two Bay) (other_memory : List ℕ) (other_spares : ℕ) : Type 0 where
   pub first : AlikeBays one.first two.first
   pub second : AlikeBays one.second two.second
@@ -125,7 +125,7 @@ set_same one two bay a b same bays = go (bay == 0)
     go true = record { first = bays; second = same.second; size = same.size; other_size = same.other_size; as_many = same.as_many }
     go false = record { first = same.first; second = bays; size = same.size; other_size = same.other_size; as_many = same.as_many }
 
--- with other memories of full size
+-- alike stations stay alike with other memories of full size
 pub memory_same : (one two : StationState) (memory other : List ℕ) → AlikeStations one two → length memory ≡ user_bytes → length other ≡ user_bytes → AlikeStations (record one { memory = memory }) (record two { memory = other })
 memory_same one two memory other same size other_size = record {
   first = same.first;

@@ -1,4 +1,4 @@
--- Files that are alike: as images they are of alike disks, or wrong in one way.
+-- Files that are alike: as images they are of alike disks, or they have the same error.
 use Rattle.std.proofs.Common.{arith, ◌≡◌, ◌∙◌, ◌+◌, ◌*◌, ◌<◌, ◌≤◌, ℕ, Bool, true, false, List, length, cond, refl, sym, ap, subst, inl, inr, Option, Some, None, Result, Ok, Err, take, drop}
 use Rattle.std.specs.Prelude.{◌⊎◌, IsSomeAnd, nat_lt, if◌then◌else◌}
 use Rattle.std.proofs.lemmas.Bool.{lt-ltb, le-ltb}
@@ -155,7 +155,7 @@ short_stop : (name bytes : List ℕ) → length bytes ≤ most_image_bytes → s
 short_stop name bytes short =
     ap (λ (b : Bool). if b then Some (stop.TooLong name most_image_bytes) else image_stop name (image_of bytes)) (le-ltb most_image_bytes (length bytes) short)
 
--- none, where the file is an image
+-- a load doesn't stop a run if the file is an image
 pub no_stop : (files : Files) (name : List ℕ) (d : Disk) → IsImageOf (Some files) name d → stop_by name (file_at files name) ≡ None
 no_stop files name d is = go (file_at files name) is
   where
@@ -163,7 +163,7 @@ no_stop files name d is = go (file_at files name) is
     go None x = absurd x
     go (Some bytes) x = short_stop name bytes x.0 ∙ ap (image_stop name) x.1
 
--- a stop that the outside didn't make is this one
+-- a stop of a run by a load, which the outside didn't make
 pub record IsLoadStop (files : Files) (asked : Request) (cause : Stop) : Type 0 where
   pub bay : ℕ
   pub name : List ℕ

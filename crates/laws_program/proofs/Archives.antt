@@ -1,4 +1,4 @@
--- What the forms on files alone store and tell.
+-- What the subcommands (forms) on files alone store and print.
 use Rattle.std.proofs.Common.{◌≡◌, ℕ, List, Option, Result, Ok, Err, Some}
 use Rattle.std.specs.Prelude.{codes}
 use Rattle.flop_base.specs.Shelf.{Files}

@@ -110,7 +110,7 @@ module _ (Holds : List ℕ → Type 0) (names : Names) where
 
 -- ---- lines
 
--- a line was done, and those behind it go on
+-- a line was done, and the lines after it go on
 through_line : {R : Type 0} (Holds : List ℕ → Type 0) (names : Names) (line : CallLine) (more : List CallLine) (kept : ℕ) (old : State) (told : Option Files)
     (round : Round) (mid : Option Files) → DoesLine line kept old told round mid → IsKept Holds names old told
     → InsertsDisks Holds names (requests_among (line ∷ more))
@@ -139,7 +139,7 @@ rounds_stop asked later cause mid new files after kept_mid stops (round ∷ rest
 
 -- ---- the whole text
 
--- 0 or 1, or what the outside gives
+-- a status 0 or 1, or one that the outside gives
 abbrev IsAnswered : Status → Type 0
 IsAnswered status.AllOk = Unit {0}
 IsAnswered status.SomeRefused = Unit {0}
@@ -214,7 +214,7 @@ calls_by name files text lines old course new ended told is spells inserts kept 
 calls_by name files text lines old course new ended told is spells inserts kept (Faulty nothing idle) = subst IsAnswered (sym idle.status) tt
 calls_by name files text lines old course new ended told is spells inserts kept (Starved nothing idle) = subst IsAnswered (sym idle.status) tt
 
--- with the faults that were counted
+-- such a status, with the faults of the outside counted
 counted_answered : (Such : Type 0) (old new : Stand) (ended : Status) → Blames (ended ≡ status.FileFault) old.outside.shelf_faults new.outside.shelf_faults
     → Blames (ended ≡ status.SinkFault) old.outside.sink_faults new.outside.sink_faults → IsAnswered ended
     → (IsEndStatus ended → Such) → EndsAnswered Such old new ended

@@ -1,4 +1,4 @@
--- What a text of calls of INT 13h tells.
+-- What a text of calls of INT 13h prints.
 use Rattle.std.proofs.Common.{◌≡◌, ◌∙◌, ℕ, List, Result, Ok, Err, Some, refl, subst}
 use Rattle.flop_base.specs.declared.answers.Status.{Status}
 use Rattle.flop_base.specs.declared.answers.Status.TheVariants as status

@@ -1,4 +1,4 @@
--- Two calls of alike stations that nothing disturbed: they answer alike, and leave alike stations.
+-- Two calls to alike stations that nothing disturbed: they are answered alike, and leave alike stations.
 use Rattle.std.proofs.Common.{arith, ◌≡◌, ◌∙◌, ◌+◌, ◌≤◌, ℕ, nat_le, Bool, true, false, List, length, drop, refl, sym, ap, subst, Option, Some, None, Result}
 use Rattle.std.specs.Prelude.{◌&&◌, not, MatchOption, MatchBool, if◌then◌else◌}
 use Rattle.std.proofs.lemmas.Bool.{leb-true, and_parts}
@@ -51,7 +51,7 @@ at_once answers one two one_new two_new code called called_too same first second
   after = becomes_same one two one_new two_new same first.stays second.stays;
 }
 
--- the order of a read and of a write, of a format, and of a change of the rate
+-- the order of refusals of a read and of a write; below, that of a format
 abbrev sector_order : Bool → Bool → Bool → Option Code → Option Code
 sector_order good crosses acknowledged last =
     if not good then Some BadRequest else (if crosses then Some Page else (if not acknowledged then Some Changed else last))
@@ -63,7 +63,7 @@ abbrev format_order : Bool → Bool → Bool → Option Code
 format_order good acknowledged protected =
     if not good then Some BadRequest else (if not acknowledged then Some Changed else guarded protected)
 
--- what wasn't refused could be asked for
+-- the request for a sector is good, if it wasn't refused
 good_sector : (good crosses acknowledged : Bool) (last : Option Code) → sector_order good crosses acknowledged last ≡ None → good ≡ true
 good_sector true crosses acknowledged last e = refl
 good_sector false crosses acknowledged last e = absurd (cc e)

@@ -6,7 +6,7 @@ use Rattle.flop_base.specs.Counters.{Counters, GoesOn, IsUndisturbed, IsFaultles
 use Rattle.flop_base.proofs.Counted.{faults_go_on}
 use Rattle.sector_model.specs.Reads.{spoilable}
 
--- in any bay, where it is so in both
+-- a call is undisturbed in any bay, if it is so in both
 pub calm_bay : (bay : ℕ) (old new : Counters) → IsUndisturbed 0 old new → IsUndisturbed 1 old new → IsUndisturbed bay old new
 calm_bay bay old new first second = record { faults = few (bay == 0); stalls = first.stalls; together = all (bay == 0) }
   where

@@ -1,4 +1,4 @@
--- The forms on whole disks, by whether some reply was a refusal.
+-- The status of the subcommands (forms) on whole disks, by whether some reply was a refusal.
 use Rattle.std.proofs.Common.{◌≡◌, ℕ, ◌+◌, ◌-◌, Bool, true, false, List, [], Option, Some, Result, Ok, Err, get_or, refl, ap, sym, subst, arith}
 use Rattle.std.specs.Prelude.{◌||◌, nat_lt, sum, codes, if◌then◌else◌, ◌==◌, ◌*◌}
 use Rattle.std.proofs.lemmas.Bool.{lt-ltb}
@@ -175,7 +175,7 @@ type_of {T = T} value = T
 abbrev Work : Type 0
 Work = type_of no_work
 
--- some of it was refused
+-- some request of the workload was refused
 abbrev some_work : Work → Bool
 some_work work = nat_lt 0 work.refused
 
@@ -192,7 +192,7 @@ counted_by answer total work = go answer (some_work work) refl
     go (reply.Bytes address content) true is = is
     go (reply.Bytes address content) false is = is
 
--- memory at 20000 is filled whenever that is asked
+-- a request that fills memory at 20000 isn't refused
 filled : (byte : ℕ) (answer : Reply) (after : State) → Came (request.Fill 0x20000 512 byte) answer after → is_refusal answer ≡ false
 filled byte answer after came = ap is_refusal came.3.0
 

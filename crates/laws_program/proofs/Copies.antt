@@ -35,7 +35,7 @@ sure_read disk old new spares start last starts shows sure = elim sure.drive [
   | inr lone ↦ (sure.regular, inr lone)
 ]
 
--- the sectors that the reads gave are fields of the disk, and its sectors where that is sure
+-- what a copy stores, as the law says it: fields of the disk that was read, and its sectors if the reads are sure
 copy_of : (sure : Type 0) (disk : Disk) (to : List ℕ) (old new : Counters) (course : List Taken) (told after : Option Files)
     → (sure → IsSure disk old new) → StoresCopy disk to old told course new after → StoresCopyAsRead sure disk to told after
 copy_of sure disk to old new course told after safe stores = record {
@@ -77,7 +77,7 @@ copies_well from to spares old new before after files disk over told image calm 
     (copy_stores from to (world over.start before.files before.report) (world over.last after.files after.report) runs.course files disk runs.does told image
     (fresh_memory start over.set_up.fresh) (faultless_second old new spares start last over.set_up.starts over.shows calm))
 
--- it is one that a rescue may go on with
+-- the stored copy is a disk that a rescue may go on with
 pub copy_target : (from to : List ℕ) (files : Files) (after : Option Files) (disk : Disk) (old new : Board)
     (stores : StoresCopyAsRead (IsReadSure disk old new) disk to (Some files) after) → IsImageOf (Some files) from disk
     → HoldsTarget to disk stores.copied after

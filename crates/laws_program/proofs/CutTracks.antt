@@ -1,4 +1,4 @@
--- A regular track with a cut of a window that left it regular: each other field shows what it showed.
+-- A regular track with a cut of a window that left it regular: each other field shows the same as before.
 use Rattle.std.proofs.Common.{◌≡◌, ◌≢◌, ◌↔◌, ◌+◌, ◌≤◌, ℕ, ◌⊎◌, Bool, List, ◌∷◌, ◌++◌, length, take, sym, subst, arith, refl, inl, inr}
 use Rattle.std.proofs.lemmas.Bool.{cases_order, cases_eq}
 use Rattle.std.proofs.lemmas.List.{length-append, length-take}
@@ -45,7 +45,7 @@ module _ (track : List ℕ) (c h p : ℕ) (key : Chrn) (deleted : Bool) (content
       let span : window_end p key.n + 64 ≤ p + span_cells key.n = omega arith in
       Splices.same_behind track (window_word p) (take k (window deleted content)) inside q m (omega (arith, end, span, length-take k (window deleted content)))
 
-  -- an address field that doesn't reach into the span behind this one has the same cells
+  -- an address field has the same cells, if it is this one, or doesn't reach into the span that begins with this one
   same_cells : (q : ℕ) → (q ≡ p) ⊎ (q + 160 ≤ p) ⊎ (p + span_cells key.n ≤ q) → AreSame track after q 160
   same_cells q (inl e) = before q 160 (omega arith)
   same_cells q (inr (inl low)) = before q 160 (omega arith)
@@ -62,14 +62,14 @@ module _ (track : List ℕ) (c h p : ℕ) (key : Chrn) (deleted : Bool) (content
   pub address_on : (q : ℕ) (other : Chrn) → IsAddressAt track q other → IsAddressAt after q other
   address_on q other at = same_address_at track after q other (same_cells q (apart track regular field.address q other at)) at
 
-  -- where the cut left the track regular
+  -- the cut left the track regular
   module _ (still : IsRegular after c h) where
     pub address_back : (q : ℕ) (other : Chrn) → IsAddressAt after q other → IsAddressAt track q other
     address_back q other at =
         same_address_at after track q other
         (same_back track after q 160 (same_cells q (apart after still (address_on p key field.address) q other at))) at
 
-    -- the other fields show the same
+    -- the other address fields show the same
     pub shows_on : (q : ℕ) (other : Chrn) (look : Look) → q ≢ p → IsAddressAt track q other → Shows track q other.n look ↔ Shows after q other.n look
     shows_on q other (Found mark place) not at = (
       λ x. (x.0, (kept_look track p key (window deleted content) k spaced field.address over most q other (Found mark x.0) not at).0 x.1),

@@ -1,4 +1,4 @@
--- How the forms on whole disks end where nothing can go wrong.
+-- How the subcommands (forms) on whole disks end where nothing can go wrong.
 use Rattle.std.proofs.Common.{◌≡◌, ◌≢◌, ◌≤◌, ℕ, All, List, [], Some, None, subst, sym, inl, inr, refl}
 use Rattle.flop_base.specs.Shelf.{Files, file_at}
 use Rattle.flop_base.specs.Standard.{sectors_at}
@@ -38,7 +38,7 @@ use Rattle.laws_program.specs.Told.{ListsFailing}
 use Rattle.laws_program.proofs.OnBoards.{nothing_left}
 use Rattle.laws_program.proofs.OfForms.{form_done}
 
--- what of an end is the outside's was counted
+-- if the outside ended the program, the fault was counted
 counted : (Inner Holds : Type 0) (old new : Stand) (ended : Status) → (Inner → Holds) → Blames (ended ≡ status.FileFault) old.outside.shelf_faults new.outside.shelf_faults
     → Blames (ended ≡ status.SinkFault) old.outside.sink_faults new.outside.sink_faults → EndsWellOrOutside Inner ended → EndsWell Holds old new ended
 counted Inner Holds old new status.AllOk means shelf sink ends = means ends

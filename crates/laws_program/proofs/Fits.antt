@@ -1,4 +1,4 @@
--- How the forms on files alone end, where the file that they read is there and in its grammar.
+-- How the subcommands (forms) on files alone end, where the file that they read is there and in its grammar.
 use Rattle.std.proofs.Common.{◌≡◌, ◌∙◌, arith, ℕ, List, Option, Result, Ok, Err, Some, None, refl, sym, subst, inl, inr}
 use Rattle.std.specs.Prelude.{codes}
 use Rattle.flop_base.specs.Shelf.{Files, file_at}
@@ -29,7 +29,7 @@ use Rattle.laws_program.specs.Made.{MakesFile, TellsSurveyOf, HasUnfit}
 use Rattle.laws_program.proofs.Archives.{made_well, survey_told}
 use Rattle.laws_program.proofs.OfForms.{form_done}
 
--- a file is read in one way
+-- two readings of one file give the same
 one_read : {T : Type 0} (reading : List ℕ → Result T ImageError) (files : Files) (name : List ℕ) (one : T) (other : Result T ImageError)
     → ReadsAs reading (Some files) name (Ok one) → ReadsAs reading (Some files) name other → other ≡ Ok one
 one_read reading files name one other first second =
@@ -71,7 +71,7 @@ module _ {T : Type 0} (reading : List ℕ → Result T ImageError) (Becomes : T 
   same_source : (other : T) → ReadsAs reading (Some files) from (Ok other) → other ≡ source
   same_source other is = let same = one_read reading files from source (Ok other) reads is in cc same
 
-  -- what stops the command is the outside's
+  -- only the outside stops the command
   stopped : (cause : Stop) → StopsAt reading (Some files) from cause → ended ≡ outcome_status (Err (halt.Stopped cause)) → EndsByFit Made IsUnfit old new ended
   stopped stop.FileFault stops is = subst (λ (s : Status). EndsByFit Made IsUnfit old new s) (sym is) (shelf.rose is)
   stopped stop.NoMemory stops is = subst (λ (s : Status). EndsByFit Made IsUnfit old new s) (sym is) tt

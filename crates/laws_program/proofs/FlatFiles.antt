@@ -33,7 +33,7 @@ imports_well flat name spares old new before after over calm =
     (fresh_memory over.start.station over.set_up.fresh)
     (faultless_first old new spares over.start.station over.last.station over.set_up.starts over.shows calm)
 
--- what the reads gave, without the reads
+-- what an export stores, as the law says it, without mention of the reads
 as_read : (sure : Type 0) (name flat : List ℕ) (files : Files) (disk : Disk) (old new : Counters) (course : List Taken) (after : Option Files)
     → IsImageOf (Some files) name disk → (sure → IsSure disk old new) → StoresExported name flat old (Some files) course new after
     → StoresFlatAsRead sure disk flat (Some files) after

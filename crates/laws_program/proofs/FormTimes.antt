@@ -1,4 +1,4 @@
--- How long a form lasts at most, and how many data commands it sends.
+-- How long a subcommand (form) lasts at most, and how many data commands it sends.
 use Rattle.std.proofs.Common.{arith, ◌≡◌, ◌∙◌, ℕ, ◌+◌, ◌≤◌, List, [], ◌∷◌, ◌++◌, Option, Some, None, Result, Ok, Err, refl, ap, sym, subst, append-nil}
 use Rattle.flop_base.specs.Counters.{Counters, DriveCounts, IsPastDriver}
 use Rattle.flop_base.specs.Shelf.{Files}
@@ -34,7 +34,7 @@ use Rattle.floppy_tools.specs.Machines.{RunsOver}
 use Rattle.laws_program.specs.Steps.{EachStep, SendsFew, course_commands, most_commands}
 use Rattle.laws_program.proofs.StepCauses.{each_sends}
 
--- A count that goes up by no more than this sum over a run, and not at all past the driver.
+-- A count that rises in a run by no more than this sum, and not at all by calls past the driver.
 record IsBound (count : Counters → ℕ) (sum : StationState → List Taken → ℕ) : Type 0 where
   run : (old new : State) (told after : Option Files) (course : List Taken) → Run old told course new after
       → count new.station.counters ≤ count old.station.counters + sum old.station course
@@ -77,7 +77,7 @@ module _ (count : Counters → ℕ) (sum : StationState → List Taken → ℕ) 
       → count new ≤ count mid.station.counters → count new ≤ count old.station.counters + sum old.station course
   run_and old mid told after course new run stays = let ran = bound.run old mid told after course run in omega (arith, ran, stays)
 
-  -- where nothing was run and the state stays
+  -- the count stays where nothing was run and the state stays
   idle_within : (old new : World) (course : List Taken) → new.state ≡ old.state → Within old course new
   idle_within old new course same = let stays = ap (λ (s : State). count s.station.counters) same in omega (arith, stays)
 
@@ -168,7 +168,7 @@ module _ (count : Counters → ℕ) (sum : StationState → List Taken → ℕ) 
   calls_within name old course new ended (calls.Faulty nothing idle) = idle_within old new course (ap (λ (w : World). w.state) idle.same)
   calls_within name old course new ended (calls.Starved nothing idle) = idle_within old new course (ap (λ (w : World). w.state) idle.same)
 
-  -- ---- Forms.
+  -- ---- Subcommands.
 
   form_within : (asked : Form) (old : World) (course : List Taken) (new : World) (ended : Status) → DoesForm asked old course new ended
       → Within old course new
@@ -227,7 +227,7 @@ machine_lasts asked spares old new before after ended over =
     (world over.last after.files after.report) ended over.runs.does in
     omega (arith, began, shown, ran)
 
--- and its data commands
+-- the data commands of a run over a machine
 pub machine_sends : (asked : Option Form) (spares : List DriveCounts) (old new : Board) (before after : Outside) (ended : Status)
     → (over : RunsOver asked old spares before new after ended)
     → over.last.station.counters.data_commands ≤ over.start.station.counters.data_commands + course_commands over.start.station over.runs.course

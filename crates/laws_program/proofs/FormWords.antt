@@ -1,4 +1,4 @@
--- Words that are a form.
+-- Arguments (words) that are a subcommand (form).
 use Rattle.std.proofs.Common.{◌≡◌, ◌∙◌, ℕ, List, Option, Some, None, refl, sym, subst}
 use Rattle.flop_base.specs.declared.answers.Status.{Status}
 use Rattle.flop_base.specs.Counters.{DriveCounts}
@@ -8,7 +8,7 @@ use Rattle.floppy_words.proofs.PortsLemmas.{no_form}
 use Rattle.floppy_tools.specs.Machines.{RunsOver}
 use Rattle.floppy_tools.specs.Performed.{Stand, RanOver, Performed}
 
--- a form is no text of port accesses
+-- arguments that are a subcommand name no text of port accesses
 no_ports : (words : List (List ℕ)) (asked : Form) (file : Option (List ℕ)) → form_of words ≡ Some asked → ports_file_of words ≡ file → file ≡ None
 no_ports words asked (Some file) is spelled = let none = no_form words file spelled in absurd cc
 no_ports words asked None is spelled = refl

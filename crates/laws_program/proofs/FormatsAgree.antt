@@ -1,4 +1,4 @@
--- Two formats of one track in alike bays: they answer alike, and leave alike bays.
+-- Two formats of one track in alike bays: they are answered alike, and leave alike bays.
 use Rattle.std.proofs.Common.{arith, ◌≡◌, ◌∙◌, ℕ, suc, All, List, [], ◌∷◌, refl, sym, ap, subst, inl, inr, Option, Some, None, Result, Ok, Err, true≢false}
 use Rattle.flop_base.specs.declared.answers.Code.{Code}
 use Rattle.raw_image.specs.Disk.{Disk, IsDisk, HasTrack, track_of}
@@ -16,7 +16,7 @@ use Rattle.laws_program.proofs.AlikeDisks.{AlikeDisks, AlikeMedia}
 use Rattle.laws_program.proofs.AfterDisks.{alike_after}
 use Rattle.laws_program.proofs.Calm.{no_faults}
 
--- several layings of one cylinder keep the other tracks
+-- several layings on one cylinder keep the other tracks
 lays_keep : (format : Format) (disk : Disk) (layings : List Laying) (after : Disk) → IsDisk disk → All (λ laying. laying.cylinder ≡ format.c) layings → LaysDisk format disk layings after → KeepsTracks disk format.c format.h after
 lays_keep format disk [] after valid only lays = subst (KeepsTracks disk format.c format.h) (sym lays) (keeps_itself disk format.c format.h valid)
 lays_keep format disk (laying ∷ later) after valid only lays =
@@ -44,7 +44,7 @@ laid_over format disk after layings valid only lays begun untouched = record {
   kept = λ other. some_one after disk (untouched (λ d is has same. other (subst (λ (x : Disk). x.rate ≡ format.rate) (sym (some_one disk d is)) same)));
 }
 
--- two such disks
+-- two alike disks that were formatted in this way are alike again
 over_alike : (format : Format) (one two one_after two_after : Disk) → AlikeDisks one two → IsLaidOver format one one_after → IsLaidOver format two two_after → AlikeDisks one_after two_after
 over_alike format one two one_after two_after same first second = elim (cases_rate one.rate format.rate) [
   | inl is ↦
@@ -59,7 +59,7 @@ over_alike format one two one_after two_after same first second = elim (cases_ra
       (subst (λ (d : Disk). AlikeDisks one d) (sym (second.kept (λ is. other (sym same.alike.rate ∙ is)))) same)
 ]
 
--- media before and after
+-- two alike media after formats are alike again
 media_alike : (format : Format) (one two one_after two_after : Option Disk) (layings more : List Laying) → AlikeMedia one two
     → All (λ laying. laying.cylinder ≡ format.c) layings → Lays format one layings one_after → IsFormatted format one one_after → IsUnformatted format one one_after
     → All (λ laying. laying.cylinder ≡ format.c) more → Lays format two more two_after → IsFormatted format two two_after → IsUnformatted format two two_after
@@ -75,7 +75,7 @@ media_alike format (Some one) (Some two) (Some one_after) (Some two_after) layin
     (laid_over format one one_after layings same.valid only lays begun untouched)
     (laid_over format two two_after more same.alike.valid only_too lays_too begun_too untouched_too)
 
--- a format that one takes, the other takes
+-- a format that fits one of two alike media fits the other
 formattable_on : (format : Format) (one two : Option Disk) → AlikeMedia one two → IsFormattable format one → IsFormattable format two
 formattable_on format None None same can = can
 formattable_on format None (Some two) same can = absurd same

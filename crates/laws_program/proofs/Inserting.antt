@@ -33,7 +33,7 @@ pub file_stored : (files : Files) (name bytes other : List ℕ)
     → file_at (after_store files name bytes) other ≡ cond (eq_by_cmp (slice_cmp nat_cmp) other name) (Some bytes) (file_at files other)
 file_stored files name bytes other = fin.get-insert nat_list_cmp_total files.held name bytes other
 
--- what is stored is the file of a disk
+-- what was stored under a name is the file of a disk
 pub stored_last : (told : Option Files) (name : List ℕ) (d : Disk) → IsDisk d → IsDiskFile (stored told name (file_of d)) name
 stored_last None name d valid = (d, tt)
 stored_last (Some files) name d valid =
@@ -42,7 +42,7 @@ stored_last (Some files) name d valid =
     ∙ ap (λ (t : Bool). cond t (Some (file_of d)) (file_at files name)) ((eq_by_cmp_equiv nat_list_cmp_total).refl name) in
     (d, subst (λ (o : Option (List ℕ)). IsSomeAnd o (λ bytes. IsDiskText bytes d)) (sym there) (file_text d valid))
 
--- the others are what they were
+-- what was the file of a disk still is one after another file was stored
 pub stored_still : (told : Option Files) (name other : List ℕ) (d : Disk) → IsDisk d → IsDiskFile told other → IsDiskFile (stored told name (file_of d)) other
 stored_still None name other d valid is = is
 stored_still (Some files) name other d valid is =
@@ -53,7 +53,7 @@ stored_still (Some files) name other d valid is =
     go true = (d, file_text d valid)
     go false = is
 
--- such a file is an image
+-- the file of a disk is an image
 pub file_image : (files : Files) (name : List ℕ) → (is : IsDiskFile (Some files) name) → IsImageOf (Some files) name is.0
 file_image files name is = go (file_at files name) is.1
   where
@@ -69,14 +69,14 @@ file_disk files name is = go (file_at files name) is.1
     go None there = absurd there
     go (Some bytes) there = there.1.0
 
--- the disk of such a file is one
+-- the disk that is loaded from such a file is in its ranges
 pub inserted_disk : (files : Files) (name : List ℕ) (disk : Disk) → IsDiskFile (Some files) name → IsImageOf (Some files) name disk → IsDisk disk
 inserted_disk files name disk is image =
     subst IsDisk (one_image files name is.0 disk (file_image files name is) image) (file_disk files name is)
 
 -- ---- the bays
 
--- a bay has a disk exactly where it has a name
+-- a bay has a disk if and only if it has a name
 abbrev pub IsHeld : Option (List ℕ) → Option Disk → Type 0
 IsHeld (Some name) (Some disk) = IsDisk disk
 IsHeld None None = Unit {0}
@@ -103,7 +103,7 @@ held_with names bays at name x held here = go (at == 0)
     go true = record { first = here; second = held.second }
     go false = record { first = held.first; second = here }
 
--- the bay has another state, and its name
+-- the bay was changed, and has a disk if and only if it has its old name
 pub held_still : (names : Names) (bays : Two Bay) (at : ℕ) (x : Bay) → AreHeld names bays → IsHeld (in_bay names at) x.medium → AreHeld names (with_bay bays at x)
 held_still names bays at x held here = go (at == 0) here
   where
@@ -151,7 +151,7 @@ lays_held name format None layings after held lays = subst (IsHeld name) (sym la
 
 -- ---- one step
 
--- so the bays have these names, and what holds the file of a disk is that
+-- the bays have these names, and each name that holds the file of a disk does so among the told files
 pub record IsKept (Holds : List ℕ → Type 0) (names : Names) (state : State) (told : Option Files) : Type 0 where
   pub files : Files
   pub told_is : told ≡ Some files
@@ -159,7 +159,7 @@ pub record IsKept (Holds : List ℕ → Type 0) (names : Names) (state : State) 
   pub held : AreHeld names state.station.bays
   pub holds : (name : List ℕ) → Holds name → IsDiskFile told name
 
--- by the order of refusals: a medium goes in, or nothing changes
+-- a request that puts a medium in, by the order of refusals: a medium goes in, or nothing changes
 pub choose : {P : Type 0} {Q : Reason → Type 0} (F : Names → Type 0) (names put : Names) (good loaded : Bool)
     → MatchOption (unless_bad good (if loaded then Some reason.Busy else None)) P Q → (good ≡ true → loaded ≡ false → P → F put)
     → ((cause : Reason) → Q cause → F names)
@@ -168,7 +168,7 @@ choose F names put true true holds done refused = refused reason.Busy holds
 choose F names put true false holds done refused = done refl refl holds
 choose F names put false loaded holds done refused = refused (reason.Driver code.BadRequest) holds
 
--- or one comes out
+-- a request that takes a medium out: one comes out, or nothing changes
 pub choose_out : {P : Type 0} {Q : Reason → Type 0} (F : Names → Type 0) (names put : Names) (good loaded : Bool)
     → MatchOption (unless_bad good (if loaded then None else Some reason.Empty)) P Q → (P → F put)
     → ((cause : Reason) → (good ≡ true → loaded ≡ true → ⊥) → Q cause → F names) → F (if good then (if loaded then put else names) else names)
@@ -176,7 +176,7 @@ choose_out F names put true true holds done refused = done holds
 choose_out F names put true false holds done refused = refused reason.Empty (λ a b. true≢false (sym b)) holds
 choose_out F names put false loaded holds done refused = refused (reason.Driver code.BadRequest) (λ a b. true≢false (sym a)) holds
 
--- a medium that isn't refused goes into a free bay
+-- a request that puts a medium in and isn't refused finds a free bay
 pub goes_in : (good loaded : Bool) → unless_bad good (if loaded then Some reason.Busy else None) ≡ None → (good && not loaded) ≡ true
 goes_in true true e = absurd (cc e)
 goes_in true false e = refl

@@ -1,4 +1,4 @@
--- Two runs of one job over machines where nothing is left that could go wrong.
+-- Two runs of one batch job over machines where nothing is left that could go wrong.
 use Rattle.std.proofs.Common.{◌≡◌, ◌∙◌, ℕ, List, [], ◌∷◌, length, Some, refl, ap, sym, subst, inl, inr}
 use Rattle.std.specs.Prelude.{◌⊎◌}
 use Rattle.flop_base.specs.Shelf.{Files}
@@ -19,7 +19,7 @@ use Rattle.laws_program.specs.Disturbed.{IsSound}
 use Rattle.laws_program.specs.Ends.{EndsOutside}
 use Rattle.laws_program.proofs.OnBoards.{nothing_left}
 
--- any course agrees with none
+-- any course agrees with an empty one
 none_agree : (state : State) (course : List Taken) → AnswersAgree state course []
 none_agree state [] = tt
 none_agree state (taken ∷ later) = tt
@@ -39,7 +39,7 @@ both_settled job one one_after two two_after course other ended other_ended begi
   λ regular. inr (inl (subst IsFreeEnd (sym idle.status) tt)),
 )
 
--- what the outside ended was counted
+-- if the outside ended the program, the fault was counted
 free_counted : (old new : Stand) (ended : Status) → Blames (ended ≡ status.FileFault) old.outside.shelf_faults new.outside.shelf_faults
     → Blames (ended ≡ status.SinkFault) old.outside.sink_faults new.outside.sink_faults → IsFreeEnd ended → EndsOutside old new ended
 free_counted old new status.NoMemory shelf sink free = tt
@@ -66,7 +66,7 @@ module _ (job : List ℕ) (spares other_spares : List DriveCounts) (old new othe
   abbrev second_after : World
   second_after = world two.runs.last other_new.outside.outside.files other_new.outside.outside.report
 
-  -- as many spare drives
+  -- both runs have as many spare drives
   same_spares : length other_spares ≡ length spares → two.runs.start.station.spares ≡ one.runs.start.station.spares
   same_spares many =
       sym two.runs.set_up.fresh.spares ∙ ap (λ (d : List DriveCounts). length d) two.runs.set_up.starts.spares_are ∙ many

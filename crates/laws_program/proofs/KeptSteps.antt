@@ -48,7 +48,7 @@ keeps_media (request.SetRate bay rate) = true
 keeps_media (request.Tries tries) = true
 
 module _ (Holds : List ℕ → Type 0) (names : Names) (old : State) (told : Option Files) (kept : IsKept Holds names old told) where
-  -- where the bays are still those
+  -- the bays of the new state are these, which have the names
   on_bays : (new : State) (after : Option Files) (bays : Two Bay) → new.station.bays ≡ bays → AreHeld names bays → new.names ≡ old.names → after ≡ told
       → IsKept Holds names new after
   on_bays new after bays is held same still = record {
@@ -65,7 +65,7 @@ module _ (Holds : List ℕ → Type 0) (names : Names) (old : State) (told : Opt
   pub same_kept : (new : State) (after : Option Files) → IsSame old new → after ≡ told → IsKept Holds names new after
   same_kept new after same still = stays_kept new after same.stays same.names still
 
-  -- a bay that has what its name asks for
+  -- a bay was changed, and has a disk if and only if it has a name
   bay_kept : (new : State) (after : Option Files) (at : ℕ) (x : Bay) → new.station.bays ≡ with_bay old.station.bays at x → IsHeld (in_bay names at) x.medium
       → new.names ≡ old.names → after ≡ told → IsKept Holds names new after
   bay_kept new after at x is held same still =
@@ -160,7 +160,7 @@ module _ (Holds : List ℕ → Type 0) (names : Names) (old : State) (told : Opt
     holds = λ name known. elim known [ inl before ↦ is.holds name before | inr now ↦ absurd (none name now) ];
   }
 
-  -- a valid disk went in
+  -- a disk in its ranges went in
   went_in : (asked : Request) (new : State) (after : Option Files) (at : ℕ) (name : List ℕ) (disk : Disk)
       → ((other : List ℕ) → IsStoredBy names asked other → ⊥) → IsDisk disk → new.names ≡ with_bay old.names at (Some name)
       → Becomes (set_bay old.station at (fresh_bay (Some disk))) new.station → after ≡ told
@@ -206,7 +206,7 @@ module _ (Holds : List ℕ → Type 0) (names : Names) (old : State) (told : Opt
       went_in asked new after at name put.0 (λ other none. none) valid put.2.names put.2.exchanged.becomes does.1)
       (λ cause refused. behind asked new after (λ other none. none) (same_kept new after refused.same refused.files)))
 
-  -- one comes out, and is stored
+  -- a disk comes out, and is stored
   ejected_kept : (at : ℕ) (new : State) (after : Option Files) (disk : Disk) (name : List ℕ) → (bay_of old.station at).medium ≡ Some disk
       → in_bay old.names at ≡ Some name → new.names ≡ with_bay old.names at None → Becomes (set_bay old.station at (fresh_bay None)) new.station
       → after ≡ stored told name (file_of disk) → Behind (request.Eject at) new after (with_bay names at None)
@@ -288,7 +288,7 @@ module _ (Holds : List ℕ → Type 0) (names : Names) (old : State) (told : Opt
 
 -- ---- a run
 
--- media are kept through a course of such requests
+-- media are kept through a course of requests that keep them
 pub course_kept : (Holds : List ℕ → Type 0) (names : Names) (old new : State) (told after : Option Files) (course : List Taken)
     → list_all keeps_media (requests_of course) ≡ true → Run old told course new after → IsKept Holds names old told → IsKept Holds names new after
 course_kept Holds names old new told after [] all run kept =

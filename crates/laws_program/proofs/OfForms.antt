@@ -1,4 +1,4 @@
--- From a run over a machine to what its form does.
+-- From a run over a machine to what its subcommand (form) does.
 use Rattle.std.proofs.Common.{◌≡◌, ◌⊎◌, inl, inr, List, Some}
 use Rattle.flop_base.specs.declared.answers.Status.{Status}
 use Rattle.flop_base.specs.declared.answers.Status.TheVariants as status
@@ -18,14 +18,14 @@ asked_or_starved : (asked : Form) (old new : World) (course : List Taken) (ended
 asked_or_starved asked old new course ended (AsAsked does) = inl (record { course = course; does = does })
 asked_or_starved asked old new course ended (StarvesWords nothing idle) = inr idle.status
 
--- the form was done, or memory for its words couldn't be had
+-- the subcommand was done, or memory for its arguments ran out
 pub form_done : (asked : Form) (old : Board) (spares : List DriveCounts) (before : Outside) (new : Board) (after : Outside) (ended : Status)
     → (over : RunsOver (Some asked) old spares before new after ended)
     → Runs (DoesForm asked) (world over.start before.files before.report) (world over.last after.files after.report) ended ⊎ (ended ≡ status.NoMemory)
 form_done asked old spares before new after ended over =
     asked_or_starved asked (world over.start before.files before.report) (world over.last after.files after.report) over.runs.course ended over.runs.does
 
--- where all went well, the form was done
+-- the subcommand was done, if the status is 0
 pub form_well : (asked : Form) (old : Board) (spares : List DriveCounts) (before : Outside) (new : Board) (after : Outside)
     → (over : RunsOver (Some asked) old spares before new after status.AllOk)
     → Runs (DoesForm asked) (world over.start before.files before.report) (world over.last after.files after.report) status.AllOk

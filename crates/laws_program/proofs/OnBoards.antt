@@ -38,7 +38,7 @@ module _ (old new : Board) (spares : List DriveCounts) (start last : StationStat
         together = omega (arith, began, is, calm.0, stalls, stalled, quick.0);
       }
 
--- a drive of which nothing was left goes on so
+-- a drive with no fault left still has none left later
 spent_on : (old new : DriveCounts) → DriveGoesOn old new → old.left ≡ Some 0 → CanTell new.faults new.left → IsSpent new
 spent_on old new goes none tells =
     let spends : Spends old.faults (Some 0) new.faults new.left = subst (λ (left : Option ℕ). Spends old.faults left new.faults new.left) none goes.spends in
@@ -56,7 +56,7 @@ spare_spent drive none tells =
 all_spent : (drives : List DriveCounts) → All (λ drive. drive.left ≡ Some 0) drives → All (λ (drive : DriveCounts). CanTell drive.faults drive.left) drives → All IsSpent drives
 all_spent drives none tells = λ k other below. spare_spent (get_or drives k other) (none k other below) (tells k other below)
 
--- how many of them are above 8
+-- how many DMA latencies (holds) are above 8
 abbrev long : List ℕ → ℕ
 long [] = 0
 long (hold ∷ later) = cond (nat_lt 8 hold) (1 + long later) (long later)
@@ -72,7 +72,7 @@ none_long (hold ∷ later) few =
     let one : hold ≤ 8 = few 0 0 (omega arith) in
     pick (nat_lt 8 hold) (long later) (le-ltb 8 hold one) ∙ none
 
--- where no hold is above 8, no stall can come
+-- if no DMA latency is above 8, no stall can come
 no_stalls : (holds : List ℕ) → All (λ hold. hold ≤ 8) holds → stalls_left holds ≡ 0
 no_stalls holds few = sym (is_count_by long (λ hold. nat_lt 8 hold) refl (λ hold later. refl) holds) ∙ none_long holds few
 

@@ -1,4 +1,4 @@
--- The status of a job, and how a text of calls ends, where each file that is put in is the file of a disk.
+-- The status of a batch job, where each file that is put in is the file of a disk.
 use Rattle.std.proofs.Common.{arith, ◌≡◌, ◌∙◌, ◌<◌, ◌≤◌, ℕ, List, [], ◌∷◌, ◌++◌, length, Option, Some, None, Result, Ok, Err, ap, sym, subst}
 use Rattle.std.specs.Prelude.{◌&&◌, not, Bool, true, IsSomeAnd}
 use Rattle.flop_base.specs.Shelf.{Files, file_at}
@@ -52,7 +52,7 @@ never_absent files name disk image absent = go (file_at files name) image absent
     go None one two = one
     go (Some bytes) one two = absurd (cc two)
 
--- none but the outside stops a request that puts the file of a disk in
+-- only the outside stops a request that puts the file of a disk in
 pub kept_stop : (Holds : List ℕ → Type 0) (names : Names) (old : State) (told : Option Files) → IsKept Holds names old told → (asked : Request)
     (cause : Stop) (new : State) (after : Option Files) → InsertsDisk Holds names asked → StopsAt asked old told cause new after → IsEndStop cause
 kept_stop Holds names old told kept asked cause new after known stops = go cause stops.cause
@@ -78,7 +78,7 @@ kept_stop Holds names old told kept asked cause new after known stops = go cause
         let file = there name is.0 in
         absurd (never_absent kept.files name file.0 (file_image kept.files name file) (subst (λ (f : Option Files). IsAbsent f name) kept.told_is is.1))
 
--- behind a run
+-- only the outside stops such a request after a run
 run_stop : (asked : Request) (later : List Request) (cause : Stop) (mid new : State) (files after : Option Files) → StopsAt asked mid files cause new after
     → (Holds : List ℕ → Type 0) (names : Names) (old : State) (told : Option Files) (course : List Taken) → Run old told course mid files
     → InsertsDisks Holds names (requests_of course ++ asked ∷ later) → IsKept Holds names old told → IsEndStop cause
@@ -145,7 +145,7 @@ play_by job files text requests old course new ended told is spells inserts kept
 play_by job files text requests old course new ended told is spells inserts kept (Starved nothing idle) =
     subst (λ (s : Status). EndsBy (has_refusal course) s) (sym idle.status) tt
 
--- a session before its first request
+-- what holds of a session before its first request
 pub begins_kept : (files : Files) (start : State) (told : Option Files) → told ≡ Some files → start.names ≡ both None → IsFresh start.station
     → IsKept (IsDiskFile (Some files)) (both None) start told
 begins_kept files start told is named fresh = record {

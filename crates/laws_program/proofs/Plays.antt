@@ -1,4 +1,4 @@
--- What a job tells.
+-- What a batch job prints.
 use Rattle.std.proofs.Common.{◌≡◌, ◌∙◌, ℕ, Bool, List, [], ◌∷◌, ◌++◌, length, Option, Result, Ok, Err, Some, None, refl, ap, sym, subst}
 use Rattle.std.specs.Prelude.{◌||◌, IsSomeAnd, ◌≤◌}
 use Rattle.std.specs.List.{list_any}

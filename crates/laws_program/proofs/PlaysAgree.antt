@@ -1,4 +1,4 @@
--- Two plays of one job that begin alike: they answer alike, and end alike.
+-- Two plays of one batch job that begin alike: they answer alike, and end alike.
 use Rattle.std.proofs.Common.{◌≡◌, ◌∙◌, ◌<◌, ◌≤◌, ℕ, suc, Bool, List, [], ◌∷◌, ◌++◌, length, refl, sym, ap, subst, append-nil, append_assoc, Option, Some, None, Result, Ok, Err, inl, inr, arith}
 use Rattle.std.specs.Prelude.{◌⊎◌, ◌||◌, IsSomeAnd}
 use Rattle.std.proofs.lemmas.List.{length-replicate}
@@ -89,7 +89,7 @@ put_free status.FileFault is = absurd is
 
 -- ---- how a play of requests came to its end
 
--- the outside ended it; or all was run; or a request stopped it, and the last line tells why
+-- the outside ended it; or all was run; or a request stopped it, and the last line says why
 data Ending (report : Option (List (List ℕ))) (course : List Taken) (mid : State) (files : Option Files) (rest : List Request) (new : World) (ended : Status) : Type 0 where
   ByOutside : IsFreeEnd ended → Ending report course mid files rest new ended
   AllRun : rest ≡ [] → new.report ≡ grown report (course_lines course) → ended ≡ whole_status (has_refusal course) → Ending report course mid files rest new ended
@@ -180,7 +180,7 @@ head_of rest a b x y e f = cc (e, f)
 one_cause : (a b : Stop) (o p : Option Stop) → o ≡ Some a → p ≡ Some b → p ≡ o → b ≡ a
 one_cause a b o p e f same = cc (e, f, same)
 
--- two loads of one request
+-- two loads for one request are of the same name
 insert_name : (asked : Request) (a b : ℕ) (x y : List ℕ) → asked ≡ request.Insert a x → asked ≡ request.Insert b y → y ≡ x
 insert_name asked a b x y e f = cc (e, f)
 
@@ -199,7 +199,7 @@ stops_both (Some f) (Some g) asked a b same one two = elim (stop_cases f asked a
   ]
 ]
 
--- a stop where the other went on
+-- one play stopped at a request at which the other went on; so the outside made the stop
 passed_end : (state new : State) (files after : Option Files) (rest : List Request) (asked : Request) (later : List Request) (cause : Stop) → IsPassed state files rest → rest ≡ asked ∷ later → StopsAt asked state files cause new after → IsEndStop cause
 passed_end state new files after rest asked later cause passed is stops =
     let here : asked ≡ passed.asked = head_of rest asked passed.asked later passed.later is passed.rest_is in
@@ -269,7 +269,7 @@ module _ (one two one_after two_after : World) (course course_too : List Taken) 
   none_second : course_too ≡ [] → AnswersAgree one.state course course_too
   none_second none = subst (λ (c : List Taken). AnswersAgree one.state course c) (sym none) (any_none one.state course)
 
-  -- two last lines alone
+  -- a play without requests adds nothing to the report but its last line
   no_text : (report : Option (List (List ℕ))) (c : List Taken) → c ≡ [] → grown report (course_lines c) ≡ report
   no_text report c none = ap (λ (x : List Taken). grown report (course_lines x)) none ∙ grown_nil report
 
@@ -305,7 +305,7 @@ module _ (one two one_after two_after : World) (course course_too : List Taken) 
     parsed_alike (Ok requests) first second = requests_alike requests first second
     parsed_alike (Err line) first second = alone_alike (bad_line_text line) status.BadJob first second
 
-    -- what the told file of the job's name is
+    -- the told file of the batch job's name is this text
     abbrev IsThere : Option (List ℕ) → List ℕ → Type 0
     IsThere o text = IsSomeAnd o (λ bytes. (bytes ≡ text) × (length bytes ≤ most_job_bytes))
 

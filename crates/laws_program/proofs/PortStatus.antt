@@ -37,7 +37,8 @@ use Rattle.laws_program.proofs.Replies.{counted_by}
 
 -- ---- what stands in the bays and under their names
 
--- the bays have these names, each medium with a name is a disk in its ranges, and what holds the file of a disk is that
+-- the bays have these names. Each medium with a name is a disk in its ranges, and each name that holds the file of a
+-- disk does so among the told files
 record IsKept (Holds : List ℕ → Type 0) (names : Names) (bench : Bench) : Type 0 where
   pub files : Files
   pub told_is : bench.files ≡ Some files
@@ -45,7 +46,7 @@ record IsKept (Holds : List ℕ → Type 0) (names : Names) (bench : Bench) : Ty
   pub valid : (bay : ℕ) (name : List ℕ) (disk : Disk) → in_bay names bay ≡ Some name → (drive_in bench.board bay).medium ≡ Some disk → IsDisk disk
   pub holds : (name : List ℕ) → Holds name → IsDiskFile bench.files name
 
--- the media of a board in range are disks in their ranges
+-- the media of a board in its ranges are disks in their ranges
 in_range : (board : Board) → IsInRange board → (bay : ℕ) (disk : Disk) → (drive_in board bay).medium ≡ Some disk → IsDisk disk
 in_range board range bay disk is = go (bay == 0) is
   where
@@ -138,7 +139,7 @@ module _ (Holds : List ℕ → Type 0) (names : Names) (old : Bench) (kept : IsK
 
 -- ---- lines
 
--- a line was done, and those behind it go on
+-- a line was done, and the lines after it go on
 through_line : {R : Type 0} (Holds : List ℕ → Type 0) (names : Names) (asked : PortLine) (more : List PortLine) (old : Bench) (said : Answer) (new : Bench)
     → DoesLine asked old said new → IsInRange new.board → IsKept Holds names old → InsertsDisks Holds names (media_among (asked ∷ more))
     → ((Now : List ℕ → Type 0) (names : Names) → IsKept Now names new → InsertsDisks Now names (media_among more) → R) → R
@@ -152,7 +153,7 @@ through_line Holds names (port.Insert bay name) more old said new does range kep
 through_line Holds names (port.Eject bay) more old said new does range kept inserts next =
     next (HoldsBy Holds names (request.Eject bay)) (named_by names (request.Eject bay)) (eject_kept Holds names old kept bay said new range does) inserts.1
 
--- none but the outside stops a line that puts the file of a disk in
+-- only the outside stops a line that puts the file of a disk in
 line_stop : (Holds : List ℕ → Type 0) (names : Names) (old : Bench) → IsKept Holds names old → (asked : PortLine) (later : List PortLine) (cause : Stop)
     (new : Bench) → InsertsDisks Holds names (media_among (asked ∷ later)) → StopsAt asked old cause new → IsEndStop cause
 line_stop Holds names old kept (port.In number) later cause new inserts stops = absurd stops
@@ -167,7 +168,7 @@ line_stop Holds names old kept (port.Insert bay name) later cause new inserts st
     (subst (λ (f : Option Files). StopCause f (request.Insert bay name) cause) kept.told_is stops.1)
 line_stop Holds names old kept (port.Eject bay) later cause new inserts stops = stops.1
 
--- behind a run
+-- only the outside stops such a line after a run
 lines_stop : (asked : PortLine) (later : List PortLine) (cause : Stop) (mid new : Bench) → StopsAt asked mid cause new
     → (course : List Taken) (Holds : List ℕ → Type 0) (names : Names) (old : Bench) → PortRun old course mid
     → InsertsDisks Holds names (media_among (lines_of course ++ asked ∷ later)) → IsKept Holds names old → IsEndStop cause
@@ -210,7 +211,7 @@ ports_by file files text lines old course new ended told is spells inserts kept 
 ports_by file files text lines old course new ended told is spells inserts kept (Starved idle) =
     subst (λ (s : Status). EndsBy (has_refusal course) s) (sym idle.status) tt
 
--- a machine before its first line
+-- what holds of a machine before its first line
 begins_kept : (files : Files) (bench : Bench) → bench.files ≡ Some files → bench.names ≡ both None → IsKept (IsDiskFile (Some files)) (both None) bench
 begins_kept files bench is named = record {
   files = files;

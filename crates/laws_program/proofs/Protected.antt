@@ -44,7 +44,7 @@ IsImageText found disk = IsSomeAnd found (λ bytes. (length bytes ≤ most_image
 own_image : (disk : Disk) → IsDisk disk → IsImageText (Some (file_of disk)) disk
 own_image disk valid = let text = file_text disk valid in (text.0, image_again (file_of disk) disk text.1)
 
--- the file of the same disk is stored under the name, or that of any under another
+-- the name keeps the image of the disk when a file is stored: that of the same disk, or one under another name
 image_stored : (files : Files) (name other : List ℕ) (disk put : Disk) → IsDisk disk → (other ≡ name → put ≡ disk) → IsImageOf (Some files) name disk
     → IsImageOf (Some (after_store files other (file_of put))) name disk
 image_stored files name other disk put valid same image =
@@ -93,7 +93,7 @@ module _ (name : List ℕ) (disk : Disk) (valid : IsDisk disk) (guarded : disk.p
   named_still : (new : State) → new.names ≡ old.names → (bay : ℕ) → in_bay new.names bay ≡ Some name → (bay_of old.station bay).medium ≡ Some disk
   named_still new names bay named = kept.held bay (ap (λ (n : Names). in_bay n bay) (sym names) ∙ named)
 
-  -- where protected media stay
+  -- what holds after a step in which names, files and protected media stay
   same_media : (new : State) (after : Option Files) → new.names ≡ old.names → after ≡ told
       → ((bay : ℕ) → IsGuarded old.station bay → (bay_of new.station bay).medium ≡ (bay_of old.station bay).medium) → Keeps new after
   same_media new after names still media = on_media new after still (λ bay named.
@@ -109,7 +109,7 @@ module _ (name : List ℕ) (disk : Disk) (valid : IsDisk disk) (guarded : disk.p
   calm_kept asked answer new after step apart names still = same_media new after names still
       (λ bay guards. step_keeps old bay guards asked told answer new after step (apart bay))
 
-  -- a bay has another medium, or none
+  -- a bay got another medium, or none
   changed_held : (at : ℕ) (put : Option (List ℕ)) (medium : Option Disk) (new : State) → (put ≡ Some name → medium ≡ Some disk)
       → ChangesMedium at put medium old new → (bay : ℕ) → in_bay new.names bay ≡ Some name → (bay_of new.station bay).medium ≡ Some disk
   changed_held at put medium new same changes bay named =
@@ -121,7 +121,7 @@ module _ (name : List ℕ) (disk : Disk) (valid : IsDisk disk) (guarded : disk.p
       (λ e. is ∙ ap (λ (b : Bay). b.medium) (other_bay old.station.bays at bay (fresh_bay medium) e)
       ∙ kept.held bay (sym (other_bay old.names at bay put e) ∙ now))
 
-  -- what is put in from a file of this name is the disk
+  -- what is put in from the file of this name is the disk
   inserted_same : (other : List ℕ) (put : Disk) → IsImageOf told other put → Some other ≡ Some name → Some put ≡ Some disk
   inserted_same other put image is =
       let same : other ≡ name = cc is in

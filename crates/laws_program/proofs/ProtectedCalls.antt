@@ -24,7 +24,7 @@ use Rattle.laws_program.specs.Guarded.{BlanksNone}
 use Rattle.laws_program.proofs.Protected.{IsStored, HasImage, image_in, still, course_kept, ends_kept, end_stopped, begun}
 
 module _ (name : List ℕ) (disk : Disk) (valid : IsDisk disk) (guarded : disk.protected ≡ true) where
-  -- a run whose steps are those of the course
+  -- the disk is kept by a run whose steps are those of the course
   through : (old : World) (new : State) (after : Option Files) (steps course : List Taken) → course ≡ steps → BlanksNone name (requests_of course)
       → Run old.state old.files steps new after → IsStored name disk old.state old.files → IsStored name disk new after
   through old new after steps course is none run kept =

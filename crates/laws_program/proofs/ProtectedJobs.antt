@@ -1,4 +1,4 @@
--- Which requests a job runs, by its text.
+-- Which requests a batch job runs, by its text.
 use Rattle.std.proofs.Common.{◌≡◌, ℕ, true, List, [], ◌∷◌, ◌++◌, Option, Some, Result, Ok, sym, subst}
 use Rattle.flop_base.specs.Shelf.{Files}
 use Rattle.flop_base.specs.declared.answers.Status.{Status}

@@ -1,4 +1,4 @@
--- A job that only reads stores what its files have already.
+-- A batch job that only reads stores what its files have already.
 use Rattle.std.proofs.Common.{◌≡◌, ◌∙◌, ℕ, Bool, true, false, true≢false, List, [], ◌∷◌, ◌++◌, append-nil, Option, Some, None, Result, Ok, Err, refl, sym, ap, subst}
 use Rattle.std.specs.Prelude.{◌==◌, MatchBool, MatchOption, ◌-◌, if◌then◌else◌}
 use Rattle.flop_base.specs.Bays.{Two, both, in_bay, with_bay}
@@ -52,7 +52,7 @@ same_stores old new bay names media =
     ∙ ap (λ (n : Option (List ℕ)). medium_store (bay_of old.station bay).medium n) names
 
 module _ (told : Option Files) (old new : State) where
-  -- names and media stayed
+  -- the names and the media stayed
   still_held : new.names ≡ old.names → ((bay : ℕ) → (bay_of new.station bay).medium ≡ (bay_of old.station bay).medium) → Held told old → Held told new
   still_held names media held bay =
       subst (AreStoredAgain told) (sym (same_stores old new bay (ap (λ (n : Two (Option (List ℕ))). in_bay n bay) names) (media bay))) (held bay)
@@ -61,7 +61,7 @@ module _ (told : Option Files) (old new : State) where
   stays_held names stays held =
       still_held names (λ bay. becomes_medium (record old.station { counters = new.station.counters }) new.station bay stays) held
 
-  -- a bay was changed, and has its medium still
+  -- a bay was changed, and still has its medium
   changed_held : new.names ≡ old.names → (at : ℕ) (x : Bay) → Becomes (set_bay old.station at x) new.station → x.medium ≡ (bay_of old.station at).medium
       → Held told old → Held told new
   changed_held names at x becomes still held =
@@ -91,7 +91,7 @@ module _ (told : Option Files) (old new : State) where
           (sym (same_stores old new bay (named ∙ other_bay old.names at bay name e)
           (now ∙ ap (λ (b : Bay). b.medium) (other_bay old.station.bays at bay (fresh_bay medium) e)))) (held bay)
 
-  -- a bay has no medium any more
+  -- a bay lost its medium
   gone_held : new.names ≡ old.names → (at : ℕ) (target : StationState) → Becomes target new.station
       → ((bay : ℕ) → (bay_of target bay).medium ≡ (bay_of (set_bay old.station at (fresh_bay None)) bay).medium) → Held told old → Held told new
   gone_held names at target becomes is held bay = sorted (is_same_bay at bay) same apart
@@ -186,7 +186,7 @@ no_stores state [] reads = refl
 no_stores state (taken ∷ later) reads =
     ap (λ (l : List Store). l ++ stores_of taken.after later) (no_store taken.asked taken.answer state reads.0) ∙ no_stores taken.after later reads.1
 
--- what a step of a reading request leaves of the files
+-- the files stay in a step of a request that only reads
 files_stay : (old new : State) (told after : Option Files) (asked : Request) (answer : Reply) → only_reads asked ≡ true → Step asked old told answer new after
     → after ≡ told
 files_stay old new told after asked answer reads step =
@@ -200,7 +200,7 @@ run_held old new told after (taken ∷ later) run reads held =
     let rest : Run taken.after told later new after = subst (λ (f : Option Files). Run taken.after f later new after) same run.2 in
     run_held taken.after new told after later rest reads.1 (step_held told old taken.after taken.asked taken.answer run.0 reads.0 run.1 held)
 
--- both bays, as the end stores them
+-- the stores of both bays at the end
 append_again : (told : Option Files) (one two : List Store) → AreStoredAgain told one → AreStoredAgain told two → AreStoredAgain told (one ++ two)
 append_again told [] two is more = more
 append_again told (store ∷ one) two is more = (is.0, append_again told one two is.1 more)

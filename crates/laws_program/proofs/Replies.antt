@@ -1,4 +1,4 @@
--- What the status of a form tells of its replies.
+-- What the status of a subcommand (form) says of its replies.
 use Rattle.std.proofs.Common.{◌≡◌, ℕ, Bool, List, Some, None, refl, sym, subst}
 use Rattle.flop_base.specs.Shelf.{Files, file_at}
 use Rattle.flop_base.specs.declared.answers.Rate.{Rate}

@@ -1,4 +1,4 @@
--- The status of a rescue that a log asks for, by whether some reply was a refusal.
+-- The status of a rescue that goes on by a log, by whether some reply was a refusal.
 use Rattle.std.proofs.Common.{◌≡◌, ℕ, true, false, List, [], ◌∷◌, length, Option, Some, refl, sym, ap, subst, inl, inr, unwrap_or}
 use Rattle.std.specs.Prelude.{◌||◌}
 use Rattle.flop_base.specs.Shelf.{Files}

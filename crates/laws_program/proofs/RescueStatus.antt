@@ -92,7 +92,7 @@ unfolding through
 all_by [] lines rest is = is lines
 all_by (key ∷ keys) lines rest is = rescued_by key lines (λ now. through rescues keys now rest) (λ now. all_by keys now rest is)
 
--- the status of the last line
+-- the status of the last line, by whether some record was logged
 same_status : (asked n : ℕ) → 1 ≤ asked → nat_lt (asked - n) asked ≡ nat_lt 0 n
 same_status asked n least = go (nat_lt 0 n) refl
   where

@@ -111,7 +111,7 @@ settles_by from to log files disk old new course ended (AsAsked does) whole fine
 settles_by from to log files disk old new course ended (StarvesWords nothing idle) whole fine apart told image absent size calm =
     absurd (subst IsEndStatus idle.status whole)
 
--- where there may be a log, the other diskette is as that asks for
+-- where there may be a log, the other diskette has what a log asks of it
 this_target : (to : List ℕ) (target : Disk) (files : Files) (old : State) (course : List Taken) → IsTarget to target files old course
     → (found : Option (List LogLine)) → HasTarget found to target files old course
 this_target to target files old course is None = tt

@@ -1,4 +1,4 @@
--- Rescues one after the other: each finds what the one before left.
+-- Rescues one after the other: each finds what the run before left.
 use Rattle.std.proofs.Common.{arith, ◌≡◌, ◌≢◌, ◌∙◌, ◌+◌, ◌≤◌, ℕ, zero, suc, Bool, true, false, All, List, [], ◌∷◌, ◌++◌, length, append-nil, append_assoc, lit<, Option, Some, None, refl, sym, ap, subst, inl, inr}
 use Rattle.std.specs.Prelude.{◌⊎◌, Contains, IfSome, IsSomeAnd, nat_lt, if◌then◌else◌}
 use Rattle.std.specs.FinMap as fin
@@ -69,7 +69,7 @@ among_keys key (first ∷ later) = elim (same_key first key) [
   ]
 ]
 
--- that of a line is among those of the lines
+-- the record of a line is among the records of the lines
 contains_key : (lines : List LogLine) (line : LogLine) → Contains lines line → Contains (logged_keys lines) line.key
 contains_key [] line there = absurd (omega (arith, there.1))
 contains_key (first ∷ later) line (zero, inside, is) = (0, omega arith, ap (λ (l : LogLine). l.key) is)
@@ -108,7 +108,7 @@ stand_so : (to log : List ℕ) (left found : Option Files) (one two : Files) →
 stand_so to log left found one two e f stand =
     subst (λ (g : Option Files). StandAsLeft to log (Some one) g) f (subst (λ (g : Option Files). StandAsLeft to log g found) e stand)
 
--- a log is one at the most records, too
+-- a log for tracks of fewer sectors is also a log for tracks of 18
 widest : (sectors : ℕ) (lines : List LogLine) → sectors ≤ 18 → IsLog sectors lines → IsLog 18 lines
 widest sectors lines few is = record {
   each = All-weaker (IsLogLine sectors) (IsLogLine 18) (λ line one. record {
@@ -154,7 +154,7 @@ nothing : (lines : List LogLine) → length lines ≤ 0 → lines ≡ []
 nothing [] none = refl
 nothing (line ∷ later) none = absurd (omega (arith, none))
 
--- where all was written, no line is left
+-- if all records were written, no line is left
 none_left : (course : List Taken) (asked : ℕ) (ended : Status) → count_writes course + length (log_of course) ≡ asked
     → ended ≡ outcome_status (outcome_in course asked) → ended ≡ status.AllOk → log_of course ≡ []
 none_left course asked ended count is well = go (nat_lt (count_writes course) asked) refl (sym well ∙ is)
@@ -165,7 +165,7 @@ none_left course asked ended count is well = go (nat_lt (count_writes course) as
 
 -- ---- the runs
 
--- a record that was asked for is logged, or saved from the disk of that run
+-- a record that was asked for is logged, or is saved from the disk of this run
 key_settled : (runs : List RescueRun) (run : RescueRun) (course : List Taken) (saved : Disk) (lines : List LogLine) (key : Chrn)
     → IsSettled course saved lines key → GivesFields run.disk course
     → Contains (logged_keys lines) key ⊎ IsSavedFrom (runs ++ run ∷ []) saved key
@@ -181,7 +181,7 @@ key_settled runs run course saved lines key is given = elim is.either [
 ]
 
 module _ (to log : List ℕ) (differ : to ≢ log) where
-  -- what a run logs it couldn't read
+  -- a record that a run logs couldn't be read in it
   run_loses : (run : RescueRun) (is : IsRescueRun to log run) (key : Chrn) → CouldBeRead key run
       → Contains (logged_keys (log_of is.over.runs.course)) key → ⊥
   run_loses run is key could there =
@@ -189,7 +189,7 @@ module _ (to log : List ℕ) (differ : to ≢ log) where
       is.told is.image could.no_fault could.no_stall could.unmistaken in
       All-contains (IsNotFound run.disk) (logged_keys (log_of is.over.runs.course)) key lost.lost there could.deleted could.place could.found
 
-  -- what stands behind some runs
+  -- what holds after some runs
   record Stage (disk : Disk) (runs : List RescueRun) (ended : Status) (after : Option Files) : Type 0 where
     pub files : Files
     pub told : after ≡ Some files
@@ -205,7 +205,7 @@ module _ (to log : List ℕ) (differ : to ≢ log) where
     pub read : (key : Chrn) → SomeRun (CouldBeRead key) runs → Contains (logged_keys lines) key → ⊥
     pub none : ended ≡ status.AllOk → lines ≡ []
 
-  -- behind the first
+  -- what holds after the first run
   module _ (run : RescueRun) (is : IsRescueRun to log run) where
     abbrev course : List Taken
     course = is.over.runs.course
@@ -252,7 +252,7 @@ module _ (to log : List ℕ) (differ : to ≢ log) where
         differ is.told is.image none is.calm in
         new_stage none rescue.found rescue.there rescue.stores rescue.tells
 
-    -- behind one more
+    -- what holds after one more run
     module _ (disk : Disk) (runs : List RescueRun) (ended : Status) (left : Option Files) (stage : Stage disk runs ended left) where
       module _ (asked : List LogLine) (same : asked ≡ stage.lines) (stores : StoresRescue run.disk stage.saved (Some asked) to log is.files course world_after) where
         asked_settled : (key : Chrn) → Contains (logged_keys asked) key
@@ -319,7 +319,7 @@ module _ (to log : List ℕ) (differ : to ≢ log) where
           stage.is_log rescue.there in
           further_stage rescue.found same rescue.stores rescue.tells
 
-  -- behind all
+  -- what holds after all runs
   all_stages : (disk : Disk) (runs : List RescueRun) (run : RescueRun) (later : List RescueRun) → Stage disk runs run.ended run.after.files
       → AreInTurn to log run.after.files later → Stage disk (runs ++ later) (last_run run later).ended (last_run run later).after.files
   all_stages disk runs run [] stage turn =

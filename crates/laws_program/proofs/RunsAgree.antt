@@ -20,7 +20,7 @@ use Rattle.laws_program.proofs.StepsAgree.{AlikeStages, IsCalmStep, steps_agree}
 
 -- ---- a stop where the other run went on
 
--- the same loads stop a run, whichever of the files are told
+-- loads stop a run at the same names, with the files of either
 abbrev pub SameStops : Option Files → Option Files → Type 0
 SameStops (Some files) (Some others) = (name : List ℕ) → stop_by name (file_at files name) ≡ stop_by name (file_at others name)
 SameStops (Some files) None = ⊥
@@ -76,7 +76,7 @@ load_clash a b one two next after asked answer cause beside taken load step =
     some_none : (x : Stop) → Some x ≡ None → ⊥
     some_none x e = cc e
 
--- so the outside made the stop
+-- so it was the outside that made the stop
 pub passed_free : (one two new next : State) (told other after told_next : Option Files) (asked : Request) (answer : Reply) (cause : Stop) → AreBeside one told two other → StopsAt asked one told cause new after → Step asked two other answer next told_next → IsEndStop cause
 passed_free one two new next None None after told_next asked answer cause beside stops step = absurd beside.stops
 passed_free one two new next None (Some b) after told_next asked answer cause beside stops step = absurd beside.stops
@@ -88,7 +88,7 @@ passed_free one two new next (Some a) (Some b) after told_next asked answer caus
 
 -- ---- where two runs part
 
--- the other run took a step where this one had come to its end
+-- the other run took a step where this run had come to its end
 pub record IsPassed (state : State) (files : Option Files) (rest : List Request) : Type 0 where
   pub asked : Request
   pub later : List Request
@@ -107,7 +107,7 @@ pub data Parted (course course_too : List Taken) (mid : State) (files : Option F
   FirstOn : IsPassed mid_too files_too rest_too → Parted course course_too mid files rest mid_too files_too rest_too
   SecondOn : IsPassed mid files rest → Parted course course_too mid files rest mid_too files_too rest_too
 
--- all answers of two courses, as far as both go
+-- all answers of two courses agree, as far as both go
 abbrev pub AllAgree : List Taken → List Taken → Type 0
 AllAgree [] other = Unit {0}
 AllAgree (taken ∷ later) [] = Unit {0}
@@ -128,7 +128,7 @@ same_head a b x y e = cc e
 same_tail : (a b : Request) (x y : List Request) → a ∷ x ≡ b ∷ y → x ≡ y
 same_tail a b x y e = cc e
 
--- a state at which a run ended
+-- a state at which a run ended is beside the other
 ended_beside : (one two mid : State) (told other files : Option Files) → mid ≡ one → files ≡ told → AreBeside one told two other → AreBeside mid files two other
 ended_beside one two mid told other files is is_too same =
     subst (λ (s : State). AreBeside s files two other) (sym is) (subst (λ (f : Option Files). AreBeside one f two other) (sym is_too) same)
@@ -159,7 +159,7 @@ runs_agree (t ∷ later) (u ∷ more) one two mid mid_too told other files files
       parted = one_more t u later more mid files rest mid_too files_too rest_too there.parted;
     }
 
--- and while the disks of the first are regular
+-- answers of two runs agree as far as both go, while the disks of the first are regular
 pub while_agree : (course course_too : List Taken) (one two mid mid_too : State) (told other files files_too : Option Files) (requests rest rest_too : List Request) → AlikeStages one told two other → AreUndisturbed one.station.counters course → AreUndisturbed two.station.counters course_too → Run one told course mid files → Run two other course_too mid_too files_too → requests ≡ requests_of course ++ rest → requests ≡ requests_of course_too ++ rest_too → AnswersAgree one course course_too
 while_agree [] course_too one two mid mid_too told other files files_too requests rest rest_too same calm calm_too run run_too all all_too = tt
 while_agree (t ∷ later) [] one two mid mid_too told other files files_too requests rest rest_too same calm calm_too run run_too all all_too = tt

@@ -1,4 +1,4 @@
--- A controller that begins no data command in a seek, and no seek in a data command.
+-- A controller that begins no data command during a seek, and no seek during a data command.
 use Rattle.std.proofs.Common.{◌≡◌, ◌∙◌, inl, inr, ℕ, ◌+◌, ◌==◌, Bool, true, false, Option, Some, None, [], ◌∷◌, ◌++◌, if◌then◌else◌, refl, ap, sym, subst}
 use Rattle.std.proofs.lemmas.Bool.{false≢true}
 use Rattle.fdc_commands.specs.Table.{answer, kept}
@@ -147,7 +147,7 @@ sensed_apart : (some : Option (ℕ × ℕ)) (old new : Fdc) → new ≡ sensing_
 sensed_apart None old new is = inl (ap (λ fdc. is_executing fdc.phase) is)
 sensed_apart (Some (status, cylinder)) old new is = inl (ap (λ fdc. is_executing fdc.phase) is)
 
--- one begins where no seek bit is set
+-- a data command begins only where no seek runs
 begun_apart : (old new : Fdc) → old.seeks.seek ≡ None → new.seeks ≡ old.seeks → NotBoth new
 begun_apart old new none same = inr (no_seek new.seeks (ap (λ (s : Seeking). s.seek) same ∙ none))
 

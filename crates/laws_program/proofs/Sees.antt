@@ -1,4 +1,4 @@
--- What a read of a regular track answers, where nothing disturbs it: it is settled by what the track shows.
+-- What a read of a regular track answers, where nothing disturbs the read: the track's fields settle the answer.
 use Rattle.std.proofs.Common.{arith, ◌≡◌, ◌∙◌, ◌+◌, ◌*◌, ◌≤◌, ℕ, Bool, List, length, refl, sym, ap, subst, inl, inr, Result, Ok, Err}
 use Rattle.std.proofs.lemmas.List.FromFn.{length-map-range_with_len}
 use Rattle.flop_base.specs.declared.key.Chrn.{Chrn}
@@ -26,7 +26,7 @@ use Rattle.laws_program.proofs.AlikeDisks.{regular_met}
 use Rattle.laws_program.proofs.Calm.{no_faults, no_overrun, no_loss}
 use Rattle.laws_program.proofs.Shown.{Shows, ShowSame, SameAnswer, one_answer}
 
--- what a look makes a read answer
+-- the answer of a read that a look makes
 abbrev pub read_by : Look → Result Bool Code
 read_by (look.Found deleted place) = Ok deleted
 read_by look.BadCrc = Err code.BadCrc
@@ -64,7 +64,7 @@ same_reads look.BadCrc look.NoMark same = absurd same
 same_reads look.NoSector b same = absurd same
 same_reads look.NoMark b same = absurd same
 
--- it is one answer
+-- a track shows only one answer to a read
 pub one_seen : (track : List ℕ) (c h : ℕ) (key : Chrn) (a b : Result Bool Code) → IsRegular track c h → Sees track key a → Sees track key b → b ≡ a
 one_seen track c h key a b regular (Bare is none) (Bare is_too none_too) = is_too ∙ sym is
 one_seen track c h key a b regular (Bare is none) (Missing is_too mark none_too) = absurd (none mark)
@@ -121,7 +121,7 @@ module _ (bay : ℕ) (key : Chrn) (address : ℕ) (old new : StationState) (regu
 
 -- ---- and memory
 
--- nothing changed but memory, which has its size
+-- nothing changed but memory, which keeps its size
 pub record Remembers (old new : StationState) : Type 0 where
   pub memory : List ℕ
   pub size : length memory ≡ user_bytes

@@ -1,4 +1,4 @@
--- Tracks that show the same: their contents may differ, and nothing else that an answer tells of.
+-- Tracks that show the same: they may differ only in contents, and not in anything else that answers depend on.
 use Rattle.std.proofs.Common.{◌≡◌, ◌↔◌, ℕ, Bool, List, sym, subst}
 use Rattle.flop_base.specs.declared.key.Chrn.{Chrn}
 use Rattle.track_model.specs.declared.Look.{Look}
@@ -61,7 +61,7 @@ none_show one two first second = record {
   looks = λ p key look at. absurd (first.addresses p key at);
 }
 
--- ---- what a track shows of an address field is one
+-- ---- a track shows only one thing of an address field
 
 -- two looks have the same answer, wherever the content stands
 abbrev pub SameAnswer : Look → Look → Type 0
@@ -92,7 +92,7 @@ one_answer track p n NoData NoMark x y = absurd y
 one_answer track p n BadCrc NoSector x y = absurd y
 one_answer track p n BadCrc NoMark x y = absurd y
 
--- where a track has this answer, it shows whatever has the same
+-- a track that shows a look shows each look with the same answer
 pub shows_answer : (track : List ℕ) (p n : ℕ) (a b : Look) → SameAnswer a b → Shows track p n a → Shows track p n b
 shows_answer track p n (Found a u) (Found b v) same x = (x.0, subst (λ (d : Bool). LookAt track p n (Found d x.0)) same x.1)
 shows_answer track p n (Found a u) NoData same x = absurd same
@@ -112,7 +112,7 @@ shows_answer track p n BadCrc NoMark same x = absurd same
 shows_answer track p n NoSector b same x = absurd x
 shows_answer track p n NoMark b same x = absurd x
 
--- two tracks with one answer at an address field show the same there
+-- two tracks that show the same answer at an address field show the same there
 pub show_answer : (one two : List ℕ) (p n : ℕ) (a b look : Look) → Shows one p n a → Shows two p n b → SameAnswer a b → Shows one p n look → Shows two p n look
 show_answer one two p n a b look first second same x =
     shows_answer two p n a look (one_answer one p n a look first x) (shows_answer two p n b a (back a b same) second)

@@ -75,7 +75,7 @@ match_mapped : {A B P : Type 0} {Q : A → Type 0} (R : Type 0) (S : B → Type 
 match_mapped R S f None holds none some = none holds
 match_mapped R S f (Some x) holds none some = some x holds
 
--- a refusal of the request is the drive's
+-- if the request was refused, the refusal is the drive's
 abbrev ByDrive : Request → State → State → Reply → Type 0
 ByDrive asked old new answer =
     (cause : Reason) → answer ≡ reply.Refused cause → (code : Code) × (cause ≡ reason.Driver code) × IsDriveCause asked old code new
@@ -84,7 +84,7 @@ ByDrive asked old new answer =
 abbrev AtOnce : State → State → Reply → Reason → Type 0
 AtOnce old new answer cause = (answer ≡ reply.Refused cause) × IsSame old new
 
--- by the order of refusals
+-- the answer follows the order of refusals
 abbrev ByOrder : Option Reason → Request → State → State → Reply → Type 0
 ByOrder refusal asked old new answer = MatchOption refusal (ByDrive asked old new answer) (λ cause. AtOnce old new answer cause)
 
@@ -206,7 +206,7 @@ sent most old new driven = record { commands = driven.most_commands; interrupts 
 sent_none : (old new : Counters) → new.data_commands ≡ old.data_commands → old.taken ≤ new.taken → Sends 0 old new
 sent_none old new none on = record { commands = omega (arith, none); interrupts = omega (arith, none, on) }
 
--- a call that was refused at once sent none
+-- a call that was refused at once sent no data command
 idle_sends : {T : Type 0} (most : ℕ) (code : Code) (old new : StationState) (called : Result T Code) → IsRefusedAtOnce code old called new
     → Sends most old.counters new.counters
 idle_sends most code old new called refused = sent most old.counters new.counters (driven_less most old.counters new.counters refused.idle)

@@ -73,7 +73,7 @@ pub sorted : {P : Type 0} (b : Bool) → (b ≡ true → P) → (b ≡ false →
 sorted true yes_ no_ = yes_ refl
 sorted false yes_ no_ = no_ refl
 
--- one of two cases holds, and the first has its equation
+-- one of two cases holds; in the first the value is known to be none
 pub either_is : {A : Type 0} {P R : Type 0} {Q : A → Type 0} (value : Option A) → MatchOption value P Q → (value ≡ None → P → R) → ((x : A) → Q x → R) → R
 either_is None holds none some = none refl holds
 either_is (Some x) holds none some = some x holds
@@ -98,22 +98,22 @@ format_open true false d e = absurd (cc e)
 format_open true true true e = absurd (cc e)
 format_open true true false e = (refl, refl)
 
--- what may be written isn't guarded
+-- a bay where writing is allowed isn't guarded
 unguarded : (station : StationState) (bay : ℕ) → (is_acknowledged station bay ≡ true) × (is_protected station bay ≡ false) → IsGuarded station bay → ⊥
 unguarded station bay is (inl unacknowledged) = true≢false (sym is.0 ∙ unacknowledged)
 unguarded station bay is (inr protected) = true≢false (sym protected ∙ is.1)
 
--- a refusal isn't done
+-- a reply that the request was done is no refusal
 not_done : (answer : Reply) → answer ≡ reply.Done → is_refusal answer ≡ true → ⊥
 not_done answer done refused = true≢false (sym refused ∙ ap is_refusal done)
 
--- a guard is that of the bay, whichever number it has
+-- two numbers of one bay have the same guard
 guard_at : (station : StationState) (at bay : ℕ) → is_same_bay at bay ≡ true → IsGuarded station bay → IsGuarded station at
 guard_at station at bay same guarded =
     let is = same_bay station.bays at bay same in
     subst (λ (b : Bay). (is_some b.acknowledged ≡ false) ⊎ (option_map_or (λ (disk : Disk). disk.protected) b.medium false ≡ true)) (sym is) guarded
 
--- a station that only its bay `at` may differ in from another
+-- how a guarded bay keeps its medium in a step
 module _ (old : State) (bay : ℕ) (guarded : IsGuarded old.station bay) where
   abbrev Keeps : State → Type 0
   Keeps new = (bay_of new.station bay).medium ≡ (bay_of old.station bay).medium

@@ -1,4 +1,4 @@
--- Two steps of one request from alike states that nothing disturbed: they answer alike, and lead to alike states.
+-- Two steps of one request from alike states that nothing disturbed: they are answered alike, and lead to alike states.
 use Rattle.std.proofs.Common.{arith, ◌≡◌, ◌∙◌, ◌+◌, ◌-◌, ◌*◌, ◌<◌, ◌≤◌, ◌^◌, ℕ, nat_le, Bool, true, false, List, length, get_or, replicate, refl, sym, ap, subst, inl, inr, Option, Some, None, lit≤}
 use Rattle.std.specs.Prelude.{◌==◌, if◌then◌else◌}
 use Rattle.std.proofs.lemmas.Bool.{leb-true, and_parts, cases_lt}
@@ -32,13 +32,13 @@ use Rattle.laws_program.proofs.Calm.{calm_bay}
 use Rattle.laws_program.proofs.CallsAgree.{CallsAgree, both_ways, length-bytes_from, read_call, write_call, format_call, rate_call, ack_call}
 use Rattle.track_model.proofs.Splices.{length-with_items}
 
--- two states with their told files that differ in contents alone
+-- two states with their told files that differ only in contents
 pub record AlikeStages (one : State) (told : Option Files) (two : State) (other : Option Files) : Type 0 where
   pub names : two.names ≡ one.names
   pub stations : AlikeStations one.station two.station
   pub files : AlikeTold told other
 
--- two steps answer alike, and lead to such states
+-- two steps are answered alike, and lead to such states
 pub record StepsAgree (answer answer_too : Reply) (one : State) (told : Option Files) (two : State) (other : Option Files) : Type 0 where
   pub answers : AnswerAlike answer answer_too
   pub after : AlikeStages one told two other
@@ -138,7 +138,7 @@ module _ (one two one_new two_new : State) (told other told_after other_after : 
       let after = exchanged bay name (Some d) (Some e) disks first second in
       agree reply.Done is is_too after.0 after.1 (files_stay files files_too)
 
-  -- the order of refusals of one that puts a medium in
+  -- the order of refusals of a request that puts a medium in is the same for both
   empty_order : (bay : ℕ) (good : Bool) → unless_bad good (if is_loaded two bay then Some reason.Busy else None) ≡ unless_bad good (if is_loaded one bay then Some reason.Busy else None)
   empty_order bay good = ap (λ (b : Bool). unless_bad good (if b then Some reason.Busy else None)) (is_loaded_too bay)
 
@@ -209,7 +209,7 @@ module _ (one two one_new two_new : State) (told other told_after other_after : 
 
   -- ---- each request
 
-  -- both by one order of refusals
+  -- both steps follow one order of refusals
   by_order : (asked : Request) → refusal_of two asked ≡ refusal_of one asked → Step asked one told answer one_new told_after → Step asked two other answer_too two_new other_after → (refusal_of one asked ≡ None → Does asked one told answer one_new told_after → Does asked two other answer_too two_new other_after → Agrees) → Agrees
   by_order asked order first second taken =
       both_ways Agrees (Does asked one told answer one_new told_after) (Does asked two other answer_too two_new other_after)

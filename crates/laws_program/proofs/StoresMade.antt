@@ -1,4 +1,4 @@
--- Which stores each form makes.
+-- Which stores each subcommand (form) makes.
 use Rattle.std.proofs.Common.{◌≡◌, ◌∙◌, ℕ, List, [], ◌∷◌, ◌++◌, append-nil, Option, Some, None, Result, Ok, Err, refl, sym, ap, subst}
 use Rattle.flop_base.specs.Shelf.{Files, Store, stored}
 use Rattle.flop_base.specs.declared.answers.Rate.TheVariants.{R500, R250}
@@ -115,7 +115,7 @@ calls_store file old course new ended (calls.TooLong longer tells) = no_run old.
 calls_store file old course new ended (calls.Faulty nothing idle) = no_run old.state old.files new.files course nothing (same_files old new idle.same)
 calls_store file old course new ended (calls.Starved nothing idle) = no_run old.state old.files new.files course nothing (same_files old new idle.same)
 
--- ---- forms that make a file of another
+-- ---- subcommands that make a file of another
 
 no_disk : Disk
 no_disk = blank_disk 1 1 1 R500
@@ -143,7 +143,7 @@ makes_file reading Becomes IsUnfit from to told (Ok count) after makes = (makes.
 makes_file reading Becomes IsUnfit from to told (Err (halt.Unfit c h)) after makes = no_file_stored to told after makes.1
 makes_file reading Becomes IsUnfit from to told (Err (halt.Stopped cause)) after makes = no_file_stored to told after makes.1
 
--- ---- each form
+-- ---- each subcommand
 
 form_stores : (asked : Form) (old : World) (course : List Taken) (new : World) (ended : Status) → DoesForm asked old course new ended
     → StoresFor asked old.state course old.files new.files
@@ -165,7 +165,7 @@ form_stores (form.ToImd name imd) old course new ended on =
 form_stores (form.Remaster from to) old course new ended on =
     makes_disk image_of IsRemasterFile HasNoRemaster (λ source file count becomes. (becomes.0, becomes.2)) from to old.files on.does.0 new.files on.does.1
 
--- where nothing was done
+-- the stores of a subcommand that did nothing
 starved_stores : (asked : Form) (start : State) (course : List Taken) (told after : Option Files) → course ≡ [] → after ≡ told
     → StoresFor asked start course told after
 starved_stores (form.Play job) start course told after nothing same = no_run start told after course nothing same

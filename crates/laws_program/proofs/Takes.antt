@@ -1,4 +1,4 @@
--- What a write to a regular disk does where nothing disturbs it: by what the track shows.
+-- What a write to a regular disk does where nothing disturbs it, by what the track shows.
 use Rattle.std.proofs.Common.{arith, ◌≡◌, ◌∙◌, ℕ, List, [], ◌∷◌, ◌++◌, length, refl, sym, ap, subst, inl, inr, Option, Some, None, Result, Ok, Err, IsOk, length-append}
 use Rattle.flop_base.specs.declared.key.Chrn.{Chrn}
 use Rattle.flop_base.specs.declared.answers.Code.{Code}
@@ -46,7 +46,7 @@ pub record IsOver (written : Written) (bay : ℕ) (called : Result (Unit {0}) Co
   pub ok : IsOk called
   pub alone : ChangesAlone written bay p disk old called new
 
--- nothing was written, as no field has the key
+-- nothing was written, because no field has the key
 pub record IsKept (written : Written) (bay : ℕ) (called : Result (Unit {0}) Code) (old new : StationState) : Type 0 where
   pub c : Code
   pub refused : called ≡ Err c
@@ -126,7 +126,7 @@ module _ (written : Written) (bay : ℕ) (old new : StationState) (regular : IsR
         let kept : Bay = record (bay_of old bay) { medium = (bay_of new bay).medium } in
         ap (λ (s : StationState). (bay_of s bay).rate) drive.becomes ∙ ap (λ (b : Bay). b.rate) (in_with old.bays bay kept)
 
-    -- without a field of the key nothing changed
+    -- where no field has the key, nothing changed
     module _ (none : (p : ℕ) → IsAddressAt track p written.key → ⊥) where
       medium_stays : (bay_of new bay).medium ≡ (bay_of old bay).medium
       medium_stays = go (bay_of old bay).medium refl

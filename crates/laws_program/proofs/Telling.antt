@@ -25,7 +25,7 @@ use Rattle.commands.specs.Parts.{Part, needs, carries, shape_at, opens, sets_rat
 use Rattle.commands.specs.Leading.{with_report}
 use Rattle.laws_commands.proofs.Bays.{insert_stops}
 
--- a status by whether some reply was a refusal, or one that the outside gives
+-- the status says whether some reply was a refusal, or the outside gave it
 abbrev pub EndsBy : Bool → Status → Type 0
 EndsBy refused status.AllOk = refused ≡ false
 EndsBy refused status.SomeRefused = refused ≡ true
@@ -34,7 +34,7 @@ EndsBy refused status.FileFault = Unit {0}
 EndsBy refused status.SinkFault = Unit {0}
 EndsBy refused _ = ⊥
 
--- a request that puts no file's disk in
+-- a request that doesn't put the disk of a file in
 abbrev pub NeverInserts : Request → Type 0
 NeverInserts asked = (bay : ℕ) (name : List ℕ) → asked ≡ request.Insert bay name → ⊥
 
@@ -42,7 +42,8 @@ NeverInserts asked = (bay : ℕ) (name : List ℕ) → asked ≡ request.Insert 
 abbrev pub Came : Request → Reply → State → Type 0
 Came asked answer after = (old : State) × (told : Option Files) × (files : Option Files) × Step asked old told answer after files
 
--- each way of a script to its end has the status that its replies give, where some reply before it was a refusal, or none
+-- on each way through a script to its end, the status says whether some reply was a refusal; `refused` says whether one
+-- before was
 abbrev pub IsFaithful : Bool → Script → Type 0
 IsFaithful refused (Ends line wanted) = wanted ≡ whole_status refused
 IsFaithful refused (Says line rest) = IsFaithful refused rest
@@ -93,7 +94,7 @@ stored_by : (refused : Bool) (name bytes line : List ℕ) (wanted : Status) (old
 stored_by refused name bytes line wanted old new ended (IsStored state files prints) is = told_by refused (line ∷ []) wanted _ _ ended prints is
 stored_by refused name bytes line wanted old new ended (NotStored same fault) is = store_by refused ended fault
 
--- what stops a request that puts nothing in is the outside's
+-- only the outside stops a request that doesn't put the disk of a file in
 stop_by : (refused : Bool) (told : Option Files) (asked : Request) (cause : Stop) → StopCause told asked cause → NeverInserts asked
     → EndsBy refused (stop_status cause)
 stop_by refused told asked (stop.BadImage name error) cause never = absurd (never cause.0.0 name cause.0.1)
@@ -163,7 +164,7 @@ pub carries_tells_at : (refused : Bool) (asked : Request) → NeverInserts asked
 unfolding carries needs
 carries_tells_at refused asked never rest is = (never, λ answer after came. unrefused_at refused asked answer (rest tt) is)
 
--- a part behind which a flag of what was found says whether some reply was a refusal
+-- a part after which a flag of what was found says whether some reply was a refusal
 abbrev pub PartTells : {Found : Type 0} → (Found → Bool) → Bool → Part Found → Type 0
 PartTells {Found = Found} flag before part =
     (rest : Found → Script) → ((found : Found) → IsFaithful (flag found) (rest found)) → IsFaithful before (part rest)
@@ -197,7 +198,7 @@ pub tracks_tell : {Found : Type 0} (flag : Found → Bool) (part : ℕ → ℕ �
 tracks_tell flag part is cylinders heads found =
     each_tells flag (λ c. each 0 heads (part c)) (λ c now. each_tells flag (part c) (is c) 0 heads now) 0 cylinders found
 
--- ---- The disk of a file is put in, which is there.
+-- ---- The disk of a file is put in, and that file is there.
 
 pub end_by : (refused : Bool) (cause : Stop) → IsEndStop cause → EndsBy refused (stop_status cause)
 end_by refused stop.FileFault only = tt

@@ -1,4 +1,4 @@
--- A rescue of which no refusal is told that stopped it: its last request wasn't refused.
+-- A rescue whose report doesn't say that a refusal stopped it: its last request wasn't refused.
 use Rattle.std.proofs.Common.{◌≡◌, ◌∙◌, ℕ, ◌+◌, zero, suc, Bool, true, false, List, [], ◌∷◌, ◌++◌, length, Option, refl, ap, subst, inl, inr}
 use Rattle.flop_base.specs.Sink.{grown}
 use Rattle.flop_base.specs.declared.answers.Code.{Code}
@@ -47,7 +47,7 @@ in_front taken later fine others [] last is =
     ap (λ (t : Taken). is_refusal t.answer) same ∙ fine none
 in_front taken later fine others (first ∷ before) last is = others before last (cc is)
 
--- no run of the script to its end stops so; and none of these asks nothing
+-- no run of the script to its end stops at a refusal; below, such a run also asks something
 abbrev Strict : Script → Type 0
 Strict script =
     (old new : World) (course : List Taken) (ended : Status) → IsEndStatus ended → IsNotToldStopped old.report new.report
@@ -61,7 +61,7 @@ Going script =
 strictly : (script : Script) → Going script → Strict script
 strictly script goes old new course ended whole fine runs = (goes old new course ended whole fine runs).1
 
--- a script that can't end so
+-- a script that has no such run
 abbrev Never : Script → Type 0
 Never script =
     (old new : World) (course : List Taken) (ended : Status) → IsEndStatus ended → IsNotToldStopped old.report new.report
@@ -206,7 +206,7 @@ ends_strict line wanted old new course ended whole fine runs = none_stopped cour
 fails_strict : (cause : Status) → Strict (Fails cause)
 fails_strict cause old new course ended whole fine runs = none_stopped course (last_failed cause old course new ended runs).0
 
--- so the premise of the laws on a rescue holds
+-- a rescue whose report doesn't say that a refusal stopped it fulfills the premise of the laws on its script
 pub rescue_unstopped : (from to log : List ℕ) (old new : World) (course : List Taken) (ended : Status) → IsEndStatus ended → IsNotToldStopped old.report new.report
     → Rescues from to log old course new ended → IsNotStopped course
 unfolding opens

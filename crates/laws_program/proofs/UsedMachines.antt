@@ -1,4 +1,4 @@
--- Machines that were made and used, and lines of port accesses: a seek on them ends.
+-- Machines that were made and then used, and lines of port accesses: a seek on them ends.
 use Rattle.std.proofs.Common.{◌≡◌, ◌∙◌, inl, inr, ℕ, zero, suc, ◌≤◌, not, true, false, Option, Some, None, IsSomeAnd, List, [], ◌∷◌, ◌++◌, Result, Ok, Err, refl, ap, sym, subst, arith}
 use Rattle.std.specs.Prelude.{MatchOption}
 use Rattle.std.proofs.lemmas.Bool.{false≢true}
@@ -123,7 +123,7 @@ line_apart old new port.Irq said (latch, is, keeps) was = same_board _ new.board
 line_apart old new (port.Insert bay name) said does was = inserts_apart old new bay name said (insert_refusal old.names bay) does was
 line_apart old new (port.Eject bay) said does was = ejects_apart old new bay said (eject_refusal old.names bay) does was
 
--- what runs before a line ends in time, and a seek does so in any case
+-- a seek that runs before a line ends in time
 seeks_in : (old mid new : Bench) (course : List Taken) → NotBoth (controller_of old.board) → PortRun old course mid → EndInTime old course new
     → SeeksEnd old.board course new.board
 seeks_in old mid new [] apart run ends = tt

@@ -1,4 +1,4 @@
--- What a verify tells.
+-- What a verify prints.
 use Rattle.std.proofs.Common.{◌≡◌, ◌∙◌, ℕ, Bool, true, false, List, [], ◌∷◌, length, Some, refl, ap, sym, subst, inl, inr, arith}
 use Rattle.std.specs.Prelude.{nat_le}
 use Rattle.std.proofs.lemmas.Bool.{leb-false}
@@ -48,7 +48,7 @@ verifies_well name spares old new before after ended files disk failed over whol
       | inr starved ↦ absurd (subst IsEndStatus starved whole)
     ]
 
--- a status 0 tells that nothing failed
+-- with status 0 nothing failed
 none_refused : (refused : Bool) → status.AllOk ≡ whole_status refused → refused ≡ false
 none_refused true well = absurd (cc well)
 none_refused false well = refl
@@ -56,7 +56,7 @@ none_refused false well = refl
 none_told : (n : ℕ) → status.AllOk ≡ whole_status (nat_le 1 n) → n ≡ 0
 none_told n well = let few = leb-false 1 n (none_refused (nat_le 1 n) well) in omega (arith, few)
 
--- a key that isn't found is told
+-- a key that isn't found is listed
 told_one : (key : Chrn) (look : Look) → length (all_told_of (unless_found key look)) ≡ length (unless_found key look)
 told_one key (Found deleted place) = refl
 told_one key NoMark = refl
@@ -64,7 +64,7 @@ told_one key NoSector = refl
 told_one key NoData = refl
 told_one key BadCrc = refl
 
--- and so is each
+-- each key that isn't found is listed
 told_each : (disk : Disk) (keys : List Chrn) (failed : List (Chrn × Look)) → AreFailing disk keys failed → length (all_told_of failed) ≡ length failed
 told_each disk [] failed none = ap (λ (row : List (Chrn × Look)). length (all_told_of row)) none ∙ sym (ap (λ (row : List (Chrn × Look)). length row) none)
 told_each disk (key ∷ keys) failed (look, rest, on, is, others) =

@@ -1,4 +1,4 @@
--- Two writes of one key in alike bays, with one mark: they answer alike, and leave alike bays.
+-- Two writes to one sector ID in alike bays, with one mark: they are answered alike, and leave alike bays.
 use Rattle.std.proofs.Common.{arith, ◌≡◌, ◌∙◌, ℕ, Bool, List, length, refl, sym, ap, subst, inl, Result, Ok, Err, IsOk, true≢false}
 use Rattle.flop_base.specs.declared.key.Chrn.{Chrn}
 use Rattle.flop_base.specs.declared.answers.Code.{Code}
@@ -25,7 +25,7 @@ pub ok_reply : (called : Result (Unit {0}) Code) → IsOk called → reply_of ca
 ok_reply (Ok u) ok = refl
 ok_reply (Err k) ok = absurd (true≢false (sym ok))
 
--- the track of a field that was written over
+-- a track that was written over at a field keeps what it shows elsewhere
 over_keeps : (written : Written) (bay : ℕ) (called : Result (Unit {0}) Code) (old new : StationState) (over : IsOver written bay called old new) → length written.content ≡ content_size written.key.n → IsRegularIn (bay_of old bay).medium → IsUndisturbed bay old.counters new.counters → GoesOn old.counters new.counters → KeepsShown (track_of over.disk written.key.c written.key.h) written.key.c written.key.h over.p written.key written.deleted (track_of over.alone.after written.key.c written.key.h)
 over_keeps written bay called old new over size regular calm goes =
     let c = written.key.c in
@@ -55,7 +55,7 @@ module _ (key : Chrn) (deleted : Bool) (content other : List ℕ) (bay : ℕ) (o
   abbrev Agrees : Type 0
   Agrees = (reply_of called_too ≡ reply_of called) × AlikeMedia (bay_of one_new bay).medium (bay_of two_new bay).medium
 
-  -- both at one field
+  -- both writes wrote over one field
   over_over : IsOver first bay called one one_new → IsOver second bay called_too two two_new → Agrees
   over_over a b =
       let back : IsAddressAt (met (bay_of one bay) key.c key.h) b.p key = (met_same.addresses b.p key).1 b.address in

@@ -1,4 +1,4 @@
--- What the forms that run a text of requests tell.
+-- What the subcommands (forms) that run a text of requests print.
 use Rattle.std.specs.Prelude.{◌≡◌, ℕ, List, [], ◌∷◌, ◌++◌, length, map, Option, Ok}
 use Rattle.std.specs.List.{list_any}
 use Rattle.flop_base.specs.Shelf.{Files}
@@ -32,8 +32,8 @@ pub record RunsToEnd (old : World) (course : List Taken) (new : World) : Type 0 
   pub run : Run old.state old.files course mid files
   pub stored : Ends mid files new.state new.files
 
--- the requests of the job of this name were run, and each had a reply; these were told in their order, and the status says whether
--- some was a refusal
+-- the requests of the batch job of this name were run, and each had a reply. The replies were printed in their order,
+-- and the status says whether some reply was a refusal
 pub record AnswersJob (job : List ℕ) (old : World) (course : List Taken) (new : World) (ended : Status) : Type 0 where
   pub requests : List Request
   pub spelled : IsJob old.files job requests
@@ -45,7 +45,8 @@ pub record AnswersJob (job : List ℕ) (old : World) (course : List Taken) (new 
   pub report : new.report ≡ grown old.report (replies_lines requests answers)
   pub status : ended ≡ whole_status (list_any is_refusal answers)
 
--- lines were done one after the other, from the service as it comes, and then the media that were left in were stored
+-- lines were done one after the other, beginning with the service as it is at first; then the media that were left in
+-- were stored
 pub record RoundsToEnd (old : World) (rounds : List Round) (new : World) : Type 0 where
   pub mid : State
   pub files : Option Files
@@ -53,8 +54,8 @@ pub record RoundsToEnd (old : World) (rounds : List Round) (new : World) : Type 
   pub rounds_are : AreRounds 0 old.state old.files rounds kept mid files
   pub stored : Ends mid files new.state new.files
 
--- each line of the text of calls of this name was done, and their requests are the course; what they print was told, and the status
--- says whether some counts as a refusal
+-- each line of the text of calls of this name was done, and the course is the requests of these lines. What the lines
+-- print is in the report, and the status says whether some line counts as a refusal
 pub record AnswersCalls (name : List ℕ) (old : World) (course : List Taken) (new : World) (ended : Status) : Type 0 where
   pub text : List ℕ
   pub told : IsText old.files name text

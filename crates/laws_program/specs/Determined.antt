@@ -1,4 +1,4 @@
--- Two plays of one job side by side: where they begin alike, and what it is to answer and to end alike.
+-- Two plays of one job side by side: when they begin alike, answer alike and end alike.
 use Rattle.std.specs.Prelude.{◌≡◌, ◌<◌, ◌^◌, ◌⊎◌, ℕ, List, [], ◌∷◌, length, slice_index, Option, Some}
 use Rattle.flop_base.specs.Shelf.{Files, file_at}
 use Rattle.flop_base.specs.Sink.{grown}
@@ -16,7 +16,7 @@ use Rattle.sector_model.specs.Ties.{HasNothingLeft}
 
 -- ---- the beginning
 
--- a station before its first request, on which nothing is left that could go wrong
+-- a station before its first request, where nothing is left that could go wrong
 pub record IsSound (station : StationState) : Type 0 where
   pub fresh : IsFresh station
   pub nothing_left : HasNothingLeft station.counters
@@ -25,7 +25,8 @@ pub record IsSound (station : StationState) : Type 0 where
 abbrev pub AreBytes : Files → Type 0
 AreBytes files = (name bytes : List ℕ) → file_at files name ≡ Some bytes → (k : ℕ) → slice_index bytes k < 2 ^ 8
 
--- two plays begin on such stations, with as many spare drives, the same names and the same told files, whatever was stored before
+-- two plays begin on such stations, with as many spare drives, the same names and the same told files, whatever was
+-- stored before
 pub record BeginAlike (one two : World) : Type 0 where
   pub first : IsSound one.state.station
   pub second : IsSound two.state.station
@@ -49,14 +50,14 @@ pub record HasRegularDisks (state : State) : Type 0 where
   pub first : IsRegularIn state.station.bays.first.medium
   pub second : IsRegularIn state.station.bays.second.medium
 
--- so it is whenever a request of a course comes
+-- the disks in both bays are regular whenever a request of a course comes
 abbrev pub AreRegularBefore : State → List Taken → Type 0
 AreRegularBefore state [] = Unit {0}
 AreRegularBefore state (taken ∷ later) = HasRegularDisks state × AreRegularBefore taken.after later
 
 -- ---- the answers
 
--- two answers are the same, or dumps of as many bytes from the same address on
+-- two answers are the same, or both are dumps of as many bytes from the same address
 abbrev pub AnswerAlike : Reply → Reply → Type 0
 AnswerAlike (reply.Bytes address content) other =
     (bytes : List ℕ) × (other ≡ reply.Bytes address bytes) × (length bytes ≡ length content)
@@ -74,14 +75,14 @@ AnswersAgree state (taken ∷ later) (next ∷ rest) =
 
 -- ---- the end
 
--- a play ended as the outside had it: the shelf or the sink failed, or memory couldn't be had
+-- the outside ended a play: the file store or the output failed, or memory ran out
 abbrev pub IsFreeEnd : Status → Type 0
 IsFreeEnd status.FileFault = Unit {0}
 IsFreeEnd status.SinkFault = Unit {0}
 IsFreeEnd status.NoMemory = Unit {0}
 IsFreeEnd _ = ⊥
 
--- two plays answered as many requests, told the same behind the answers, and ended with the same status
+-- two plays answered as many requests, printed the same after the answers, and ended with the same status
 pub record EndAlike (one two : World) (course other : List Taken) (one_after two_after : World) (ended other_ended : Status) : Type 0 where
   pub as_many : length other ≡ length course
   pub lines : List (List ℕ)
@@ -89,7 +90,7 @@ pub record EndAlike (one two : World) (course other : List Taken) (one_after two
   pub second : two_after.report ≡ grown (grown two.report (course_lines other)) lines
   pub status : other_ended ≡ ended
 
--- so it is, unless the outside ended one of them
+-- two plays ended in this way, unless the outside ended one of them
 abbrev pub EndAlikeUnlessFree : World → World → List Taken → List Taken → World → World → Status → Status → Type 0
 EndAlikeUnlessFree one two course other one_after two_after ended other_ended =
     IsFreeEnd ended ⊎ IsFreeEnd other_ended ⊎ EndAlike one two course other one_after two_after ended other_ended

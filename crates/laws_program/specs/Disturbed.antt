@@ -1,4 +1,4 @@
--- What the boards before and after a run tell of what disturbed it.
+-- What the boards before and after a run say of what disturbed it.
 use Rattle.std.specs.Prelude.{◌≡◌, ◌≤◌, ℕ, All, List, Some}
 use Rattle.flop_base.specs.Counts.{RoseLess}
 use Rattle.flop_base.specs.Counters.{DriveCounts}
@@ -8,12 +8,12 @@ use Rattle.pc_bus.specs.Boards.{Board, drive_in, holds_of}
 abbrev pub HadNoFault : ℕ → Board → Board → Type 0
 HadNoFault bay old new = RoseLess 1 (drive_in old bay).faults (drive_in new bay).faults
 
--- no DMA request waited too long between two boards: so it is with the count of stalls
+-- no DMA was late between two boards: the count of stalls didn't rise, and is below its last value
 abbrev pub HadNoStall : Board → Board → Type 0
 HadNoStall old new = RoseLess 1 (holds_of old).stalls (holds_of new).stalls
 
--- nothing is left of a machine and spare drives that could go wrong: each drive tells that it can have no fault any more, and no
--- hold of a DMA request that is left is above 8
+-- nothing is left of a machine and spare drives that could go wrong: each drive tells that it can have no fault any
+-- more, and no DMA latency (hold) that is left is above 8
 pub record IsSound (board : Board) (waiting : List DriveCounts) : Type 0 where
   pub first : board.first.left ≡ Some 0
   pub second : board.second.left ≡ Some 0

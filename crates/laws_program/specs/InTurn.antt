@@ -1,4 +1,4 @@
--- Rescues one after the other: of several diskettes onto one, by one log.
+-- Rescues one after the other: several diskettes are rescued onto one, by one log.
 use Rattle.std.specs.Prelude.{◌≡◌, ◌⊎◌, ℕ, Bool, List, [], ◌∷◌, Contains, Option, Some, IfSome}
 use Rattle.flop_base.specs.Shelf.{Files, file_at}
 use Rattle.flop_base.specs.Counters.{DriveCounts}
@@ -26,7 +26,8 @@ use Rattle.laws_program.specs.Told.{IsNotToldStopped}
 
 -- ---- the runs
 
--- a rescue: of the disk under a name, on a machine with these spare drives
+-- one run of a rescue: the name of the disk that it reads, and this disk; the machine, its spare drives and the
+-- outside; and how it ended
 pub record RescueRun : Type 0 where
   pub from : List ℕ
   pub disk : Disk
@@ -37,7 +38,7 @@ pub record RescueRun : Type 0 where
   pub after : Outside
   pub ended : Status
 
--- it went to its end onto the disk and by the log of these names, and the drive of bay 1 had no fault
+-- the run went to its end, onto the disk and by the log of these names, and the drive of bay 1 had no fault
 pub record IsRescueRun (to log : List ℕ) (run : RescueRun) : Type 0 where
   pub over : RunsOver (Some (form.Rescue run.from to log)) run.old run.spares run.before run.new run.after run.ended
   pub whole : IsEndStatus run.ended
@@ -52,7 +53,7 @@ abbrev pub StandAsLeft : List ℕ → List ℕ → Option Files → Option Files
 StandAsLeft to log left found =
     IfSome left (λ one. IfSome found (λ two. (file_at two to ≡ file_at one to) × (file_at two log ≡ file_at one log)))
 
--- each of the runs is such a rescue, and finds both files as the one before left them
+-- each of the runs is such a rescue, and finds both files as the run before left them
 abbrev pub AreInTurn : List ℕ → List ℕ → Option Files → List RescueRun → Type 0
 AreInTurn to log left [] = Unit {0}
 AreInTurn to log left (run ∷ later) =
@@ -65,12 +66,12 @@ last_run run (next ∷ later) = last_run next later
 
 -- ---- what they leave
 
--- of some run this holds
+-- this holds of some run
 abbrev pub SomeRun : (RescueRun → Type 0) → List RescueRun → Type 0
 SomeRun P [] = ⊥
 SomeRun P (run ∷ later) = P run ⊎ SomeRun P later
 
--- the disk has the record, with the mark and the content of an intact field of it on the disk of some run
+-- the disk has the sector, with the mark and the content of an intact field of its sector ID on the disk of some run
 pub record IsSavedFrom (runs : List RescueRun) (saved : Disk) (key : Chrn) : Type 0 where
   pub deleted : Bool
   pub content : List ℕ
@@ -78,8 +79,8 @@ pub record IsSavedFrom (runs : List RescueRun) (saved : Disk) (key : Chrn) : Typ
   pub field : SomeRun (λ run. IsFieldOf run.disk key deleted content) runs
   pub entry : IsOnMap saved (entry_at key place deleted content)
 
--- the record could be read in a run: nothing disturbed its reads, no address field of its disk can be mistaken, and the look for the
--- record finds it there
+-- the sector could be read in a run: nothing disturbed the run's reads, no address field of its disk can be mistaken,
+-- and the look for the sector ID finds the sector there
 pub record CouldBeRead (key : Chrn) (run : RescueRun) : Type 0 where
   pub no_fault : HadNoFault 0 run.old run.new
   pub no_stall : HadNoStall run.old run.new
@@ -88,9 +89,9 @@ pub record CouldBeRead (key : Chrn) (run : RescueRun) : Type 0 where
   pub place : ℕ
   pub found : LookOn run.disk key (Found deleted place)
 
--- behind these runs, the last of which ended with this status, TO has the image of a regular disk with Laid fields, and LOG is a log.
--- Each standard record of the first diskette is in the log, or on that disk as one of the diskettes has it; it is there where some run
--- could read it, and each is where the last status is 0
+-- what stands after these runs, the last of which ended with this status. TO has the image of a regular disk with Laid
+-- fields, and LOG is a log. Each standard sector of the first diskette is in the log, or on that disk as one of the
+-- diskettes has it. It is on that disk if some run could read it, and each is if the last status is 0
 pub record LeavesRescued (to log : List ℕ) (disk : Disk) (runs : List RescueRun) (ended : Status) (after : Option Files) : Type 0 where
   pub files : Files
   pub told : after ≡ Some files

@@ -1,4 +1,4 @@
--- A machine that was made and used, and the seeks on it.
+-- A machine that was made and then used, and the seeks on it.
 use Rattle.std.specs.Prelude.{◌≡◌, ◌≤◌, ◌⊎◌, ℕ, false, List, [], ◌∷◌}
 use Rattle.fdc_core.specs.Listening.{is_executing}
 use Rattle.fdc_core.specs.declared.controller.Fdc.{Fdc}
@@ -21,11 +21,11 @@ pub record IsUsed (board : Board) : Type 0 where
 abbrev pub NotBoth : Fdc → Type 0
 NotBoth fdc = (is_executing fdc.phase ≡ false) ⊎ (is_seeking fdc.seeks ≡ false)
 
--- a seek that runs at the beginning of these lines ends in them, within 256 device steps, if they wait as many
+-- a seek that runs at the beginning of these lines ends during them, within 256 device steps, if they wait as many
 abbrev pub SeekEndsIn : Board → List Taken → Board → Type 0
 SeekEndsIn old course new = 256 ≤ waits_of course → seeks old → Comes RunsNoSeek 256 (waits_of course) old new
 
--- so does one that runs before any of the lines
+-- the same holds of a seek that runs before any of the lines, and of the lines from there on
 abbrev pub SeeksEnd : Board → List Taken → Board → Type 0
 SeeksEnd old [] new = Unit {0}
 SeeksEnd old (taken ∷ later) new = SeekEndsIn old (taken ∷ later) new × SeeksEnd taken.after.board later new

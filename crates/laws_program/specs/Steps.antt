@@ -1,5 +1,5 @@
--- What each step of a run may do to the media in the bays, what a read, a write and a format that were done have done, why a request was
--- refused, and how many data commands each sends.
+-- What each step of a run may do to the media in the bays; what reads, writes and formats did if they were done; why a
+-- request was refused; and how many data commands each request sends.
 use Rattle.std.specs.Prelude.{◌≡◌, ◌+◌, ◌-◌, ◌*◌, ◌≤◌, ◌⊎◌, ◌&&◌, ℕ, ◌==◌, Bool, true, false, not, All, List, [], ◌∷◌, length, Option, Some, None, Result, option_map, MatchOption, if◌then◌else◌}
 use Rattle.flop_base.specs.Counts.{RoseBy}
 use Rattle.flop_base.specs.Standard.{gap_at, standard_fill, sectors_at}
@@ -29,12 +29,12 @@ use Rattle.sector_model.specs.Steps.{refusal_of, reply_of}
 use Rattle.sector_model.specs.Texts.{is_refusal}
 use Rattle.sector_model.specs.Runs.{Taken}
 
--- each step of a course, with the state that it finds
+-- this holds of each step of a course, and of the state before it
 abbrev pub EachStep : (State → Taken → Type 0) → State → List Taken → Type 0
 EachStep P old [] = Unit {0}
 EachStep P old (taken ∷ later) = P old taken × EachStep P taken.after later
 
--- both numbers are of one bay: 0 is the first, and any other the second
+-- both numbers name the same bay: 0 names the first, and any other number the second
 abbrev pub is_same_bay : ℕ → ℕ → Bool
 is_same_bay one other = if one == 0 then other == 0 else not (other == 0)
 
@@ -59,17 +59,19 @@ exchanges bay (request.Tries tries) = false
 abbrev pub IsGuarded : StationState → ℕ → Type 0
 IsGuarded station bay = (is_acknowledged station bay ≡ false) ⊎ (is_protected station bay ≡ true)
 
--- a step did: its request wasn't refused, as it is where its bay is above 1
+-- a step exchanged the medium or the drive of the bay: its request is to do so, and wasn't refused. (A request for a
+-- bay above 1 is refused)
 abbrev pub has_exchanged : ℕ → Taken → Bool
 has_exchanged bay taken = not (is_refusal taken.answer) && exchanges bay taken.asked
 
--- the medium of such a bay is the same after a step, unless the step exchanged it
+-- the medium of such a guarded bay is the same after a step, unless the step exchanged it
 abbrev pub KeepsGuarded : State → Taken → Type 0
 KeepsGuarded old taken =
     (bay : ℕ) → has_exchanged bay taken ≡ false → IsGuarded old.station bay
     → (bay_of taken.after.station bay).medium ≡ (bay_of old.station bay).medium
 
--- a read that was done gave an intact field of its key; and each read sent at most as many data commands as attempts are set
+-- a read that was done gave an intact field of its sector ID; and each read sent at most as many data commands as
+-- attempts are set
 abbrev pub ReadsField : State → Taken → Type 0
 ReadsField old taken =
     (bay address : ℕ) (key : Chrn) → taken.asked ≡ request.Read bay key address
@@ -81,8 +83,9 @@ abbrev pub IsWrite : Request → ℕ → Chrn → ℕ → Bool → Type 0
 IsWrite asked bay key address false = asked ≡ request.Write bay key address
 IsWrite asked bay key address true = asked ≡ request.WriteDeleted bay key address
 
--- a write changed the medium in its bay by a few changes, each of which wrote a window behind an address field of its key, or the
--- beginning of one; where it was done, a field of the key has the mark and the content
+-- a write changed the medium in its bay by a few changes. Each change wrote a window after an address field of its
+-- sector ID, or the beginning of such a window. If the write was done, a field of the sector ID has the mark and the
+-- content
 abbrev pub WritesField : State → Taken → Type 0
 WritesField old taken =
     (bay address : ℕ) (key : Chrn) (deleted : Bool) → IsWrite taken.asked bay key address deleted
@@ -91,8 +94,9 @@ WritesField old taken =
     × (is_refusal taken.answer ≡ false
     → IsWritten (written_from old.station key address deleted) bay changes old.station taken.after.station)
 
--- a write to a regular disk that reached the drive of its bay kept it regular: no field of the key was met, and the disk is as it was; or
--- one, at p, and where nothing disturbed the write, or no address mark could come up in a write that stopped short, that field alone changed
+-- a write to a regular disk that reached the drive of its bay kept the disk regular. Either no field of the sector ID
+-- was met, and the disk is as it was. Or one was met, at p; then that field alone changed, provided that nothing
+-- disturbed the write, or that no address mark could come up in a write that stopped short
 abbrev pub WritesAlone : ℕ → Chrn → ℕ → Bool → Disk → State → Taken → Type 0
 WritesAlone bay key address deleted disk old taken =
     (called : Result (Unit {0}) Code) × (taken.answer ≡ reply_of called)
@@ -111,8 +115,9 @@ KeepsOtherFields old taken =
 abbrev pub format_in : StationState → ℕ → ℕ → ℕ → Format
 format_in station bay c h = format_at c h (bay_of station bay).rate (gap_at (bay_of station bay).rate) standard_fill
 
--- a format changed the medium in its bay by a few layouts from the index on, no more than attempts are set: each laid the first words of the
--- format on a track of its head, and on that of its cylinder where the drive had no fault; where it was done then, that track is formatted
+-- a format changed the medium in its bay by a few layouts from the index on, no more than attempts are set. Each laid
+-- the first words of the format on a track of its head; if the drive had no fault, on the track of its cylinder. If the
+-- drive had no fault and the format was done, that track is formatted
 pub record IsFormat (format : Format) (bay : ℕ) (old : StationState) (answer : Reply) (new : StationState) : Type 0 where
   pub layings : List Laying
   pub few : length layings ≤ old.tries
@@ -121,7 +126,7 @@ pub record IsFormat (format : Format) (bay : ℕ) (old : StationState) (answer :
   pub done : is_refusal answer ≡ false → IsFaultless bay old.counters new.counters
       → IsFormattable format (bay_of old bay).medium × IsFormatted format (bay_of old bay).medium (bay_of new bay).medium
 
--- so it is with each format of a course, done or refused
+-- this holds of each format of a course, done or refused
 abbrev pub FormatsTrack : State → Taken → Type 0
 FormatsTrack old taken =
     (bay c h : ℕ) → taken.asked ≡ request.Format bay c h
@@ -133,7 +138,8 @@ FormatsTrack old taken =
 abbrev pub by_driver : Option Code → Option Reason
 by_driver refusal = option_map (λ code. reason.Driver code) refusal
 
--- the refusal of a request before a drive is asked, if there is one: the first line of the order that applies
+-- the refusal of a request before a drive is asked, if there is one: the first line that applies of the order of
+-- refusals
 abbrev pub refusal_at_once : State → Request → Option Reason
 refusal_at_once state (request.Ack bay) = if is_bay bay then None else Some (reason.Driver BadRequest)
 refusal_at_once state (request.Read bay key address) = by_driver (read_refusal state.station bay key address)
@@ -159,7 +165,8 @@ IsDriveCause (request.Format bay c h) old code new =
     IsFormatCause (format_in old.station bay c h) (bay_of old.station bay).medium bay old.station code new.station
 IsDriveCause _ old code new = ⊥
 
--- a request that the order refuses has that answer, and nothing changed; of any other a refusal is the drive's, and has its cause
+-- a request that the order refuses has that refusal as its answer, and nothing changed. Any other refusal is the
+-- drive's, and has its cause
 abbrev pub TellsCause : State → Taken → Type 0
 TellsCause old taken =
     MatchOption (refusal_at_once old taken.asked)
@@ -169,8 +176,8 @@ TellsCause old taken =
 
 -- ---- Data commands.
 
--- the most data commands that a request sends: for each attempt a read one, a write two, a format one and one for each sector; an
--- acknowledgement six, and any other none
+-- the most data commands that a request sends. For each attempt a read sends one, a write two, and a format one and one
+-- for each sector; an acknowledgement sends six, and any other request none
 abbrev pub most_commands : StationState → Request → ℕ
 most_commands station (request.Ack bay) = 6
 most_commands station (request.Read bay key address) = station.tries

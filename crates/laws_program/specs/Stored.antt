@@ -1,4 +1,4 @@
--- What the forms of the program store, by the files before and after.
+-- What the subcommands (forms) of the program store, by the files before and after.
 use Rattle.std.specs.Prelude.{◌≡◌, ◌⊎◌, ℕ, Bool, false, List, length, Option, Some, IfSome}
 use Rattle.flop_base.specs.Shelf.{Files, file_at, stored}
 use Rattle.flop_base.specs.Standard.{words_at, sectors_at}
@@ -27,20 +27,22 @@ use Rattle.laws_commands.specs.Imported.{sector_bytes}
 use Rattle.laws_commands.specs.Exported.{HasContent}
 use Rattle.laws_program.specs.Disturbed.{HadNoFault}
 
--- what is read of a disk in bay 0 is its sectors: it is regular, and the drive had no fault, or no field has two data marks
+-- what is read of a disk in bay 0 is its sectors: the disk is regular, and the drive had no fault or no field has two
+-- data marks
 pub record IsReadSure (disk : Disk) (old new : Board) : Type 0 where
   pub regular : IsRegularDisk disk
   pub drive : HadNoFault 0 old new ⊎ AllLone disk
 
--- a copied disk has a sector of the key, with the mark and the content of an intact field of the key on the other
+-- a copied disk has a sector of the key, with the mark and the content of an intact field of the key on the disk that
+-- was read
 abbrev pub HasSomeField : Disk → Disk → Chrn → Type 0
 HasSomeField disk copied key =
     (deleted : Bool) × (content : List ℕ) × IsFieldOf disk key deleted content × IsSectorOf (track_of copied key.c key.h) key deleted content
 
--- a copy of a disk was stored under a name, and no other file changed: a regular disk of the same cylinders and rate, with two
--- heads, that has for each standard key a sector with the mark and the content of an intact field of the key on the other: of its
--- sector, where what is read of the disk is its sectors; the tracks that the other disk has are Laid, and so is each track with an
--- address field
+-- a copy of a disk was stored under a name, and no other file changed. The copy is a regular disk of the same cylinders
+-- and rate, with two heads. For each standard sector ID it has a sector with the mark and the content of an intact
+-- field of this ID on the disk that was read. These are the sectors of that disk, if what is read of it is its sectors.
+-- The tracks that the read disk has are Laid on the copy, and so is each track with an address field
 pub record StoresCopyAsRead (sure : Type 0) (disk : Disk) (to : List ℕ) (told after : Option Files) : Type 0 where
   pub copied : Disk
   pub valid : IsDisk copied
@@ -56,8 +58,9 @@ pub record StoresCopyAsRead (sure : Type 0) (disk : Disk) (to : List ℕ) (told 
   pub sectors : sure → (key : Chrn) → IsStandardKey disk key → HaveSameSector disk copied key
   pub files : after ≡ stored told to (file_of copied)
 
--- a flat file was stored under a name, and no other file changed: it has at the place of each sector of a disk the bytes of an
--- intact field of its key, with some mark; those of its sector, where what is read of the disk is its sectors
+-- a flat file was stored under a name, and no other file changed. At the place of each sector of a disk it has the
+-- bytes of an intact field of its sector ID, with some mark. These are the bytes of the sector, if what is read of the
+-- disk is its sectors
 pub record StoresFlatAsRead (sure : Type 0) (disk : Disk) (flat : List ℕ) (told after : Option Files) : Type 0 where
   pub bytes : List ℕ
   pub size : length bytes ≡ flat_length (sectors_at disk.rate)
@@ -67,7 +70,8 @@ pub record StoresFlatAsRead (sure : Type 0) (disk : Disk) (flat : List ℕ) (tol
       → HasContent disk c h r (sector_bytes bytes (sectors_at disk.rate) c h r)
   pub files : after ≡ stored told flat bytes
 
--- the file of a log's name is the log of the asked records that aren't found on a disk, in their order, each with the code of its look
+-- the file under the log's name is the log of those sectors that were asked for and aren't found on a disk, in their
+-- order, each with the code of its look
 pub record StoresLogOf (disk : Disk) (log : List ℕ) (files : Files) (after : Option Files) : Type 0 where
   pub found : Option (List LogLine)
   pub there : IsLogFound (Some files) log (sectors_at disk.rate) found

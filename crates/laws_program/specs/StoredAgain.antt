@@ -1,4 +1,4 @@
--- Jobs that only read, and what they store: what their files have already.
+-- Jobs that only read, and what they store: the disks that their files have already.
 use Rattle.std.specs.Prelude.{◌≡◌, ℕ, Bool, true, false, List, [], ◌∷◌, Option}
 use Rattle.flop_base.specs.Shelf.{Files, Store}
 use Rattle.raw_image.specs.Disk.{Disk}
@@ -27,21 +27,22 @@ only_reads (request.Write bay key address) = false
 only_reads (request.WriteDeleted bay key address) = false
 only_reads (request.Format bay c h) = false
 
--- so it is with each of them
+-- each of the requests only reads
 abbrev pub AllRead : List Request → Type 0
 AllRead [] = Unit {0}
 AllRead (asked ∷ later) = (only_reads asked ≡ true) × AllRead later
 
--- a store of what its name has already: of the disk that the told file of the name is the image of
+-- a store of what its name has already: of the disk whose image the told file of that name is
 abbrev pub IsStoredAgain : Option Files → Store → Type 0
 IsStoredAgain told store = (disk : Disk) × IsImageOf told store.name disk × (store.bytes ≡ file_of disk)
 
--- so it is with each of them
+-- each of the stores is such a one
 abbrev pub AreStoredAgain : Option Files → List Store → Type 0
 AreStoredAgain told [] = Unit {0}
 AreStoredAgain told (store ∷ later) = IsStoredAgain told store × AreStoredAgain told later
 
--- nothing was stored before the end of a run; then what was left in was stored, a first part of it, each disk as its file had it
+-- nothing was stored before the end of a run. At the end a first part of what was left in was stored, each disk as its
+-- file had it
 pub record StoresAgainAtEnd (start : State) (course : List Taken) (told after : Option Files) : Type 0 where
   pub nothing_before : stores_of start course ≡ []
   pub at_the_end : StoresFirst (end_stores (state_after start course)) told after

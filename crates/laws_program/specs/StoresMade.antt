@@ -1,4 +1,4 @@
--- Which stores each form makes, however it ends.
+-- Which stores each subcommand (form) makes, however it ends.
 use Rattle.std.specs.Prelude.{◌≡◌, List, Option, Some, None}
 use Rattle.flop_base.specs.Shelf.{Files}
 use Rattle.floppy_words.specs.declared.form.Form.{Form}
@@ -8,8 +8,11 @@ use Rattle.sector_model.specs.Runs.{Taken}
 use Rattle.laws_commands.specs.Rescued.{log_of}
 use Rattle.laws_commands.specs.Stores.{StoresRun, StoresDiskAlone, StoresFileAlone, StoresDiskThenLog}
 
--- those of a form, whose requests were this course: a text of requests stores what is taken out, and what is left in at its end; a form
--- that makes a file stores that one; a rescue the disk and then its log; and a form that reads stores nothing
+-- the stores of a subcommand whose requests were this course:
+-- - A text of requests stores what is taken out, and what is left in at its end.
+-- - A subcommand that makes a file stores that file.
+-- - A rescue stores the disk, and then its log.
+-- - A subcommand that only reads stores nothing.
 abbrev pub StoresFor : Form → State → List Taken → Option Files → Option Files → Type 0
 StoresFor (form.Play job) start course told after = StoresRun start course told after
 StoresFor (form.Int13 calls) start course told after = StoresRun start course told after
@@ -26,7 +29,7 @@ StoresFor (form.Verify name) start course told after = after ≡ told
 StoresFor (form.Survey name) start course told after = after ≡ told
 StoresFor (form.Exercise seed count) start course told after = after ≡ told
 
--- and words that are no form store nothing
+-- arguments (words) that are no subcommand store nothing
 abbrev pub StoresAsked : Option Form → State → List Taken → Option Files → Option Files → Type 0
 StoresAsked (Some asked) start course told after = StoresFor asked start course told after
 StoresAsked None start course told after = after ≡ told

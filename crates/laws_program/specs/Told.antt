@@ -1,4 +1,4 @@
--- What the forms of the program tell, by the report before and after.
+-- What the subcommands (forms) of the program print, by the report before and after.
 use Rattle.std.specs.Prelude.{◌≡◌, ℕ, List, [], ◌∷◌, length, nat_le, Option}
 use Rattle.flop_base.specs.Sink.{grown}
 use Rattle.flop_base.specs.declared.answers.Code.{Code}
@@ -14,11 +14,11 @@ use Rattle.disk_commands.specs.Disks.{sectors_of}
 use Rattle.archive_commands.specs.Files.{Outside}
 use Rattle.laws_commands.specs.VerifyRuns.{verify_report}
 
--- these failing keys of a disk were told and no others, and the status says whether there are any
+-- the report lists these failing sector IDs of a disk and no others, and the status says whether there are any
 pub record ListsFailing (disk : Disk) (failed : List (Chrn × Code)) (before after : Outside) (ended : Status) : Type 0 where
   pub report : after.report ≡ grown before.report (verify_report (sectors_of (shape_of disk)) failed)
   pub status : ended ≡ whole_status (nat_le 1 (length failed))
 
--- the report doesn't tell that a refusal stopped the form
+-- the report doesn't say that a refusal stopped the subcommand
 abbrev pub IsNotToldStopped : Option (List (List ℕ)) → Option (List (List ℕ)) → Type 0
 IsNotToldStopped before after = (asked : Request) (cause : Reason) → after ≡ grown before (stopped_text asked cause ∷ []) → ⊥

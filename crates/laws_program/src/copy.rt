@@ -1,4 +1,4 @@
-// The form that copies a disk.
+// The subcommand that copies a disk.
 ghost use Rattle.std.specs.Prelude.{◌≡◌, List, Option, Some};
 ghost use Rattle.flop_base.specs.Shelf.{Files};
 ghost use Rattle.raw_image.specs.Disk.{Disk};
@@ -14,10 +14,13 @@ ghost use Rattle.laws_program.specs.Stored.{IsReadSure, StoresCopyAsRead};
 
 use flop_base::Status;
 
-/// A law: where `copy FROM TO` ends with status 0, FROM is the image of a disk, and the drive of bay 1 had no fault, the file TO is the
-/// image of a regular disk that has for each standard key of FROM a sector with the mark and the content of an intact field of the key
-/// on FROM, whatever faults the drive of bay 0 had; and no other file changed. These are its sectors where FROM is regular, and the
-/// drive of bay 0 had no fault or no field of FROM has two data marks. DMA requests may have waited.
+/// A law on a `copy FROM TO` that ends with status 0, where FROM is the image of a disk, and the drive of bay 1 had no
+/// fault. DMA latencies may be of any length.
+///
+/// The file TO is then the image of a regular disk, and no other file changed. For each standard sector ID of FROM,
+/// that disk has a sector with the mark and the content of an intact field of this ID on FROM, whatever faults the
+/// drive of bay 0 had. These are the sectors of FROM if two things hold: FROM is regular, and the drive of bay 0 had no
+/// fault or no field of FROM has two data marks.
 pub fn copy_of_a_disk(_from: &str, _to: &str)
     ensures { (spares : List DriveCounts) (old new : Board) (before after : Outside) (files : Files) (disk : Disk)
         → RunsOver (Some (form.Copy _from.now _to.now)) old spares before new after Status.AllOk
@@ -26,8 +29,8 @@ pub fn copy_of_a_disk(_from: &str, _to: &str)
         → StoresCopyAsRead (IsReadSure disk old new) disk _to.now (Some files) after.files }
 {}
 
-/// A law: so TO is a disk that a rescue may go on with: a regular disk in its ranges, not protected, that has each standard key of FROM,
-/// and each of whose address fields is on a Laid track.
+/// A law: a rescue may go on with such a disk TO. It is a regular disk in its ranges and isn't protected. It has each
+/// standard sector ID of FROM, and each of its address fields is on a Laid track.
 pub fn copied_disk_is_a_target(_from: &str, _to: &str)
     ensures { (old new : Board) (files : Files) (after : Option Files) (disk : Disk)
         (stores : StoresCopyAsRead (IsReadSure disk old new) disk _to.now (Some files) after)

@@ -5,11 +5,13 @@ ghost use Rattle.sector_model.specs.Runs.{Taken};
 ghost use Rattle.sector_model.specs.Plays.{World, Plays};
 ghost use Rattle.laws_program.specs.Determined.{BeginAlike, AreRegularBefore, AnswersAgree, EndAlikeUnlessFree};
 
-/// A law: two plays of one job, each on a fresh station whose drives can have no fault any more and whose DMA requests can't
-/// wait too long, with the same files and as many spare drives, answer alike, request by request, as far as both go and while
-/// the disks of the first are regular. Where these are regular whenever a request comes, the two end alike too, unless the
-/// shelf, the sink or memory failed in one of them. The bytes of a dump alone may differ: a refused read may leave anything
-/// in its range of memory.
+/// A law on two plays of one job. Each begins on a fresh station whose drives can have no fault any more, and on which
+/// no DMA can be late. The files are the same, and there are as many spare drives.
+///
+/// The two plays answer alike, request by request, as far as both go and while the disks of the first are regular. If
+/// these are regular whenever a request comes, the two also end alike, unless the file store, the output or memory
+/// failed in one of them. Only the bytes of a dump may differ: a refused read may leave anything in its range of
+/// memory.
 pub fn job_answers_are_determined(_job: &str)
     ensures { (one one_after two two_after : World) (course other : List Taken) (ended other_ended : Status)
         → BeginAlike one two

@@ -1,4 +1,4 @@
-// The forms on whole disks, on a machine where nothing can go wrong.
+// The subcommands (forms) on whole disks, on a machine where nothing can go wrong.
 ghost use Rattle.std.specs.Prelude.{◌≡◌, ◌≢◌, ◌≤◌, ℕ, All, List, [], Some, None};
 ghost use Rattle.flop_base.specs.Shelf.{Files, file_at};
 ghost use Rattle.flop_base.specs.Standard.{sectors_at};
@@ -26,23 +26,24 @@ ghost use Rattle.laws_program.specs.Told.{ListsFailing};
 
 use flop_base::Status;
 
-/// A law: on a machine and spare drives where nothing is left that could go wrong, `format NAME CYLS` of 1 to 80 cylinders ends with
-/// status 0 and stores a formatted disk, unless memory couldn't be had, or the shelf or the sink failed, and counted it.
+/// A law: on a machine and spare drives where nothing is left that could go wrong, `format NAME CYLS` of 1 to 80
+/// cylinders ends with status 0, and stores a formatted disk. This is so unless memory ran out, or the file store or
+/// the output failed, and counted the fault.
 pub fn format_ends_well(_name: &str, _cylinders: u8)
     ensures { (spares : List DriveCounts) (old new : Stand) (ended : Status) → 1 ≤ _cylinders → _cylinders ≤ 80
         → RanOver (Some (form.Format _name.now _cylinders)) spares old new ended → IsSound old.board spares
         → EndsWell (StoresFormatted R500 _name.now _cylinders old.outside.outside.files new.outside.outside.files) old new ended }
 {}
 
-/// A law: so does `formatdd NAME CYLS`.
+/// A law: under the same premises, `formatdd NAME CYLS` ends in the same way.
 pub fn formatdd_ends_well(_name: &str, _cylinders: u8)
     ensures { (spares : List DriveCounts) (old new : Stand) (ended : Status) → 1 ≤ _cylinders → _cylinders ≤ 80
         → RanOver (Some (form.FormatDd _name.now _cylinders)) spares old new ended → IsSound old.board spares
         → EndsWell (StoresFormatted R250 _name.now _cylinders old.outside.outside.files new.outside.outside.files) old new ended }
 {}
 
-/// A law: so does `copy FROM TO`, where FROM is the image of a regular disk that has each of its standard keys, and stores its
-/// standard sectors.
+/// A law: `copy FROM TO` ends in the same way, where FROM is the image of a regular disk that has each of its standard
+/// sector IDs. It stores the standard sectors of that disk.
 pub fn copy_ends_well(_from: &str, _to: &str)
     ensures { (spares : List DriveCounts) (old new : Stand) (ended : Status) (files : Files) (disk : Disk)
         → RanOver (Some (form.Copy _from.now _to.now)) spares old new ended → IsSound old.board spares
@@ -50,7 +51,7 @@ pub fn copy_ends_well(_from: &str, _to: &str)
         → EndsWell (StoresSameSectors disk _to.now (Some files) new.outside.outside.files) old new ended }
 {}
 
-/// A law: so does `verify NAME`, where NAME is the image of such a disk, and lists no key.
+/// A law: `verify NAME` ends in the same way, where NAME is the image of such a disk. It lists no sector ID.
 pub fn verify_ends_well(_name: &str)
     ensures { (spares : List DriveCounts) (old new : Stand) (ended : Status) (files : Files) (disk : Disk)
         → RanOver (Some (form.Verify _name.now)) spares old new ended → IsSound old.board spares
@@ -58,7 +59,8 @@ pub fn verify_ends_well(_name: &str)
         → EndsWell (ListsFailing disk [] old.outside.outside new.outside.outside Status.AllOk) old new ended }
 {}
 
-/// A law: so does `import FLAT NAME`, where FLAT is a flat file, and stores a disk of its sectors.
+/// A law: `import FLAT NAME` ends in the same way, where FLAT is a flat file. It stores a disk of the flat file's
+/// sectors.
 pub fn import_ends_well(_flat: &str, _name: &str)
     ensures { (spares : List DriveCounts) (old new : Stand) (ended : Status) (files : Files) (bytes : List ℕ) (at : Rate)
         → RanOver (Some (form.Import _flat.now _name.now)) spares old new ended → IsSound old.board spares
@@ -66,8 +68,8 @@ pub fn import_ends_well(_flat: &str, _name: &str)
         → EndsWell (StoresDisk bytes _name.now at (Some files) new.outside.outside.files) old new ended }
 {}
 
-/// A law: so does `export NAME FLAT`, where NAME is the image of a regular disk of 80 cylinders and two heads that has each of its
-/// standard keys, and stores a flat file of its sectors.
+/// A law: `export NAME FLAT` ends in the same way, where NAME is the image of a regular disk of 80 cylinders and two
+/// heads that has each of its standard sector IDs. It stores a flat file of the disk's sectors.
 pub fn export_ends_well(_name: &str, _flat: &str)
     ensures { (spares : List DriveCounts) (old new : Stand) (ended : Status) (files : Files) (disk : Disk)
         → RanOver (Some (form.Export _name.now _flat.now)) spares old new ended → IsSound old.board spares
@@ -75,8 +77,9 @@ pub fn export_ends_well(_name: &str, _flat: &str)
         → EndsWell (StoresFlatOf disk _flat.now (Some files) new.outside.outside.files) old new ended }
 {}
 
-/// A law: so does `rescue FROM TO LOG`, where FROM is the image of a regular disk that has each of its standard keys, no file LOG is there,
-/// and TO and LOG differ. It stores a disk with the same standard sectors under TO, and then an empty log under LOG.
+/// A law: `rescue FROM TO LOG` ends in the same way, where FROM is the image of a regular disk that has each of its
+/// standard sector IDs, no file LOG is there, and TO and LOG differ. It stores a disk with the same standard sectors
+/// under TO, and then an empty log under LOG.
 pub fn new_rescue_ends_well(_from: &str, _to: &str, _log: &str)
     ensures { (spares : List DriveCounts) (old new : Stand) (ended : Status) (files : Files) (disk : Disk)
         → RanOver (Some (form.Rescue _from.now _to.now _log.now)) spares old new ended → IsSound old.board spares
@@ -85,9 +88,10 @@ pub fn new_rescue_ends_well(_from: &str, _to: &str, _log: &str)
         → EndsWell (StoresSameAndLog disk _to.now _log.now (Some files) new.outside.outside.files) old new ended }
 {}
 
-/// A law: so does one that goes on by a log LOG, whose records FROM has, the image of a regular disk, and TO is the image of a disk that
-/// takes them at FROM's rate. It stores that disk again, with these sectors as FROM has them, and all others as they were, and then an
-/// empty log under LOG.
+/// A law: a rescue that goes on by a log LOG ends in the same way. Here FROM is the image of a regular disk that has
+/// the sectors of LOG, TO is the image of a disk that takes them at FROM's rate, and TO and LOG differ. The rescue
+/// stores the disk TO again: these sectors are as FROM has them, and all others as they were. Then it stores an empty
+/// log under LOG.
 pub fn further_rescue_ends_well(_from: &str, _to: &str, _log: &str)
     ensures { (spares : List DriveCounts) (old new : Stand) (ended : Status) (files : Files) (disk target : Disk) (lines : List LogLine)
         → RanOver (Some (form.Rescue _from.now _to.now _log.now)) spares old new ended → IsSound old.board spares

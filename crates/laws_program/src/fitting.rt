@@ -1,4 +1,4 @@
-// How the forms on files alone end, where the file that they read is there and in its grammar.
+// How the subcommands (forms) on files alone end, where the file that they read is there and in its grammar.
 ghost use Rattle.std.specs.Prelude.{◌≡◌, List, Some, Ok, codes};
 ghost use Rattle.flop_base.specs.Shelf.{Files};
 ghost use Rattle.flop_base.specs.declared.answers.Status.{Status};
@@ -14,8 +14,9 @@ ghost use Rattle.floppy_tools.specs.Performed.{Stand, RanOver};
 ghost use Rattle.laws_program.specs.Ends.{EndsByFit, EndsWell};
 ghost use Rattle.laws_program.specs.Made.{MakesFile, TellsSurveyOf, HasUnfit};
 
-/// A law: where IMD is an ImageDisk file, `fromimd IMD NAME` ends with status 0 and makes the disk, or with status 1 where a track is
-/// unfit, and changes no file, unless memory couldn't be had, or the shelf or the sink failed, and counted it.
+/// A law on `fromimd IMD NAME`, where IMD is an ImageDisk file. It ends with status 0 and makes the disk, or it ends
+/// with status 1 because a track doesn't fit, and changes no file. This is so unless memory ran out, or the file store
+/// or the output failed, and counted the fault.
 pub fn fromimd_status(_imd: &str, _name: &str)
     ensures { (spares : List DriveCounts) (old new : Stand) (ended : Status) (files : Files)
         → old.outside.outside.files ≡ Some files → (image : ImdImage) → ReadsAs imd_of (Some files) _imd.now (Ok image)
@@ -24,7 +25,8 @@ pub fn fromimd_status(_imd: &str, _name: &str)
         (HasUnfit (HasNoDisk image) (Some files) new.outside.outside.files) old new ended }
 {}
 
-/// A law: so does `toimd NAME IMD`, where NAME is the image of a disk, and makes the ImageDisk file.
+/// A law: `toimd NAME IMD` ends in the same way, where NAME is the image of a disk. What it makes is the ImageDisk
+/// file.
 pub fn toimd_status(_name: &str, _imd: &str)
     ensures { (spares : List DriveCounts) (old new : Stand) (ended : Status) (files : Files)
         → old.outside.outside.files ≡ Some files → (disk : Disk) → ReadsAs image_of (Some files) _name.now (Ok disk)
@@ -33,7 +35,8 @@ pub fn toimd_status(_name: &str, _imd: &str)
         (HasUnfit (HasNoImd disk) (Some files) new.outside.outside.files) old new ended }
 {}
 
-/// A law: so does `remaster FROM TO`, where FROM is the image of a disk, and makes the disk that is laid out anew.
+/// A law: `remaster FROM TO` ends in the same way, where FROM is the image of a disk. What it makes is the disk laid
+/// out anew.
 pub fn remaster_status(_from: &str, _to: &str)
     ensures { (spares : List DriveCounts) (old new : Stand) (ended : Status) (files : Files)
         → old.outside.outside.files ≡ Some files → (disk : Disk) → ReadsAs image_of (Some files) _from.now (Ok disk)
@@ -42,8 +45,8 @@ pub fn remaster_status(_from: &str, _to: &str)
         (HasUnfit (HasNoRemaster disk) (Some files) new.outside.outside.files) old new ended }
 {}
 
-/// A law: where NAME is the image of a disk, `survey NAME` ends with status 0 and tells its address fields, unless memory couldn't be
-/// had, or the shelf or the sink failed, and counted it.
+/// A law: if NAME is the image of a disk, `survey NAME` ends with status 0, and prints the address fields of the disk.
+/// This is so unless memory ran out, or the file store or the output failed, and counted the fault.
 pub fn survey_status(_name: &str)
     ensures { (spares : List DriveCounts) (old new : Stand) (ended : Status) (files : Files) (disk : Disk)
         → old.outside.outside.files ≡ Some files → ReadsAs image_of (Some files) _name.now (Ok disk)

@@ -1,4 +1,4 @@
-// The forms between a flat file and a disk.
+// The subcommands between a flat file and a disk.
 ghost use Rattle.std.specs.Prelude.{◌≡◌, List, Some};
 ghost use Rattle.flop_base.specs.Shelf.{Files};
 ghost use Rattle.raw_image.specs.Disk.{Disk};
@@ -14,18 +14,22 @@ ghost use Rattle.laws_program.specs.Stored.{IsReadSure, StoresFlatAsRead};
 
 use flop_base::Status;
 
-/// A law: where `import FLAT NAME` ends with status 0, and the drive of bay 0 had no fault, FLAT is a flat file, the file NAME is the
-/// image of a disk with each of its sectors, not deleted, with the bytes at its place, and no other file changed. DMA requests may
-/// have waited.
+/// A law on an `import FLAT NAME` that ends with status 0, where the drive of bay 0 had no fault. DMA latencies may be
+/// of any length.
+///
+/// FLAT is then a flat file, and the file NAME is the image of a disk that has each of its sectors, not deleted, with
+/// the bytes at the sector's place in FLAT. No other file changed.
 pub fn disk_of_a_flat_file(_flat: &str, _name: &str)
     ensures { (spares : List DriveCounts) (old new : Board) (before after : Outside)
         → RunsOver (Some (form.Import _flat.now _name.now)) old spares before new after Status.AllOk
         → HadNoFault 0 old new → StoresImported _flat.now _name.now before.files after.files }
 {}
 
-/// A law: where `export NAME FLAT` ends with status 0, and NAME is the image of a disk, the file FLAT has at the place of each sector
-/// the bytes of an intact field of its key on that disk, whatever faults there were, and no other file changed. They are those of
-/// its sector, where the disk is regular, and the drive of bay 0 had no fault or no field of the disk has two data marks.
+/// A law on an `export NAME FLAT` that ends with status 0, where NAME is the image of a disk.
+///
+/// The file FLAT then has at the place of each sector the bytes of an intact field of its sector ID on that disk,
+/// whatever faults there were. No other file changed. The bytes are those of the sector if two things hold: the disk is
+/// regular, and the drive of bay 0 had no fault or no field of the disk has two data marks.
 pub fn flat_file_of_a_disk(_name: &str, _flat: &str)
     ensures { (spares : List DriveCounts) (old new : Board) (before after : Outside) (files : Files) (disk : Disk)
         → RunsOver (Some (form.Export _name.now _flat.now)) old spares before new after Status.AllOk

@@ -14,8 +14,8 @@ ghost use Rattle.floppy_words.specs.declared.form.Form.TheVariants as form;
 ghost use Rattle.floppy_tools.specs.Machines.{RunsOver};
 ghost use Rattle.laws_program.specs.Guarded.{BlanksNone};
 
-/// A law: where NAME has the image of a protected disk, and no request of the run of `play JOB` puts a blank medium in under NAME, NAME
-/// has the image of the same disk after the run, however it ends.
+/// A law: if NAME has the image of a protected disk, NAME has the image of the same disk after `play JOB`, however that
+/// run ends. The premise is that no request of the run puts a blank medium in under NAME.
 pub fn protected_disk_stays(_job: &str, _name: &str)
     ensures { (spares : List DriveCounts) (old new : Board) (before after : Outside) (ended : Status) (files : Files) (disk : Disk)
         → (over : RunsOver (Some (form.Play _job.now)) old spares before new after ended)
@@ -24,7 +24,7 @@ pub fn protected_disk_stays(_job: &str, _name: &str)
         → (later : Files) × (after.files ≡ Some later) × IsImageOf (Some later) _name.now disk }
 {}
 
-/// A law: so it is where JOB is a job, none of whose requests puts a blank medium in under NAME.
+/// A law: the same holds if JOB is a job, and none of its requests puts a blank medium in under NAME.
 pub fn protected_disk_stays_by_job(_job: &str, _name: &str)
     ensures { (spares : List DriveCounts) (old new : Board) (before after : Outside) (ended : Status) (requests : List Request) (disk : Disk)
         → RunsOver (Some (form.Play _job.now)) old spares before new after ended → IsJob before.files _job.now requests
@@ -32,7 +32,7 @@ pub fn protected_disk_stays_by_job(_job: &str, _name: &str)
         → (later : Files) × (after.files ≡ Some later) × IsImageOf (Some later) _name.now disk }
 {}
 
-/// A law: so it is after `int13 FILE`, where no request of its run puts a blank medium in under NAME.
+/// A law: the same holds after `int13 FILE`, if no request of its run puts a blank medium in under NAME.
 pub fn protected_disk_stays_called(_file: &str, _name: &str)
     ensures { (spares : List DriveCounts) (old new : Board) (before after : Outside) (ended : Status) (files : Files) (disk : Disk)
         → (over : RunsOver (Some (form.Int13 _file.now)) old spares before new after ended)

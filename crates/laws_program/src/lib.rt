@@ -1,6 +1,8 @@
-//! Laws over the program on a machine: what each form stores and tells, by the files, the report and the boards before and after it.
-//! And one over plays of a job where nothing is left to go wrong: what they answer is settled by the job, the files and the number of
-//! spare drives alone.
+//! Laws over the program on a machine: what each subcommand (form) stores and prints, by the files, the report and the
+//! boards before and after it.
+//!
+//! One law is over plays of a batch job where nothing is left to go wrong. What these answer is settled by the job, the
+//! files and the number of spare drives alone.
 #![tactic(auto)]
 
 mod archive;

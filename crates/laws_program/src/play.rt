@@ -1,4 +1,4 @@
-// The forms that run a text: a job, or calls of INT 13h.
+// The subcommands that run a text: a batch job, or calls of INT 13h.
 ghost use Rattle.std.specs.Prelude.{◌≡◌, List, Some};
 ghost use Rattle.flop_base.specs.Shelf.{Files};
 ghost use Rattle.flop_base.specs.declared.answers.Status.{Status};
@@ -11,9 +11,9 @@ ghost use Rattle.floppy_tools.specs.Machines.{RunsOver};
 ghost use Rattle.laws_commands.specs.VerifyRuns.{IsEndStatus};
 ghost use Rattle.laws_program.specs.Answered.{AnswersCalls, AnswersJob};
 
-/// A law: where `play JOB` ends with status 0 or 1, JOB is a job, its requests are those of the form's run, from the session that was set
-/// up to the machine that comes back; the replies of that run are told in their order, and the status is 1 where some is a refusal, and
-/// else 0.
+/// A law on a `play JOB` that ends with status 0 or 1. JOB is then a job, and its requests are those of the run, from
+/// the session that was set up to the machine that comes back. The replies of that run are printed in their order. The
+/// status is 1 if some reply is a refusal, and else 0.
 pub fn job_is_answered(_job: &str)
     ensures { (spares : List DriveCounts) (old new : Board) (before after : Outside) (ended : Status) (files : Files)
         (over : RunsOver (Some (form.Play _job.now)) old spares before new after ended) → IsEndStatus ended
@@ -22,9 +22,9 @@ pub fn job_is_answered(_job: &str)
         (world over.last after.files after.report) ended }
 {}
 
-/// A law: where `int13 FILE` ends with status 0 or 1, FILE is a text of calls, each of its lines was done, from the session that was set up
-/// to the machine that comes back, their requests are those of the form's run, what they print is told in their order, and the status is
-/// 1 where some counts as a refusal, and else 0.
+/// A law on an `int13 FILE` that ends with status 0 or 1. FILE is then a text of calls, and each of its lines was done,
+/// from the session that was set up to the machine that comes back. The requests of these lines are those of the run.
+/// What the lines print is in the report, in their order. The status is 1 if something counts as a refusal, and else 0.
 pub fn calls_are_answered(_file: &str)
     ensures { (spares : List DriveCounts) (old new : Board) (before after : Outside) (ended : Status)
         (over : RunsOver (Some (form.Int13 _file.now)) old spares before new after ended) → IsEndStatus ended

@@ -13,9 +13,12 @@ ghost use Rattle.text_commands.specs.PortCourses.{has_refusal};
 ghost use Rattle.laws_program.specs.Ends.{EndsByReplies};
 ghost use Rattle.laws_program.specs.Inserted.{IsDiskFile, InsertsDisks, media_among};
 
-/// A law: `ports FILE` ends with status 1 where some line of its run was refused, and else with 0, unless memory couldn't be had, or the
-/// shelf or the sink failed, and counted it; where FILE is a text of port accesses of at most 4,194,304 bytes, and each file that it
-/// inserts, where the insert doesn't have to be refused, is the file of a disk, or was stored by one of its ejects before.
+/// A law on `ports FILE`, where FILE is a text of port accesses of at most 4,194,304 bytes. Each file that it inserts
+/// must be the file of a disk, or must have been stored by one of its ejects before. This isn't asked of an insert that
+/// has to be refused.
+///
+/// The program ends with status 1 if some line of its run was refused, and else with 0. This is so unless memory ran
+/// out, or the file store or the output failed, and counted the fault.
 pub fn ports_status(_file: &str)
     ensures { (words : List (List ℕ)) (spares : List DriveCounts) (old new : Stand) (ended : Status) (files : Files) (text : List ℕ)
         (lines : List PortLine) (named : ports_file_of words ≡ Some _file.now)

@@ -10,10 +10,13 @@ ghost use Rattle.floppy_tools.specs.Performed.{Stand, RanOver};
 ghost use Rattle.laws_program.specs.Disturbed.{IsSound};
 ghost use Rattle.laws_program.specs.Ends.{EndsOutside};
 
-/// A law: two runs of `play JOB`, each on a machine and spare drives where nothing is left that could go wrong, with the same files and as
-/// many spare drives, answer alike, request by request, as far as both go and while the disks of the first are regular. Where these are
-/// regular whenever a request comes, the two end alike too, with the same status, unless memory couldn't be had in one of them, or its
-/// shelf or sink failed, and counted it. The bytes of a dump alone may differ: a refused read may leave anything in its range of memory.
+/// A law on two runs of `play JOB`. Each is on a machine and spare drives where nothing is left that could go wrong.
+/// The files are the same, and there are as many spare drives.
+///
+/// The two runs answer alike, request by request, as far as both go and while the disks of the first are regular. If
+/// these are regular whenever a request comes, the two also end alike, with the same status. This is so unless memory
+/// ran out in one of them, or its file store or output failed, and counted the fault. Only the bytes of a dump may
+/// differ: a refused read may leave anything in its range of memory.
 pub fn job_answers_are_settled(_job: &str)
     ensures { (spares other_spares : List DriveCounts) (old new other_old other_new : Stand) (ended other_ended : Status) (files others : Files)
         (one : RanOver (Some (form.Play _job.now)) spares old new ended)

@@ -1,4 +1,4 @@
-// What the status of a form tells, where its files are there and in their grammar.
+// What the status of a subcommand (form) says, where its files are there and in their grammar.
 ghost use Rattle.std.specs.Prelude.{◌≡◌, ℕ, List, Some, None, Ok};
 ghost use Rattle.flop_base.specs.Shelf.{Files, file_at};
 ghost use Rattle.flop_base.specs.declared.answers.Rate.{Rate};
@@ -24,22 +24,22 @@ ghost use Rattle.laws_program.specs.Answered.{AnswersCalls};
 ghost use Rattle.floppy_jobs.specs.Texts.{calls_of};
 ghost use Rattle.floppy_jobs.specs.declared.calls.CallLine.{CallLine};
 
-/// A law: `format NAME CYLS` ends with status 1 where some request of its run was refused, and else with 0, unless memory couldn't be
-/// had, or the shelf or the sink failed, and counted it.
+/// A law: `format NAME CYLS` ends with status 1 if some request of its run was refused, and else with 0. This is so
+/// unless memory ran out, or the file store or the output failed, and counted the fault.
 pub fn format_status(_name: &str, _cylinders: u8)
     ensures { (spares : List DriveCounts) (old new : Stand) (ended : Status)
         (ran : RanOver (Some (form.Format _name.now _cylinders)) spares old new ended)
         → EndsByReplies (has_refusal ran.runs.runs.course) old new ended }
 {}
 
-/// A law: so does `formatdd NAME CYLS`.
+/// A law: the same holds of the status of `formatdd NAME CYLS`.
 pub fn formatdd_status(_name: &str, _cylinders: u8)
     ensures { (spares : List DriveCounts) (old new : Stand) (ended : Status)
         (ran : RanOver (Some (form.FormatDd _name.now _cylinders)) spares old new ended)
         → EndsByReplies (has_refusal ran.runs.runs.course) old new ended }
 {}
 
-/// A law: so does `copy FROM TO`, where FROM is the image of a disk.
+/// A law: the same holds of the status of `copy FROM TO`, where FROM is the image of a disk.
 pub fn copy_status(_from: &str, _to: &str)
     ensures { (spares : List DriveCounts) (old new : Stand) (ended : Status) (files : Files) (disk : Disk)
         → old.outside.outside.files ≡ Some files → IsImageOf (Some files) _from.now disk
@@ -47,7 +47,7 @@ pub fn copy_status(_from: &str, _to: &str)
         → EndsByReplies (has_refusal ran.runs.runs.course) old new ended }
 {}
 
-/// A law: so does `verify NAME`, where NAME is the image of a disk.
+/// A law: the same holds of the status of `verify NAME`, where NAME is the image of a disk.
 pub fn verify_status(_name: &str)
     ensures { (spares : List DriveCounts) (old new : Stand) (ended : Status) (files : Files) (disk : Disk)
         → old.outside.outside.files ≡ Some files → IsImageOf (Some files) _name.now disk
@@ -55,7 +55,7 @@ pub fn verify_status(_name: &str)
         → EndsByReplies (has_refusal ran.runs.runs.course) old new ended }
 {}
 
-/// A law: so does `import FLAT NAME`, where FLAT is a flat file.
+/// A law: the same holds of the status of `import FLAT NAME`, where FLAT is a flat file.
 pub fn import_status(_flat: &str, _name: &str)
     ensures { (spares : List DriveCounts) (old new : Stand) (ended : Status) (files : Files) (bytes : List ℕ) (at : Rate)
         → old.outside.outside.files ≡ Some files → IsFlatFile (Some files) _flat.now bytes at
@@ -63,7 +63,7 @@ pub fn import_status(_flat: &str, _name: &str)
         → EndsByReplies (has_refusal ran.runs.runs.course) old new ended }
 {}
 
-/// A law: so does `export NAME FLAT`, where NAME is the image of a disk.
+/// A law: the same holds of the status of `export NAME FLAT`, where NAME is the image of a disk.
 pub fn export_status(_name: &str, _flat: &str)
     ensures { (spares : List DriveCounts) (old new : Stand) (ended : Status) (files : Files) (disk : Disk)
         → old.outside.outside.files ≡ Some files → IsImageOf (Some files) _name.now disk
@@ -71,14 +71,15 @@ pub fn export_status(_name: &str, _flat: &str)
         → EndsByReplies (has_refusal ran.runs.runs.course) old new ended }
 {}
 
-/// A law: so does `exercise SEED COUNT`.
+/// A law: the same holds of the status of `exercise SEED COUNT`.
 pub fn exercise_status()
     ensures { (seed count : ℕ) (spares : List DriveCounts) (old new : Stand) (ended : Status)
         (ran : RanOver (Some (form.Exercise seed count)) spares old new ended)
         → EndsByReplies (has_refusal ran.runs.runs.course) old new ended }
 {}
 
-/// A law: so does `rescue FROM TO LOG`, where FROM is the image of a disk, and no file LOG is there.
+/// A law: the same holds of the status of `rescue FROM TO LOG`, where FROM is the image of a disk, and no file LOG is
+/// there.
 pub fn new_rescue_status(_from: &str, _to: &str, _log: &str)
     ensures { (spares : List DriveCounts) (old new : Stand) (ended : Status) (files : Files) (disk : Disk)
         → old.outside.outside.files ≡ Some files → IsImageOf (Some files) _from.now disk → file_at files _log.now ≡ None
@@ -86,7 +87,8 @@ pub fn new_rescue_status(_from: &str, _to: &str, _log: &str)
         → EndsByReplies (has_refusal ran.runs.runs.course) old new ended }
 {}
 
-/// A law: so does `rescue FROM TO LOG`, where FROM and TO are images of disks, and LOG is a log of the records of FROM's rate.
+/// A law: the same holds of the status of `rescue FROM TO LOG`, where FROM and TO are images of disks, and LOG is a log
+/// of sectors at FROM's rate.
 pub fn further_rescue_status(_from: &str, _to: &str, _log: &str)
     ensures { (spares : List DriveCounts) (old new : Stand) (ended : Status) (files : Files) (disk target : Disk) (lines : List LogLine)
         → old.outside.outside.files ≡ Some files → IsImageOf (Some files) _from.now disk → IsImageOf (Some files) _to.now target
@@ -95,8 +97,9 @@ pub fn further_rescue_status(_from: &str, _to: &str, _log: &str)
         → EndsByReplies (has_refusal ran.runs.runs.course) old new ended }
 {}
 
-/// A law: so does `play JOB`, where JOB is a job of at most 4,194,304 bytes, and each file that it inserts, where the insert doesn't have
-/// to be refused, is the file of a disk, or was stored by one of its ejects before.
+/// A law: the same holds of the status of `play JOB`, where JOB is a job of at most 4,194,304 bytes. Each file that it
+/// inserts must be the file of a disk, or must have been stored by one of its ejects before. This isn't asked of an
+/// insert that has to be refused.
 pub fn play_status(_job: &str)
     ensures { (spares : List DriveCounts) (old new : Stand) (ended : Status) (files : Files) (text : List ℕ) (requests : List Request)
         → old.outside.outside.files ≡ Some files → IsText (Some files) _job.now text → job_of text ≡ Ok requests
@@ -105,9 +108,12 @@ pub fn play_status(_job: &str)
         → EndsByReplies (has_refusal ran.runs.runs.course) old new ended }
 {}
 
-/// A law: `int13 FILE`, where FILE is a text of calls of at most 4,194,304 bytes, and each file that its requests insert, where that
-/// doesn't have to be refused, is the file of a disk, or was stored by one of their ejects before, ends with status 0 or 1, and then has answered its calls, with status 1 where
-/// something counts as a refusal, unless memory couldn't be had, or the shelf or the sink failed, and counted it.
+/// A law on `int13 FILE`, where FILE is a text of calls of at most 4,194,304 bytes. Each file that its requests insert
+/// must be the file of a disk, or must have been stored by one of their ejects before. This isn't asked of an insert
+/// that has to be refused.
+///
+/// The program ends with status 0 or 1, and has then answered its calls: the status is 1 if something counts as a
+/// refusal. This is so unless memory ran out, or the file store or the output failed, and counted the fault.
 pub fn int13_status(_file: &str)
     ensures { (spares : List DriveCounts) (old new : Stand) (ended : Status) (files : Files) (text : List ℕ) (lines : List CallLine)
         → old.outside.outside.files ≡ Some files → IsText (Some files) _file.now text → calls_of text ≡ Ok lines

@@ -1,4 +1,4 @@
-// The form that reads all of a disk.
+// The subcommand that reads all of a disk.
 ghost use Rattle.std.specs.Prelude.{◌≡◌, List, [], Some};
 ghost use Rattle.flop_base.specs.Shelf.{Files};
 ghost use Rattle.flop_base.specs.declared.key.Chrn.{Chrn};
@@ -19,10 +19,11 @@ ghost use Rattle.laws_program.specs.Told.{ListsFailing};
 
 use flop_base::Status;
 
-/// A law: where `verify NAME` ends with status 0 or 1, NAME is the image of a disk whose address fields can't be mistaken, the drive
-/// of bay 0 had no fault and no DMA request waited too long, the report grew by a line for each standard key that isn't found, in
-/// their order, with the code of its look, and by a last line that counts the others. The status is 1 where there is such a key,
-/// and else 0.
+/// A law on a `verify NAME` that ends with status 0 or 1. NAME is the image of a disk whose address fields can't be
+/// mistaken, the drive of bay 0 had no fault, and no DMA was late.
+///
+/// The report then grew by a line for each standard sector ID that isn't found, in their order, with the code of its
+/// look, and by a last line that counts the others. The status is 1 if there is such a sector ID, and else 0.
 pub fn verify_of_a_disk(_name: &str)
     ensures { (spares : List DriveCounts) (old new : Board) (before after : Outside) (ended : Status) (files : Files) (disk : Disk)
         (failed : List (Chrn × Look))
@@ -33,7 +34,7 @@ pub fn verify_of_a_disk(_name: &str)
         → ListsFailing disk (all_told_of failed) before after ended }
 {}
 
-/// A law: where it ends with status 0, no standard key of the disk fails to be found.
+/// A law: if such a verify ends with status 0, each standard sector ID of the disk is found.
 pub fn verify_finds_all(_name: &str)
     ensures { (spares : List DriveCounts) (old new : Board) (before after : Outside) (files : Files) (disk : Disk)
         (failed : List (Chrn × Look))

@@ -13,7 +13,7 @@ use Rattle.sector_model.specs.Ties.{with_spare, told_rise, told_faults, told_lef
 pub not-first : (bay : ℕ) → (suc bay == 0) ≡ false
 not-first bay = grind (arith, nat_tests)
 
--- the counters with the spare in a bay go on to the new ones
+-- `GoesOn` holds from the counters with the spare in a bay to the new counters
 module _ (old : Counters) (new : Counters) (next : DriveCounts) (direct : old.direct ≤ new.direct) (commands : new.data_commands ≡ old.data_commands) where
   spare_goes : (bay : ℕ) → TakesSpare bay old new → DriveGoesOn next (in_bay new.drives bay) → GoesOn (with_spare old bay (next ∷ new.spares)) new
   spare_goes zero takes comes = record {
@@ -42,7 +42,7 @@ module _ (old : Counters) (new : Counters) (next : DriveCounts) (direct : old.di
       } in
       subst (λ (b : Bool). GoesOn (record old { drives = (if b then record old.drives { first = next } else record old.drives { second = next }); spares = new.spares }) new) (sym (not-first bay)) goes
 
--- if a spare takes the place of a drive, the counters go on from those with the spare in the bay
+-- if a spare takes the place of a drive, `GoesOn` holds from the counters with the spare in the bay to the new counters
 pub exchange_goes : (old new : Counters) (bay : ℕ) → TakesSpare bay old new → new.data_commands ≡ old.data_commands → GoesOn (with_spare old bay old.spares) new
 exchange_goes old new bay takes commands =
     subst (λ (spares : List DriveCounts). GoesOn (with_spare old bay spares) new) (sym takes.spare.1)

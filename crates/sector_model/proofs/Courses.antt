@@ -42,7 +42,7 @@ entered_left counters (request.Dump address count) answer = omega arith
 entered_left counters (request.SetRate bay rate) answer = omega arith
 entered_left counters (request.Tries tries) answer = omega arith
 
--- the same when counts go on after the course
+-- each fault in a course is taken from what was left, also if counts change further after the course
 pub told_paid : (old mid : State) (told after : Option Files) (course : List Taken) (new : Counters) → Run old told course mid after → GoesOn mid.station.counters new → sum_told old.station.counters course + all_left new ≤ all_left old.station.counters
 told_paid old mid told after [] new run goes =
     let same = ap (λ (s : State). all_left s.station.counters) run.0 in
@@ -183,7 +183,7 @@ entered_stalls counters (request.Dump address count) answer = (refl, refl)
 entered_stalls counters (request.SetRate bay rate) answer = (refl, refl)
 entered_stalls counters (request.Tries tries) answer = (refl, refl)
 
--- what each drive keeps when its counts go on, all drives keep
+-- a property that each drive keeps while its counts change is kept by all drives
 goes_all : (P : DriveCounts → Type 0) → ((old new : DriveCounts) → P old → DriveGoesOn old new → P new) → (old new : Counters) → OfAllDrives P old → GoesOn old new → OfAllDrives P new
 goes_all P keeps old new all goes = record {
   first = keeps old.drives.first new.drives.first all.first goes.first;
@@ -218,7 +218,7 @@ spent_stays old new spent goes =
     let none : pays.0 ≡ 0 = omega (arith, pays.2, goes.never_falls) in
     (same, record { left = pays.1 ∙ ap (λ (n : ℕ). Some n) none; below = omega (arith, spent.below, same) })
 
--- if no fault of a drive was left, none is left when its counts go on
+-- if no fault of a drive was left, none is left after its counts change
 spent_on : (old new : DriveCounts) → IsSpent old → DriveGoesOn old new → IsSpent new
 spent_on old new spent goes = let stays = spent_stays old new spent goes in stays.1
 

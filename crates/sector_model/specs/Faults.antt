@@ -2,8 +2,8 @@
 use Rattle.std.specs.Prelude.{ℕ, ◌≡◌, ◌≤◌}
 use Rattle.flop_base.specs.Counts.{RoseOnce}
 
--- a count of faults rose by one if an answer blames it, and stays if none does. Of many calls one failed, and the
--- answer reports it
+-- a count of faults rose by one if an answer blames it, and stays if none does. At most one of many calls failed, and
+-- the answer reports it
 pub record Blames (blamed : Type 0) (old new : ℕ) : Type 0 where
   pub rose : blamed → RoseOnce old new
   pub else_stays : (blamed → ⊥) → new ≡ old

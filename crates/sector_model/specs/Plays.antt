@@ -13,7 +13,7 @@ use Rattle.sector_model.specs.Steps.{Step, StopsAt, IsAbsent, IsLonger}
 use Rattle.sector_model.specs.Texts.{reply_lines, stop_lines, stop_status, bad_line_text, absent_text}
 use Rattle.sector_model.specs.Runs.{Taken, Run, requests_of, course_lines, has_refusal, Ends, EndStopsAt, IsEndStop}
 
--- all that a play may change: the state of its session, the files and the report, where the last two may be unknown
+-- all that a play may change: the state of its session, the files and the report. Files and report may be unknown
 pub record World : Type 0 where
   pub state : State
   pub files : Option Files
