@@ -22,21 +22,21 @@ line_put told before now lines i d so_far within put =
     ∙ grown-twice told (field_lines (take i lines)) (field_line (get_or lines i d) ∷ [])
     ∙ ap (grown told) (sym (lines_more lines i d within))
 
--- the lines before one, the line, and those after it are all
+-- the lines before one, this line, and those after it are all
 parted : (lines : List SurveyLine) (i : ℕ) (d : SurveyLine) → i < length lines → field_lines (take i lines) ++ field_line (get_or lines i d) ∷ field_lines (drop (suc i) lines) ≡ field_lines lines
 parted lines i d within =
     sym (map-append field_line (take i lines) (get_or lines i d ∷ drop (suc i) lines))
     ∙ ap (λ (later : List SurveyLine). field_lines (take i lines ++ later)) (sym (drop-cons lines i d within))
     ∙ ap field_lines (take-append-drop i lines)
 
--- a line was cut: a part of all was put
+-- a line was cut: a part of all lines was put
 pub line_cut : (told before now : Option (List (List ℕ))) (lines : List SurveyLine) (i : ℕ) (d : SurveyLine) → before ≡ grown told (field_lines (take i lines)) → i < length lines → GrowsByPart before (field_line (get_or lines i d) ∷ []) now → GrowsByPart told (field_lines lines) now
 line_cut told before now lines i d so_far within cut =
     let there : GrowsByPart (grown told (field_lines (take i lines))) (field_line (get_or lines i d) ∷ []) now = subst (λ (b : Option (List (List ℕ))). GrowsByPart b (field_line (get_or lines i d) ∷ []) now) so_far cut in
     subst (λ (text : List (List ℕ)). GrowsByPart told text now) (parted lines i d within)
     (part-behind told now (field_lines (take i lines)) (field_line (get_or lines i d) ∷ []) (field_lines (drop (suc i) lines)) there)
 
--- the last line behind the others
+-- the last line was put after the others
 pub end_put : (told mid now : Option (List (List ℕ))) (lines : List SurveyLine) (ended : Status) → mid ≡ grown told (field_lines lines) → Prints (end_line (length lines) ∷ []) status.AllOk mid now ended → Prints (survey_lines lines) status.AllOk told now ended
 end_put told mid now lines ended before (Whole grows ok) =
     Whole (grows ∙ ap (λ (b : Option (List (List ℕ))). grown b (end_line (length lines) ∷ [])) before ∙ grown-twice told (field_lines lines) (end_line (length lines) ∷ [])) ok

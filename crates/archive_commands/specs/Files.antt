@@ -1,4 +1,4 @@
--- The files of a command: what the one that it loads holds, and why it can't be had.
+-- The files of a command: what the file that it loads holds, and why its bytes aren't there.
 use Rattle.std.specs.Prelude.{◌≡◌, ◌≢◌, ◌≤◌, ℕ, List, length, Option, Some, Result, Ok, Err, Vec, IfSome, IsSomeAnd, IsErrOf}
 use Rattle.std.specs.declared.alloc.Global.{Global}
 use Rattle.flop_base.specs.Shelf.{Files, file_at}
@@ -14,7 +14,7 @@ use Rattle.sector_model.specs.declared.reply.Stop.TheVariants as stop
 use Rattle.sector_model.specs.Faults.{Blames}
 use Rattle.sector_model.specs.Steps.{most_image_bytes, IsAbsent, IsLonger}
 
--- all that a command may change: the told files, and the told report
+-- all that a command may change: the told files and the told report
 pub record Outside : Type 0 where
   pub files : Option Files
   pub report : Option (List (List ℕ))
@@ -22,7 +22,7 @@ pub record Outside : Type 0 where
 abbrev pub outside_of : {S K : Type 0} → (S → Option Files) → (K → Option (List (List ℕ))) → S → K → Outside
 outside_of files report shelf out = record { files = files shelf; report = report out }
 
--- an outside, with the faults that its shelf and its sink counted
+-- an outside, with the faults that its file store (shelf) and its output (sink) counted
 pub record FaultyOutside : Type 0 where
   pub outside : Outside
   pub shelf_faults : ℕ
@@ -32,7 +32,8 @@ abbrev pub faulty_outside_of : {S K : Type 0} → (S → Option Files) → (S �
 faulty_outside_of files shelf_count report sink_count shelf out =
     record { outside = outside_of files report shelf out; shelf_faults = shelf_count shelf; sink_faults = sink_count out }
 
--- a command that takes shelf and sink through did this, its words were a form, and one fault was counted where its status tells it, and else none
+-- a command that is given file store and output did this, and its arguments (words) were a subcommand (form). If its
+-- status reports a fault, it was counted once; else no fault was counted
 pub record RanOnFiles (Does : Outside → Outside → Status → Type 0) (old new : FaultyOutside) (ended : Status) : Type 0 where
   pub does : Does old.outside new.outside ended
   pub is_form : ended ≢ status.BadWords
@@ -44,7 +45,7 @@ abbrev pub ReadsAs : {T : Type 0} → (List ℕ → Result T ImageError) → Opt
 ReadsAs reading told name read =
     IfSome told (λ files. IsSomeAnd (file_at files name) (λ bytes. (length bytes ≤ most_image_bytes) × (reading bytes ≡ read)))
 
--- why the bytes of the file of this name aren't had; that the shelf failed, its count of faults tells
+-- why the bytes of the file of this name weren't loaded. That the file store failed is known by its count of faults
 abbrev pub IsMissed : Option Files → List ℕ → Stop → Type 0
 IsMissed told from (stop.Absent name) = (name ≡ from) × IsAbsent told from
 IsMissed told from (stop.TooLong name most) = (name ≡ from) × (most ≡ most_image_bytes) × IsLonger told from most
@@ -52,12 +53,12 @@ IsMissed told from (stop.BadImage name error) = ⊥
 IsMissed told from stop.FileFault = Unit {0}
 IsMissed told from stop.NoMemory = Unit {0}
 
--- why a command stops that reads the file of this name: reading it gives an error, or its bytes aren't had
+-- why a command stops that reads the file of this name: reading its bytes gives an error, or they weren't loaded
 abbrev pub StopsAt : {T : Type 0} → (List ℕ → Result T ImageError) → Option Files → List ℕ → Stop → Type 0
 StopsAt reading told from (stop.BadImage name error) = (name ≡ from) × ReadsAs reading told from (Err error)
 StopsAt reading told from cause = IsMissed told from cause
 
--- what a load of the file of this name gives: its bytes, or why they aren't had
+-- what a load of the file of this name gives: its bytes, or why they weren't loaded
 abbrev pub GivesBytes : List ℕ → Option Files → Result (Vec ℕ Global) Stop → Type 0
 GivesBytes name told (Ok bytes) = IfSome told (λ files. (file_at files name ≡ Some bytes.items) × (length bytes.items ≤ most_image_bytes))
 GivesBytes name told (Err cause) = IsMissed told name cause
@@ -67,7 +68,7 @@ abbrev pub Reads : {T : Type 0} → (List ℕ → Result T ImageError) → List 
 Reads reading name told (Ok read) = ReadsAs reading told name (Ok read)
 Reads reading name told (Err cause) = StopsAt reading told name cause
 
--- the told files, with the faults that their shelf counted
+-- the told files, with the faults that their file store counted
 pub record FaultyFiles : Type 0 where
   pub files : Option Files
   pub faults : ℕ
@@ -75,20 +76,21 @@ pub record FaultyFiles : Type 0 where
 abbrev pub faulty_files_of : {S : Type 0} → (S → Option Files) → (S → ℕ) → S → FaultyFiles
 faulty_files_of files shelf_count shelf = record { files = files shelf; faults = shelf_count shelf }
 
--- a file was looked into, which gave this, and no file changed; one fault of the shelf was counted where it tells one, and else none
+-- a file was read, which gave this, and no file changed. If the result reports a fault of the file store, it was
+-- counted once; else no fault was counted
 pub record Loaded {T : Type 0} (Gives : Option Files → Result T Stop → Type 0) (old : FaultyFiles) (result : Result T Stop) (new : FaultyFiles) : Type 0 where
   pub gives : Gives old.files result
   pub stays : new.files ≡ old.files
   pub faults : Blames (IsErrOf result stop.FileFault) old.faults new.faults
 
--- a refused load of the file of this name, and what stops the command
+-- what stops the command after a load of the file of this name was refused
 abbrev pub LoadStops : LoadError → List ℕ → Stop → Type 0
 LoadStops load.Absent name ended = ended ≡ stop.Absent name
 LoadStops load.TooLong name ended = ended ≡ stop.TooLong name most_image_bytes
 LoadStops load.Failed name ended = ended ≡ stop.FileFault
 LoadStops load.NoMemory name ended = ended ≡ stop.NoMemory
 
--- a refused store, and what stops the command
+-- what stops the command after a store was refused
 abbrev pub StoreStops : StoreError → Stop → Type 0
 StoreStops store.Failed ended = ended ≡ stop.FileFault
 StoreStops store.NoMemory ended = ended ≡ stop.NoMemory

@@ -1,4 +1,4 @@
--- What halts a command, by what its crate answered.
+-- What halts a command, by the error that the crate below gave.
 use Rattle.imagedisk.specs.declared.error.ImdError.{ImdError}
 use Rattle.imagedisk.specs.declared.error.ImdError.TheVariants as imd
 use Rattle.remaster.specs.declared.error.RemasterError.{RemasterError}

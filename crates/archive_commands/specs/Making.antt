@@ -24,8 +24,8 @@ use Rattle.archive_commands.specs.declared.halt.Halt.TheVariants as halt
 use Rattle.archive_commands.specs.Files.{Outside, ReadsAs, StopsAt}
 use Rattle.archive_commands.specs.Surveys.{IsSectorCount}
 
--- what comes of the file `from`: it is stored under `to` as what it becomes, with the number that is told; or one of its tracks
--- is unfit; or the command stops. Only the first stores anything
+-- what becomes of the file `from`. It is stored under `to` as what it becomes, with the number that is printed; or one
+-- of its tracks doesn't fit; or the command stops. Only the first of these stores anything
 abbrev pub Makes : {T : Type 0} → (List ℕ → Result T ImageError) → (T → List ℕ → ℕ → Type 0) → (T → ℕ → ℕ → Type 0) → List ℕ → List ℕ → Option Files → Result ℕ Halt → Option Files → Type 0
 Makes {T} reading Becomes IsUnfit from to told (Ok count) after =
     (source : T) × (file : List ℕ) × ReadsAs reading told from (Ok source) × Becomes source file count × (after ≡ stored told to file)
@@ -51,7 +51,7 @@ outcome_status (Err (halt.Stopped cause)) = stop_status cause
 abbrev pub Tells : List ℕ → Result ℕ Halt → Option (List (List ℕ)) → Option (List (List ℕ)) → Status → Type 0
 Tells verb outcome old new ended = Prints (outcome_lines verb outcome) (outcome_status outcome) old new ended
 
--- ---- fromimd: the disk of an ImageDisk file, which has its sectors; the tracks of that file are told
+-- ---- fromimd: the disk of an ImageDisk file, which has its sectors; the number of that file's tracks is printed
 
 abbrev pub IsDiskFile : ImdImage → List ℕ → ℕ → Type 0
 IsDiskFile image file tracks =
@@ -67,7 +67,8 @@ abbrev pub FromImd : List ℕ → List ℕ → Outside → Outside → Status �
 FromImd imd name old new ended =
     (outcome : Result ℕ Halt) × MakesFromImd imd name old.files outcome new.files × Tells (codes "fromimd") outcome old.report new.report ended
 
--- ---- toimd: the ImageDisk file of a disk, which has the disk's sectors and reads back, and whose tracks are told
+-- ---- toimd: the ImageDisk file of a disk, which has the disk's sectors and reads back; the number of its tracks is
+-- printed
 
 abbrev pub IsImdFile : Disk → List ℕ → ℕ → Type 0
 IsImdFile disk file tracks =
@@ -84,7 +85,7 @@ abbrev pub ToImd : List ℕ → List ℕ → Outside → Outside → Status → 
 ToImd name imd old new ended =
     (outcome : Result ℕ Halt) × MakesToImd name imd old.files outcome new.files × Tells (codes "toimd") outcome old.report new.report ended
 
--- ---- remaster: a disk laid out anew, whose sectors are told
+-- ---- remaster: a disk laid out anew; the number of its sectors is printed
 
 abbrev pub IsRemasterFile : Disk → List ℕ → ℕ → Type 0
 IsRemasterFile disk file sectors =

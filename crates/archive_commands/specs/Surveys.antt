@@ -1,4 +1,4 @@
--- The survey of a disk as it is told, and what it counts.
+-- The survey of a disk as it is printed, and what it counts.
 use Rattle.std.specs.Prelude.{◌≡◌, ℕ, Bool, true, false, List, [], ◌∷◌, ◌++◌, length, map, filter, Option, Result, Ok, Err, Vec}
 use Rattle.std.specs.declared.alloc.Global.{Global}
 use Rattle.flop_base.specs.Shelf.{Files}
@@ -22,7 +22,7 @@ field_line line = line_text line ++ line_end
 abbrev pub field_lines : List SurveyLine → List (List ℕ)
 field_lines lines = map field_line lines
 
--- all that is printed: the lines of the fields, and how many there are
+-- the line with the number of fields; below, all that is printed
 abbrev pub end_line : ℕ → List ℕ
 end_line count = end_text count ++ line_end
 
@@ -34,7 +34,7 @@ abbrev pub SurveysFile : Option Files → List ℕ → Result (List SurveyLine) 
 SurveysFile told name (Ok lines) = (disk : Disk) × ReadsAs image_of told name (Ok disk) × IsSurvey disk lines
 SurveysFile told name (Err cause) = StopsAt image_of told name cause
 
--- the same of lines that lie in memory
+-- what comes of such a survey, where its lines lie in memory
 abbrev pub GivesSurvey : List ℕ → Option Files → Result (Vec SurveyLine Global) Stop → Type 0
 GivesSurvey name told (Ok lines) = SurveysFile told name (Ok lines.items)
 GivesSurvey name told (Err cause) = SurveysFile told name (Err cause)
@@ -43,7 +43,7 @@ abbrev pub TellsSurvey : Result (List SurveyLine) Stop → Option (List (List �
 TellsSurvey (Ok lines) old new ended = Prints (survey_lines lines) status.AllOk old new ended
 TellsSurvey (Err cause) old new ended = Prints (stop_lines cause) (stop_status cause) old new ended
 
--- a survey: it stores nothing
+-- a survey prints lines and stores nothing
 abbrev pub Surveys : List ℕ → Outside → Outside → Status → Type 0
 Surveys name old new ended =
     (outcome : Result (List SurveyLine) Stop) × SurveysFile old.files name outcome × (new.files ≡ old.files)
@@ -57,7 +57,7 @@ is_found NoSector = false
 is_found NoData = false
 is_found BadCrc = false
 
--- how many sectors these lines tell of
+-- how many of these lines are of a sector that was found
 abbrev pub found_count : List SurveyLine → ℕ
 found_count lines = length (filter (λ (line : SurveyLine). is_found line.look) lines)
 

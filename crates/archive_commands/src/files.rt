@@ -14,10 +14,11 @@ use raw_image::{ImageError, Medium, read_image};
 use sector_model::Stop;
 use std::alloc::Global;
 
-/// The longest file that is read as an image or an ImageDisk file, in bytes: 80 cylinders of 2 heads with 16,384 words a track.
+/// The longest file that is read as an image or an ImageDisk file, in bytes. An image of 80 cylinders, 2 heads and
+/// 16,384 words a track has as many.
 const MOST_IMAGE_BYTES: usize = 5_242_894;
 
-/// What a refused load stops a command with.
+/// The stop of a command whose load was refused.
 fn stop_at_load(alloc: Global, name: &Name, error: LoadError) -> Result<Stop, NoMemory>
     ensures stops { IfOk result (λ stop. LoadStops error name.now stop) }
     ensures fault_told { error ≡ LoadError.Failed → result ≡ Ok Stop.FileFault }
@@ -84,7 +85,7 @@ pub(crate) fn load_imd<S: Shelf>(
     }
 }
 
-/// What a refused store stops a command with.
+/// The stop of a command whose store was refused.
 fn stop_at_store(error: StoreError) -> Stop
     ensures { StoreStops error result }
 {
@@ -94,7 +95,7 @@ fn stop_at_store(error: StoreError) -> Stop
     }
 }
 
-/// Puts these bytes under the name.
+/// Stores these bytes under the name.
 pub(crate) fn store<S: Shelf>(shelf: &mut S, name: &Name, bytes: &[u8]) -> Result<(), Stop>
     ensures ok { OnOk result (S.told shelf.new ≡ stored (S.told shelf.old) name.now bytes.now) }
     ensures cause { IfErr result IsEndStop }

@@ -11,9 +11,9 @@ use sector_model::Stop;
 /// What keeps a command from making its file.
 #[derive(Drop)]
 pub enum Halt {
-    /// The first track that the other form can't have.
+    /// The first track that doesn't fit the other format.
     Unfit { c: u8, h: u8 },
-    /// A file couldn't be had or stored.
+    /// A file couldn't be loaded or stored.
     Stopped(Stop),
 }
 

@@ -7,8 +7,8 @@ ghost use Rattle.imagedisk.specs.Found.{SharesSectors};
 ghost use Rattle.imagedisk.specs.Reading.{image_of as imd_of};
 ghost use Rattle.archive_commands.specs.Making.{IsDiskFile, IsImdFile};
 
-/// A law: the disk that is made of the ImageDisk file of a disk has the same sectors, track by track and in the same order, and
-/// no others.
+/// A law: take the ImageDisk file of a disk, and the disk that is made of that file. It has the same sectors as the
+/// first disk, track by track and in the same order, and no others.
 pub fn back_again_is_same(_imd: &[u8])
     ensures { (disk : Disk) (image : ImdImage) (file : List ℕ) (taken made : ℕ)
         → IsImdFile disk _imd.now taken → imd_of _imd.now ≡ Ok image → IsDiskFile image file made

@@ -1,5 +1,5 @@
-//! The commands that turn files into others, over a shelf and a sink alone: media from and to ImageDisk files, media laid out
-//! anew, and the survey of a medium. No session, bay or drive takes part.
+//! The commands that turn files into others: media from and to ImageDisk files, media laid out anew, and the survey of
+//! a medium. They use only a file store (shelf) and an output (sink). No session, bay or drive takes part.
 #![tactic(auto)]
 
 mod files;

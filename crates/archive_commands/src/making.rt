@@ -57,8 +57,8 @@ fn make_remaster<S: Shelf>(
     Ok(count)
 }
 
-/// Makes the diskette of an ImageDisk file and stores its image under the name. It prints how many tracks the file has, the first
-/// track that has no room for its sectors, or what stopped it.
+/// Makes the diskette of an ImageDisk file and stores its image under the name. It prints how many tracks the file has,
+/// or the first track that has no room for its sectors, or what stopped the command.
 pub fn from_imd<S: Shelf, K: Sink>(
     alloc: Global,
     imd: Name,
@@ -73,8 +73,8 @@ pub fn from_imd<S: Shelf, K: Sink>(
     tell(alloc, out, "fromimd", &outcome)
 }
 
-/// Makes an ImageDisk file of a diskette and stores it. It prints how many tracks the file has, the first track that such a file
-/// can't have, or what stopped it.
+/// Makes an ImageDisk file of a diskette and stores it. It prints how many tracks the file has, or the first track that
+/// doesn't fit such a file, or what stopped the command.
 pub fn to_imd<S: Shelf, K: Sink>(
     alloc: Global,
     name: Name,
@@ -89,8 +89,8 @@ pub fn to_imd<S: Shelf, K: Sink>(
     tell(alloc, out, "toimd", &outcome)
 }
 
-/// Lays a diskette out anew and stores it under the second name. It prints how many sectors it has, the first track that can't be
-/// laid out anew, or what stopped it.
+/// Lays a diskette out anew and stores it under the second name. It prints how many sectors the diskette has, or the
+/// first track that can't be laid out anew, or what stopped the command.
 pub fn remaster_disk<S: Shelf, K: Sink>(
     alloc: Global,
     from: Name,

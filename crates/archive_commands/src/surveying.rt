@@ -23,7 +23,7 @@ fn is_found(look: Look) -> bool
     }
 }
 
-/// How many sectors these lines tell of.
+/// How many of these lines are of a sector that was found.
 fn found_count(lines: &[SurveyLine]) -> usize
     ensures { result ≡ found_count lines.now }
 {
@@ -81,8 +81,8 @@ fn put_survey<K: Sink>(alloc: Global, out: &mut K, lines: &[SurveyLine]) -> Stat
     }
 }
 
-/// Prints a line for each address field of a disk, by cylinder, head and place, with what a look at it finds, and how many there
-/// are; or what stopped it.
+/// Prints a line for each address field of a disk, by cylinder, head and place, with what a look at it finds, and then
+/// how many there are. Or prints what stopped the command.
 pub fn survey_disk<S: Shelf, K: Sink>(
     alloc: Global,
     name: Name,

@@ -44,7 +44,7 @@ Answers part old (Ok answer) new =
 Answers part old (Err ended) new =
     (whole : Script) (start : World) (rest : Reply → State → Script) → Leads whole start (part rest) old → IsRunOf whole start new ended
 
--- a status with which a script may end by itself: it tells no fault, and not that the arguments are no subcommand
+-- a status with which a script may end by itself: it reports no fault, and not that the arguments are no subcommand
 pub record IsTold (ended : Status) : Type 0 where
   pub form : ended ≢ status.BadWords
   pub shelf : ended ≢ status.FileFault
@@ -100,7 +100,8 @@ TellsLine line wanted old new ended = (text : List ℕ) → IfOk line (λ made. 
 abbrev pub TellsStop : Stop → World → World → Status → Type 0
 TellsStop cause old new ended = IsPrinted (λ before after. Prints (stop_lines cause) (stop_status cause) before after ended) old new
 
--- a text was loaded, and nothing changed; or it wasn't loaded, and the reason was printed
+-- a text was loaded, and nothing changed; or it wasn't loaded, and the report says why, as far as there is a line for
+-- it
 abbrev pub LoadsText : List ℕ → ℕ → World → Result (Vec ℕ Global) Status → World → Type 0
 LoadsText name most old (Ok text) new = (new ≡ old) × IfSome old.files (λ files. Loads files name most (Ok text))
 LoadsText name most old (Err ended) new =
@@ -132,8 +133,8 @@ pub record IsSameHand (old new : Hand) : Type 0 where
   pub shelf : new.shelf_ref ≡ old.shelf_ref
   pub out : new.out_ref ≡ old.out_ref
 
--- a command did this. Its arguments were a subcommand. If its status tells a fault, the fault was counted once; else no
--- fault was counted
+-- a command did this. Its arguments were a subcommand. If its status reports a fault, the fault was counted once; else
+-- no fault was counted
 pub record Ran {R : Type 0} (hand : R → Hand) (Does : World → World → Status → Type 0) (old new : R) (ended : Status) : Type 0 where
   pub does : Does (hand old).world (hand new).world ended
   pub is_form : ended ≢ status.BadWords
@@ -151,8 +152,8 @@ pub record RanPart {R T : Type 0} (hand : R → Hand) (Does : World → Result T
 
 -- a call printed how a command ended:
 -- - its arguments were a subcommand
--- - its status tells a fault of the file store if and only if there was one before
--- - if its status tells a fault of the output, that fault was counted once; else none was counted
+-- - its status reports a fault of the file store if and only if there was one before
+-- - if its status reports a fault of the output, that fault was counted once; else none was counted
 pub record RanLast {R : Type 0} (hand : R → Hand) (Does : World → World → Status → Type 0) (FileFault : Type 0) (old new : R) (ended : Status) : Type 0 where
   pub does : Does (hand old).world (hand new).world ended
   pub is_form : ended ≢ status.BadWords
@@ -200,8 +201,8 @@ pub record Runs (Does : World → List Taken → World → Status → Type 0) (o
 
 -- a call that is given only the output printed how a command ended:
 -- - its arguments were a subcommand
--- - its status tells a fault of the file store if and only if there was one before
--- - if its status tells a fault of the output, that fault was counted once; else none was counted
+-- - its status reports a fault of the file store if and only if there was one before
+-- - if its status reports a fault of the output, that fault was counted once; else none was counted
 pub record Told (Tells : Option (List (List ℕ)) → Option (List (List ℕ)) → Status → Type 0) (FileFault : Type 0) (old new : Printed) (ended : Status) : Type 0 where
   pub tells : Tells old.report new.report ended
   pub is_form : ended ≢ status.BadWords

@@ -40,19 +40,20 @@ pub trait AnyRun {
     fn load(&mut self, name: &str, most: usize) -> Result<Vec<u8>, LoadError>
         ensures { HasLoaded hand name.now most self.old result self.new };
 
-    /// The bytes of a text of at most so many. If it isn't loaded, the reason is printed, and the command ends.
+    /// The bytes of a text of at most so many. If it isn't loaded, the command ends, and the reason is printed, unless
+    /// memory ran out or the file store failed.
     fn load_text(&mut self, name: &str, most: usize) -> Result<Vec<u8>, Status>
         ensures { RanPart hand (LoadsText name.now most) self.old result self.new };
 
-    /// Asks a request, and gives its answer, which may be a refusal. If something stops the run, that is printed, and
-    /// the command ends.
+    /// Asks a request, and gives its answer, which may be a refusal. If something stops the run, the command ends, and
+    /// the cause is printed, unless memory ran out or the file store failed.
     fn ask(&mut self, request: &Request) -> Result<Reply, Status>
         requires { HasTries request.now }
         ensures ran { RanPart hand (Answers (asks request.now)) self.old result self.new }
         ensures asks { AsksOne request.now (hand self.old).world result (hand self.new).world };
 
-    /// Asks a request that the command can't go on without. If it is refused, or something stops the run, that is
-    /// printed, and the command ends.
+    /// Asks a request that the command can't go on without. A refusal is printed, and ends the command. If something
+    /// stops the run, the command ends too, and the cause is printed, unless memory ran out or the file store failed.
     fn need(&mut self, request: &Request) -> Result<Reply, Status>
         requires { HasTries request.now }
         ensures ran { RanPart hand (Answers (needs request.now)) self.old result self.new }

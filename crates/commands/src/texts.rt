@@ -8,7 +8,8 @@ use crate::lines::{put_last_absent, put_last_bad_line};
 use flop_base::{LoadError, Sink, Status};
 use std::alloc::Global;
 
-/// Prints why the text of this name wasn't loaded, and gives the status of the command that needed it.
+/// Prints why the text of this name wasn't loaded, unless memory ran out or the file store failed, and gives the status
+/// of the command that needed it.
 pub fn tell_missing_text<K: Sink>(
     alloc: Global,
     name: &str,

@@ -1,4 +1,4 @@
--- The turns of a loop that puts bytes behind an argument.
+-- The turns of a loop that appends bytes to an argument.
 use Rattle.std.proofs.Common.{◌≡◌, ◌<◌, ◌+◌, List, ℕ, Ok, Err}
 use Rattle.flop_base.specs.declared.answers.Status.{Status}
 use Rattle.commands.specs.Parts.{Part, each}

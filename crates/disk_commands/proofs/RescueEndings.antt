@@ -1,4 +1,4 @@
--- How a rescue ends: its new log is stored, or there is no log to go by.
+-- How a rescue ends: its new log is stored, or there is no log that it can go by.
 use Rattle.std.proofs.Common.{◌≡◌, ℕ, List, [], length, refl, ap, sym, subst, append-nil, ◌∙◌, Bool, is_some, Option, Some, None, Vec, Global}
 use Rattle.flop_base.specs.Sink.{grown}
 use Rattle.flop_base.specs.declared.key.Chrn.{Chrn}
@@ -16,7 +16,7 @@ use Rattle.rescue.specs.declared.outcome.Outcome.{Outcome}
 use Rattle.disk_commands.specs.Logs.{lines_found}
 use Rattle.disk_commands.specs.Rescue.{stores_log, last_text, outcome_of, asked_keys, rescues_all, rescue_found}
 
--- a last line tells no fault of a file
+-- a last line with another status doesn't end with the status of a file fault
 pub no_file_fault : (lines : List (List ℕ)) (wanted : Status) (report after : Option (List (List ℕ))) (ended : Status) → (wanted ≡ status.FileFault → ⊥)
     → Prints lines wanted report after ended → ended ≡ status.FileFault → ⊥
 no_file_fault lines wanted report after ended other (Whole told same) is = other (sym same ∙ is)
@@ -26,7 +26,7 @@ nothing_more : (report : Option (List (List ℕ))) → report ≡ grown report [
 nothing_more None = refl
 nothing_more (Some told) = ap Some (sym (append-nil told))
 
--- what stores a log that is left
+-- the part of a script that is left, which stores the log
 abbrev stores_last : List ℕ → ℕ → List LogLine → Script
 stores_last log asked lines = Stores log (log_text lines) (last_text (outcome_of asked lines)) (outcome_status (outcome_of asked lines))
 
@@ -45,17 +45,17 @@ log_stored log name asked lines bytes outcome wanted old new ended named text le
     (subst (λ (s : Script). Leads whole start s old) (sym (store_is log name asked lines bytes outcome wanted named text left status))
     (fed whole start (λ none. stores_last log asked lines) old leads))
 
--- ---- What the log that was found asks for.
+-- ---- What a log that was found asks for.
 
 some_lines : (found : Option (Vec LogLine Global)) → is_some found ≡ is_some (lines_found found)
 some_lines None = refl
 some_lines (Some lines) = refl
 
--- what is rescued of a log that was found
+-- the rescue of the records that a found log asks for
 abbrev with_keys : List ℕ → List ℕ → Shape → Bool → List Chrn → Script
 with_keys to log shape logged keys = rescues_all to shape logged keys (stores_log log (length keys))
 
--- the records that are asked for are there, and are rescued
+-- there was memory for the records that are asked for, and they are rescued
 pub found_begins : (whole : Script) (start : World) (to log : List ℕ) (shape : Shape) (found : Option (Vec LogLine Global)) (logged : Bool)
     (keys : List Chrn) (now : World) → logged ≡ is_some found → keys ≡ asked_keys shape (lines_found found)
     → Leads whole start (rescue_found to log shape (lines_found found)) now → Leads whole start (with_keys to log shape logged keys) now
@@ -64,7 +64,7 @@ found_begins whole start to log shape found logged keys now is asked leads =
     subst (λ (b : Bool). Leads whole start (with_keys to log shape b keys) now) (sym (is ∙ some_lines found))
     (subst (λ (k : List Chrn). Leads whole start (with_keys to log shape (is_some (lines_found found)) k) now) (sym asked) (fed whole start _ now leads))
 
--- memory for them couldn't be had
+-- there was no memory for the records that are asked for
 pub keys_starved : (to log : List ℕ) (shape : Shape) (found : Option (List LogLine)) (now : World)
     → Finishes (rescue_found to log shape found) now now status.NoMemory
 unfolding rescue_found

@@ -1,4 +1,4 @@
--- A rescue by what is found under its log's name.
+-- A rescue that goes by what is found under the name of its log.
 use Rattle.std.proofs.Common.{◌≡◌, ℕ, List, refl, subst, Option, Result, Ok, Err}
 use Rattle.flop_base.specs.Shelf.{Files}
 use Rattle.flop_base.specs.Standard.{sectors_at}
@@ -17,11 +17,12 @@ use Rattle.disk_commands.specs.Logs.{IsFound, AreFound}
 use Rattle.disk_commands.specs.Rescue.{rescue_rest, rescue_script, Rescues}
 use Rattle.disk_commands.specs.RescueLeading.{FinishesFound}
 
--- an answer of what is found under the name of a log
+-- the answer to what is found under the name of a log
 abbrev Answer : Type 0
 Answer = Result (Option (List LogLine)) NoLog
 
--- what was found as the log of a disk of one rate; for the other, memory may always be wanting
+-- what was found as the log of a disk of one rate; for the other rate the answer is that memory ran out, which is
+-- always possible
 abbrev found_at : Rate → Answer → Rate → Answer
 found_at R500 answer R500 = answer
 found_at R500 answer R250 = Err missing.NoMemory
@@ -45,7 +46,7 @@ by_found from to log found old new ended are run =
     let ran = with_course (rescue_script from to log found) old new ended run in
     record { course = ran.course; does = (found, are, ran.does) }
 
--- the disk couldn't be put in
+-- the disk couldn't be put in, so the rescue ended
 pub not_opened : (from to log : List ℕ) (old new : World) (ended : Status) → Goes {Found = Shape} (opens from) old (Err ended) new
     → Runs (Rescues from to log) old new ended
 not_opened from to log old new ended goes =
@@ -53,7 +54,7 @@ not_opened from to log old new ended goes =
     let whole = rescue_script from to log found in
     by_found from to log found old new ended (λ rate. tt) (goes whole old (λ shape. rescue_rest to log shape (found shape.rate)) (leads_itself whole old))
 
--- it was, and the files stayed, and the log was looked for
+-- the disk was put in, the files stayed as they were, and the log was looked for
 pub opened_on : (from to log : List ℕ) (shape : Shape) (old mid new : World) (ended : Status) → Goes (opens from) old (Ok shape) mid
     → mid.files ≡ old.files → FinishesFound to log shape mid new ended → Runs (Rescues from to log) old new ended
 opened_on from to log shape old mid new ended goes stay (answer, is, finishes) =

@@ -1,4 +1,5 @@
--- What comes behind the disk that was put in: a rescue by the log that was found, or the last line where there is none to go by.
+-- What comes after the disk was put in: a rescue by the log that was found, or the last line if there is no log to go
+-- by.
 use Rattle.std.proofs.Common.{arith, ◌≡◌, ◌<◌, ◌≤◌, List, [], ◌∷◌, ℕ, length, Option, Some, None, Result, Ok, Err, inl, inr, subst}
 use Rattle.std.specs.Prelude.{IsSomeAnd}
 use Rattle.flop_base.specs.Shelf.{Files, file_at}
@@ -31,7 +32,7 @@ no_such_file : (Such : List ℕ → Type 0) (o : Option (List ℕ)) → o ≡ No
 no_such_file Such None absent some = some
 no_such_file Such (Some bytes) absent some = absurd (cc absent)
 
--- where no file has the log's name, what comes behind the disk is a new rescue, or a failure of the outside
+-- If no file has the log's name, a new rescue comes after the disk was put in, or a failure of the outside.
 pub by_absent : (files : Files) (to log : List ℕ) (shape : Shape) (P : Script → Type 0) → file_at files log ≡ None
     → P (rescue_found to log shape None) → P (Fails status.FileFault) → P (Fails status.NoMemory)
     → (answer : Result (Option (List LogLine)) NoLog) → IsFound (Some files) log (sectors_at shape.rate) answer → P (rescue_rest to log shape answer)
@@ -43,7 +44,7 @@ by_absent files to log shape P absent rescued fault memory (Err (missing.BadLine
 by_absent files to log shape P absent rescued fault memory (Err missing.FileFault) there = fault
 by_absent files to log shape P absent rescued fault memory (Err missing.NoMemory) there = memory
 
--- ---- where the log is one
+-- ---- the file is a log
 
 few_sectors : (rate : Rate) → sectors_at rate < 256
 few_sectors R500 = omega arith
@@ -71,7 +72,7 @@ module _ (files : Files) (log : List ℕ) (sectors : ℕ) (few : sectors < 256) 
       go None one two = one
       go (Some text) one two = understood sectors n lines few one.1.0 (subst (λ (t : List ℕ). IsFirstBadLine sectors t n) one.1.1 two.1)
 
--- what comes behind the disk is then a rescue by a log, or a failure of the outside
+-- After the disk was put in, a rescue by a log then comes, or a failure of the outside.
 pub by_log : (files : Files) (to log : List ℕ) (shape : Shape) (P : Script → Type 0) (lines : List LogLine)
     → IsLogFound (Some files) log (sectors_at shape.rate) (Some lines) → ((asked : List LogLine) → P (rescue_found to log shape (Some asked)))
     → P (Fails status.FileFault) → P (Fails status.NoMemory)

@@ -26,7 +26,7 @@ one_more : (key : Chrn) (later : List Chrn) (found : List LogLine) (rest : List 
 unfolding through
 one_more key later found rest = refl
 
--- the first record that is left is in front of the others
+-- of the records that are left, the first one is rescued before the others
 in_front : (keys : List Chrn) (i : ℕ) (no_key : Chrn) (found : List LogLine) (rest : List LogLine → Script) (whole : Script) (start mid : World)
     → i < length keys → Leads whole start (through rescues (drop i keys) found rest) mid
     → Leads whole start (rescues (get_or keys i no_key) found (λ now. through rescues (drop (suc i) keys) now rest)) mid
@@ -35,7 +35,7 @@ in_front keys i no_key found rest whole start mid within leads =
     (ap (λ (left : List Chrn). through rescues left found rest) (drop-cons keys i no_key within)
     ∙ one_more (get_or keys i no_key) (drop (suc i) keys) found rest) leads
 
--- it was gone through
+-- this record was gone through
 pub key_goes : (keys : List Chrn) (i : ℕ) (no_key : Chrn) (begun found more : List LogLine) (old mid new : World) → i < length keys
     → IsAtKey keys begun old i found mid → Goes (rescues (get_or keys i no_key) found) mid (Ok more) new → IsAtKey keys begun old (i + 1) more new
 key_goes keys i no_key begun found more old mid new within at goes whole start rest leads =
@@ -44,7 +44,7 @@ key_goes keys i no_key begun found more old mid new within at goes whole start r
     (goes whole start (λ now. through rescues (drop (suc i) keys) now rest)
     (in_front keys i no_key found rest whole start mid within (at whole start rest leads)))
 
--- it ended the script
+-- this record ended the script
 pub key_ends : (keys : List Chrn) (i : ℕ) (no_key : Chrn) (begun found : List LogLine) (old mid new : World) (ended : Status)
     → i < length keys → IsAtKey keys begun old i found mid → Goes (rescues (get_or keys i no_key) found) mid (Err ended) new
     → LogGoes (through rescues keys begun) old (Err ended) new

@@ -16,18 +16,18 @@ use Rattle.commands.specs.Parts.{Part, carries, needs, opens, acknowledges, each
 use Rattle.commands.specs.Records.{record_address}
 use Rattle.disk_commands.specs.Disks.{sectors_of}
 
--- the answer tells that the field is marked deleted
+-- whether the answer says that the field is marked as deleted
 abbrev pub tells_deleted : Reply → Bool
 tells_deleted reply.DoneDeleted = true
 tells_deleted reply.Done = false
 tells_deleted (reply.Bytes address content) = false
 tells_deleted (reply.Refused cause) = false
 
--- a write to bay 1, with its mark
+-- a write to bay 1, of a record with this mark
 abbrev pub write_request : Bool → Chrn → ℕ → Request
 write_request deleted key address = if deleted then request.WriteDeleted 1 key address else request.Write 1 key address
 
--- no mark of a track is known yet
+-- the marks of a track while none is known yet
 abbrev pub no_marks : List Bool
 no_marks = replicate 18 false
 
@@ -36,7 +36,7 @@ unfoldable pub reads_record : ℕ → ℕ → ℕ → List Bool → Part (List B
 reads_record c h r marks rest =
     needs (request.Read 0 (key_of c h r) (record_address r)) (λ answer after. rest (set marks (r - 1) (tells_deleted answer)))
 
--- it is written from there, with its mark
+-- the record is written from its own place, with its mark
 unfoldable pub writes_record : List Bool → ℕ → ℕ → ℕ → Unit {0} → Part (Unit {0})
 writes_record marks c h r none rest = carries (write_request (get_or marks (r - 1) false) (key_of c h r) (record_address r)) rest
 
@@ -47,11 +47,11 @@ copies_track sectors c h none rest =
     each 1 sectors (reads_record c h) no_marks (λ marks.
     each 1 sectors (writes_record marks c h) tt rest))
 
--- the last line tells the sectors
+-- the last line says how many sectors were copied
 unfoldable pub copy_text : ℕ → List ℕ
 copy_text sectors = codes "copy ok " ++ (decimal sectors ++ codes "\n")
 
--- the new disk is made and both are acknowledged, each track is copied, and the new disk is stored
+-- The new disk is made, and both bays are made ready. Each track is copied, and the new disk is stored.
 unfoldable pub copies_disk : List ℕ → Shape → Part (Unit {0})
 copies_disk to shape rest =
     carries (blank_request 1 to shape.cylinders shape.rate) (λ none.
@@ -60,10 +60,10 @@ copies_disk to shape rest =
     by_track shape.cylinders shape.heads (copies_track (sectors_at shape.rate)) tt (λ none.
     carries (request.Eject 1) rest))))
 
--- the disk under one name is put in, and copied to another
+-- the disk of one name is put in, and copied to a disk of another name
 unfoldable pub makes_copy : List ℕ → List ℕ → Part Shape
 makes_copy from to rest = opens from (λ shape. copies_disk to shape (λ none. rest shape))
 
--- so it is, and the last line tells how many sectors
+-- the copy is made, and the last line says how many sectors were copied
 unfoldable pub copy_script : List ℕ → List ℕ → Script
 copy_script from to = makes_copy from to (λ shape. Ends (copy_text (sectors_of shape) ∷ []) status.AllOk)

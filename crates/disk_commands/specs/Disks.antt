@@ -3,6 +3,6 @@ use Rattle.std.specs.Prelude.{ℕ, ◌*◌}
 use Rattle.flop_base.specs.Standard.{sectors_at}
 use Rattle.floppy_session.specs.declared.shape.Shape.{Shape}
 
--- the sectors of a disk
+-- the number of sectors of a disk
 abbrev pub sectors_of : Shape → ℕ
 sectors_of shape = shape.cylinders * shape.heads * sectors_at shape.rate

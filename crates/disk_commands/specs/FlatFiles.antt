@@ -11,11 +11,11 @@ use Rattle.sector_model.specs.declared.reply.Stop.{Stop}
 use Rattle.sector_model.specs.declared.reply.Stop.TheVariants as stop
 use Rattle.sector_model.specs.Steps.{IsAbsent, IsLonger}
 
--- the most bytes of a flat file: 80 cylinders of 2 heads with 18 records
+-- the most bytes that a flat file may have: 80 cylinders of 2 heads with 18 records each
 abbrev pub most_flat_bytes : ℕ
 most_flat_bytes = 1474560
 
--- the told file of this name has these bytes, and as many as a flat file may have
+-- the told file of this name has these bytes, and no more than a flat file may have
 abbrev pub HasBytes : Option Files → List ℕ → List ℕ → Type 0
 HasBytes told name bytes =
     IfSome told (λ files. IsSomeAnd (file_at files name) (λ there. (there ≡ bytes) × (length there ≤ most_flat_bytes)))
@@ -25,7 +25,7 @@ pub record IsFlatFile (told : Option Files) (name bytes : List ℕ) (rate : Rate
   pub there : HasBytes told name bytes
   pub sectors : sectors_told (length bytes) ≡ Ok (sectors_at rate)
 
--- the told file of this name is no flat file, for this reason
+-- the told file of this name isn't a flat file, for this reason
 abbrev pub IsBadFlat : Option Files → List ℕ → ImageError → Type 0
 IsBadFlat told name error =
     IfSome told (λ files. IsSomeAnd (file_at files name)
@@ -39,12 +39,12 @@ IsNotTaken told name (stop.Absent named) = (named ≡ name) × IsAbsent told nam
 IsNotTaken told name stop.FileFault = Unit {0}
 IsNotTaken told name stop.NoMemory = Unit {0}
 
--- what was found under this name: the bytes of a flat file and the rate of their disk, or why it isn't taken
+-- what was found under this name: the bytes of a flat file and the rate of its disk, or why the file isn't taken
 abbrev pub IsFlatFound : Option Files → List ℕ → Result (List ℕ × Rate) Stop → Type 0
 IsFlatFound told name (Ok (bytes, rate)) = IsFlatFile told name bytes rate
 IsFlatFound told name (Err cause) = IsNotTaken told name cause
 
--- a refused load of the flat file of this name, and what ends the command
+-- what ends the command if the load of the flat file of this name is refused
 abbrev pub StopsFor : List ℕ → LoadError → Stop → Type 0
 StopsFor name load.Absent ended = ended ≡ stop.Absent name
 StopsFor name load.TooLong ended = ended ≡ stop.TooLong name most_flat_bytes

@@ -9,8 +9,8 @@ use Rattle.commands.specs.Leading.{Hand, IsSameHand}
 use Rattle.disk_commands.specs.declared.flat_file.FlatFile.{FlatFile}
 use Rattle.disk_commands.specs.FlatFiles.{IsFlatFile, IsNotTaken}
 
--- the flat file of a name was loaded, or why it isn't taken is told: the world stays, and a fault of the shelf was counted once where
--- that is why
+-- The flat file of a name was loaded, or the answer is why it isn't taken. The world stays as it was. A fault of the
+-- shelf was counted once if it is the reason.
 pub record LoadsFlat {R : Type 0} (hand : R → Hand) (name : List ℕ) (old : R) (result : Result FlatFile Stop) (new : R) : Type 0 where
   pub flat : IfOk result (λ flat. IsFlatFile (hand old).world.files name flat.bytes.items flat.rate)
   pub size : IfOk result (λ flat. length flat.bytes.items ≡ flat_length (sectors_at flat.rate))

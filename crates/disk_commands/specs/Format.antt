@@ -8,11 +8,11 @@ use Rattle.floppy_session.specs.Blanks.{blank_request}
 use Rattle.commands.specs.Scripts.{Script, Ends}
 use Rattle.commands.specs.Parts.{Part, carries, acknowledges, by_track, formats}
 
--- the last line tells the tracks
+-- the last line says how many tracks were formatted
 unfoldable pub format_text : ℕ → List ℕ
 format_text tracks = codes "format ok " ++ (decimal tracks ++ codes "\n")
 
--- a disk of so many cylinders and two heads is made, formatted, and stored under this name
+-- a disk of this many cylinders and two heads is made, formatted, and stored under this name
 unfoldable pub formats_disk : List ℕ → ℕ → Rate → Part (Unit {0})
 formats_disk name cylinders rate rest =
     carries (blank_request 0 name cylinders rate) (λ none.

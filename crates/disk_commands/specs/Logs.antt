@@ -1,4 +1,4 @@
--- The file of a log: what is found under its name, and why it can't be had.
+-- The file of a log: what is found under its name, and why no log can be read.
 use Rattle.std.specs.Prelude.{◌≡◌, ℕ, ◌≤◌, ◌⊎◌, List, length, Vec, Option, Some, None, Result, Ok, Err, IfSome, IsSomeAnd}
 use Rattle.std.specs.Option.{option_map}
 use Rattle.std.specs.declared.alloc.Global.{Global}
@@ -19,7 +19,7 @@ use Rattle.disk_commands.specs.declared.logs.NoLog.TheVariants as missing
 abbrev pub most_log_bytes : ℕ
 most_log_bytes = 65536
 
--- the told file of this name has such a text, no longer than a log may be
+-- the told file of this name has such a text, and the text is no longer than a log may be
 abbrev pub HasText : Option Files → List ℕ → (List ℕ → Type 0) → Type 0
 HasText told name Such =
     IfSome told (λ files. IsSomeAnd (file_at files name) (λ text. (length text ≤ most_log_bytes) × Such text))
@@ -33,12 +33,12 @@ IsLogFound told name sectors (Some lines) = HasText told name (λ text. IsLog se
 abbrev pub lines_found : Option (Vec LogLine Global) → Option (List LogLine)
 lines_found found = option_map (λ lines. lines.items) found
 
--- so it is with what is answered of a log
+-- the same for an answer about a log
 abbrev pub answer_found : Result (Option (Vec LogLine Global)) NoLog → Result (Option (List LogLine)) NoLog
 answer_found (Ok found) = Ok (lines_found found)
 answer_found (Err cause) = Err cause
 
--- the first line of a log that isn't understood: 0 where the text is too long
+-- the number of the first line of a log that isn't understood, or 0 if the text is too long
 abbrev pub IsBadLog : Option Files → List ℕ → ℕ → ℕ → Type 0
 IsBadLog told name sectors n =
     ((n ≡ 0) × IsLonger told name most_log_bytes) ⊎ HasText told name (λ text. IsFirstBadLine sectors text n)
@@ -54,16 +54,16 @@ abbrev pub IsFound : Option Files → List ℕ → ℕ → Result (Option (List 
 IsFound told name sectors (Ok found) = IsLogFound told name sectors found
 IsFound told name sectors (Err cause) = IsNoLog told name sectors cause
 
--- so it is found as the log of a disk of each rate
+-- this is what is found as the log of a disk, for each rate of the disk
 abbrev pub AreFound : Option Files → List ℕ → (Rate → Result (Option (List LogLine)) NoLog) → Type 0
 AreFound told name found = (rate : Rate) → IsFound told name (sectors_at rate) (found rate)
 
--- a text that isn't a log
+-- the answer for a text that isn't a log
 abbrev pub NotUnderstood : LogError → NoLog → Type 0
 NotUnderstood (bad.BadLine n) cause = cause ≡ missing.BadLine n
 NotUnderstood bad.NoMemory cause = cause ≡ missing.NoMemory
 
--- a file that wasn't loaded
+-- the answer for a file that wasn't loaded
 abbrev pub NotLoaded : LoadError → Result (Option (Vec LogLine Global)) NoLog → Type 0
 NotLoaded load.Absent answer = answer ≡ Ok None
 NotLoaded load.TooLong answer = answer ≡ Err (missing.BadLine 0)

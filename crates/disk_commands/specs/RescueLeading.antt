@@ -22,13 +22,14 @@ abbrev pub LogGoes : Part (List LogLine) → World → Result (Vec LogLine Globa
 LogGoes part old (Ok log) new = Goes part old (Ok log.items) new
 LogGoes part old (Err ended) new = Goes part old (Err ended) new
 
--- what is next has as many tries as a request may
+-- what comes next has a number of tries that a request may have
 abbrev pub HasNextTries : AfterRead → Type 0
 HasNextTries (next.Write asked) = HasTries asked
 HasNextTries (next.Log line) = Unit {0}
 HasNextTries (next.Stop code) = Unit {0}
 
--- a log was looked for under a name: the world stays, and a fault of the shelf was counted once where it tells one, and else none
+-- A log was looked for under a name. The world stays as it was. A fault of the shelf was counted once if the answer
+-- tells of one, and otherwise none was.
 pub record Finds {R : Type 0} (hand : R → Hand) (name : List ℕ) (sectors : ℕ) (old : R) (result : Result (Option (Vec LogLine Global)) NoLog) (new : R) : Type 0 where
   pub found : IsFound (hand old).world.files name sectors (answer_found result)
   pub stays : (hand new).world ≡ (hand old).world
@@ -36,7 +37,7 @@ pub record Finds {R : Type 0} (hand : R → Hand) (name : List ℕ) (sectors : �
   pub no_fault : (hand new).sink_faults ≡ (hand old).sink_faults
   pub same : IsSameHand (hand old) (hand new)
 
--- what comes behind the disk that was put in ended, by what was found under the name of its log
+-- what comes after the disk was put in has ended, by what was found under the name of its log
 abbrev pub FinishesFound : List ℕ → List ℕ → Shape → World → World → Status → Type 0
 FinishesFound to log shape old new ended =
     (found : Result (Option (List LogLine)) NoLog) × IsFound old.files log (sectors_at shape.rate) found

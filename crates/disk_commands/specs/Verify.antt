@@ -1,4 +1,4 @@
--- The script of a verify: each sector of a disk is read, and those that can't be read are listed.
+-- The script of a verify. Each sector of a disk is read, and those that can't be read are listed.
 use Rattle.std.specs.Prelude.{ℕ, ◌+◌, ◌||◌, Bool, false, List, [], ◌∷◌, ◌++◌, codes, if◌then◌else◌}
 use Rattle.std.specs.Fmt.{decimal}
 use Rattle.flop_base.specs.Standard.{sectors_at}
@@ -22,44 +22,44 @@ unfoldable pub failure_line : Chrn → Reason → List ℕ
 failure_line key cause =
     decimal key.c ++ (codes " " ++ (decimal key.h ++ (codes " " ++ (decimal key.r ++ (codes " " ++ (reason_text cause ++ line_end))))))
 
--- the refusal of a read is told by a line
+-- if a read is refused, a line tells of it
 unfoldable pub tells_failure : Chrn → Reply → Part (Unit {0})
 tells_failure key (reply.Refused cause) rest = says (failure_line key cause) rest
 tells_failure key reply.Done rest = rest tt
 tells_failure key reply.DoneDeleted rest = rest tt
 tells_failure key (reply.Bytes address content) rest = rest tt
 
--- no read yet
+-- the tally of no reads
 abbrev pub no_reads : Tally
 no_reads = record { well = 0; refused = false }
 
--- one more read, which was refused or not
+-- the tally after one more read, which was refused or wasn't
 abbrev pub one_more : Tally → Bool → Tally
 one_more tally refused = record { well = tally.well + (if refused then 0 else 1); refused = tally.refused || refused }
 
--- a record is read, and told where it can't be
+-- a record is read, and a line tells of it if it can't be read
 unfoldable pub verifies_record : ℕ → ℕ → ℕ → Tally → Part Tally
 verifies_record c h r tally rest =
     asks (request.Read 0 (key_of c h r) track_address) (λ answer after.
     tells_failure (key_of c h r) answer (λ none.
     rest (one_more tally (is_refusal answer))))
 
--- so is each record of a track
+-- each record of a track is read in this way
 unfoldable pub verifies_track : ℕ → ℕ → ℕ → Tally → Part Tally
 verifies_track sectors c h tally rest = each 1 sectors (verifies_record c h) tally rest
 
--- the last line: how many sectors of how many were read
+-- the last line: how many of how many sectors were read
 unfoldable pub verify_text : ℕ → ℕ → List ℕ
 verify_text well all = codes "verify " ++ (decimal well ++ (codes " of " ++ (decimal all ++ codes "\n")))
 
--- the disk of a name is put in and acknowledged, and every sector is read: its shape and the tally are found
+-- The disk of a name is put in and acknowledged, and every sector is read. The disk's shape and the tally are found.
 unfoldable pub reads_disk : List ℕ → Part (Shape × Tally)
 reads_disk name rest =
     opens name (λ shape.
     acknowledges 0 shape.rate (λ none.
     by_track shape.cylinders shape.heads (verifies_track (sectors_at shape.rate)) no_reads (λ tally. rest (shape, tally))))
 
--- so it is, and the last line tells how many sectors were read well
+-- the disk is read in this way, and the last line says how many sectors were read well
 unfoldable pub verify_script : List ℕ → Script
 verify_script name =
     reads_disk name (λ found. Ends (verify_text found.1.well (sectors_of found.0) ∷ []) (whole_status found.1.refused))

@@ -1,20 +1,20 @@
-// The row of numbers that draws a workload: a linear congruence modulo 2^31.
+// The sequence of numbers from which a workload is drawn. It is a linear congruence modulo 2^31.
 ghost use Rattle.std.specs.Prelude.{◌≡◌, ◌%◌};
 ghost use Rattle.disk_commands.specs.Workload.{next_number, drawn, number_after, drawn_key};
 
 use flop_base::Chrn;
 use flop_base::standard::SIZE_CODE;
 
-/// Draws numbers, each from the one before.
+/// Draws numbers, each of them from the one before.
 #[derive(Clone, Copy)]
 pub(crate) struct Draws {
     pub number: u32,
 }
 
-/// What five draws ask for.
+/// What five draws request.
 #[derive(Clone, Copy)]
 pub(crate) struct Work {
-    /// 0 for a write, 3 for a write that marks its field deleted, 1 and 2 for a read.
+    /// 0 is a write, 3 is a write that marks its field as deleted, and 1 and 2 are reads.
     pub kind: u32,
     pub key: Chrn,
     /// The byte that a write writes.

@@ -33,8 +33,8 @@ fn exercise_line(alloc: Global, seed: u32, count: u16, tally: Tally) -> Result<S
     format!(in alloc; "exercise {seed} {count} ok {done} refused {refused} sum {sum}\n")
 }
 
-/// Makes a formatted disk of four cylinders and runs a workload on it, drawn from the seed. It prints how many reads and writes were
-/// done, how many were refused, and the sum of all bytes that were read. Nothing is stored.
+/// Makes a formatted disk of four cylinders, and runs a workload on it that is drawn from the seed. Prints how many
+/// reads and writes were done, how many were refused, and the sum of all bytes that were read. Nothing is stored.
 #[tactic(auto, using(crate::proofs::FlatRuns::fed_first, crate::proofs::FlatRuns::starved_first))]
 pub fn exercise_disk<R: AnyRun>(run: &mut R, seed: u32, count: u16) -> Status
     ensures { Ran R.hand (Runs (RunsScript (exercise_script seed count))) run.old run.new result }

@@ -14,7 +14,7 @@ use flop_base::{Chrn, Name, NoMemory, Rate, Status};
 use floppy_jobs::Request;
 use std::alloc::{AllocError, Global};
 
-/// Puts bytes of memory behind those of a flat file.
+/// Appends bytes of memory to those of a flat file.
 fn gather<R: AnyRun>(run: &R, address: u32, count: u32, flat: &mut Vec<u8>) -> Result<(), NoMemory>
     requires { address + count ≤ user_bytes }
     ensures { OnOk result (flat.new.items ≡ flat.old.items ++ bytes_from (R.hand run.now).world.state.station.memory address count) }
@@ -25,7 +25,7 @@ fn gather<R: AnyRun>(run: &R, address: u32, count: u32, flat: &mut Vec<u8>) -> R
     Ok(())
 }
 
-/// Reads a record to its own place, and puts its bytes behind those of the flat file.
+/// Reads a record to its own place, and appends its bytes to those of the flat file.
 #[tactic(auto, using(commands::proofs::Running::starved), unfolding(crate::specs::Export::reads_record))]
 fn read_record<R: AnyRun>(
     run: &mut R,
@@ -81,7 +81,7 @@ fn read_tracks<R: AnyRun>(run: &mut R, sectors: u8, flat: &mut Vec<u8>) -> Resul
     Ok(())
 }
 
-/// Reads all records of the disk in bay 0, which is at this rate.
+/// Reads all records of the disk in bay 0. The disk has this rate.
 fn read_disk<R: AnyRun>(run: &mut R, rate: Rate, flat: &mut Vec<u8>) -> Result<(), Status>
     ensures { RanPart R.hand (GoesOn (reads_disk rate flat.old.items) flat.new.items) run.old result run.new }
 {
@@ -97,8 +97,8 @@ fn export_line(alloc: Global, rate: Rate) -> Result<String, AllocError>
     format!(in alloc; "export ok {sectors}\n")
 }
 
-/// Stores the bytes of all records of a disk, by cylinder, then head, then record, in a flat file. It prints how many there are, or
-/// what stopped it: a record that can't be read, or one that isn't there.
+/// Stores the bytes of all records of a disk, by cylinder, then head, then record, in a flat file. Prints how many
+/// records there are, or what stopped the export: a record that can't be read, or one that isn't there.
 #[tactic(auto, using(commands::proofs::Running::finished))]
 pub fn export_disk<R: AnyRun>(run: &mut R, name: Name, flat: Name) -> Status
     ensures { Ran R.hand (Runs (RunsScript (export_script name flat))) run.old run.new result }

@@ -17,11 +17,12 @@ const MOST_FLAT_BYTES: usize = 1_474_560;
 #[derive(Drop)]
 pub(crate) struct FlatFile {
     pub bytes: Vec<u8>,
-    /// The rate of the disk whose sectors they are.
+    /// The rate of the disk that has these sectors.
     pub rate: Rate,
 }
 
-/// Loads the flat file of this name: 737,280 bytes for a disk at 250 kbit/s, 1,474,560 for one at 500 kbit/s.
+/// Loads the flat file of this name. It has 737,280 bytes for a disk at 250 kbit/s, and 1,474,560 for one at 500
+/// kbit/s.
 pub(crate) fn load_flat<R: AnyRun>(run: &mut R, name: Name) -> Result<FlatFile, Stop>
     ensures { LoadsFlat R.hand name run.old result run.new }
 {
@@ -38,7 +39,7 @@ pub(crate) fn load_flat<R: AnyRun>(run: &mut R, name: Name) -> Result<FlatFile, 
     }
 }
 
-/// The rate of a disk with so many sectors on each track.
+/// The rate of a disk with this many sectors on each track.
 fn rate_of(sectors: u8) -> Rate
     requires { IsDensity sectors }
     ensures { sectors_at result ≡ sectors }
@@ -46,7 +47,7 @@ fn rate_of(sectors: u8) -> Rate
     if sectors == 9 { Rate::R250 } else { Rate::R500 }
 }
 
-/// What a refused load ends the command with.
+/// What ends the command if a load is refused.
 fn stop_at_load(name: Name, error: LoadError) -> Stop
     ensures { StopsFor name error result }
 {

@@ -17,7 +17,7 @@ fn format_line(alloc: Global, cylinders: u8) -> Result<String, AllocError>
     format!(in alloc; "format ok {tracks}\n")
 }
 
-/// Asks all that a format asks.
+/// Runs all requests of a format.
 #[tactic(auto, unfolding(crate::specs::Format::formats_disk))]
 fn run_format<R: AnyRun>(run: &mut R, name: Name, cylinders: u8, rate: Rate) -> Result<(), Status>
     ensures { RanPart R.hand (Goes (formats_disk name cylinders rate)) run.old result run.new }
@@ -28,8 +28,8 @@ fn run_format<R: AnyRun>(run: &mut R, name: Name, cylinders: u8, rate: Rate) -> 
     run.carry(&Request::Eject { bay: 0 })
 }
 
-/// Makes a disk of so many cylinders with two heads, formats it at this rate, and stores it under the name. It prints how many tracks
-/// were formatted, or what stopped it.
+/// Makes a disk of this many cylinders with two heads, formats it at this rate, and stores it under the name. Prints
+/// how many tracks were formatted, or what stopped the format.
 #[tactic(auto, using(commands::proofs::Running::finished), unfolding(crate::specs::Format::format_script))]
 pub fn format_disk<R: AnyRun>(run: &mut R, name: Name, cylinders: u8, rate: Rate) -> Status
     ensures { Ran R.hand (Runs (RunsScript (format_script name cylinders rate))) run.old run.new result }

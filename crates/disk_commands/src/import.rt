@@ -14,10 +14,10 @@ use floppy_jobs::Request;
 use sector_map::flat::place;
 use std::alloc::{AllocError, Global};
 
-/// The cylinders of a disk that has the sectors of a flat file.
+/// The number of cylinders of a disk that has the sectors of a flat file.
 pub(crate) const CYLINDERS: u8 = 80;
 
-/// Sets memory from the address on to the bytes of a record, one request for each byte.
+/// Sets memory, from the address on, to the bytes of a record, by one request for each byte.
 fn fill_record<R: AnyRun>(
     run: &mut R,
     flat: &[u8],
@@ -72,7 +72,7 @@ fn write_track<R: AnyRun>(run: &mut R, sectors: u8, c: u8, h: u8) -> Result<(), 
     Ok(())
 }
 
-/// Formats a track and writes the bytes of its records.
+/// Formats a track and then writes the bytes of its records.
 #[tactic(auto, unfolding(crate::specs::Import::imports_track))]
 fn import_track<R: AnyRun>(
     run: &mut R,
@@ -127,8 +127,9 @@ fn import_line(alloc: Global, rate: Rate) -> Result<String, AllocError>
     format!(in alloc; "import ok {sectors}\n")
 }
 
-/// Makes a disk from the bytes of a flat file, and stores it under the name. It prints how many sectors were written, or what
-/// stopped it. A flat file of 737,280 bytes makes a 720 KB disk, one of 1,474,560 bytes a 1.44 MB disk; no other is taken.
+/// Makes a disk from the bytes of a flat file, and stores it under the name. Prints how many sectors were written, or
+/// what stopped the import. A flat file of 737,280 bytes makes a 720 KB disk, and one of 1,474,560 bytes a 1.44 MB
+/// disk. No other file is taken.
 #[tactic(auto, using(crate::proofs::FlatRuns::imported_flat, crate::proofs::FlatRuns::not_taken))]
 pub fn import_disk<R: AnyRun>(run: &mut R, flat: Name, name: Name) -> Status
     ensures { Ran R.hand (Runs (Imports flat name)) run.old run.new result }

@@ -1,5 +1,6 @@
-//! The commands on whole disks over a session: format, copy and verify; between a disk and a flat file; a generated workload; and the
-//! rescue of a failing disk, whose log keeps what wasn't read. Each is a script: what it asks, prints and stores, part by part.
+//! The commands on whole disks, over a session. They are format, copy and verify, the export to and the import from a
+//! flat file, a generated workload, and the rescue of a failing disk. The log of a rescue keeps what wasn't read. Each
+//! command is a script: it says what the command requests, prints and stores, part by part.
 #![tactic(auto)]
 
 mod copy;

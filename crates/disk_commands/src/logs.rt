@@ -1,4 +1,4 @@
-// The log's file.
+// The file of a log.
 ghost use Rattle.std.specs.Prelude.{◌≡◌, IfOk, string_bytes};
 ghost use Rattle.commands.specs.Leading.{Finishes, RanLast};
 ghost use Rattle.disk_commands.specs.Logs.{NotUnderstood, NotLoaded};
@@ -13,18 +13,19 @@ use std::alloc::{AllocError, Global};
 /// The longest text of a log, in bytes.
 const MOST_LOG_BYTES: usize = 65_536;
 
-/// Why a log wasn't had.
+/// Why there is no log to go by.
 #[derive(Clone, Copy)]
 pub(crate) enum NoLog {
-    /// This line isn't understood, counted from 1; 0 where the text is too long.
+    /// This line isn't understood. Lines are counted from 1, and it is 0 if the text is too long.
     BadLine { line: usize },
     /// The shelf failed.
     FileFault,
-    /// Memory couldn't be had.
+    /// Memory ran out.
     NoMemory,
 }
 
-/// The lines of the log under this name, of a diskette with so many sectors on a track; nothing where there is no log.
+/// The lines of the log under this name, of a diskette with this many sectors on a track. The answer is nothing if
+/// there is no log.
 pub(crate) fn find_log<R: AnyRun>(
     run: &mut R,
     name: &Name,
@@ -51,7 +52,8 @@ fn not_understood(error: LogError) -> NoLog
     }
 }
 
-/// No log, where there is no file, or why it wasn't loaded.
+/// The answer for a file that wasn't loaded. There is no log if there is no file. Otherwise the answer is why the file
+/// wasn't loaded.
 fn not_loaded(error: LoadError) -> Result<Option<Vec<LogLine>>, NoLog>
     ensures { NotLoaded error result }
 {
@@ -70,7 +72,7 @@ fn bad_log_line(alloc: Global, line: usize) -> Result<String, AllocError>
     format!(in alloc; "log line {line} not understood\n")
 }
 
-/// Tells why a log wasn't had.
+/// Tells why there is no log to go by.
 #[tactic(auto, using(commands::proofs::Running::fails_here), unfolding(crate::specs::Rescue::tells_no_log))]
 pub(crate) fn tell_no_log<R: AnyRun>(run: &mut R, cause: NoLog) -> Status
     ensures { RanLast R.hand (Finishes (tells_no_log cause)) (cause ≡ NoLog.FileFault) run.old run.new result }

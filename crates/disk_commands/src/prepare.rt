@@ -1,4 +1,5 @@
-// What comes before the records: the other diskette is put in, both are acknowledged, and a new one is formatted.
+// What comes before the records. The other diskette is put in, both bays are acknowledged, and a new diskette is
+// formatted.
 ghost use Rattle.std.specs.Prelude.{◌≡◌, true, false};
 ghost use Rattle.flop_base.specs.declared.answers.Rate.{Rate};
 ghost use Rattle.commands.specs.Leading.{Goes, RanPart};
@@ -18,7 +19,7 @@ fn acknowledge_both<R: AnyRun>(run: &mut R, rate: Rate) -> Result<(), Status>
     acknowledge(run, 1, rate)
 }
 
-/// Puts the other diskette in as an earlier run left it.
+/// Puts the other diskette in, as an earlier run left it.
 #[tactic(auto, unfolding(crate::specs::Rescue::prepares_old))]
 fn prepare_old<R: AnyRun>(run: &mut R, to: Name, shape: Shape) -> Result<(), Status>
     ensures { RanPart R.hand (Goes (prepares_old to shape)) run.old result run.new }
@@ -27,7 +28,7 @@ fn prepare_old<R: AnyRun>(run: &mut R, to: Name, shape: Shape) -> Result<(), Sta
     acknowledge_both(run, shape.rate)
 }
 
-/// Makes the other diskette: blank, acknowledged, and formatted as the first one.
+/// Makes the other diskette. It is blank, acknowledged, and then formatted as the first one.
 #[tactic(auto, unfolding(crate::specs::Rescue::prepares_new))]
 fn prepare_new<R: AnyRun>(run: &mut R, to: Name, shape: Shape) -> Result<(), Status>
     ensures { RanPart R.hand (Goes (prepares_new to shape)) run.old result run.new }
@@ -38,7 +39,7 @@ fn prepare_new<R: AnyRun>(run: &mut R, to: Name, shape: Shape) -> Result<(), Sta
     format_tracks(run, 1, shape.cylinders, shape.heads)
 }
 
-/// Makes the other diskette ready; `logged` is true where there is a log, and so a diskette of an earlier run.
+/// Makes the other diskette ready. `logged` is true if there is a log, and therefore a diskette of an earlier run.
 #[tactic(auto, unfolding(crate::specs::Rescue::prepares))]
 pub(crate) fn prepare<R: AnyRun>(
     run: &mut R,

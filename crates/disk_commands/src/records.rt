@@ -10,7 +10,8 @@ use flop_base::{Chrn, NoMemory, Status};
 use rescue::{AfterRead, LogLine, after_read, read_request};
 use sector_model::{Reason, Reply};
 
-/// What the answer to the read of a record says is next; an error where no drive gives it.
+/// What comes next by the answer to the read of a record. It is an error if the answer is a refusal that no drive
+/// gives.
 fn next_of(key: Chrn, reply: &Reply) -> Result<AfterRead, Reason>
     ensures value { result ≡ after_answer key reply.now }
     ensures tries { IfOk result HasNextTries }
@@ -23,7 +24,7 @@ fn next_of(key: Chrn, reply: &Reply) -> Result<AfterRead, Reason>
     }
 }
 
-/// Tells that the read of a record was refused so that the rescue ends there.
+/// Tells that the read of a record was refused in such a way that the rescue ends there.
 fn give_up<R: AnyRun>(run: &mut R, key: Chrn, reason: Reason) -> Status
     ensures { Ran R.hand (Finishes (gives_up key reason)) run.old run.new result }
 {
@@ -31,7 +32,7 @@ fn give_up<R: AnyRun>(run: &mut R, key: Chrn, reason: Reason) -> Status
     run.finish(line, Status::SomeRefused)
 }
 
-/// Puts a line behind a log.
+/// Adds a line to a log.
 fn push_line(mut log: Vec<LogLine>, line: LogLine) -> Result<Vec<LogLine>, NoMemory>
     ensures { IfOk result (λ made. made.items ≡ log.items ++ line ∷ []) }
 {
@@ -41,7 +42,7 @@ fn push_line(mut log: Vec<LogLine>, line: LogLine) -> Result<Vec<LogLine>, NoMem
     }
 }
 
-/// Writes a record, or puts its line behind the log, or ends the rescue.
+/// Writes a record, or adds its line to the log, or ends the rescue.
 #[tactic(auto, using(commands::proofs::Running::fed, commands::proofs::Running::starved), unfolding(crate::specs::Rescue::does_next))]
 fn do_next<R: AnyRun>(
     run: &mut R,
@@ -65,7 +66,7 @@ fn do_next<R: AnyRun>(
     }
 }
 
-/// Does what follows the answer to the read of a record, and gives the log.
+/// Does what follows the answer to the read of a record, and answers the log.
 #[tactic(auto, unfolding(crate::specs::Rescue::follows, crate::specs::Rescue::does_next))]
 fn follow<R: AnyRun>(
     run: &mut R,
@@ -81,7 +82,7 @@ fn follow<R: AnyRun>(
     }
 }
 
-/// Reads a record and writes it to the other diskette, or puts its line behind the log.
+/// Reads a record and writes it to the other diskette, or adds its line to the log.
 #[tactic(auto, unfolding(crate::specs::Rescue::rescues))]
 fn rescue_record<R: AnyRun>(
     run: &mut R,
@@ -94,7 +95,7 @@ fn rescue_record<R: AnyRun>(
     follow(run, key, &reply, log)
 }
 
-/// Rescues records, one after the other, and gives the new log.
+/// Rescues records, one after the other, and answers the new log.
 pub(crate) fn rescue_records<R: AnyRun>(run: &mut R, keys: &[Chrn]) -> Result<Vec<LogLine>, Status>
     ensures { RanPart R.hand (LogGoes (through rescues keys.now [])) run.old result run.new }
 {

@@ -15,7 +15,7 @@ use floppy_session::Shape;
 use rescue::{LogLine, Outcome, logged_keys, standard_keys, write_log};
 use std::alloc::{AllocError, Global};
 
-/// The records that are asked for: those of the log, or all where there is none.
+/// The records that are asked for: those of the log, or all records if there is no log.
 fn asked_keys(
     alloc: Global,
     shape: Shape,
@@ -29,7 +29,7 @@ fn asked_keys(
     }
 }
 
-/// Rescues the records to the other diskette, and stores that. It gives the new log.
+/// Rescues the records to the other diskette, and stores that diskette. Answers the new log.
 #[tactic(auto, unfolding(crate::specs::Rescue::rescues_all))]
 fn rescue_all<R: AnyRun>(
     run: &mut R,
@@ -46,7 +46,7 @@ fn rescue_all<R: AnyRun>(
     Ok(log)
 }
 
-/// How a rescue ended that left these lines.
+/// The outcome of a rescue that left these lines.
 fn outcome(asked: usize, lines: &[LogLine]) -> Outcome
     ensures { result ≡ outcome_of asked lines.now }
 {
@@ -62,7 +62,7 @@ fn last_line(alloc: Global, outcome: Outcome) -> Result<String, AllocError>
     format!(in alloc; "{outcome}\n")
 }
 
-/// Stores the new log, also where it is empty, and tells how many of the records that were asked for were written.
+/// Stores the new log, even if it is empty, and tells how many of the records that were asked for were written.
 #[tactic(auto, using(commands::proofs::Running::starved), unfolding(crate::specs::Rescue::stores_log))]
 fn store_log<R: AnyRun>(run: &mut R, log: &Name, asked: usize, lines: &[LogLine]) -> Status
     ensures { Ran R.hand (Finishes (stores_log log.now asked lines.now)) run.old run.new result }
@@ -75,7 +75,7 @@ fn store_log<R: AnyRun>(run: &mut R, log: &Name, asked: usize, lines: &[LogLine]
     run.store_last(log.as_str(), &bytes, line, outcome.status())
 }
 
-/// Rescues what the log that was found asks for.
+/// Rescues the records that the found log asks for.
 fn rescue_found<R: AnyRun>(
     run: &mut R,
     to: Name,
@@ -104,9 +104,9 @@ fn rescue_opened<R: AnyRun>(run: &mut R, to: Name, log: Name, shape: Shape) -> S
     }
 }
 
-/// Reads the records of the diskette under one name that its log asks for, or all where there is no log, and writes them to the
-/// diskette under another name. That diskette is stored first, and then the new log: a line for each record that wasn't read. It
-/// prints how many were written of how many, or what stopped it.
+/// Reads the records of the diskette of one name that its log asks for, or all if there is no log. Writes them to the
+/// diskette of another name. That diskette is stored first, and then the new log, which has a line for each record that
+/// wasn't read. Prints how many of how many records were written, or what stopped the rescue.
 #[tactic(auto, using(crate::proofs::RescueOpening::not_opened))]
 pub fn rescue_disk<R: AnyRun>(run: &mut R, from: Name, to: Name, log: Name) -> Status
     ensures { Ran R.hand (Runs (Rescues from to log)) run.old run.new result }

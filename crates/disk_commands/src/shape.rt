@@ -4,7 +4,7 @@ ghost use Rattle.disk_commands.specs.Disks.{sectors_of};
 
 use floppy_session::Shape;
 
-/// The sectors of a disk.
+/// The number of sectors of a disk.
 pub(crate) fn sector_count(shape: Shape) -> u32
     ensures { result ≡ sectors_of shape }
 {

@@ -28,7 +28,7 @@ fn failure_line(alloc: Global, key: Chrn, reason: Reason) -> Result<String, Allo
     format!(in alloc; "{c} {h} {r} {word}\n")
 }
 
-/// Puts the line of a read that was refused; nothing of any other.
+/// Prints a line for a read that was refused, and nothing for any other.
 #[tactic(auto, unfolding(crate::specs::Verify::tells_failure))]
 fn tell_failure<R: AnyRun>(run: &mut R, key: Chrn, reply: &Reply) -> Result<(), Status>
     ensures { RanPart R.hand (Goes (tells_failure key reply.now)) run.old result run.new }
@@ -39,7 +39,7 @@ fn tell_failure<R: AnyRun>(run: &mut R, key: Chrn, reply: &Reply) -> Result<(), 
     }
 }
 
-/// Reads a record, and tells it where it can't be read.
+/// Reads a record, and prints a line if it can't be read.
 #[tactic(auto, unfolding(crate::specs::Verify::verifies_record))]
 fn verify_record<R: AnyRun>(run: &mut R, tally: Tally, c: u8, h: u8, r: u8) -> Result<Tally, Status>
     requires { tally.well + 1 ≤ 4294967295 }
@@ -144,8 +144,8 @@ fn read_disk<R: AnyRun>(run: &mut R, name: Name) -> Result<(Shape, Tally), Statu
     Ok((shape, tally))
 }
 
-/// Reads every sector of the disk of this name. It prints a line for each that can't be read, with its cylinder, head and record and
-/// why, and at last how many were read.
+/// Reads every sector of the disk of this name. Prints a line for each sector that can't be read, with its cylinder,
+/// head and record, and the reason. The last line says how many were read.
 #[tactic(auto, using(commands::proofs::Running::finished), unfolding(crate::specs::Verify::verify_script))]
 pub fn verify_disk<R: AnyRun>(run: &mut R, name: Name) -> Status
     ensures { Ran R.hand (Runs (RunsScript (verify_script name))) run.old run.new result }

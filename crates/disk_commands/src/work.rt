@@ -1,4 +1,4 @@
-// The requests of a workload, which goes on whatever is answered.
+// The requests of a workload. The workload goes on whatever the answers are.
 ghost use Rattle.std.specs.Prelude.{◌≡◌, ◌+◌, ◌≤◌, IfOk, sum};
 ghost use Rattle.flop_base.specs.Memory.{user_bytes, bytes_from};
 ghost use Rattle.floppy_session.specs.Tries.{HasTries};
@@ -12,10 +12,10 @@ use commands::{AnyRun, is_refusal};
 use flop_base::{Chrn, Status};
 use floppy_jobs::Request;
 
-/// Where a read puts its bytes.
+/// The address to which a read puts its bytes.
 const READ_ADDRESS: u32 = 0x10000;
 
-/// Where a write takes its bytes.
+/// The address from which a write takes its bytes.
 const WRITE_ADDRESS: u32 = 0x20000;
 
 /// The sum of the bytes of a record in memory.
@@ -51,7 +51,7 @@ fn read<R: AnyRun>(run: &mut R, key: Chrn, tally: Tally) -> Result<Tally, Status
     }
 }
 
-/// A write to the record of a key, with its mark.
+/// A write to the record of a key, with this mark.
 fn write_request(deleted: bool, key: Chrn) -> Request
     ensures value { result ≡ write_request deleted key }
     ensures tries { HasTries result }
@@ -72,7 +72,7 @@ fn write_request(deleted: bool, key: Chrn) -> Request
     }
 }
 
-/// Fills memory with a byte and writes it to the record of a key.
+/// Fills memory with a byte, and writes from there to the record of a key.
 #[tactic(auto, unfolding(crate::specs::Exercise::writes_work))]
 fn write<R: AnyRun>(
     run: &mut R,
@@ -99,7 +99,7 @@ fn write<R: AnyRun>(
     }
 }
 
-/// Runs what the next five draws ask for.
+/// Runs what the next five draws request.
 #[tactic(auto, unfolding(crate::specs::Exercise::works_behind, crate::specs::Exercise::works_drawn))]
 fn run_next<R: AnyRun>(run: &mut R, draws: &mut Draws, tally: Tally) -> Result<Tally, Status>
     requires room { HasRoom tally }
@@ -117,7 +117,7 @@ fn run_next<R: AnyRun>(run: &mut R, draws: &mut Draws, tally: Tally) -> Result<T
     }
 }
 
-/// Runs a workload: so many times what five draws ask for, the first behind the seed.
+/// Runs a workload: `count` times what five draws request. The first draw is the one after the seed.
 pub(crate) fn run_work<R: AnyRun>(run: &mut R, seed: u32, count: u16) -> Result<Tally, Status>
     ensures { RanPart R.hand (Goes (works seed count no_work)) run.old result run.new }
 {

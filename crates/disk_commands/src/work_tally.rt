@@ -1,8 +1,8 @@
-// What the requests of a workload came to.
+// The result of the requests of a workload.
 ghost use Rattle.std.specs.Prelude.{◌≡◌, ◌≤◌};
 ghost use Rattle.disk_commands.specs.Exercise.{one_done, one_refused, HasRoom, IsOneMore};
 
-/// How many reads and writes were done and how many refused, and the sum of all bytes that were read.
+/// How many reads and writes were done, how many were refused, and the sum of all bytes that were read.
 #[derive(Clone, Copy)]
 pub(crate) struct Tally {
     pub done: u32,
@@ -11,7 +11,7 @@ pub(crate) struct Tally {
 }
 
 impl Tally {
-    /// One more request, which was refused.
+    /// The tally after one more request, which was refused.
     pub fn and_refused(self) -> Tally
         requires { HasRoom self }
         ensures value { result ≡ one_refused self }
@@ -23,7 +23,7 @@ impl Tally {
         }
     }
 
-    /// One more request, which was done, and read bytes of this sum.
+    /// The tally after one more request, which was done and read bytes of this sum.
     pub fn and_done(self, sum: u64) -> Tally
         requires room { HasRoom self }
         requires sum { sum ≤ 130560 }

@@ -1,4 +1,4 @@
--- A form on files alone is a run without requests.
+-- A subcommand on files alone is a run without requests.
 use Rattle.std.proofs.Common.{[], refl}
 use Rattle.flop_base.specs.declared.answers.Status.{Status}
 use Rattle.sector_model.specs.States.{State}

@@ -1,4 +1,4 @@
--- What is said of a run over a machine.
+-- What is proved of a run over a machine.
 use Rattle.std.proofs.Common.{◌≡◌, List, refl, sym, subst}
 use Rattle.flop_base.specs.Counters.{DriveCounts}
 use Rattle.pc_bus.specs.Boards.{Board}

@@ -17,11 +17,11 @@ bare board fresh = record {
   second = made fresh.bay1 board.second fresh.second fresh.new.second;
 }
 
--- a name that was read is the one that the words spell
+-- a name that was read is the one that the arguments spell
 pub named_file : (read spelled : Option (List ℕ)) (file named : List ℕ) → read ≡ Some file → read ≡ spelled → spelled ≡ Some named → file ≡ named
 named_file read spelled file named is reads names = cc
 
--- memory is wanted only where the words spell a name
+-- memory for a name can run out only where the arguments spell one
 pub wants_file : (spelled : Option (List ℕ)) → IsSome spelled → spelled ≡ None → ⊥
 wants_file (Some file) some none = absurd cc
 wants_file None some none = absurd cc

@@ -1,4 +1,4 @@
--- What a form counts.
+-- What a subcommand (form) counts.
 use Rattle.std.proofs.Common.{arith, ◌≡◌, ℕ, ◌+◌, ◌≤◌, List, [], Option, Some, None, refl, ap, sym, subst}
 use Rattle.flop_base.specs.Counters.{LastsUpTo}
 use Rattle.flop_base.specs.declared.answers.Status.{Status}
@@ -21,7 +21,7 @@ use Rattle.floppy_tools.specs.Programs.{DoesForm, DoesOrStarves, AsAsked, Starve
 abbrev Ties : World → List Taken → World → Type 0
 Ties old course new = TiesCounts old.state.station.counters course new.state.station.counters
 
--- where nothing was run and the state stays, nothing was counted
+-- if nothing was run and the state stays, nothing was counted
 nothing_ties : (old : World) (course : List Taken) (new : World) → course ≡ [] → new.state ≡ old.state → Ties old course new
 nothing_ties old course new nothing same =
     subst (λ (steps : List Taken). Ties old steps new) (sym nothing)
@@ -48,7 +48,7 @@ asked_ties : (asked : Form) (old : World) (course : List Taken) (new : World) (e
 asked_ties asked old course new ended (AsAsked does) = form_ties asked old course new ended does
 asked_ties asked old course new ended (StarvesWords nothing idle) = nothing_ties old course new nothing (ap (λ (w : World). w.state) idle.same)
 
--- the counts of a run are tied to its course, whatever the words ask for
+-- the counts of a run are tied to its course, whatever the arguments (words) ask for
 pub does_ties : (asked : Option Form) (old : World) (course : List Taken) (new : World) (ended : Status) → Does asked old course new ended
     → TiesCounts old.state.station.counters course new.state.station.counters
 does_ties (Some asked) old course new ended does = asked_ties asked old course new ended does

@@ -1,4 +1,4 @@
--- The program over a machine: from the driver's set-up to the machine that comes back.
+-- The program over a machine, from the driver's set-up to the machine that comes back.
 use Rattle.std.specs.Prelude.{◌≡◌, List, Option, None}
 use Rattle.flop_base.specs.declared.answers.Status.{Status}
 use Rattle.flop_base.specs.Bays.{both}
@@ -20,8 +20,8 @@ pub record IsSetUp (board : Board) (spares : List DriveCounts) (state : State) :
   pub fresh : IsFresh state.station
   pub starts : Starts board spares state.station
 
--- the program ran over a machine: its run begins with the session that was set up, and the machine that comes back shows the
--- station at its end
+-- the program ran over a machine: its run begins with the session that was set up, and the machine that comes back
+-- shows the station at its end
 pub record RunsOver (asked : Option Form) (old : Board) (spares : List DriveCounts) (before : Outside) (new : Board) (after : Outside) (ended : Status) : Type 0 where
   pub start : State
   pub last : State

@@ -1,4 +1,4 @@
--- What the top call does with its words.
+-- What the top call does with its arguments (words).
 use Rattle.std.specs.Prelude.{◌≡◌, ℕ, List, Option, None, Some}
 use Rattle.flop_base.specs.Shelf.{Files}
 use Rattle.flop_base.specs.declared.answers.Status.{Status}
@@ -21,15 +21,17 @@ abbrev pub ports_world : Board → Names → Outside → World
 ports_world board names outside =
     record { bench = record { board = board; names = names; files = outside.files }; report = outside.report }
 
--- words were done on a board: over a driver, as a run of the sector model; or at the ports, up to the machine that comes back.
--- The status says that they are neither a form nor `ports FILE` only where they are none
+-- what the arguments ask for was done on a board. It was done over a driver, as a run of the sector model, or at the
+-- ports, up to the machine that comes back. The status says that the arguments are neither a subcommand (form) nor
+-- `ports FILE` only if that is so
 pub record DoesWords (words : List (List ℕ)) (old : Board) (spares : List DriveCounts) (before : Outside) (new : Board) (after : Outside) (ended : Status) : Type 0 where
   pub runs : ports_file_of words ≡ None → RunsOver (form_of words) old spares before new after ended
   pub ports : (file : List ℕ) → ports_file_of words ≡ Some file
       → (names : Names) × RunsPorts file (ports_world old no_names before) (ports_world new names after) ended
   pub bad_words : ended ≡ status.BadWords → (form_of words ≡ None) × (ports_file_of words ≡ None)
 
--- all that the top call changes: a machine, files and report, and the faults that shelf and sink counted
+-- all that the top call changes: a machine, files and report, and the faults that file store (shelf) and output (sink)
+-- counted
 pub record Stand : Type 0 where
   pub board : Board
   pub outside : FaultyOutside
@@ -38,14 +40,16 @@ abbrev pub stand_of : {D S K : Type 0} → (D → DriveState) → (S → Option 
 stand_of state files shelf_count report sink_count machine shelf out =
     record { board = board state machine; outside = faulty_outside_of files shelf_count report sink_count shelf out }
 
--- a form was done over a driver, or words that are none, and one fault was counted where the status tells it, and else none
+-- a subcommand, or arguments that are none, was done over a driver. If the status reports a fault, it was counted once;
+-- else no fault was counted
 pub record RanOver (asked : Option Form) (spares : List DriveCounts) (old new : Stand) (ended : Status) : Type 0 where
   pub runs : RunsOver asked old.board spares old.outside.outside new.board new.outside.outside ended
   pub bad_words : ended ≡ status.BadWords → asked ≡ None
   pub shelf_faults : Blames (ended ≡ status.FileFault) old.outside.shelf_faults new.outside.shelf_faults
   pub sink_faults : Blames (ended ≡ status.SinkFault) old.outside.sink_faults new.outside.sink_faults
 
--- the top call did what its words say, and one fault was counted where the status tells it, and else none
+-- the top call did what its arguments say. If the status reports a fault, it was counted once; else no fault was
+-- counted
 pub record Performed (words : List (List ℕ)) (spares : List DriveCounts) (old new : Stand) (ended : Status) : Type 0 where
   pub does : DoesWords words old.board spares old.outside.outside new.board new.outside.outside ended
   pub shelf_faults : Blames (ended ≡ status.FileFault) old.outside.shelf_faults new.outside.shelf_faults

@@ -1,4 +1,4 @@
--- How the program ends, by what the environment variable gives that names a plan.
+-- How the program ends, by what the environment variable gave that names a plan.
 use Rattle.std.specs.Prelude.{ℕ, List, [], ◌∷◌, codes, Option, Result, Ok, Err, String, string_bytes}
 use Rattle.std.specs.declared.alloc.Global.{Global}
 use Rattle.std.specs.declared.env.VarError.{VarError}
@@ -15,12 +15,13 @@ use Rattle.floppy_tools.specs.Runs.{EndsRun, LacksPlan, plain_parts, RunsNew, Ru
 use Rattle.floppy_tools.specs.declared.plan_variable.ProgramEnded.{ProgramEnded}
 use Rattle.floppy_tools.specs.declared.plan_variable.ProgramEnded.TheVariants as ended
 
--- what runs where the variable gives no name: the words on drives without faults, if it isn't set, and else nothing
+-- what runs if the variable gives no name: if it isn't set, the arguments on drives without faults, and else nothing
 abbrev pub RunsUnplanned : VarError → List (List ℕ) → Outside → MachineOf PlainDrive → Outside → Status → Type 0
 RunsUnplanned variable.NotPresent words = RunsNew plain_state plain_parts words
 RunsUnplanned _ words = λ before left after ended. ⊥
 
--- and how it ends without a machine: the value isn't text, which no file's name is; or memory for it, or for a machine, couldn't be had
+-- how the program ends without a machine. The value isn't text, and no file has such a name; or memory for the value or
+-- for a machine ran out
 abbrev pub LacksName : VarError → Outside → Option (List (List ℕ)) → Status → Type 0
 LacksName variable.NotUnicode = λ before report ended. Prints (absent_text (codes "FLOPPY_PLAN") ∷ []) status.Absent before.report report ended
 LacksName _ = Starves
@@ -32,7 +33,7 @@ EndsProgram (Ok name) words old new (ended.Planned run) =
 EndsProgram (Err cause) words old new (ended.Unplanned run) = EndsRun (RunsUnplanned cause words) (LacksName cause) old new run.machine run.status
 EndsProgram _ words old new run = ⊥
 
--- its status
+-- the status with which the program ended
 abbrev pub status_of : ProgramEnded → Status
 status_of (ended.Planned run) = run.status
 status_of (ended.Unplanned run) = run.status

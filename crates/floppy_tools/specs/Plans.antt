@@ -1,4 +1,4 @@
--- How the program ends where the plan that the environment names can't be had.
+-- How the program ends if the plan that the environment names wasn't loaded or wasn't read.
 use Rattle.std.specs.Prelude.{◌≡◌, ℕ, ◌++◌, List, [], ◌∷◌, codes, Option, Some, Err, IfSome}
 use Rattle.std.specs.Fmt.{decimal}
 use Rattle.flop_base.specs.Shelf.{Files, Loads, file_at}
@@ -25,19 +25,19 @@ pub record Silent (wanted : Status) (old new : Option (List (List ℕ))) (ended 
   pub report : new ≡ old
   pub status : ended ≡ wanted
 
--- what is printed where a plan isn't loaded, and the status
+-- what is printed if a plan isn't loaded, and the status
 abbrev pub TellsUnloaded : LoadError → List ℕ → Option (List (List ℕ)) → Option (List (List ℕ)) → Status → Type 0
 TellsUnloaded load.Absent name old new ended = Prints (absent_text name ∷ []) status.Absent old new ended
 TellsUnloaded load.TooLong name old new ended = Prints (bad_plan_text 0 ∷ []) status.BadJob old new ended
 TellsUnloaded load.Failed name old new ended = Silent status.FileFault old new ended
 TellsUnloaded load.NoMemory name old new ended = Silent status.NoMemory old new ended
 
--- and where its text isn't read
+-- what is printed if a plan's text isn't read, and the status
 abbrev pub TellsUnread : PlanError → Option (List (List ℕ)) → Option (List (List ℕ)) → Status → Type 0
 TellsUnread (plan.BadLine line) old new ended = Prints (bad_plan_text line ∷ []) status.BadJob old new ended
 TellsUnread plan.NoMemory old new ended = Silent status.NoMemory old new ended
 
--- the plan of this name can't be had: its file isn't loaded, or its text isn't read
+-- the program ends without the plan of this name: its file isn't loaded, or its text isn't read
 pub data EndsWithoutPlan (told : Option Files) (name : List ℕ) (old new : Option (List (List ℕ))) (ended : Status) : Type 0 where
   Unloaded : (error : LoadError) → IfSome told (λ files. Loads files name most_plan_bytes (Err error))
       → TellsUnloaded error name old new ended → EndsWithoutPlan told name old new ended

@@ -1,4 +1,4 @@
--- What the program does with its words.
+-- What the program does with its arguments (words).
 use Rattle.std.specs.Prelude.{◌≡◌, ℕ, List, [], Option, Some, None}
 use Rattle.flop_base.specs.declared.answers.Rate.TheVariants.{R500, R250}
 use Rattle.flop_base.specs.declared.answers.Status.{Status}
@@ -28,7 +28,8 @@ use Rattle.disk_commands.specs.Exercise.{exercise_script}
 use Rattle.text_commands.specs.CallCourses.{ServesCalls}
 use Rattle.disk_commands.specs.Rescue.{Rescues}
 
--- what a form on files alone leaves as it is: no request is asked, and the session stays as it was
+-- the outside of a world. A subcommand (form) on files alone changes only this: it asks no request, and the session
+-- stays as it was
 abbrev pub outside : World → Outside
 outside world = record { files = world.files; report = world.report }
 
@@ -37,7 +38,7 @@ pub record OnFiles (Does : Outside → Outside → Status → Type 0) (old : Wor
   pub state : new.state ≡ old.state
   pub does : Does (outside old) (outside new) ended
 
--- what a form asks for
+-- what a subcommand asks for
 abbrev pub DoesForm : Form → World → List Taken → World → Status → Type 0
 DoesForm (form.Play job) old course new ended = Plays job old course new ended
 DoesForm (form.Format name cylinders) old course new ended = RunsScript (format_script name cylinders R500) old course new ended
@@ -54,28 +55,29 @@ DoesForm (form.Exercise seed count) old course new ended = RunsScript (exercise_
 DoesForm (form.Int13 calls) old course new ended = ServesCalls calls old course new ended
 DoesForm (form.Rescue from to log) old course new ended = Rescues from to log old course new ended
 
--- the form is done, or memory for its words couldn't be had
+-- the subcommand is done, or memory for its arguments ran out
 pub data DoesOrStarves (asked : Form) (old : World) (course : List Taken) (new : World) (ended : Status) : Type 0 where
   AsAsked : DoesForm asked old course new ended → DoesOrStarves asked old course new ended
   StarvesWords : course ≡ [] → IsIdle old new status.NoMemory ended → DoesOrStarves asked old course new ended
 
--- what the program does with the form that its words are, or with words that are none
+-- what the program does with the subcommand that its arguments are, or with arguments that are none
 abbrev pub Does : Option Form → World → List Taken → World → Status → Type 0
 Does (Some asked) old course new ended = DoesOrStarves asked old course new ended
 Does None old course new ended = TellsAlone bad_words_text status.BadWords old course new ended
 
--- a session, a shelf and a sink, by what they show
+-- the world that a session, a file store (shelf) and an output (sink) show
 abbrev pub world_of : {S K : Type 0} → (S → Option Files) → (K → Option (List (List ℕ))) → State → S → K → World
 world_of files report session shelf out = record { state = session; files = files shelf; report = report out }
 
--- a world of a station, under whose media no names are told, and of an outside
+-- a world of an outside and of a station that tells no names of its media
 abbrev pub begun_on : StationState → Outside → World
 begun_on station outside = record { state = start_of station; files = outside.files; report = outside.report }
 
 abbrev pub left_on : StationState → Two (Option (List ℕ)) → Outside → World
 left_on station names outside = record { state = record { station = station; names = names }; files = outside.files; report = outside.report }
 
--- words were done on a station that came fresh, and one fault was counted where the status tells it, and else none
+-- what the arguments ask for was done on a fresh station. If the status reports a fault, it was counted once; else no
+-- fault was counted
 pub record RanWords (words : List (List ℕ)) (old : StationState) (before : FaultyOutside) (new : StationState) (after : FaultyOutside) (ended : Status) : Type 0 where
   pub runs : (names : Two (Option (List ℕ))) × Runs (Does (form_of words)) (begun_on old before.outside) (left_on new names after.outside) ended
   pub bad_words : ended ≡ status.BadWords → form_of words ≡ None

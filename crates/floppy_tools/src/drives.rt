@@ -1,4 +1,4 @@
-// Drives of the program, and machines with them.
+// The drives of the program, and machines with them.
 ghost use Rattle.std.specs.Prelude.{◌≡◌, [], ◌∷◌, Some, IfOk};
 ghost use Rattle.pc_bus.specs.Boards.{board, IsNew};
 ghost use Rattle.drive_model.specs.Mechanics.{at_rest};

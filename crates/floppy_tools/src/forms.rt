@@ -1,4 +1,4 @@
-// The words of the program, done over a session.
+// The arguments (words) of the program, done over a session.
 ghost use Rattle.std.specs.Prelude.{◌≡◌, Option, None, Ok, map, string_bytes};
 ghost use Rattle.sector_model.specs.Faults.{Blames};
 ghost use Rattle.sector_model.specs.Stations.{IsFresh};
@@ -21,9 +21,9 @@ use sector_model::Station;
 use std::alloc::Global;
 use text_commands::{play, serve_calls};
 
-/// Does what the words after the program's name say, on a station that is as it comes. `floppy` says what each form does. `ports
-/// FILE` is none of these forms, since a station has no ports. It prints a report to the sink, and the status says how it ended.
-/// The station comes back in every case.
+/// Does what the words after the program's name say, on a fresh station. `floppy` says what each subcommand (form)
+/// does. `ports FILE` is none of these, because a station has no ports. A report is printed to the output (sink), and
+/// the status says how the run ended. The station comes back in every case.
 pub fn run_words<S: Shelf, K: Sink, D: Station>(
     alloc: Global,
     words: &[String],
@@ -33,7 +33,7 @@ pub fn run_words<S: Shelf, K: Sink, D: Station>(
 ) -> (Status, D)
     requires fresh { IsFresh (D.shown station) }
     requires ready { D.is_ready station }
-    // The headline: what is printed and stored is a run of the sector model.
+    // The main clause: what is printed and stored is a run of the sector model.
     ensures ran { RanWords (map string_bytes words.now)
         (D.shown station) (faulty_outside_of S.told S.fault_count K.told K.fault_count shelf.old out.old)
         (D.shown result.1) (faulty_outside_of S.told S.fault_count K.told K.fault_count shelf.new out.new) result.0 }
@@ -45,7 +45,8 @@ pub fn run_words<S: Shelf, K: Sink, D: Station>(
     (status, session.into_station())
 }
 
-/// Does what was read of the words: what a form asks for, or nothing where they are none, or where memory for them couldn't be had.
+/// Does what was read of the words: what a subcommand asks for. If the words are no subcommand, or memory for them ran
+/// out, nothing is done.
 pub fn run_asked<S: Shelf, K: Sink, D: Station>(
     alloc: Global,
     session: &mut Session<D>,
@@ -74,7 +75,7 @@ pub fn run_asked<S: Shelf, K: Sink, D: Station>(
     }
 }
 
-/// Does what a form asks for.
+/// Does what a subcommand asks for.
 fn perform_form<S: Shelf, K: Sink, D: Station>(
     run: &mut Run<'_, '_, '_, D, S, K>,
     form: Form,

@@ -1,6 +1,6 @@
-//! The program: its forms over any station, over a machine on which a driver is set up, on a new machine of two drives with two spare
-//! ones, with the faults of a plan or without, and on files in memory. A report tells the answers. A text of port accesses runs on the
-//! machine itself, with no driver.
+//! The program. Its subcommands (forms) run over any station, and over a machine on which a driver is set up. They run
+//! on a new machine of two drives with two spare ones, with the faults of a plan or without, and on files in memory. A
+//! report says what the answers are. A text of port accesses runs on the machine itself, with no driver.
 #![tactic(auto)]
 
 mod drives;

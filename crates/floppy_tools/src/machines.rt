@@ -1,4 +1,4 @@
-// A session over a machine as it was made, and the machine that it leaves.
+// A session over a new machine, and the machine that it leaves.
 ghost use Rattle.std.specs.Prelude.{All};
 ghost use Rattle.pc_bus.specs.Boards.{board, IsEmpty};
 ghost use Rattle.machine_commands.specs.StationShown.{all_counts, ShowsStation};
@@ -11,8 +11,8 @@ use machine_commands::MachineStation;
 use pc_bus::MachineOf;
 use std::alloc::Global;
 
-/// Sets the driver up on a machine that is as it was made. The first of the spare drives is taken first. The session keeps the
-/// allocator for what it runs, and takes no memory itself.
+/// Sets the driver up on a new machine. The first of the spare drives is taken first. The session keeps the allocator
+/// for what it runs, and takes no memory itself.
 pub fn set_up<D: Drive>(
     alloc: Global,
     machine: MachineOf<D>,

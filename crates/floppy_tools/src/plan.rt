@@ -14,7 +14,8 @@ use std::alloc::{AllocError, Global};
 /// The longest text of a plan, in bytes.
 const MOST_PLAN_BYTES: usize = 4_194_304;
 
-/// Reads the plan of this name. Where it can't be had, a line tells why, and the error is the exit status.
+/// Reads the plan of this name. If it isn't loaded or isn't read, the error is the exit status, and a line says why,
+/// unless memory ran out or the file store failed.
 pub(crate) fn read_plan<S: Shelf, K: Sink>(
     alloc: Global,
     name: &str,

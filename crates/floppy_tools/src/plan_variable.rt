@@ -1,4 +1,4 @@
-// The program, by what the environment variable gives that names a plan.
+// The program, by what the environment variable gave that names a plan.
 ghost use Rattle.std.specs.Prelude.{◌≡◌, ◌≢◌, ◌∷◌, [], codes, map, string_bytes};
 ghost use Rattle.sector_model.specs.Plays.{Prints};
 ghost use Rattle.sector_model.specs.Texts.{absent_text};
@@ -35,8 +35,9 @@ impl ProgramEnded {
     }
 }
 
-/// Runs the program by what the variable `PLAN_VARIABLE` gave: with the plan of that name, or without one where it isn't set. Where its value
-/// isn't text, no file has that name: a line tells so, no machine is made, and the files stay as they are.
+/// Runs the program by what the variable `PLAN_VARIABLE` gave: with the plan of that name, or without a plan if the
+/// variable isn't set. If its value isn't text, no file has that name. Then a line says so, no machine is made, and the
+/// files stay as they are.
 pub fn run_program<S: Shelf, K: Sink>(
     alloc: Global,
     plan: Result<String, VarError>,
@@ -44,7 +45,7 @@ pub fn run_program<S: Shelf, K: Sink>(
     shelf: &mut S,
     out: &mut K,
 ) -> ProgramEnded
-    // A run that passes over the name isn't one of its plan.
+    // A run without the named plan isn't a run of that plan.
     ensures { EndsProgram plan (map string_bytes words.now)
         (faulty_outside_of S.told S.fault_count K.told K.fault_count shelf.old out.old) (faulty_outside_of S.told S.fault_count K.told K.fault_count shelf.new out.new)
         result }

@@ -17,13 +17,20 @@ use pc_bus::MachineOf;
 use std::alloc::Global;
 use text_commands::run_ports;
 
-/// Does what the words after the program's name say, on a machine that is as it was made: `play JOB` runs a job, `format NAME
-/// CYLS` and `formatdd NAME CYLS` store a formatted disk, `copy FROM TO` copies one, `verify NAME` reads all of one; `import FLAT
-/// NAME` and `export NAME FLAT` go between a flat file and a disk, `exercise SEED COUNT` runs a generated workload; `fromimd IMD
-/// NAME` and `toimd NAME IMD` turn ImageDisk files into disks and back, `survey NAME` lists the address fields of a disk,
-/// `remaster FROM TO` lays one out anew; `int13 FILE` serves calls of INT 13h; `rescue FROM TO LOG` reads what it can of a disk,
-/// and keeps a log of the rest. `ports FILE` runs a text of port accesses on the machine itself, with no driver. It prints a report
-/// to the sink, and the status says how it ended. The machine comes back in every case; the spare drives that are left are dropped.
+/// Does what the words after the program's name say, on a new machine:
+/// - `play JOB` runs a batch job.
+/// - `format NAME CYLS` and `formatdd NAME CYLS` store a formatted disk.
+/// - `copy FROM TO` copies a disk, and `verify NAME` reads all of one.
+/// - `import FLAT NAME` and `export NAME FLAT` go between a flat file and a disk.
+/// - `exercise SEED COUNT` runs a generated workload.
+/// - `fromimd IMD NAME` and `toimd NAME IMD` turn ImageDisk files into disks and back.
+/// - `survey NAME` lists the address fields of a disk, and `remaster FROM TO` lays one out anew.
+/// - `int13 FILE` serves calls of INT 13h.
+/// - `rescue FROM TO LOG` reads what it can of a disk, and keeps a log of the rest.
+/// - `ports FILE` runs a text of port accesses on the machine itself, with no driver.
+///
+/// A report is printed to the output (sink), and the status says how the run ended. The machine comes back in every
+/// case; the spare drives that are left are dropped.
 pub fn floppy<S: Shelf, K: Sink, D: Drive>(
     alloc: Global,
     words: &[String],
@@ -34,8 +41,8 @@ pub fn floppy<S: Shelf, K: Sink, D: Drive>(
 ) -> (Status, MachineOf<D>)
     requires machine { IsFreshBoard (board D.state machine) }
     requires spare { All (λ drive. IsEmpty (D.state drive)) spare.items }
-    // The headline: what is printed and stored is a run of the sector model, from the driver's set-up on the machine that is handed in
-    // to the one that comes back; or of port accesses on that machine.
+    // The main clause: what is printed and stored is a run of the sector model, from the driver's set-up on the machine
+    // that is handed in to the machine that comes back. Or it is a run of port accesses on that machine.
     ensures { Performed (map string_bytes words.now) (all_counts D.state spare.items)
         (stand_of D.state S.told S.fault_count K.told K.fault_count machine shelf.old out.old)
         (stand_of D.state S.told S.fault_count K.told K.fault_count result.1 shelf.new out.new) result.0 }

@@ -1,4 +1,4 @@
-// The machine of the program, and what it does with the words.
+// The machine of the program, and what the program does with the arguments (words).
 ghost use Rattle.std.specs.Prelude.{◌≡◌, [], map, string_bytes};
 ghost use Rattle.drive_model.specs.PlainDrive.{plain_state};
 ghost use Rattle.drive_model.specs.ScriptDrive.{script_state};
@@ -31,7 +31,7 @@ pub fn run_plain<S: Shelf, K: Sink>(
     shelf: &mut S,
     out: &mut K,
 ) -> Ended<PlainDrive>
-    // The headline: what is printed and stored is what the top call does on a new machine, which comes back.
+    // The main clause: what is printed and stored is what the top call does on a new machine, which comes back.
     ensures { EndsRun (RunsNew plain_state plain_parts (map string_bytes words.now)) Starves
         (faulty_outside_of S.told S.fault_count K.told K.fault_count shelf.old out.old) (faulty_outside_of S.told S.fault_count K.told K.fault_count shelf.new out.new)
         result.machine result.status }
@@ -47,8 +47,9 @@ pub fn run_plain<S: Shelf, K: Sink>(
     )
 }
 
-/// Runs the program on drives with the faults of the plan of this name, at the plan's pace. Where the plan can't be had, a line
-/// tells why, no machine is made, and the files stay as they are.
+/// Runs the program on drives with the faults of the plan of this name, and with the plan's timing. If the plan isn't
+/// loaded or isn't read, no machine is made, and the files stay as they are. A line then says why, unless memory ran
+/// out or the file store failed.
 pub fn run_planned<S: Shelf, K: Sink>(
     alloc: Global,
     plan: &str,
@@ -56,7 +57,7 @@ pub fn run_planned<S: Shelf, K: Sink>(
     shelf: &mut S,
     out: &mut K,
 ) -> Ended<ScriptDrive>
-    // The new machine has the faults and the pace of the plan that the file spells.
+    // The new machine has the faults and the timing (pace) of the plan that the file spells.
     ensures { EndsRun (RunsPlanned plan.now (map string_bytes words.now)) (LacksPlan plan.now)
         (faulty_outside_of S.told S.fault_count K.told K.fault_count shelf.old out.old) (faulty_outside_of S.told S.fault_count K.told K.fault_count shelf.new out.new)
         result.machine result.status }
@@ -70,7 +71,7 @@ pub fn run_planned<S: Shelf, K: Sink>(
     }
 }
 
-/// Runs the program on drives with these faults, at the plan's pace.
+/// Runs the program on drives with these faults, and with the plan's timing.
 fn run_faulty<S: Shelf, K: Sink>(
     alloc: Global,
     plan: FaultPlan,

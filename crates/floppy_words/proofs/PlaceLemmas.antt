@@ -78,6 +78,6 @@ pub is_there : (read : Option Text) (word : Text) → read ≡ Some word → IsS
 is_there (Some text) word e = refl
 is_there None word e = absurd cc
 
--- and the word that is kept of the place is this one
+-- the word that is kept of such a place is this one
 pub is_word : (read : Option Text) (text word : Text) → read ≡ Some word → read ≡ Some text → text ≡ word
 is_word read text word e same = cc

@@ -33,7 +33,7 @@ pub record KeepsAll (old new : Board) : Type 0 where
   pub direct : new.bus.direct ≡ old.bus.direct
   pub taken : old.bus.taken ≤ new.bus.taken
 
--- nor was a motor; an interrupt line that is low stays low, and the latch sees no rise of it
+-- all of that, and no motor was changed; an interrupt line that is low stays low, and the latch sees no rise of it
 pub record StaysIdle (old new : Board) : Type 0 where
   pub keeps : KeepsAll old new
   pub first : KeepsSpeed old.first new.first

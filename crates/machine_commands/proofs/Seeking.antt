@@ -119,7 +119,7 @@ pub record EndsNow (bay : ℕ) (motion : Motion) (drive : DriveState) (Over : �
   pub ends : (seeks : Seeking) → stepped_seek seeks bay motion (drive.cylinder == 0) ≡ ended seeks bay number status
   pub leaves : (after : DriveState) → Moves None drive after → Over number status after
 
--- or the step gives a pulse
+-- with this motion the step gives a pulse
 pub record GivesPulse (bay n : ℕ) (motion : Motion) (drive : DriveState) (Way : ℕ → Motion → DriveState → Type 0) : Type 0 where
   pub inward : Bool
   pub next : Motion

@@ -1,4 +1,4 @@
--- Each request of a call counts what it may, so the call does.
+-- Each request of a call counts no more than it may, and so does the call.
 use Rattle.std.proofs.Common.{arith, ◌≡◌, ℕ, zero, suc, ◌+◌, ◌*◌, ◌≤◌, Bool, true, false, List, [], ◌∷◌, ◌++◌, refl, sym, ap, ◌∙◌, subst, Option, Some, None, Result, Ok, Err}
 use Rattle.std.proofs.lemmas.List.Sums.{sum_by-cons}
 use Rattle.std.specs.Prelude.{MatchOption, MatchBool, sum_by, map}
@@ -115,7 +115,7 @@ step_counts old new told after asked answer of step =
     either (refusal_of old asked) step (does_counts old new told after asked answer of)
     (λ cause refused. more _ _ old.station new.station (same_counts old new refused.same))
 
--- all requests are such
+-- all requests are of those that calls run
 abbrev AllOfCall : List Request → Type 0
 AllOfCall [] = Unit {0}
 AllOfCall (asked ∷ later) = OfCall asked × AllOfCall later
@@ -159,7 +159,7 @@ puts_of : (address : ℕ) (bytes : List ℕ) → AllOfCall (put_requests address
 unfolding put_requests
 puts_of address bytes = mapped (put_request address bytes) (λ i. tt) 0 _
 
--- those of records, in both ways that they go
+-- the requests that move records are of those that calls run, whether all were done or some
 moved_of : (asked : List Request) (old new : State) (told : Option Files) (course : List Taken) (code moved : ℕ) → AllOfCall asked → MovesRecords asked old told course code moved new → AllOfCall (requests_of course)
 moved_of asked old new told course code moved all (All done many fine) = subst AllOfCall (sym done.asked) all
 moved_of asked old new told course code moved all (UpToOne p) =
@@ -192,7 +192,7 @@ work_of_call (Move kind bay c h r count address) old new told course code moved 
 
 -- ---- The run of a call.
 
--- one run behind another
+-- two runs, one after the other, are one
 run_join : (old mid new : State) (told mid_told after : Option Files) (first second : List Taken) → Run old told first mid mid_told → Run mid mid_told second new after → Run old told (first ++ second) new after
 run_join old mid new told mid_told after [] second run next =
     subst (λ (s : State). Run s told second new after) run.0 (subst (λ (f : Option Files). Run mid f second new after) run.1 next)

@@ -1,4 +1,4 @@
--- Every line is a course of the machine, and what runs finishes in time.
+-- Every line is a course of the machine, and what runs at its beginning finishes in time.
 use Rattle.std.proofs.Common.{◌≡◌, ℕ, ◌+◌, ◌≤◌, List, [], ◌∷◌, Option, Some, None, refl, sym, subst, arith}
 use Rattle.std.specs.Option.{MatchOption}
 use Rattle.flop_base.specs.Counts.{RoseBy}
@@ -80,7 +80,7 @@ finishes old new course range passes = let few = passes.least_is in record {
   };
 }
 
--- a course was run, and then no device step passed
+-- a course of lines was run, and after it no device step passed
 pub ends_in_time : (old mid new : Bench) (course : List Taken) → IsInRange old.board → PortRun old course mid → Passes 0 mid.board new.board → EndInTime old course new
 ends_in_time old mid new [] range run behind = tt
 ends_in_time old mid new (taken ∷ later) range (does, run) behind =

@@ -1,4 +1,4 @@
--- Protected media over lines, and how far a run came.
+-- Protected media over lines, and what holds of every run, however far it came.
 use Rattle.std.proofs.Common.{◌≡◌, ℕ, zero, suc, ◌-◌, ◌≤◌, ◌==◌, nat_le, not, Bool, true, false, List, [], ◌∷◌, Option, Some, None, Result, Ok, Err, if◌then◌else◌, refl, sym, ap, subst, arith}
 use Rattle.std.specs.Option.{MatchOption}
 use Rattle.std.proofs.lemmas.Bool.{false≢true}
@@ -80,7 +80,7 @@ bay_same old new same bay = by_bay (bay == 0)
     by_bay true = same.first
     by_bay false = same.second
 
--- device steps leave it
+-- the medium of a bay is the same
 abbrev KeepsBay : ℕ → Board → Board → Type 0
 KeepsBay bay old new = (drive_in new bay).medium ≡ (drive_in old bay).medium
 
@@ -97,7 +97,7 @@ write_guards port value old new access bay covered =
 wait_guards : (n : ℕ) (old new : Board) → Runs n (stirred old) new → (bay : ℕ) → GuardsBay bay old new
 wait_guards n old new runs bay covered = wait (KeepsBay bay old) (kept bay old covered) n old new runs refl
 
--- the other bay is the one that isn't touched
+-- the bay that isn't touched is the other one
 other_same : (touched bay : ℕ) (old new : Board) → touched ≤ 1 → bay ≤ 1 → not (touched == bay) ≡ true → drive_in new (1 - touched) ≡ drive_in old (1 - touched) → drive_in new bay ≡ drive_in old bay
 other_same zero zero old new low within differs same = absurd (false≢true differs)
 other_same zero (suc zero) old new low within differs same = same
@@ -146,7 +146,7 @@ course_guards old new (taken ∷ later) (does, run) = (line_guards old taken.aft
 
 -- ---- how far a run came
 
--- a course was run, and then no device step passed
+-- a course was run, and after it no device step passed
 record Reaches (old : Bench) (course : List Taken) (new : Bench) : Type 0 where
   pub mid : Bench
   pub run : PortRun old course mid
@@ -225,13 +225,13 @@ ran old new name ended range (course, plays) =
       ends = ends_in_time old.bench reached.mid new.bench course range reached.run reached.behind;
     }
 
--- a run that begins with no names
+-- a run on a machine whose media have no names at first
 pub ran_bare : (board : Board) (names : Names) (files : Option Files) (report : Option (List (List ℕ))) (new : World) (name : List ℕ) (ended : Status) → names ≡ no_names → IsInRange board → ((course : List Taken) × Plays name (world_with board names files report) course new ended) → RunsPorts name (world_with board no_names files report) new ended
 ran_bare board names files report new name ended same range plays =
     ran (world_with board no_names files report) new name ended range
     (subst (λ (n : Names). (course : List Taken) × Plays name (world_with board n files report) course new ended) same plays)
 
--- nothing was done where memory couldn't be had before the first line
+-- nothing was done if memory ran out before the first line
 pub starves : (old : World) (name : List ℕ) → RunsPorts name old old status.NoMemory
 starves old name = record {
   course = [];

@@ -1,4 +1,4 @@
--- Requests that were run and told, one after the other.
+-- Requests that were run, and whose answers were printed, one after the other.
 use Rattle.std.proofs.Common.{◌≡◌, ℕ, ◌+◌, ◌<◌, ◌≤◌, suc, Bool, false, List, [], ◌∷◌, ◌++◌, length, take, drop, get_or, refl, ap, ◌∙◌, sym, subst, drop-cons, Option, Some, None}
 use Rattle.std.specs.Prelude.{◌||◌}
 use Rattle.std.proofs.lemmas.List.{take-append-drop, take_more}
@@ -40,7 +40,7 @@ step_to asked answer old mid new step state files =
     subst (λ (s : State). Step asked old.state old.files answer s new.files) (sym state)
     (subst (λ (f : Option Files). Step asked old.state old.files answer mid.state f) (sym files) step)
 
--- a request was answered, and its answer told whole
+-- a request was answered, and its answer printed whole
 pub told_round : (asked : Request) (answer : Reply) (refused : Bool) (old mid new : World) → AsksOne asked old (Ok answer) mid → PutsLines (reply_lines asked answer) mid (Ok tt) new → refused ≡ is_refusal answer → IsRound asked old refused new
 told_round asked answer refused old mid new asks put is = record {
   answer = answer;
@@ -49,7 +49,7 @@ told_round asked answer refused old mid new asks put is = record {
   is_refused = is;
 }
 
--- it couldn't be told whole
+-- a request was answered, and its answer couldn't be printed whole
 pub told_cut : (asked : Request) (answer : Reply) (old mid new : World) (ended : Status) → AsksOne asked old (Ok answer) mid → PutsLines (reply_lines asked answer) mid (Err ended) new → Breaks asked old new ended
 told_cut asked answer old mid new ended asks put =
     AtPut answer (step_to asked answer old mid new asks.0 put.0.state put.0.files)
@@ -77,18 +77,18 @@ has-run-more old mid new requests asked refused refusal so_far round =
       is_refused = ap (λ (b : Bool). b || refusal) so_far.is_refused ∙ ap (λ (b : Bool). has_refusal so_far.course || b) round.is_refused ∙ sym (refusal_more so_far.course taken);
     }
 
--- the requests up to one more were run
+-- all requests up to one more were run
 pub has-run-next : (old mid new : World) (requests : List Request) (i : ℕ) (asked : Request) (refused refusal now : Bool) → HasRun (take i requests) old refused mid → IsRound asked mid refusal new → i < length requests → asked ≡ get_or requests i asked → now ≡ (refused || refusal) → HasRun (take (i + 1) requests) old now new
 has-run-next old mid new requests i asked refused refusal now so_far round within item either =
     let one : take (i + 1) requests ≡ take i requests ++ asked ∷ [] = take_more requests i asked within ∙ ap (λ (r : Request). take i requests ++ r ∷ []) (sym item) in
     subst (λ (b : Bool). HasRun (take (i + 1) requests) old b new) (sym either) (subst (λ (rs : List Request). HasRun rs old (refused || refusal) new) (sym one) (has-run-more old mid new (take i requests) asked refused refusal so_far round))
 
--- a request, those before it and those after it are all
+-- the requests before one, this request, and those after it are all
 pub parted : (requests : List Request) (i : ℕ) (asked : Request) → i < length requests → asked ≡ get_or requests i asked → requests ≡ take i requests ++ asked ∷ drop (suc i) requests
 parted requests i asked within item =
     sym (take-append-drop i requests) ∙ ap (λ (rest : List Request). take i requests ++ rest) (drop-cons requests i asked within ∙ ap (λ (r : Request). r ∷ drop (suc i) requests) (sym item))
 
--- a play that a request broke off
+-- a play that broke off at a request
 pub broken : (old mid new : World) (requests : List Request) (i : ℕ) (asked : Request) (refused : Bool) (ended : Status) → HasRun (take i requests) old refused mid → i < length requests → asked ≡ get_or requests i asked → Breaks asked mid new ended → HasPlayed requests old new ended
 broken old mid new requests i asked refused ended so_far within item (AtStop cause stops prints) = (
   so_far.course,
@@ -169,34 +169,34 @@ has_tries (request.Dump address length) valid = tt
 has_tries (request.Unit bay) valid = tt
 has_tries (request.SetRate bay rate) valid = tt
 
--- a text that spells requests
+-- how a text is played that spells requests
 pub parsed_plays : (old new : World) (text : List ℕ) (given requests : List Request) (ended : Status) → parsed_of text ≡ Ok requests → given ≡ requests → HasPlayed given old new ended → PlaysOrStarves text old new ended
 parsed_plays old new text given requests ended spelled same played =
     AsParsed played.0
     (subst (λ (parsed : Result (List Request) ℕ). PlaysParsed parsed old played.0 new ended) (sym spelled)
     (subst (λ (rs : List Request). PlaysRequests rs old played.0 new ended) same played.1))
 
--- what a reading answered that found a bad line
+-- what the reading of a text with a bad line answered
 pub read_bad : {A : Type 0} (items : A → List Request) (error : JobError) (said : Result (List Request) ℕ) (line : ℕ) → ReadsText items (Err error) said → error ≡ lines.BadLine line → said ≡ Err line
 read_bad items error said line reads is = subst (λ (e : JobError). ReadsText items (Err e) said) is reads
 
--- a text with a bad line
+-- how a text with a bad line is played
 pub unparsed_tells : (old new : World) (text : List ℕ) (line : ℕ) (ended : Status) → parsed_of text ≡ Err line → Tells (bad_line_text line) status.BadJob old new ended → PlaysOrStarves text old new ended
 unparsed_tells old new text line ended spelled tells =
     AsParsed []
     (subst (λ (parsed : Result (List Request) ℕ). PlaysParsed parsed old [] new ended) (sym spelled) (record { nothing = refl; tells = tells }))
 
--- a play whose text was read
+-- how a text that was read is played
 pub as_text : (old new : World) (job text : List ℕ) (ended : Status) → IsText old.files job text → PlaysOrStarves text old new ended → (course : List Taken) × Plays job old course new ended
 as_text old new job text ended told (AsParsed course plays) = (course, There (record { text = text; told = told; plays = plays }))
 as_text old new job text ended told (Starving idle) = ([], Starved refl idle)
 
--- a loaded text is the told file's
+-- a text that was loaded is the text of the told file
 pub loaded_text : (told : Option Files) (job : List ℕ) (bytes : Vec ℕ Global) → IfSome told (λ files. Loads files job 4194304 (Ok bytes)) → IsText told job bytes.items
 loaded_text None job bytes loads = tt
 loaded_text (Some files) job bytes loads = subst (λ (found : Option (List ℕ)). IsSomeAnd found (λ b. (b ≡ bytes.items) × (length b ≤ 4194304))) (sym loads.0) (refl, loads.1)
 
--- a play whose text wasn't had
+-- a play of a batch job whose text wasn't loaded
 as_missed : (told : Option Files) (state : State) (report after : Option (List (List ℕ))) (job : List ℕ) (error : LoadError) (ended : Status) → IfSome told (λ files. Loads files job 4194304 (Err error)) → MissesText error job report after ended → (course : List Taken) × Plays job (world state told report) course (world state told after) ended
 as_missed None state report after job load.Absent ended loads missed = ([], Missing tt (record { nothing = refl; tells = record { state = refl; files = refl; prints = missed } }))
 as_missed (Some files) state report after job load.Absent ended loads missed = ([], Missing loads (record { nothing = refl; tells = record { state = refl; files = refl; prints = missed } }))
@@ -205,14 +205,14 @@ as_missed (Some files) state report after job load.TooLong ended loads missed = 
 as_missed told state report after job load.Failed ended loads missed = ([], Faulty refl (record { same = ap (world state told) missed.0; status = missed.1 }))
 as_missed told state report after job load.NoMemory ended loads missed = ([], Starved refl (record { same = ap (world state told) missed.0; status = missed.1 }))
 
--- a text that was loaded, and played
+-- a play of a text that was loaded
 pub text_plays : (old mid new : World) (job text : List ℕ) (bytes : Vec ℕ Global) (ended : Status) → LoadsText job 4194304 old (Ok bytes) mid → text ≡ bytes.items → PlaysOrStarves text mid new ended → (course : List Taken) × Plays job old course new ended
 text_plays old mid new job text bytes ended loaded same plays =
     as_text old new job bytes.items ended (loaded_text old.files job bytes loaded.1)
     (subst (λ (w : World). PlaysOrStarves bytes.items w new ended) loaded.0
     (subst (λ (read : List ℕ). PlaysOrStarves read mid new ended) same plays))
 
--- a text that wasn't loaded
+-- a play of a text that wasn't loaded
 pub missed_plays : (old new : World) (job : List ℕ) (ended : Status) → LoadsText job 4194304 old (Err ended) new → (course : List Taken) × Plays job old course new ended
 missed_plays old new job ended missed =
     let told = missed.2 in

@@ -1,4 +1,4 @@
--- A bay keeps its name exactly as long as its medium.
+-- A bay has a name as long as it has a medium.
 use Rattle.std.proofs.Common.{◌≡◌, ℕ, Option, is_some, sym, ap, ◌∙◌, inl, inr}
 use Rattle.raw_image.specs.Disk.{Disk}
 use Rattle.laws_machine.specs.OnSteps.Steady.{Steady}

@@ -1,4 +1,4 @@
--- The lines that a text of calls gives.
+-- The lines that parsing a text of calls gives.
 use Rattle.std.proofs.Common.{◌≡◌, ℕ, Bool, true, false, List, [], ◌∷◌, Option, Some, None, refl, subst, Ok, codes}
 use Rattle.std.specs.Prelude.{All, option_map, option_and_then, if◌then◌else◌}
 use Rattle.std.specs.Str.{bytes_eq}

@@ -1,4 +1,4 @@
--- Lines that were done and told, one after the other.
+-- Lines that were done, and whose answers were printed, one after the other.
 use Rattle.std.proofs.Common.{◌≡◌, ℕ, ◌+◌, ◌<◌, ◌≤◌, suc, Bool, true, false, List, [], ◌∷◌, ◌++◌, length, take, drop, get_or, refl, ap, ◌∙◌, sym, subst, drop-cons, append-nil, append_assoc, Option, Some, None}
 use Rattle.std.specs.Prelude.{◌||◌, Vec, IfSome, IsSomeAnd, Result, Ok, Err}
 use Rattle.std.specs.declared.alloc.Global.{Global}
@@ -73,18 +73,18 @@ has-run-more old mid new before asked refused refusal so_far round =
       is_refused = ap (λ (b : Bool). b || refusal) so_far.is_refused ∙ ap (λ (b : Bool). has_refusal so_far.course || b) round.is_refused ∙ sym (refusal_more so_far.course taken);
     }
 
--- the lines up to one more were done
+-- all lines up to one more were done
 pub has-run-next : (old mid new : World) (asked_for : List PortLine) (i : ℕ) (asked : PortLine) (refused refusal now : Bool) → HasRun (take i asked_for) old refused mid → IsRound asked mid refusal new → i < length asked_for → asked ≡ get_or asked_for i asked → now ≡ (refused || refusal) → HasRun (take (i + 1) asked_for) old now new
 has-run-next old mid new asked_for i asked refused refusal now so_far round within item either =
     let one : take (i + 1) asked_for ≡ take i asked_for ++ asked ∷ [] = take_more asked_for i asked within ∙ ap (λ (r : PortLine). take i asked_for ++ r ∷ []) (sym item) in
     subst (λ (b : Bool). HasRun (take (i + 1) asked_for) old b new) (sym either) (subst (λ (rs : List PortLine). HasRun rs old (refused || refusal) new) (sym one) (has-run-more old mid new (take i asked_for) asked refused refusal so_far round))
 
--- a line, those before it and those after it are all
+-- the lines before one, this line, and those after it are all
 parted : (asked_for : List PortLine) (i : ℕ) (asked : PortLine) → i < length asked_for → asked ≡ get_or asked_for i asked → asked_for ≡ take i asked_for ++ asked ∷ drop (suc i) asked_for
 parted asked_for i asked within item =
     sym (take-append-drop i asked_for) ∙ ap (λ (rest : List PortLine). take i asked_for ++ rest) (drop-cons asked_for i asked within ∙ ap (λ (r : PortLine). r ∷ drop (suc i) asked_for) (sym item))
 
--- a line broke the run off
+-- a run that broke off at a line
 pub broken : (old mid new : World) (asked_for : List PortLine) (i : ℕ) (asked : PortLine) (refused : Bool) (ended : Status) → HasRun (take i asked_for) old refused mid → i < length asked_for → asked ≡ get_or asked_for i asked → Breaks asked mid new ended → HasPlayed asked_for old new ended
 broken old mid new asked_for i asked refused ended so_far within item (AtStop cause stops prints) = (
   so_far.course,
@@ -147,7 +147,7 @@ run-ends old mid new asked_for refused ended so_far report (AtStore cause only s
 
 -- ---- texts
 
--- a text that spells lines
+-- how a text is run that spells lines
 pub parsed_plays : (old new : World) (text : List ℕ) (given read : List PortLine) (ended : Status) → ports_of text ≡ Ok read → given ≡ read → HasPlayed given old new ended → (course : List Taken) × PlaysOrStarves text old course new ended
 parsed_plays old new text given read ended spelled same played = (
   played.0,
@@ -155,33 +155,33 @@ parsed_plays old new text given read ended spelled same played = (
       (subst (λ (rs : List PortLine). PlaysLines rs old played.0 new ended) same played.1)),
 )
 
--- what a reading answered that found a bad line
+-- what the reading of a text with a bad line answered
 pub read_bad : {A : Type 0} (items : A → List PortLine) (error : JobError) (said : Result (List PortLine) ℕ) (line : ℕ) → ReadsText items (Err error) said → error ≡ lines.BadLine line → said ≡ Err line
 read_bad items error said line reads is = subst (λ (e : JobError). ReadsText items (Err e) said) is reads
 
--- a text with a bad line
+-- how a text with a bad line is run
 pub unparsed_tells : (old new : World) (text : List ℕ) (line : ℕ) (ended : Status) → ports_of text ≡ Err line → Tells (bad_line_text line) status.BadJob old new ended → (course : List Taken) × PlaysOrStarves text old course new ended
 unparsed_tells old new text line ended spelled tells = (
   [],
   AsParsed (subst (λ (parsed : Result (List PortLine) ℕ). PlaysParsed parsed old [] new ended) (sym spelled) (record { nothing = refl; tells = tells })),
 )
 
--- a loaded text is the told file's
+-- a text that was loaded is the text of the told file
 loaded_text : (told : Option Files) (name : List ℕ) (bytes : Vec ℕ Global) → IfSome told (λ files. Loads files name 4194304 (Ok bytes)) → IsText told name bytes.items
 loaded_text None name bytes loads = tt
 loaded_text (Some files) name bytes loads = subst (λ (found : Option (List ℕ)). IsSomeAnd found (λ b. (b ≡ bytes.items) × (length b ≤ 4194304))) (sym loads.0) (refl, loads.1)
 
--- a run whose text was read
+-- how a text that was read is run
 as_text : (old new : World) (name text : List ℕ) (course : List Taken) (ended : Status) → IsText old.bench.files name text → PlaysOrStarves text old course new ended → Plays name old course new ended
 as_text old new name text course ended told (AsParsed plays) = There (record { text = text; told = told; plays = plays })
 as_text old new name text course ended told (Starving idle) = Starved idle
 
--- ---- what a shelf told
+-- ---- what a file store (shelf) told
 
 abbrev pub world_with : Board → Names → Option Files → Option (List (List ℕ)) → World
 world_with board names files report = record { bench = record { board = board; names = names; files = files }; report = report }
 
--- a run whose text wasn't had
+-- a run whose text wasn't loaded
 as_missed : (board : Board) (names : Names) (told : Option Files) (report after : Option (List (List ℕ))) (name : List ℕ) (error : LoadError) (ended : Status) → IfSome told (λ files. Loads files name 4194304 (Err error)) → MissesText error name report after ended → (course : List Taken) × Plays name (world_with board names told report) course (world_with board names told after) ended
 as_missed board names None report after name load.Absent ended loads missed = ([], Missing tt (record { nothing = refl; tells = record { bench = refl; prints = missed } }))
 as_missed board names (Some files) report after name load.Absent ended loads missed = ([], Missing loads (record { nothing = refl; tells = record { bench = refl; prints = missed } }))
@@ -190,7 +190,7 @@ as_missed board names (Some files) report after name load.TooLong ended loads mi
 as_missed board names told report after name load.Failed ended loads missed = ([], Faulty (record { nothing = refl; same = ap (world_with board names told) missed.0; status = missed.1 }))
 as_missed board names told report after name load.NoMemory ended loads missed = ([], Starved (record { nothing = refl; same = ap (world_with board names told) missed.0; status = missed.1 }))
 
--- a file that was loaded, and a text that was played
+-- a run of a text whose file was loaded
 pub text_plays : (board : Board) (names : Names) (told loaded : Option Files) (report : Option (List (List ℕ))) (new : World) (name text : List ℕ) (bytes : Vec ℕ Global) (ended : Status) → loaded ≡ told → text ≡ bytes.items → IfSome told (λ files. Loads files name 4194304 (Ok bytes)) → ((course : List Taken) × PlaysOrStarves text (world_with board names loaded report) course new ended) → (course : List Taken) × Plays name (world_with board names told report) course new ended
 text_plays board names told loaded report new name text bytes ended stays same loads plays = (
   plays.0,
@@ -199,7 +199,7 @@ text_plays board names told loaded report new name text bytes ended stays same l
       (subst (λ (read : List ℕ). PlaysOrStarves read (world_with board names loaded report) plays.0 new ended) same plays.1)),
 )
 
--- a file that wasn't loaded
+-- a run of a text whose file wasn't loaded
 pub missed_plays : (board : Board) (names : Names) (told loaded : Option Files) (report after : Option (List (List ℕ))) (name : List ℕ) (error : LoadError) (ended : Status) → loaded ≡ told → IfSome told (λ files. Loads files name 4194304 (Err error)) → MissesText error name report after ended → (course : List Taken) × Plays name (world_with board names told report) course (world_with board names loaded after) ended
 missed_plays board names told loaded report after name error ended stays loads missed =
     subst (λ (files : Option Files). (course : List Taken) × Plays name (world_with board names told report) course (world_with board names files after) ended) (sym stays)

@@ -1,4 +1,4 @@
--- The requests that calls run, as a run, and its counts.
+-- The requests that calls run are a run, and have its counts.
 use Rattle.std.proofs.Common.{◌≡◌, ℕ, Bool, true, false, List, [], ◌∷◌, ◌++◌, refl, sym, subst, append-nil, Option, None, Result, Ok, Err}
 use Rattle.std.specs.Prelude.{MatchBool}
 use Rattle.flop_base.specs.Shelf.{Files}
@@ -24,7 +24,7 @@ use Rattle.commands.specs.Leading.{Runs}
 use Rattle.text_commands.specs.CallRounds.{Round, DoesLine, AreRounds, course_of, Breaks, AtStop, AtPut}
 use Rattle.text_commands.specs.CallCourses.{ServesLines, Through, Broken, EndStopped, ServesParsed, ServesCalls, There, Missing, TooLong, Faulty, Starved}
 
--- one run behind another
+-- two runs, one after the other, are one
 run_join : (old mid new : State) (told mid_told after : Option Files) (first second : List Taken) → Run old told first mid mid_told → Run mid mid_told second new after → Run old told (first ++ second) new after
 run_join old mid new told mid_told after [] second run next =
     subst (λ (s : State). Run s told second new after) run.0 (subst (λ (f : Option Files). Run mid f second new after) run.1 next)
@@ -55,7 +55,7 @@ work_run (Move kind bay c h r count address) old new told course code moved p =
     at_course old new told told course _ p.course_is
     (told, (refl, refl, p.same), goes_run (is_acknowledged old.station bay) kind bay address _ p.looked new told p.later code moved p.goes)
 
--- a line is one too
+-- what a line does is a run of requests
 pub line_run : (line : CallLine) (kept : ℕ) (old : State) (told : Option Files) (round : Round) (after : Option Files) → DoesLine line kept old told round after → Run old told round.course round.after after
 line_run (call.Job asked) kept old told round after p = at_course old round.after told after round.course _ p.course_is (after, p.step, (refl, refl))
 line_run (call.Call ax bx cx dx es) kept old told round after p =
@@ -71,7 +71,7 @@ rounds_run kept old told (round ∷ later) kept_after new after p =
 abbrev Ties : World → List Taken → World → Type 0
 Ties old course new = TiesCounts old.state.station.counters course new.state.station.counters
 
--- the worlds without a report
+-- a world without its report
 abbrev silent : State → Option Files → World
 silent state files = record { state = state; files = files; report = None }
 
@@ -117,6 +117,6 @@ calls_ties old new name course ended (TooLong longer alone) = alone_ties old new
 calls_ties old new name course ended (Faulty nothing idle) = idle_ties old new course nothing idle.same
 calls_ties old new name course ended (Starved nothing idle) = idle_ties old new course nothing idle.same
 
--- a file of calls, by its course
+-- what is done for a file of calls, by its course
 pub calls_run : (name : List ℕ) (old new : World) (ended : Status) → ((course : List Taken) × ServesCalls name old course new ended) → Runs (ServesCalls name) old new ended
 calls_run name old new ended p = record { course = p.0; does = p.1 }

@@ -1,4 +1,4 @@
--- Lines that were served and told, one after the other.
+-- Lines that were served, and whose answers were printed, one after the other.
 use Rattle.std.proofs.Common.{◌≡◌, ℕ, ◌+◌, ◌<◌, ◌≤◌, suc, Bool, true, false, List, [], ◌∷◌, ◌++◌, length, take, drop, get_or, refl, ap, ◌∙◌, sym, subst, drop-cons, append-nil, append_assoc, Option, Some, None}
 use Rattle.std.specs.Prelude.{◌||◌, Vec, IfSome, IsSomeAnd, Result, Ok, Err}
 use Rattle.std.specs.declared.alloc.Global.{Global}
@@ -65,7 +65,7 @@ asked_cut kept asked answer old new ended step part fault =
 asked_stop : (kept : ℕ) (asked : Request) (cause : Stop) (old new : World) (ended : Status) → StopsAt asked old.state old.files cause new.state new.files → Prints (stop_lines cause) (stop_status cause) old.report new.report ended → (last : List Taken) × Breaks kept (call.Job asked) old last new ended
 asked_stop kept asked cause old new ended stops prints = ([], AtStop asked cause refl refl stops prints)
 
--- a request that was run as in a job
+-- a request among the lines was run as in a batch job
 pub job_line : (asked : Request) (kept : ℕ) (old new : World) (result : Result Bool Status) → RoundGoes asked old result new → LineGoes kept kept (call.Job asked) old result new
 job_line asked kept old new (Ok refused) round = asked_round kept asked round.answer refused old new round.step round.report round.is_refused
 job_line asked kept old new (Err ended) (AtRequest cause stops prints) = asked_stop kept asked cause old new ended stops prints
@@ -106,14 +106,14 @@ served_cut : (line : CallLine) (regs : Regs) (kept kept_after : ℕ) (old new : 
 served_cut line regs kept kept_after old new answered ended is serves files part fault =
     (serves.0, AtPut (served_line line answered serves.0 kept_after new.state) (served_does line regs kept kept_after old new answered serves.0 is serves.1 files) refl refl part fault)
 
--- a call was served, and then told whole
+-- a call was served, and its line printed whole
 pub told_call : (line : CallLine) (regs : Regs) (kept kept_after : ℕ) (old mid new : World) (answered : Regs) → IsCallOf regs line → ((course : List Taken) × Serves kept regs old.state old.files answered kept_after course mid.state) → mid.files ≡ old.files → mid.report ≡ old.report → PutsLines (call_text answered ∷ []) mid (Ok tt) new → IsRound kept line old answered.carry new kept_after
 told_call line regs kept kept_after old mid new answered is serves files report put =
     served_round line regs kept kept_after old new answered is
     (subst (λ (s : State). (course : List Taken) × Serves kept regs old.state old.files answered kept_after course s) (sym put.state) serves)
     (put.files ∙ files) (put.report ∙ ap (λ (r : Option (List (List ℕ))). grown r (call_text answered ∷ [])) report)
 
--- or a part of its line was
+-- a call was served, and a part of its line was printed
 pub cut_call : (line : CallLine) (regs : Regs) (kept kept_after : ℕ) (old mid new : World) (answered : Regs) (ended : Status) → IsCallOf regs line → ((course : List Taken) × Serves kept regs old.state old.files answered kept_after course mid.state) → mid.files ≡ old.files → mid.report ≡ old.report → PutsLines (call_text answered ∷ []) mid (Err ended) new → (last : List Taken) × Breaks kept line old last new ended
 cut_call line regs kept kept_after old mid new answered ended is serves files report put =
     served_cut line regs kept kept_after old new answered ended is
@@ -172,13 +172,13 @@ served_more old mid new lines line refused refusal kept kept_after so_far is =
       is_refused = ap (λ (b : Bool). b || refusal) so_far.is_refused ∙ ap (λ (b : Bool). has_refused so_far.rounds || b) is.is_refused ∙ sym (refused_more so_far.rounds round);
     }
 
--- the lines up to one more were served
+-- all lines up to one more were served
 pub served_next : (old mid new : World) (lines : List CallLine) (i : ℕ) (line : CallLine) (refused refusal now : Bool) (kept kept_after : ℕ) → HasServed (take i lines) old refused kept mid → IsRound kept line mid refusal new kept_after → i < length lines → line ≡ get_or lines i line → now ≡ (refused || refusal) → HasServed (take (i + 1) lines) old now kept_after new
 served_next old mid new lines i line refused refusal now kept kept_after so_far round within item either =
     let one : take (i + 1) lines ≡ take i lines ++ line ∷ [] = take_more lines i line within ∙ ap (λ (r : CallLine). take i lines ++ r ∷ []) (sym item) in
     subst (λ (b : Bool). HasServed (take (i + 1) lines) old b kept_after new) (sym either) (subst (λ (rs : List CallLine). HasServed rs old (refused || refusal) kept_after new) (sym one) (served_more old mid new (take i lines) line refused refusal kept kept_after so_far round))
 
--- a line broke off
+-- a run that broke off at a line
 pub broken : (old mid new : World) (lines : List CallLine) (i : ℕ) (line : CallLine) (refused : Bool) (kept : ℕ) (ended : Status) → HasServed (take i lines) old refused kept mid → i < length lines → line ≡ get_or lines i line → ((last : List Taken) × Breaks kept line mid last new ended) → HasBroken lines old new ended
 broken old mid new lines i line refused kept ended so_far within item breaks = (
   course_of so_far.rounds ++ breaks.0,
@@ -258,14 +258,14 @@ loaded_text (Some files) name bytes loads = subst (λ (found : Option (List ℕ)
 abbrev world : State → Option Files → Option (List (List ℕ)) → World
 world state files report = record { state = state; files = files; report = report }
 
--- a text that was loaded
+-- how the text of a file that was loaded is served
 pub text_serves : (old mid new : World) (name text : List ℕ) (bytes : Vec ℕ Global) (ended : Status) → LoadsText name 4194304 old (Ok bytes) mid → text ≡ bytes.items → ServesOrStarves text mid new ended → (course : List Taken) × ServesCalls name old course new ended
 text_serves old mid new name text bytes ended loaded same serves =
     as_text old new name bytes.items ended (loaded_text old.files name bytes loaded.1)
     (subst (λ (w : World). ServesOrStarves bytes.items w new ended) loaded.0
     (subst (λ (read : List ℕ). ServesOrStarves read mid new ended) same serves))
 
--- a text that wasn't had
+-- a run whose text wasn't loaded
 as_missed : (told : Option Files) (state : State) (report after : Option (List (List ℕ))) (name : List ℕ) (cause : LoadError) (ended : Status) → IfSome told (λ files. Loads files name 4194304 (Err cause)) → MissesText cause name report after ended → (course : List Taken) × ServesCalls name (world state told report) course (world state told after) ended
 as_missed None state report after name load.Absent ended loads missed = ([], Missing tt (record { nothing = refl; tells = record { state = refl; files = refl; prints = missed } }))
 as_missed (Some files) state report after name load.Absent ended loads missed = ([], Missing loads (record { nothing = refl; tells = record { state = refl; files = refl; prints = missed } }))
@@ -274,7 +274,7 @@ as_missed (Some files) state report after name load.TooLong ended loads missed =
 as_missed told state report after name load.Failed ended loads missed = ([], Faulty refl (record { same = ap (world state told) missed.0; status = missed.1 }))
 as_missed told state report after name load.NoMemory ended loads missed = ([], Starved refl (record { same = ap (world state told) missed.0; status = missed.1 }))
 
--- a text that wasn't loaded
+-- how a text that wasn't loaded is served
 pub missed_serves : (old new : World) (name : List ℕ) (ended : Status) → LoadsText name 4194304 old (Err ended) new → (course : List Taken) × ServesCalls name old course new ended
 missed_serves old new name ended missed =
     let told = missed.2 in

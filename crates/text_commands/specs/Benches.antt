@@ -10,7 +10,7 @@ use Rattle.pc_bus.specs.declared.machine.MachineOf.{MachineOf}
 abbrev pub Names : Type 0
 Names = Two (Option (List ℕ))
 
--- all that a line may change beside the report
+-- all that a line may change, apart from the report
 pub record Bench : Type 0 where
   pub board : Board
   pub names : Names
@@ -19,20 +19,20 @@ pub record Bench : Type 0 where
 abbrev pub bench_of : {D S : Type 0} → (D → DriveState) → (S → Option Files) → MachineOf D → Names → S → Bench
 bench_of state told machine names shelf = record { board = board state machine; names = names; files = told shelf }
 
--- a bay has a medium, and its name
+-- a bay has a name, and so a medium
 abbrev pub is_loaded : Names → ℕ → Bool
 is_loaded names bay = is_some (in_bay names bay)
 
--- a bay has a name exactly where a medium is in
+-- a bay has a name if and only if a medium is in
 pub record AreNamed (names : Names) (board : Board) : Type 0 where
   pub first : is_some names.first ≡ is_some board.first.medium
   pub second : is_some names.second ≡ is_some board.second.medium
 
--- no medium is in, as in a machine that was just made
+-- no medium is in, as in a new machine
 pub record IsBare (board : Board) : Type 0 where
   pub first : board.first.medium ≡ None
   pub second : board.second.medium ≡ None
 
--- both bays without a name
+-- no bay has a name
 abbrev pub no_names : Names
 no_names = record { first = None; second = None }

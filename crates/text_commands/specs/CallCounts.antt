@@ -12,7 +12,7 @@ commands_of tries (request.Write bay key address) = 2 * tries
 commands_of tries (request.Ack bay) = 6
 commands_of tries _ = 0
 
--- the bytes that it puts to memory
+-- the bytes that a request puts into memory
 abbrev pub bytes_put : Request → ℕ
 bytes_put (request.Fill address count byte) = count
 bytes_put _ = 0

@@ -11,7 +11,7 @@ use Rattle.sector_model.specs.Runs.{Taken, Ends, EndStopsAt, IsEndStop}
 use Rattle.sector_model.specs.Plays.{World, TellsAlone, IsIdle, IsText, most_job_bytes, whole_status}
 use Rattle.text_commands.specs.CallRounds.{Round, AreServed, Breaks, course_of, has_refused}
 
--- all lines were done and told, and the media that were left in were stored
+-- all lines were done and printed, and the media that were left in were stored
 pub record IsThrough (lines : List CallLine) (old : World) (course : List Taken) (new : World) (ended : Status) : Type 0 where
   pub rounds : List Round
   pub mid : World
@@ -22,7 +22,7 @@ pub record IsThrough (lines : List CallLine) (old : World) (course : List Taken)
   pub status : ended ≡ whole_status (has_refused rounds)
   pub course_is : course ≡ course_of rounds
 
--- all lines were done and told, and the end couldn't store what was left in
+-- all lines were done and printed, and the end couldn't store what was left in
 pub record IsEndStopped (lines : List CallLine) (old : World) (course : List Taken) (new : World) (ended : Status) : Type 0 where
   pub rounds : List Round
   pub mid : World
@@ -35,7 +35,7 @@ pub record IsEndStopped (lines : List CallLine) (old : World) (course : List Tak
   pub status : ended ≡ stop_status cause
   pub course_is : course ≡ course_of rounds
 
--- a line broke off, after all before it were done and told
+-- a line broke off, after all lines before it were done and printed
 pub record IsBroken (lines : List CallLine) (old : World) (course : List Taken) (new : World) (ended : Status) : Type 0 where
   pub rounds : List Round
   pub mid : World
@@ -49,25 +49,29 @@ pub record IsBroken (lines : List CallLine) (old : World) (course : List Taken) 
   pub breaks : Breaks kept line mid last new ended
   pub course_is : course ≡ course_of rounds ++ last
 
--- the lines are served
+-- how lines are served: all of them, or up to a line that broke off, or up to the end, which stopped
 pub data ServesLines (lines : List CallLine) (old : World) (course : List Taken) (new : World) (ended : Status) : Type 0 where
   Through : IsThrough lines old course new ended → ServesLines lines old course new ended
   Broken : IsBroken lines old course new ended → ServesLines lines old course new ended
   EndStopped : IsEndStopped lines old course new ended → ServesLines lines old course new ended
 
--- a text in the grammar of calls has lines, and any other a first bad line
+-- a text in the grammar of calls has lines, and these are served; any other text has a first bad line
 abbrev pub ServesParsed : Result (List CallLine) ℕ → World → List Taken → World → Status → Type 0
 ServesParsed (Ok lines) old course new ended = ServesLines lines old course new ended
 ServesParsed (Err line) old course new ended = TellsAlone (bad_line_text line) status.BadJob old course new ended
 
--- the text is there, and is served as it is parsed
+-- the text of this name is among the told files, and is served as it is parsed
 pub record ServesText (name : List ℕ) (old : World) (course : List Taken) (new : World) (ended : Status) : Type 0 where
   pub text : List ℕ
   pub told : IsText old.files name text
   pub serves : ServesParsed (calls_of text) old course new ended
 
--- how the calls of a file are served: the text is there; no file has its name; the file is too long; the shelf failed; or memory
--- couldn't be had before the first line
+-- how the calls of a file are served, in one of these cases:
+-- - the text is there
+-- - no file has its name
+-- - the file is too long
+-- - the file store (shelf) failed
+-- - memory ran out before the first line
 pub data ServesCalls (name : List ℕ) (old : World) (course : List Taken) (new : World) (ended : Status) : Type 0 where
   There : ServesText name old course new ended → ServesCalls name old course new ended
   Missing : IsAbsent old.files name → TellsAlone (absent_text name) status.Absent old course new ended

@@ -1,4 +1,4 @@
--- The lines of a calls text, one after the other: what each runs, and what it prints.
+-- The lines of a text of calls, one after the other: what each runs, and what it prints.
 use Rattle.std.specs.Prelude.{◌≡◌, ℕ, Bool, false, ◌||◌, List, [], ◌∷◌, ◌++◌, map, Option}
 use Rattle.flop_base.specs.Shelf.{Files}
 use Rattle.flop_base.specs.Sink.{grown, GrowsByPart}
@@ -17,7 +17,8 @@ use Rattle.floppy_session.specs.declared.regs.Regs.{Regs}
 use Rattle.floppy_session.specs.Services.{Serves}
 use Rattle.text_commands.specs.CallTexts.{registers, call_text}
 
--- a line that was done: the requests that it ran, what it prints, whether that counts as a refusal, and what stands after it
+-- a line that was done: the requests that it ran, what it prints, whether this counts as a refusal, and the state after
+-- it
 pub record Round : Type 0 where
   pub line : CallLine
   pub course : List Taken
@@ -27,7 +28,7 @@ pub record Round : Type 0 where
   pub kept : ℕ
   pub after : State
 
--- a request as in a job
+-- a line that is a request, done as in a batch job
 pub record IsAsked (asked : Request) (kept : ℕ) (old : State) (told : Option Files) (round : Round) (after : Option Files) : Type 0 where
   pub answer : Reply
   pub step : Step asked old told answer round.after after
@@ -36,7 +37,7 @@ pub record IsAsked (asked : Request) (kept : ℕ) (old : State) (told : Option F
   pub is_refused : round.refused ≡ is_refusal answer
   pub keeps : round.kept ≡ kept
 
--- a call of INT 13h; it counts as a refusal where its carry is set
+-- a line that is a call of INT 13h; it counts as a refusal if its carry is set
 pub record IsServed (regs : Regs) (kept : ℕ) (old : State) (told : Option Files) (round : Round) (after : Option Files) : Type 0 where
   pub answered : Regs
   pub serves : Serves kept regs old told answered round.kept round.course round.after
@@ -55,26 +56,26 @@ AreRounds kept old told [] kept_after new after = (kept_after ≡ kept) × (new 
 AreRounds kept old told (round ∷ later) kept_after new after =
     (mid : Option Files) × DoesLine round.line kept old told round mid × AreRounds round.kept round.after mid later kept_after new after
 
--- their lines
+-- the lines of these rounds
 abbrev pub lines_of : List Round → List CallLine
 lines_of rounds = map (λ round. round.line) rounds
 
--- all requests that they ran, in order
+-- all requests that the rounds ran, in order
 abbrev pub course_of : List Round → List Taken
 course_of [] = []
 course_of (round ∷ later) = round.course ++ course_of later
 
--- what they print
+-- what the rounds print
 abbrev pub rounds_lines : List Round → List (List ℕ)
 rounds_lines [] = []
 rounds_lines (round ∷ later) = round.lines ++ rounds_lines later
 
--- some of them counts as a refusal
+-- some round counts as a refusal
 abbrev pub has_refused : List Round → Bool
 has_refused [] = false
 has_refused (round ∷ later) = round.refused || has_refused later
 
--- a line was done and told whole
+-- a line was done and printed whole
 pub record IsRound (kept : ℕ) (line : CallLine) (old : World) (refused : Bool) (new : World) (kept_after : ℕ) : Type 0 where
   pub round : Round
   pub line_is : round.line ≡ line
@@ -84,7 +85,7 @@ pub record IsRound (kept : ℕ) (line : CallLine) (old : World) (refused : Bool)
   pub report : new.report ≡ grown old.report round.lines
   pub is_refused : refused ≡ round.refused
 
--- a request stopped the run, or what a line prints couldn't be put whole; `last` are the requests that the line ran
+-- a request stopped the run, or what a line prints couldn't be put whole; `last` has the requests that the line ran
 pub data Breaks (kept : ℕ) (line : CallLine) (old : World) (last : List Taken) (new : World) (ended : Status) : Type 0 where
   AtStop : (asked : Request) (cause : Stop) → line ≡ call.Job asked → last ≡ []
       → StopsAt asked old.state old.files cause new.state new.files
@@ -92,7 +93,7 @@ pub data Breaks (kept : ℕ) (line : CallLine) (old : World) (last : List Taken)
   AtPut : (round : Round) → DoesLine line kept old.state old.files round new.files → last ≡ round.course → round.after ≡ new.state
       → GrowsByPart old.report round.lines new.report → IsPutFault ended → Breaks kept line old last new ended
 
--- some lines were done and told whole, from the service as it comes
+-- some lines were done and printed whole, beginning with the service as it is at first
 pub record AreServed (lines : List CallLine) (old : World) (rounds : List Round) (new : World) (kept : ℕ) : Type 0 where
   pub served : AreRounds 0 old.state old.files rounds kept new.state new.files
   pub all : lines ≡ lines_of rounds

@@ -1,4 +1,4 @@
--- The registers of a call, and the line that tells those after it.
+-- The registers of a call, and the line that prints the registers after it.
 use Rattle.std.specs.Prelude.{ℕ, ◌/◌, Bool, false, List, ◌++◌, codes, if◌then◌else◌}
 use Rattle.floppy_jobs.specs.Spelling.{hex_digit}
 use Rattle.floppy_session.specs.declared.regs.Regs.{Regs}
@@ -14,7 +14,7 @@ hex4 n = hex_digit (n / 4096) ++ (hex_digit (n / 256) ++ (hex_digit (n / 16) ++ 
 abbrev pub carry_text : Bool → List ℕ
 carry_text carry = if carry then codes "1" else codes "0"
 
--- the line that tells the registers after a call, and its carry
+-- the line with the registers after a call, and its carry
 unfoldable pub call_text : Regs → List ℕ
 call_text regs =
     codes "call " ++ (hex4 regs.ax ++ (codes " " ++ (hex4 regs.bx ++ (codes " " ++ (hex4 regs.cx ++ (codes " " ++ (hex4 regs.dx

@@ -1,4 +1,4 @@
--- Lines done one after the other, with the lines that tell their answers; and the end, which stores what is left in.
+-- Lines done one after the other, with the lines that print their answers; and the end, which stores what is left in.
 use Rattle.std.specs.Prelude.{◌≡◌, ℕ, ◌+◌, Bool, true, false, ◌||◌, List, [], ◌∷◌, ◌++◌, map, Result, Ok, Err}
 use Rattle.floppy_jobs.specs.declared.ports.PortLine.{PortLine}
 use Rattle.pc_bus.specs.Boards.{IsInRange}
@@ -25,22 +25,22 @@ PortRun old (taken ∷ later) new = DoesLine taken.asked old taken.answer taken.
 abbrev pub lines_of : List Taken → List PortLine
 lines_of course = map (λ taken. taken.asked) course
 
--- the lines that tell its answers
+-- the lines that print the answers of a course
 abbrev pub course_lines : List Taken → List (List ℕ)
 course_lines [] = []
 course_lines (taken ∷ later) = answer_lines taken.asked taken.answer ++ course_lines later
 
--- some answer is a refusal
+-- some answer of a course is a refusal
 abbrev pub has_refusal : List Taken → Bool
 has_refusal [] = false
 has_refusal (taken ∷ later) = is_refusal taken.answer || has_refusal later
 
--- the device steps that its lines ask for
+-- the device steps for which the lines of a course wait
 abbrev pub waits_of : List Taken → ℕ
 waits_of [] = 0
 waits_of (taken ∷ later) = waits_in taken.asked + waits_of later
 
--- a bay without a medium at the end
+-- the end of a bay that has no medium: nothing is done
 pub record IsLeft (bay : ℕ) (old new : Bench) : Type 0 where
   pub empty : is_loaded old.names bay ≡ false
   pub same : new ≡ old
@@ -66,7 +66,7 @@ abbrev pub BayGoes : ℕ → Bench → Result (Unit {0}) Stop → Bench → Type
 BayGoes bay old (Ok done) new = EndsBay bay old new
 BayGoes bay old (Err cause) new = IsEndStop cause × DropsMedium bay old new
 
--- so did a run
+-- a run came to its end, or the end stopped
 abbrev pub EndGoes : Bench → Result (Unit {0}) Stop → Bench → Type 0
 EndGoes old (Ok done) new = Ends old new
 EndGoes old (Err cause) new = IsEndStop cause × EndStopsAt old new

@@ -6,21 +6,22 @@ use Rattle.pc_bus.specs.Boards.{Board, controller_of}
 use Rattle.text_commands.specs.Benches.{Bench}
 use Rattle.text_commands.specs.PortCourses.{Taken, waits_of}
 
--- on the way, in which as many device steps passed as lines waited or more, there is a board of which this holds, behind no more
--- than `most` of them
+-- on a course of at least as many device steps as lines waited, there is a board of which this holds, after at most
+-- `most` of these steps
 pub record Comes (P : Board → Type 0) (most waits : ℕ) (old new : Board) : Type 0 where
   pub steps : ℕ
   pub least : waits ≤ steps
   pub meets : Meets P most old steps new
 
--- what runs at the beginning of these lines finishes in them: a data command in execution within 65,536 device steps, unless
--- another one began, if they wait as many; and a seek, where no data command is in execution, within 256
+-- what runs at the beginning of these lines finishes during them, if they wait long enough:
+-- - If they wait 65,536 device steps, a data command in execution ends within as many, unless another one began.
+-- - If they wait 256 device steps, and no data command is in execution, a seek ends within as many.
 pub record FinishesIn (old : Bench) (course : List Taken) (new : Bench) : Type 0 where
   pub command : 65536 ≤ waits_of course → Comes (IsOver old.board) 65536 (waits_of course) old.board new.board
   pub seek : 256 ≤ waits_of course → is_executing (controller_of old.board).phase ≡ false → seeks old.board
       → Comes RunsNoSeek 256 (waits_of course) old.board new.board
 
--- so does whatever runs before any of the lines
+-- whatever runs before any of the lines finishes in the same way during the lines from there on
 abbrev pub EndInTime : Bench → List Taken → Bench → Type 0
 EndInTime old [] new = Unit {0}
 EndInTime old (taken ∷ later) new = FinishesIn old (taken ∷ later) new × EndInTime taken.after later new

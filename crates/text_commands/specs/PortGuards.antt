@@ -1,4 +1,5 @@
--- What port accesses can't do, whatever they are: to media, and to the count of device steps.
+-- What port accesses can't do, whatever they are: limits on what they change of media, and on the count of device
+-- steps.
 use Rattle.std.specs.Prelude.{◌≡◌, ◌≤◌, ℕ, zero, suc, true, List, [], ◌∷◌}
 use Rattle.flop_base.specs.Counts.{RoseBy}
 use Rattle.flop_base.specs.declared.answers.Status.{Status}
@@ -17,27 +18,27 @@ pub record SameMedia (old new : Board) : Type 0 where
   pub first : new.first.medium ≡ old.first.medium
   pub second : new.second.medium ≡ old.second.medium
 
--- in so many device steps each medium changed, in each by one word at most, and not at all while it is protected
+-- in so many device steps each medium changed by at most one word in each step, and not at all while it is protected
 unfoldable pub ChangesWords : ℕ → Board → Board → Type 0
 ChangesWords zero old new = SameMedia old new
 ChangesWords (suc n) old new = (between : Board) × ChangesWords n old between × GuardsMedia between new
 
--- the medium of a bay, if it is a protected one, is as it was
+-- if the medium of a bay is protected, it is as it was
 abbrev pub GuardsBay : ℕ → Board → Board → Type 0
 GuardsBay bay old new = is_protected (drive_in old bay).medium ≡ true → (drive_in new bay).medium ≡ (drive_in old bay).medium
 
--- a line leaves the protected media that it doesn't take out
+-- a line leaves protected media as they are, unless it takes them out
 abbrev pub GuardsLine : PortLine → Bench → Bench → Type 0
 GuardsLine asked old new =
     (bay : ℕ) → bay ≤ 1 → leaves_bay bay asked ≡ true → GuardsBay bay old.board new.board
 
--- each line of a course does
+-- each line of a course leaves protected media in this way
 abbrev pub GuardsCourse : Bench → List Taken → Type 0
 GuardsCourse old [] = Unit {0}
 GuardsCourse old (taken ∷ later) = GuardsLine taken.asked old taken.after × GuardsCourse taken.after later
 
--- how a file of port accesses is run, how many device steps passed at least, that protected media stayed as they were, and that
--- each command finished in time
+-- how a file of port accesses is run. At least as many device steps passed as its lines waited, protected media stayed
+-- as they were, and each command finished in time
 pub record RunsPorts (name : List ℕ) (old new : World) (ended : Status) : Type 0 where
   pub course : List Taken
   pub plays : Plays name old course new ended
@@ -49,6 +50,6 @@ pub record RunsPorts (name : List ℕ) (old new : World) (ended : Status) : Type
 abbrev pub with_names : Names → World → World
 with_names names world = record world { bench = record world.bench { names = names } }
 
--- a file of port accesses is run on a machine whose media are in under no names, and those that are then in have some
+-- a file of port accesses is run on a machine whose media have no names at first; at the end they have some names
 abbrev pub RunsBare : List ℕ → World → World → Status → Type 0
 RunsBare name old new ended = (names : Names) × RunsPorts name old (with_names names new) ended

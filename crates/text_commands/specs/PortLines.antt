@@ -1,4 +1,4 @@
--- What each line does, by its call of the machine.
+-- What each line does, by its call to the machine.
 use Rattle.std.specs.Prelude.{◌≡◌, ℕ, Bool, true, false, not, ◌==◌, List, Option, Some, None, Result, Ok, Err, if◌then◌else◌}
 use Rattle.std.specs.Option.{MatchOption}
 use Rattle.flop_base.specs.Bays.{in_bay, with_bay}
@@ -34,7 +34,7 @@ abbrev pub insert_refusal : Names → ℕ → Option Reason
 insert_refusal names bay =
     if is_bay bay then (if is_loaded names bay then Some reason.Busy else None) else Some (reason.Driver BadRequest)
 
--- why none is taken out
+-- why no medium is taken out
 abbrev pub eject_refusal : Names → ℕ → Option Reason
 eject_refusal names bay =
     if is_bay bay then (if is_loaded names bay then None else Some reason.Empty) else Some (reason.Driver BadRequest)
@@ -80,7 +80,7 @@ pub record ReadsPort (port : ℕ) (old : Board) (said : Answer) (new : Board) : 
   pub answered : said ≡ answer.Byte port value
   pub inputs : Inputs port old value new
 
--- a line is done
+-- what a line does that doesn't stop the run
 abbrev pub DoesLine : PortLine → Bench → Answer → Bench → Type 0
 DoesLine (line.In port) old said new = ReadsPort port old.board said new.board × KeepsMedia old new
 DoesLine (line.Out port value) old said new =
@@ -97,7 +97,7 @@ DoesLine (line.Eject bay) old said new =
     MatchOption (eject_refusal old.names bay) ((said ≡ answer.Done) × StoresMedium bay old new)
     (λ cause. IsRefused cause old said new)
 
--- a line that isn't refused stops the run: an image can't be had, or can't be stored and is dropped
+-- a line that isn't refused stops the run: no image was loaded, or the image can't be stored and the medium is dropped
 abbrev pub StopsAt : PortLine → Bench → Stop → Bench → Type 0
 StopsAt (line.Insert bay name) old cause new =
     (insert_refusal old.names bay ≡ None) × StopCause old.files (request.Insert bay name) cause × (new ≡ old)
@@ -110,7 +110,7 @@ abbrev pub LineGoes : PortLine → Bench → Result Answer Stop → Bench → Ty
 LineGoes asked old (Ok said) new = DoesLine asked old said new
 LineGoes asked old (Err cause) new = StopsAt asked old cause new
 
--- a loaded bay's medium was taken out and stored, or dropped
+-- the medium of a bay that has one was taken out, and it was stored or dropped
 abbrev pub StoresOrDrops : ℕ → Bench → Result (Unit {0}) Stop → Bench → Type 0
 StoresOrDrops bay old (Ok done) new = StoresMedium bay old new
 StoresOrDrops bay old (Err cause) new = IsEndStop cause × DropsMedium bay old new
@@ -123,7 +123,7 @@ is_refusal (answer.Latch set) = false
 is_refusal answer.Done = false
 is_refusal (answer.Refused cause) = true
 
--- the device steps that a line asks for
+-- the device steps for which a line waits
 abbrev pub waits_in : PortLine → ℕ
 waits_in (line.In port) = 0
 waits_in (line.Out port value) = 0

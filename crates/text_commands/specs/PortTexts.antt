@@ -27,7 +27,8 @@ abbrev pub latch_text : Bool → List ℕ
 latch_text true = codes "irq 1\n"
 latch_text false = codes "irq 0\n"
 
--- the line that tells a line's answer, if it has one: a medium that was put in or taken out, or not, as in a job
+-- the line for a line's answer, if it has one; where a medium was put in or taken out, or was not, it is that of a
+-- batch job
 unfoldable pub answer_lines : PortLine → Answer → List (List ℕ)
 answer_lines asked answer.Nothing = []
 answer_lines asked (answer.Byte port value) = (codes "in " ++ (port_text port ++ (codes " " ++ (hex2 value ++ line_end)))) ∷ []

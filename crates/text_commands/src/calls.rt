@@ -1,4 +1,5 @@
-// Texts of calls of INT 13h over a session: each line is served and told, and what is left in the bays is stored at the end.
+// Texts of calls of INT 13h over a session. Each line is served, and its answer is printed; what is left in the bays is
+// stored at the end.
 mod laws;
 mod line;
 mod serve;

@@ -1,4 +1,4 @@
-// The end of a text whose lines were all done: whether one was refused, and what is left in the bays.
+// The end of a text, if all its lines were done: whether one was refused, and what is left in the bays.
 ghost use Rattle.std.specs.Prelude.{◌≡◌, ◌||◌};
 ghost use Rattle.commands.specs.Leading.{Ran};
 ghost use Rattle.text_commands.specs.Ending.{EndsQuietly};

@@ -1,4 +1,4 @@
-// The form `play JOB`: a job is read and run to its end, or up to what stops it.
+// The subcommand `play JOB`: a batch job is read and run to its end, or up to what stops it.
 ghost use Rattle.std.specs.Prelude.{All};
 ghost use Rattle.floppy_session.specs.Tries.{HasTries};
 ghost use Rattle.commands.specs.Leading.{Ran, RanPart};
@@ -12,7 +12,7 @@ use floppy_jobs::{JobError, Request, parse_job};
 /// The longest text of a job, in bytes.
 const MOST_JOB_BYTES: usize = 4_194_304;
 
-/// Runs a request and tells its answer; true where it was refused. The error is the status of a run that ends here.
+/// Runs a request and prints its answer; true if it was refused. The error is the status of a run that ends here.
 pub(crate) fn run_one<R: AnyRun>(run: &mut R, request: &Request) -> Result<bool, Status>
     requires { HasTries request.now }
     ensures { RanPart R.hand (RoundGoes request.now) run.old result run.new }
@@ -26,8 +26,8 @@ pub(crate) fn run_one<R: AnyRun>(run: &mut R, request: &Request) -> Result<bool,
     }
 }
 
-/// Runs and tells the requests of a job in order; true where one was refused. The error is the status of a run that
-/// ends here.
+/// Runs the requests of a batch job in order, and prints their answers; true if one was refused. The error is the
+/// status of a run that ends here.
 fn run_requests<R: AnyRun>(run: &mut R, requests: &[Request]) -> Result<bool, Status>
     requires { All HasTries requests.now }
     ensures { RanPart R.hand (RoundsGo requests.now) run.old result run.new }

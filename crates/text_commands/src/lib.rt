@@ -1,5 +1,5 @@
-//! The commands that go through a text, line by line, and store at the end what is left in the bays: a job and calls of INT 13h, over a
-//! session; and port accesses, on a machine as it stands, with no driver.
+//! The commands that go through a text, line by line, and store at the end what is left in the bays. A batch job and
+//! calls of INT 13h run over a session. Port accesses run on a machine as it stands, with no driver.
 #![tactic(auto)]
 
 mod calls;

@@ -7,8 +7,8 @@ ghost use Rattle.floppy_session.specs.declared.regs.Regs.{Regs};
 ghost use Rattle.floppy_session.specs.Services.{Serves};
 ghost use Rattle.text_commands.specs.CallCounts.{CountsCourse};
 
-/// A call of INT 13h sends at most as many data commands as its requests allow, and accesses memory past the driver at most
-/// once for each byte that a verify puts back.
+/// A call of INT 13h sends at most as many data commands as its requests allow. It accesses memory past the driver at
+/// most once for each byte that a verify puts back.
 pub fn calls_count()
     ensures { (status : ℕ) (regs answered : Regs) (old new : State) (told : Option Files) (kept : ℕ) (course : List Taken)
         → Serves status regs old told answered kept course new → CountsCourse old.station course new.station }

@@ -1,4 +1,4 @@
-// One line of a calls text: served, and told.
+// One line of a text of calls: it is served, and its answer is printed.
 ghost use Rattle.floppy_jobs.specs.declared.calls.CallLine.{CallLine};
 ghost use Rattle.floppy_jobs.specs.declared.calls.CallLine.TheVariants as calls;
 ghost use Rattle.commands.specs.Leading.{RanPart};
@@ -11,7 +11,7 @@ use flop_base::Status;
 use floppy_jobs::CallLine;
 use floppy_session::{Int13, Regs};
 
-/// Serves a call of INT 13h and tells the registers after it; true where its carry is set.
+/// Serves a call of INT 13h, and prints the registers after it; true if its carry is set.
 fn call<R: AnyRun>(run: &mut R, front: &mut Int13, regs: Regs) -> Result<bool, Status>
     ensures { RanPart R.hand (CallGoes regs front.old front.new) run.old result run.new }
 {
@@ -22,7 +22,8 @@ fn call<R: AnyRun>(run: &mut R, front: &mut Int13, regs: Regs) -> Result<bool, S
     }
 }
 
-/// Serves a line and tells what came of it; true where that counts as a refusal. The error is the status of a run that ends here.
+/// Serves a line, and prints what came of it; true if this counts as a refusal. The error is the status of a run that
+/// ends here.
 pub(crate) fn serve_line<R: AnyRun>(
     run: &mut R,
     front: &mut Int13,

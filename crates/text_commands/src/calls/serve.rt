@@ -1,4 +1,4 @@
-// The form `int13 FILE`: the calls of a text are served to its end, or up to what stops the run.
+// The subcommand `int13 FILE`: the calls of a text are served to its end, or up to what stops the run.
 ghost use Rattle.std.specs.Prelude.{All};
 ghost use Rattle.commands.specs.Leading.{Ran, RanPart, Runs};
 ghost use Rattle.text_commands.specs.CallCourses.{ServesCalls};
@@ -14,8 +14,8 @@ use floppy_session::Int13;
 /// The longest text of calls, in bytes.
 const MOST_CALLS_BYTES: usize = 4_194_304;
 
-/// Serves and tells lines in order, from the service as it comes; true where one counts as a refusal. The error is the status of a
-/// run that ends here.
+/// Serves lines in order and prints what came of them, beginning with the service as it is at first; true if one counts
+/// as a refusal. The error is the status of a run that ends here.
 fn serve_lines<R: AnyRun>(run: &mut R, lines: &[CallLine]) -> Result<bool, Status>
     requires { All LineHasTries lines.now }
     ensures { RanPart R.hand (LinesGo lines.now) run.old result run.new }
@@ -55,8 +55,8 @@ fn serve_text<R: AnyRun>(run: &mut R, text: &[u8]) -> Status
     }
 }
 
-/// Reads the text of this name and serves its calls (INT 13h of the PC/AT). Each line prints what came of it, and at the end the
-/// media that are left in the bays are stored.
+/// Reads the text of this name and serves its calls (INT 13h of the PC/AT). Each line prints what came of it. At the
+/// end the media that are left in the bays are stored.
 pub fn serve_calls<R: AnyRun>(run: &mut R, name: Name) -> Status
     ensures { Ran R.hand (Runs (ServesCalls name)) run.old run.new result }
 {

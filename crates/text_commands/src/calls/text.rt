@@ -1,4 +1,4 @@
-// The line that tells the registers after a call.
+// The line that prints the registers after a call.
 ghost use Rattle.std.specs.Prelude.{◌≡◌, Some, IfOk, string_bytes};
 ghost use Rattle.text_commands.specs.CallTexts.{hex4, carry_text, call_text};
 
@@ -29,7 +29,7 @@ fn carry_word(carry: bool) -> &'static str
     if carry { "1" } else { "0" }
 }
 
-/// The line of a call: the registers after it but ES, and the carry.
+/// The line of a call: the registers after it except ES, and the carry.
 #[tactic(auto, unfolding(crate::specs::CallTexts::call_text))]
 pub(crate) fn call_line(alloc: Global, regs: Regs) -> Result<String, AllocError>
     ensures { IfOk result (λ line. string_bytes line ≡ call_text regs) }

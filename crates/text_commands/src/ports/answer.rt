@@ -5,7 +5,7 @@ use sector_model::Reason;
 /// The answer to a line that was done.
 #[derive(Drop)]
 pub enum Answer {
-    /// A write or a wait, which tells nothing.
+    /// A write or a wait, which has nothing to print.
     Nothing,
     /// The byte that a port gave.
     Byte { port: u16, value: u8 },
@@ -13,6 +13,6 @@ pub enum Answer {
     Latch { set: bool },
     /// A medium was put in or taken out.
     Done,
-    /// It wasn't.
+    /// A medium wasn't put in or taken out.
     Refused(Reason),
 }

@@ -1,4 +1,4 @@
-// Each line by its call of the machine.
+// What each line does, by its call to the machine.
 ghost use Rattle.pc_bus.specs.Boards.{board};
 ghost use Rattle.text_commands.specs.Benches.{AreNamed};
 ghost use Rattle.text_commands.specs.PortFaults.{Handled, faulty_bench_of};

@@ -10,9 +10,11 @@ ghost use Rattle.text_commands.specs.PortCourses.{Taken, PortRun, waits_of};
 ghost use Rattle.text_commands.specs.PortFinishes.{EndInTime};
 ghost use Rattle.text_commands.specs.PortGuards.{ChangesWords, GuardsCourse};
 
-/// A port access changes one word of an unprotected medium at most for each device step of the gap behind it, and a wait one for
-/// each of its own; a protected medium stays as it is. Lines leave the protected media that they don't take out, and the count of
-/// device steps rises by at least what they wait.
+/// A port access changes at most one word of an unprotected medium for each device step of the gap after it. A wait
+/// changes at most one for each of its own device steps. A protected medium stays as it is.
+///
+/// Lines leave the protected media that they don't take out. The count of device steps rises by at least what the lines
+/// wait.
 pub fn accesses_guard_media()
     ensures read { (port value : ℕ) (old new : Board) → Inputs port old value new
         → ChangesWords (next_entry old.bus.gaps) old new }
@@ -26,8 +28,9 @@ pub fn accesses_guard_media()
     ensures media { (old new : Bench) (course : List Taken) → PortRun old course new → GuardsCourse old course }
 {}
 
-/// Whatever the lines are, and wherever one looks: a data command in execution has ended, or another one began, once lines waited
-/// 65,536 device steps, and a seek once they waited 256.
+/// Whatever the lines are, and from any line on: once they waited 65,536 device steps, a data command in execution has
+/// ended, or another one began. Once they waited 256, a seek has ended, if no data command was in execution at that
+/// line.
 pub fn commands_end_in_time()
     ensures { (old new : Bench) (course : List Taken) → IsInRange old.board → PortRun old course new → EndInTime old course new }
 {}

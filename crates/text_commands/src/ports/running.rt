@@ -23,7 +23,7 @@ use std::alloc::Global;
 /// The longest text of port accesses, in bytes.
 const MOST_TEXT_BYTES: usize = 4_194_304;
 
-/// Does a line and tells its answer; true where it was refused. The error is the status of a run that ends here.
+/// Does a line and prints its answer; true if it was refused. The error is the status of a run that ends here.
 fn run_one<S: Shelf, K: Sink, D: Drive>(
     alloc: Global,
     machine: &mut MachineOf<D>,
@@ -58,7 +58,8 @@ fn is_refusal(answer: &Answer) -> bool
     }
 }
 
-/// Does and tells lines in order; true where one was refused. The error is the status of a run that ends here.
+/// Does lines in order and prints their answers; true if one was refused. The error is the status of a run that ends
+/// here.
 fn run_lines<S: Shelf, K: Sink, D: Drive>(
     alloc: Global,
     machine: &mut MachineOf<D>,
@@ -145,7 +146,8 @@ fn play_text<S: Shelf, K: Sink, D: Drive>(
     }
 }
 
-/// Reads the text of this name and runs its lines on the machine as it stands, with no driver. Media that are left in are stored.
+/// Reads the text of this name and runs its lines on the machine as it stands, with no driver. Media that are left in
+/// are stored.
 pub fn run_ports<S: Shelf, K: Sink, D: Drive>(
     alloc: Global,
     machine: &mut MachineOf<D>,

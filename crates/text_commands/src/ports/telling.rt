@@ -1,4 +1,4 @@
-// The line that tells an answer.
+// The line that prints an answer.
 ghost use Rattle.std.specs.Prelude.{◌≡◌, ◌≢◌, ◌++◌, codes, Some, IfOk, OnErr, string_bytes};
 ghost use Rattle.floppy_jobs.specs.Spelling.{hex2};
 ghost use Rattle.commands.specs.Puts.{Puts, printed_of};
@@ -69,7 +69,7 @@ fn verb_word(line: &PortLine) -> &'static str
     }
 }
 
-/// The line where a medium wasn't put in or taken out.
+/// The line for a medium that wasn't put in or taken out.
 fn refusal_line(alloc: Global, verb: &str, reason: Reason) -> Result<String, AllocError>
     ensures { IfOk result (λ line. string_bytes line
         ≡ verb.now ++ (codes " refused " ++ (reason_text reason ++ line_end))) }
@@ -79,7 +79,7 @@ fn refusal_line(alloc: Global, verb: &str, reason: Reason) -> Result<String, All
     format!(in alloc; "{verb} refused {word}\n")
 }
 
-/// Puts the line that tells an answer, if it has one.
+/// Puts the line for an answer, if it has one.
 #[tactic(auto, unfolding(crate::specs::PortTexts::answer_lines))]
 pub(crate) fn put_answer<K: Sink>(
     alloc: Global,

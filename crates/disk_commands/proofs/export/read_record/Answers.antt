@@ -8,7 +8,7 @@ use Rattle.commands.proofs.Running.{fed}
 use Rattle.disk_commands.specs.Export.{reads_record}
 use Rattle.disk_commands.proofs.export.read_record.Goals as goal
 
--- what follows the read
+-- the script that follows the read
 abbrev kept : ℕ → List ℕ → (List ℕ → Script) → State → Unit {0} → Script
 kept r bytes rest after none = rest (bytes ++ bytes_from after.station.memory (record_address r) 512)
 

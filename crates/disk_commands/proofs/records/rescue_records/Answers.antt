@@ -5,7 +5,7 @@ use Rattle.commands.proofs.Looping.{amid_goes, amid_ends, amid_over}
 use Rattle.disk_commands.proofs.RescueTurns.{key_goes, key_ends, keys_over}
 use Rattle.disk_commands.proofs.records.rescue_records.Goals as goal
 
--- what a record past the end would be
+-- any key, which stands for reads past the end of the list
 abbrev no_key : Chrn
 no_key = record { c = 0; h = 0; r = 0; n = 0 }
 
