@@ -298,7 +298,8 @@ TELWYDDUS_CALL uint32_t telwyddus_controller_tc(telwyddus_controller *controller
 TELWYDDUS_CALL uint32_t telwyddus_controller_word_time(telwyddus_controller *controller, uint32_t *nanoseconds);
 
 /* Puts the medium of a tray into a bay, 0 or 1. The tray remains, with nothing in it. A refusal changes neither the
- * drive nor the tray. DONE, EMPTY, OUT_OF_RANGE, HAS_MEDIUM, NO_MEDIUM. */
+ * drive nor the tray. An empty tray gives NO_MEDIUM, also if the drive has a medium in.
+ * DONE, EMPTY, OUT_OF_RANGE, HAS_MEDIUM, NO_MEDIUM. */
 TELWYDDUS_NEWS uint32_t telwyddus_controller_insert(telwyddus_controller *controller, uint32_t bay, telwyddus_tray *tray,
     uint8_t *lines);
 

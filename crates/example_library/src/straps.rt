@@ -89,7 +89,7 @@ fn print_told(rt: &impl Print, strap: bool, told: &Told) -> io::Result<()> {
         print!(rt; " {poll:02X}")?;
     }
     println!(rt; "")?;
-    print_seek(rt, "SEEK behind a reset", &told.near)?;
+    print_seek(rt, "SEEK after a reset", &told.near)?;
     print_seek(rt, "SEEK of cylinder 82", &told.far)?;
     print_seek(rt, "RECALIBRATE, 79 pulses", &told.first)?;
     print_seek(rt, "RECALIBRATE again", &told.second)

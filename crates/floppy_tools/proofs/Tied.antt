@@ -1,6 +1,5 @@
 -- What a subcommand (form) counts.
 use Rattle.std.proofs.Common.{arith, ◌≡◌, ℕ, ◌+◌, ◌≤◌, List, [], Option, Some, None, refl, ap, sym, subst}
-use Rattle.flop_base.specs.Counters.{LastsUpTo}
 use Rattle.flop_base.specs.declared.answers.Status.{Status}
 use Rattle.flop_base.specs.declared.answers.Status.TheVariants as status
 use Rattle.floppy_jobs.specs.declared.request.Request.{Request}
@@ -8,8 +7,6 @@ use Rattle.sector_model.specs.States.{State}
 use Rattle.sector_model.specs.Runs.{Taken}
 use Rattle.sector_model.specs.Plays.{World}
 use Rattle.sector_model.specs.Ties.{TiesCounts, IsJob, accesses_of_job}
-use Rattle.sector_model.specs.Times.{course_time}
-use Rattle.sector_model.proofs.JobTimes.{play_lasts, stays_last}
 use Rattle.sector_model.proofs.PlayTies.{play_ties, alone_ties, play_accesses, ran_ties}
 use Rattle.commands.specs.LastLines.{bad_words_text}
 use Rattle.floppy_words.specs.declared.form.Form.{Form}
@@ -66,13 +63,3 @@ pub job_accesses : (job : List ℕ) (old : World) (course : List Taken) (new : W
     → Does (Some (form.Play job)) old course new ended → IsJob old.files job requests
     → new.state.station.counters.direct ≤ old.state.station.counters.direct + accesses_of_job requests
 job_accesses job old course new ended requests does is = play_or_starve job old new course ended requests does is
-
--- the device steps of a job
-play_or_starve_lasts : (job : List ℕ) (old new : World) (course : List Taken) (ended : Status) → DoesOrStarves (form.Play job) old course new ended
-    → LastsUpTo (course_time old.state.station course) old.state.station.counters new.state.station.counters
-play_or_starve_lasts job old new course ended (AsAsked plays) = play_lasts old new job course ended plays
-play_or_starve_lasts job old new course ended (StarvesWords nothing idle) = stays_last old new course nothing (ap (λ (w : World). w.state) idle.same)
-
-pub job_lasts : (job : List ℕ) (old : World) (course : List Taken) (new : World) (ended : Status) → Does (Some (form.Play job)) old course new ended
-    → LastsUpTo (course_time old.state.station course) old.state.station.counters new.state.station.counters
-job_lasts job old course new ended does = play_or_starve_lasts job old new course ended does
