@@ -11,6 +11,7 @@ mod memory;
 mod sectors;
 mod session;
 mod shelf;
+mod unfailing;
 mod words;
 
 pub use desk::SectorDesk;
