@@ -8,7 +8,8 @@ ghost use Rattle.pc_bus.specs.Steps.{Runs, Waits, stirred};
 ghost use Rattle.text_commands.specs.Benches.{Bench};
 ghost use Rattle.text_commands.specs.PortCourses.{Taken, PortRun, waits_of};
 ghost use Rattle.text_commands.specs.PortFinishes.{EndInTime};
-ghost use Rattle.text_commands.specs.PortGuards.{ChangesWords, GuardsCourse};
+ghost use Rattle.text_commands.specs.PortGuards.{GuardsCourse};
+ghost use Rattle.laws_program.specs.ChangedWords.{ChangesWords};
 
 /// A port access changes at most one word of an unprotected medium for each device step of the gap after it. A wait
 /// changes at most one for each of its own device steps. A protected medium stays as it is.

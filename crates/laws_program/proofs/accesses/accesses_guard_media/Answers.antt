@@ -1,7 +1,8 @@
 use Rattle.text_commands.specs.PortCourses.{waits_of}
 use Rattle.text_commands.proofs.FinishingPorts.{course_passes, passes_rise}
-use Rattle.text_commands.proofs.GuardingPorts.{read_changes, write_changes, wait_changes, wait_irq_changes, course_guards}
-use Rattle.text_commands.proofs.ports.laws.accesses_guard_media.Goals as goal
+use Rattle.text_commands.proofs.GuardingPorts.{course_guards}
+use Rattle.laws_program.proofs.ChangedWords.{read_changes, write_changes, wait_changes, wait_irq_changes}
+use Rattle.laws_program.proofs.accesses.accesses_guard_media.Goals as goal
 
 pub returns-clause-read : goal.returns-clause-read
 returns-clause-read c = read_changes
