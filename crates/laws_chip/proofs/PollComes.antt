@@ -1,7 +1,7 @@
 -- The poll of a reset, in the inner controller: once it has come, it isn't to come until the next reset.
-use Rattle.std.proofs.Common.{◌≡◌, inl, inr, ℕ, ◌+◌, ◌-◌, ◌==◌, Bool, true, false, not, ◌&&◌, if◌then◌else◌, List, [], ◌∷◌, ◌++◌, Option, Some, None, length, bit_and, refl, sym, ◌∙◌, ap, subst}
+use Rattle.std.proofs.Common.{◌≡◌, inl, inr, ℕ, ◌+◌, ◌-◌, ◌==◌, Bool, true, false, not, ◌&&◌, ◌||◌, if◌then◌else◌, List, [], ◌∷◌, ◌++◌, Option, Some, None, length, bit_and, refl, sym, ◌∙◌, ap, subst}
 use Rattle.std.proofs.lemmas.Bool.{and_right, eqb-true, false≢true}
-use Rattle.drive_model.specs.Drive.{DriveState}
+use Rattle.drive_model.specs.Drive.{DriveState, at_index}
 use Rattle.fdc_registers.specs.Fifo.{Fifo}
 use Rattle.fdc_commands.specs.Seeking.{has_ended_seek, seek_bits, sensed, with_polls, without_ended}
 use Rattle.fdc_commands.specs.Table.{answer, kept}
@@ -31,7 +31,7 @@ use Rattle.fdc_phases.specs.declared.transfers.Writing.{Writing}
 use Rattle.fdc_core.specs.Commands.{Begins, BeginsData, Obeys, ObeysAtRest, TakesAs, sensing_by}
 use Rattle.fdc_core.specs.Dma.{taken_in, taken_out, told_count}
 use Rattle.fdc_core.specs.Formatting.{FormatDoes, after_laid}
-use Rattle.fdc_core.specs.Listening.{ExecutesIn, ExecutesTask}
+use Rattle.fdc_core.specs.Listening.{ExecutesIn, ExecutesTask, is_executing}
 use Rattle.fdc_core.specs.Ports.{Writes, WritesData, is_taking, resets}
 use Rattle.fdc_core.specs.Reading.{after_heard, after_searched, at_stage, gone_on_reading, is_full, over_or_on, pushed}
 use Rattle.fdc_core.specs.State.{finished, is_held}
@@ -45,8 +45,8 @@ use Rattle.fdc_core.specs.declared.controller.Fdc.{Fdc}
 use Rattle.fdc_core.specs.declared.controller.Lines.{Lines}
 use Rattle.fdc_adapter.specs.Adapters.{AdapterState, Gives, StepsAdapter, Takes, WritesAdapter, lines_at, selected_at}
 use Rattle.fdc_sequencer.specs.Fronts.{BeginsSector, Collects, CollectsAs, Front, GivesAt, GivesFront, GivesMoving, PassesAs, Starts, StartsIf, TakesAt, TakesByte, TakesFront, TakesMoving, WritesFront, after_reading, begins_with, begun_if, byte_given, count_told, told_front, told_if, with_controller}
-use Rattle.fdc_sequencer.specs.Moves.{EndsIf, EndsSector, FollowsStep, MovesOn, SeeksOn, StepsFront, goes_on, is_unwanted, judged_if, passed_over_if}
-use Rattle.fdc_sequencer.specs.Transfers.{next_of, transfer_of}
+use Rattle.fdc_sequencer.specs.Moves.{EndsIf, EndsSector, FollowsStep, MovesOn, SeeksOn, StepsFront, goes_on, has_met_other, is_unwanted, judged_if, passed_over_if}
+use Rattle.fdc_sequencer.specs.Transfers.{command_of, next_of, transfer_of}
 use Rattle.fdc_sequencer.specs.declared.opcode.Opcode.{Opcode}
 use Rattle.fdc_sequencer.specs.declared.stage.Moving.{Moving as MovingSector}
 use Rattle.fdc_sequencer.specs.declared.stage.Stage.{Stage}
@@ -236,11 +236,11 @@ adapter_poll old new steps =
     elim (which_drive (selected_at old)) [
       | inl at ↦
           let works = (steps.at_first at).0 in
-          works_poll fdc.phase (old.first.cylinder == 0) fdc.asking fdc.fifo _ works.reads.word polls old.first new.first new.controller
+          works_poll fdc.phase (old.first.cylinder == 0) fdc.asking fdc.fifo (at_index old.first) works.reads.word polls old.first new.first new.controller
           (subst (λ phase. RestsIn phase (old.first.cylinder == 0) polls new.controller) (polled_phase fdc) works.rests) works.reads.follows.executes works.writes
       | inr (inl at) ↦
           let works = (steps.at_second at).0 in
-          works_poll fdc.phase (old.second.cylinder == 0) fdc.asking fdc.fifo _ works.reads.word polls old.second new.second new.controller
+          works_poll fdc.phase (old.second.cylinder == 0) fdc.asking fdc.fifo (at_index old.second) works.reads.word polls old.second new.second new.controller
           (subst (λ phase. RestsIn phase (old.second.cylinder == 0) polls new.controller) (polled_phase fdc) works.rests) works.reads.follows.executes works.writes
       | inr (inr at) ↦
           let works = (steps.at_none at).0 in
@@ -262,20 +262,20 @@ begun_poll false transfer counted passed_over between old = refl
 
 sector_poll : (transfer : Transfer) (counted passed_over : Bool) (old new : Front) → BeginsSector transfer counted passed_over old new → awaits_poll old ≡ false → awaits_poll new ≡ false
 sector_poll transfer counted passed_over old new begins none =
-    ap awaits_poll begins.begun ∙ (begun_poll _ transfer counted passed_over begins.between old
-    ∙ accepted_poll (looked_at _) (lines_at old.adapter) (record old.adapter.controller { command = [] }) begins.between.controller begins.takes.takes none)
+    ap awaits_poll begins.begun ∙ (begun_poll (is_executing begins.between.controller.phase) transfer counted passed_over begins.between old
+    ∙ accepted_poll (looked_at (Ready (command_of transfer))) (lines_at old.adapter) (record old.adapter.controller { command = [] }) begins.between.controller begins.takes.takes none)
 
 -- ---- bytes of a command
 
 starts_by : (seeks : Bool) (transfer : Transfer) (old new : Front) → StartsIf seeks transfer old new → awaits_poll old ≡ false → awaits_poll new ≡ false
 starts_by true transfer old new begins none =
     ap awaits_poll begins.begun
-    ∙ accepted_poll (looked_at _) (lines_at old.adapter) (record old.adapter.controller { command = [] }) begins.between.controller begins.takes.takes none
+    ∙ accepted_poll (looked_at (Ready (command.Seek transfer.head_drive transfer.key.c))) (lines_at old.adapter) (record old.adapter.controller { command = [] }) begins.between.controller begins.takes.takes none
 starts_by false transfer old new begins none = sector_poll transfer false false old new begins none
 
 starts_poll : (transfer : Option Transfer) (old new : Front) → Starts transfer old new → awaits_poll old ≡ false → awaits_poll new ≡ false
 starts_poll None old new is none = ap awaits_poll is ∙ none
-starts_poll (Some transfer) old new starts none = starts_by _ transfer old new starts none
+starts_poll (Some transfer) old new starts none = starts_by (old.strapped || old.configured) transfer old new starts none
 
 collects_poll : (opcode : Opcode) (accepted : Accepted) (old new : Front) → CollectsAs opcode accepted old new → awaits_poll old ≡ false → awaits_poll new ≡ false
 collects_poll opcode More old new is none = ap awaits_poll is ∙ none
@@ -383,7 +383,7 @@ given_up_poll None old = refl
 given_up_poll (Some ending) old = refl
 
 done_poll : (goes : Bool) (moving : MovingSector) (deleted : Bool) (old new : Front) → EndsIf goes moving deleted old new → awaits_poll old ≡ false → awaits_poll new ≡ false
-done_poll true moving deleted old new begins none = sector_poll (next_of moving.transfer) false _ old new begins none
+done_poll true moving deleted old new begins none = sector_poll (next_of moving.transfer) false (has_met_other moving deleted) old new begins none
 done_poll false moving deleted old new is none = ap awaits_poll is ∙ none
 
 ends_poll : (moving : MovingSector) (ending : Ending) (old new : Front) → EndsSector moving ending old new → awaits_poll old ≡ false → awaits_poll new ≡ false

@@ -1,8 +1,10 @@
 -- The poll of a reset, through each call of a chip: once it has come, it isn't to come until the next reset.
-use Rattle.std.proofs.Common.{◌≡◌, ℕ, zero, suc, ◌+◌, ◌-◌, ◌<◌, ◌==◌, Bool, true, false, not, ◌&&◌, if◌then◌else◌, List, [], ◌∷◌, Option, Some, None, bit_and, refl, sym, ◌∙◌, ap, subst}
+use Rattle.std.proofs.Common.{◌≡◌, ℕ, zero, suc, ◌+◌, ◌-◌, ◌*◌, ◌%◌, ◌<◌, ◌==◌, Bool, true, false, not, ◌&&◌, if◌then◌else◌, List, [], ◌∷◌, Option, Some, None, bit_and, refl, sym, ◌∙◌, ap, subst}
 use Rattle.std.proofs.lemmas.Bool.{and_right, eqb-true, false≢true}
 use Rattle.flop_base.specs.declared.key.Chrn.{Chrn}
-use Rattle.fdc_commands.specs.Seeking.{sensed}
+use Rattle.fdc_registers.specs.St1.{missing_mark}
+use Rattle.fdc_commands.specs.Seeking.{Seeking as Seeks, pulses_within, seek_bits, sensed, with_motion}
+use Rattle.fdc_commands.specs.declared.motion.Motion.TheVariants.{Outward}
 use Rattle.fdc_commands.specs.declared.results.Results.{Results}
 use Rattle.fdc_core.specs.Ports.{resets}
 use Rattle.fdc_core.specs.State.{is_held}
@@ -11,13 +13,18 @@ use Rattle.fdc_core.specs.declared.controller.Fdc.{Fdc}
 use Rattle.fdc_adapter.specs.Senses.{after_result, without_result}
 use Rattle.fdc_sequencer.specs.Fronts.{Front, interrupts_outside, told_front}
 use Rattle.fdc_sequencer.specs.Senses.{pending_outside, recalibrated_at, recalibrated_outside, sensed_at, sensed_outside}
+use Rattle.fdc_sequencer.specs.Transfers.{size_of}
 use Rattle.fdc_sequencer.specs.declared.stage.Stage.{Stage as FrontStage}
 use Rattle.fdc_sequencer.specs.declared.stage.Stage.TheVariants.{Through, Collecting, Seeking, Moving, Telling as FrontTelling}
 use Rattle.fdc_chip.specs.Chips.{ChipState, is_data, passes_by_channel, passes_by_port, with_front}
 use Rattle.fdc_chip.specs.Codes.{code_of}
-use Rattle.fdc_chip.specs.Doing.{AttendsIf, AttendsTo, Begins, BeginsReadId, FormatsIf, MovesIf, Obeys, RemembersIf, Sends, SendsOn, TransfersIf, begun, drained, drained_by, identifying, is_moving, needs_heads, sought_if, implies}
-use Rattle.fdc_chip.specs.Ending.{Ends, EndsAddress, EndsAddressIf, EndsAt, EndsData, EndsIf, EndsIndex, EndsSent, MayEnd, behind_one, behind_six, behind_three, has_results, results_behind, results_taken}
-use Rattle.fdc_chip.specs.Paces.{EndsAt as EndsPace, GoesOnIf, Paces, PulsesIf, is_due, is_over}
+use Rattle.fdc_chip.specs.Doing.{AttendsIf, AttendsTo, Begins, BeginsReadId, FormatsIf, MovesIf, Obeys, RemembersIf, Sends, SendsOn, TransfersIf, absent_key, begun, configuring, drained, drained_by, format_bytes, identifying, implies, is_moving, is_size, moving, needs_heads, no_key, reading_one, relative_target, sectors_verified, sought_if, track_begun, verifying, with_keys, with_last}
+use Rattle.fdc_chip.specs.Ending.{Ends, EndsAddress, EndsAddressIf, EndsAt, EndsData, EndsIf, EndsIndex, EndsSent, MayEnd, behind_one, behind_six, behind_three, has_results, is_over as is_over_track, looks_for_cylinder, results_behind, results_taken, unit_of, verified, without_one, without_seeks}
+use Rattle.fdc_chip.specs.Paces.{EndsAt as EndsPace, GoesOnIf, Paces, PulsesIf, is_due, is_over, stepped}
+use Rattle.fdc_chip.specs.Settings.{step_words}
+use Rattle.fdc_chip.specs.Interrupts.{cylinder_of}
+use Rattle.fdc_chip.specs.Orders.{order_bytes}
+use Rattle.fdc_chip.specs.Answers.{is_of_data}
 use Rattle.fdc_chip.specs.Ports.{CollectsIf, ComesIf, GivesChipIf, GivesIf, ReadsAt, ReadsChip, ReadsIf, TakesByte, TakesIf, WritesChip, count_told, counted_if, is_whole, may_come, quieted_if, value_behind, with_next}
 use Rattle.fdc_chip.specs.Steps.{Follows, FollowsTask, StepsChip, Swallows, SwallowsAs, SwallowsBy}
 use Rattle.fdc_chip.specs.declared.code.Code.{Code}
@@ -80,23 +87,23 @@ sent_poll bytes old new (sends, rest) none = sends_poll bytes old.front new.fron
 
 moves_poll : (paced : Bool) (goal : Option ℕ) (old new : ChipState) → MovesIf paced goal old new → to_come old ≡ false → to_come new ≡ false
 moves_poll true goal old new is none = ap to_come is ∙ none
-moves_poll false goal old new (sends, rest) none = sends_poll _ old.front new.front sends none
+moves_poll false goal old new (sends, rest) none = sends_poll (moving old.order.unit goal) old.front new.front sends none
 
 remembers_poll : (forgotten : Bool) (old new : ChipState) → RemembersIf forgotten old new → to_come old ≡ false → to_come new ≡ false
-remembers_poll true old new (sends, rest) none = sends_poll _ old.front new.front sends none
+remembers_poll true old new (sends, rest) none = sends_poll (configuring old.settings.options old.settings.precompensation) old.front new.front sends none
 remembers_poll false old new is none = ap to_come is ∙ none
 
 begins_poll : (what : Task) (seeks : Bool) (bytes : List ℕ) (old new : ChipState) → Begins what seeks bytes old new → to_come old ≡ false → to_come new ≡ false
 begins_poll what seeks bytes old new begins none =
-    sent_poll bytes begins.set new begins.sends (remembers_poll _ (begun what seeks old) begins.set begins.remembers none)
+    sent_poll bytes begins.set new begins.sends (remembers_poll old.settings.forgotten (begun what seeks old) begins.set begins.remembers none)
 
 identifies_poll : (mfm : Bool) (old new : ChipState) → BeginsReadId mfm old new → to_come old ≡ false → to_come new ≡ false
-identifies_poll true old new begins none = begins_poll _ false _ old new begins none
-identifies_poll false old new begins none = begins_poll _ false _ old new begins none
+identifies_poll true old new begins none = begins_poll task.Sent false (identifying old.order.unit) old new begins none
+identifies_poll false old new begins none = begins_poll (task.Refused old.order.unit no_key false) false (identifying old.order.unit) old new begins none
 
 formats_poll : (whole mfm : Bool) (old new : ChipState) → FormatsIf whole mfm old new → to_come old ≡ false → to_come new ≡ false
-formats_poll true mfm old new begins none = begins_poll _ false _ old new begins none
-formats_poll false mfm old new begins none = begins_poll _ false _ old new begins none
+formats_poll true mfm old new begins none = begins_poll task.Sent false (format_bytes old.order) old new begins none
+formats_poll false mfm old new begins none = begins_poll (task.Refused old.order.unit no_key mfm) false (identifying old.order.unit) old new begins none
 
 sought_poll : (seeks : Bool) (old : ChipState) → to_come (sought_if seeks old) ≡ to_come old
 sought_poll true old = refl
@@ -104,25 +111,29 @@ sought_poll false old = refl
 
 transfers_poll : (whole mfm : Bool) (what : Task) (bytes : List ℕ) (old new : ChipState) → TransfersIf whole mfm what bytes old new → to_come old ≡ false → to_come new ≡ false
 transfers_poll true mfm what bytes old new begins none = begins_poll what (implies old) bytes (sought_if (implies old) old) new begins (sought_poll (implies old) old ∙ none)
-transfers_poll false mfm what bytes old new begins none = begins_poll _ false _ old new begins none
+transfers_poll false mfm what bytes old new begins none = begins_poll (task.Refused old.order.unit old.order.key mfm) false (identifying old.order.unit) old new begins none
 
 obeys_poll : (code : Code) (old new : ChipState) → Obeys code old new → to_come old ≡ false → to_come new ≡ false
 obeys_poll Specify old new is none = ap to_come is ∙ none
-obeys_poll SenseDrive old new asks none = ap to_come asks.told_is ∙ (read_poll asks.sent.front ∙ sent_poll _ old asks.sent asks.sends none)
+obeys_poll SenseDrive old new asks none = ap to_come asks.told_is ∙ (read_poll asks.sent.front ∙ sent_poll (0x04 ∷ old.order.unit ∷ []) old asks.sent asks.sends none)
 obeys_poll SenseInterrupt old new is none = ap to_come is ∙ none
-obeys_poll Recalibrate old new moves none = moves_poll old.paced _ old new moves none
-obeys_poll Seek old new moves none = moves_poll old.paced _ old new moves none
-obeys_poll (RelativeSeek inward) old new moves none = moves_poll old.paced _ old new moves none
+obeys_poll Recalibrate old new moves none = moves_poll old.paced None old new moves none
+obeys_poll Seek old new moves none = moves_poll old.paced (Some old.order.key.c) old new moves none
+obeys_poll (RelativeSeek inward) old new moves none = moves_poll old.paced (Some (relative_target inward (cylinder_of old.order.unit old.interrupts) old.order.key.c)) old new moves none
 obeys_poll Version old new is none = ap to_come is ∙ none
 obeys_poll Perpendicular old new is none = ap to_come is ∙ none
-obeys_poll Configure old new (sends, rest) none = sends_poll _ old.front new.front sends none
+obeys_poll Configure old new (sends, rest) none = sends_poll (configuring old.order.key.c old.order.key.h) old.front new.front sends none
 obeys_poll DumpRegisters old new is none = ap to_come is ∙ none
 obeys_poll (Lock on) old new is none = ap to_come is ∙ none
 obeys_poll (ReadId mfm) old new begins none = identifies_poll mfm old new begins none
-obeys_poll (FormatTrack mfm) old new begins none = formats_poll _ mfm _ new begins none
-obeys_poll (Transfer mfm) old new begins none = transfers_poll _ mfm _ _ _ new begins none
-obeys_poll (Verify mfm) old new begins none = transfers_poll _ mfm _ _ _ new begins none
-obeys_poll (ReadTrack mfm) old new begins none = transfers_poll _ mfm _ _ _ new begins none
+obeys_poll (FormatTrack mfm) old new begins none =
+    formats_poll (mfm && is_size old.order.key.c) mfm (with_keys old.order.key.h (with_last old.order.key.h old)) new begins none
+obeys_poll (Transfer mfm) old new begins none = transfers_poll (mfm && is_size old.order.key.n) mfm task.Sent (order_bytes old.order) (with_last old.order.last_sector old) new begins none
+obeys_poll (Verify mfm) old new begins none =
+    transfers_poll (mfm && is_size old.order.key.n) mfm (task.Verify (sectors_verified old.order * size_of old.order.key.n)) (order_bytes (verifying old.order)) (with_last old.order.last_sector old) new begins none
+obeys_poll (ReadTrack mfm) old new begins none =
+    transfers_poll (mfm && is_size old.order.key.n) mfm (task.Track (track_begun old.order)) (reading_one old.order.unit (absent_key old.order.key.c) old.order.gap old.order.length) (with_last old.order.last_sector old) new
+    begins none
 
 attends_by : (holds : Bool) (code : Code) (old new : ChipState) → AttendsIf holds code old new → to_come old ≡ false → to_come new ≡ false
 attends_by true code old new is none = ap to_come is ∙ none
@@ -136,23 +147,25 @@ attends_poll (Some code) old new attends none = attends_by (needs_heads code && 
 
 -- pulses that come in the time that SPECIFY sets
 recalibrates_poll : (stage : FrontStage) (unit pulses : ℕ) (old : Front) → awaits_poll (recalibrated_at stage unit pulses old) ≡ awaits_poll old
-recalibrates_poll Through unit pulses old = by_free _
+recalibrates_poll Through unit pulses old =
+    let fdc = old.adapter.controller in
+    by_free (is_idle fdc && (seek_bits fdc.seeks == 0)) (with_motion fdc.seeks (unit % 4) (Outward (pulses_within pulses))) fdc
   where
-    by_free : (b : Bool) → (if b then record old.adapter.controller { seeks = _ } else old.adapter.controller).poll_due ≡ old.adapter.controller.poll_due
-    by_free true = refl
-    by_free false = refl
+    by_free : (b : Bool) (seeks : Seeks) (fdc : Fdc) → (if b then record fdc { seeks = seeks } else fdc).poll_due ≡ fdc.poll_due
+    by_free true seeks fdc = refl
+    by_free false seeks fdc = refl
 recalibrates_poll (Collecting opcode) unit pulses old = refl
 recalibrates_poll (Seeking transfer counted) unit pulses old = refl
 recalibrates_poll (Moving moving) unit pulses old = refl
 recalibrates_poll (FrontTelling results read) unit pulses old = refl
 
 over_poll : (goal : Option ℕ) (pace : Pace) (old new : ChipState) → EndsPace goal pace old new → to_come old ≡ false → to_come new ≡ false
-over_poll (Some target) pace old new (sends, rest) none = sends_poll _ old.front new.front sends none
+over_poll (Some target) pace old new (sends, rest) none = sends_poll (moving pace.unit (Some target)) old.front new.front sends none
 over_poll None pace old new is none = ap to_come is ∙ (recalibrates_poll old.front.stage pace.unit pace.left old.front ∙ none)
 
 pulses_poll : (over : Bool) (pace : Pace) (old new : ChipState) → PulsesIf over pace old new → to_come old ≡ false → to_come new ≡ false
 pulses_poll true pace old new ends none = over_poll pace.goal pace (record old { pace = None }) new ends none
-pulses_poll false pace old new (sends, rest) none = sends_poll _ old.front new.front sends none
+pulses_poll false pace old new (sends, rest) none = sends_poll (moving pace.unit (Some (stepped (step_words old.settings) pace).cylinder)) old.front new.front sends none
 
 goes_poll : (due : Bool) (pace : Pace) (old new : ChipState) → GoesOnIf due pace old new → to_come old ≡ false → to_come new ≡ false
 goes_poll true pace old new pulses none = pulses_poll (is_over pace) pace old new pulses none
@@ -185,35 +198,35 @@ results_poll : (old : Front) → awaits_poll (results_taken old) ≡ awaits_poll
 results_poll old = read_poll (behind_six old) ∙ (three_poll (behind_three old) ∙ three_poll old)
 
 sent_ends : (looks : Bool) (results : Results) (old new : ChipState) → EndsSent looks results old new → to_come old ≡ false → to_come new ≡ false
-sent_ends true results old new (sends, rest) none = sends_poll _ old.front new.front sends none
+sent_ends true results old new (sends, rest) none = sends_poll (identifying (unit_of results)) old.front new.front sends none
 sent_ends false results old new is none = ap to_come is ∙ none
 
 index_poll : (missed : Bool) (track : Track) (old new : ChipState) → EndsIndex missed track old new → to_come old ≡ false → to_come new ≡ false
 index_poll true track old new is none = ap to_come is ∙ none
-index_poll false track old new (sends, rest) none = sends_poll _ _ new.front sends none
+index_poll false track old new (sends, rest) none = sends_poll (identifying track.unit) (without_seeks old.front) new.front sends none
 
 met_poll : (met : Bool) (results : Results) (track : Track) (old new : ChipState) → EndsAddressIf met results track old new → to_come old ≡ false → to_come new ≡ false
-met_poll true results track old new (sends, rest) none = sends_poll _ _ new.front sends none
+met_poll true results track old new (sends, rest) none = sends_poll (reading_one track.unit results.key old.order.gap old.order.length) (without_seeks old.front) new.front sends none
 met_poll false results track old new is none = ap to_come is ∙ none
 
 address_poll : (counted : Bool) (results : Results) (track : Track) (old new : ChipState) → EndsAddress counted results track old new → to_come old ≡ false → to_come new ≡ false
 address_poll true results track old new is none = ap to_come is ∙ none
-address_poll false results track old new ends none = met_poll _ results track old new ends none
+address_poll false results track old new ends none = met_poll ((results.st1.0 == 0) && is_size results.key.n) results track old new ends none
 
 data_poll : (over : Bool) (track : Track) (old new : ChipState) → EndsData over track old new → to_come old ≡ false → to_come new ≡ false
 data_poll true track old new is none = ap to_come is ∙ none
-data_poll false track old new (sends, rest) none = sends_poll _ _ new.front sends none
+data_poll false track old new (sends, rest) none = sends_poll (identifying track.unit) (without_seeks old.front) new.front sends none
 
 place_poll : (place : Place) (track : Track) (results : Results) (old new : ChipState) → EndsAt place track results old new → to_come old ≡ false → to_come new ≡ false
-place_poll Index track results old new ends none = index_poll _ track old new ends none
+place_poll Index track results old new ends none = index_poll (not (bit_and results.st1.0 missing_mark == 0)) track old new ends none
 place_poll Address track results old new ends none = address_poll track.counted results track old new ends none
-place_poll Data track results old new ends none = data_poll _ _ old new ends none
+place_poll Data track results old new ends none = let over = without_one results track in data_poll (is_over_track results over) over old new ends none
 
 ends_poll : (what : Task) (results : Results) (old new : ChipState) → Ends what results old new → to_come old ≡ false → to_come new ≡ false
-ends_poll task.Sent results old new ends none = sent_ends _ results old new ends none
+ends_poll task.Sent results old new ends none = sent_ends (looks_for_cylinder old.order results) results old new ends none
 ends_poll (task.Sought first) results old new is none = ap to_come is ∙ none
 ends_poll (task.Refused unit key mfm) results old new is none = ap to_come is ∙ none
-ends_poll (task.Verify left) results old new ends none = sent_ends _ _ old new ends none
+ends_poll (task.Verify left) results old new ends none = let told = verified old.order results in sent_ends (looks_for_cylinder old.order told) told old new ends none
 ends_poll (task.Track track) results old new ends none = place_poll track.place track results old new ends none
 
 may_end_by : (waits : Bool) (what : Task) (old new : ChipState) → EndsIf waits what old new → to_come old ≡ false → to_come new ≡ false
@@ -290,7 +303,7 @@ reads_at : (stage : Stage) (old : ChipState) (value : ℕ) (new : ChipState) →
 reads_at Ready old value new reads = reads_by (passes_by_port old) old value new reads
 reads_at Held old value new reads = reads_by (passes_by_port old) old value new reads
 reads_at (Busy what) old value new reads = reads_by (passes_by_port old) old value new reads
-reads_at (Telling answer read) old value new (value_is, is) = ap to_come is ∙ quieted_poll _ old
+reads_at (Telling answer read) old value new (value_is, is) = ap to_come is ∙ quieted_poll (is_of_data answer && (read == 0)) old
 
 gives_if : (passes : Bool) (byte : ℕ) (old new : ChipState) → GivesIf passes byte old new → to_come new ≡ to_come old
 gives_if true byte old new gives = gives_poll byte old.front gives.was new.front gives.gives
