@@ -1,5 +1,5 @@
 -- Seeks whose pulses come in the time that SPECIFY sets: a device step, and the command that ends them.
-use Rattle.std.proofs.Common.{◌≡◌, ◌⊎◌, inl, inr, ℕ, zero, suc, ◌+◌, ◌-◌, ◌*◌, ◌%◌, ◌^◌, ◌<◌, ◌≤◌, min, nat_le, nat_lt, Bool, true, false, not, ◌&&◌, ◌||◌, ◌==◌, if◌then◌else◌, Option, Some, None, is_none, is_some, List, [], ◌∷◌, length, slice_index, slice_set, unwrap_or, bit_and, bit_or, refl, sym, ◌∙◌, ap, subst, arith}
+use Rattle.std.proofs.Common.{◌≡◌, ◌⊎◌, inl, inr, ℕ, zero, suc, ◌+◌, ◌-◌, ◌*◌, ◌%◌, ◌^◌, ◌<◌, ◌≤◌, max, min, nat_le, nat_lt, Bool, true, false, not, ◌&&◌, ◌||◌, ◌==◌, if◌then◌else◌, Option, Some, None, is_none, is_some, List, [], ◌∷◌, length, slice_index, slice_set, unwrap_or, bit_and, bit_or, refl, sym, ◌∙◌, ap, subst, arith}
 use Rattle.std.specs.Option.{option_map_or}
 use Rattle.std.proofs.Math.Nat.{mul-le-mul_right, suc-mul}
 use Rattle.std.proofs.lemmas.Bool.{and_from, and_right, eqb-false, leb-false, or_from, or_parts, or_right}
@@ -29,7 +29,7 @@ use Rattle.fdc_chip.specs.Paces.{EndsAt, GoesOn, GoesOnIf, Paces, PulsesIf, is_d
 use Rattle.fdc_chip.specs.Settings.{step_words}
 use Rattle.fdc_chip.specs.declared.pace.Pace.{Pace}
 use Rattle.fdc_chip.specs.declared.stage.Stage.{Stage}
-use Rattle.laws_chip.specs.PacedSeeks.{CountsAt, GoesBehind, HeadsPaced, StandsBehind, pulses_left, pulses_to}
+use Rattle.laws_chip.specs.PacedSeeks.{GoesBehind, HeadsPaced, StandsBehind, most_left, pulses_left, pulses_to}
 use Rattle.laws_chip.specs.Seeks.{GoesTo, HeadsGo, SeeksBehind, most_of, steps_left}
 use Rattle.laws_chip.specs.Sound.{IsSound}
 use Rattle.laws_chip.proofs.HeadsGoing.{HasEnded, bare, ended_untold, front_steps, neighbour_left, none_drained, none_pending, rests_by_line, status_in, told_at}
@@ -72,33 +72,34 @@ two_steps cylinder true = omega arith
 two_steps cylinder false = omega arith
 
 -- what is left after a pulse
-after_pulse : (pulses before words more wait left : ℕ) → pulses + 1 ≤ before → wait + more + before * (words + 3) + 1 ≤ left + 1 → words + (more + 2) + pulses * (words + 3) + 1 ≤ left
-after_pulse pulses before words more wait left fewer within =
-    let all : suc pulses * (words + 3) ≤ before * (words + 3) = mul-le-mul_right (words + 3) (omega arith) in
-    let split = suc-mul pulses (words + 3) in
+after_pulse : (pulses before words apart wait behind left : ℕ) → pulses + 1 ≤ before → max wait (behind + 1) + apart + before * max words 2 ≤ left + 1 → max words (apart + 1 + 1) + 0 + pulses * max words 2 ≤ left
+after_pulse pulses before words apart wait behind left fewer within =
+    let k = max words 2 in
+    let all : suc pulses * k ≤ before * k = mul-le-mul_right k (omega arith) in
+    let split = suc-mul pulses k in
     omega (arith, all, split, within)
 
 -- a device step in which no pulse is given
-wait_less : (pulses words more wait left : ℕ) → 1 < wait → wait + more + pulses * (words + 3) + 1 ≤ left + 1 → wait - 1 + more + pulses * (words + 3) + 1 ≤ left
-wait_less pulses words more wait left some within = omega arith
+wait_less : (all apart wait behind left : ℕ) → 1 < wait → max wait (behind + 1) + apart + all ≤ left + 1 → max (wait - 1) (0 + 1) + apart + all ≤ left
+wait_less all apart wait behind left some within = omega arith
 
-more_less : (pulses words more wait left : ℕ) → wait + (more + 1) + pulses * (words + 3) + 1 ≤ left + 1 → wait - 1 + more + pulses * (words + 3) + 1 ≤ left
-more_less pulses words more wait left within = omega arith
+behind_less : (all apart wait behind left : ℕ) → behind ≡ behind - 1 + 1 → max wait (behind + 1) + apart + all ≤ left + 1 → max (wait - 1) (behind - 1 + 1) + apart + all ≤ left
+behind_less all apart wait behind left some within = omega arith
 
-fewer_more : (pulses words more fewer wait left : ℕ) → fewer ≤ more → wait + more + pulses * (words + 3) + 1 ≤ left → wait + fewer + pulses * (words + 3) + 1 ≤ left
-fewer_more pulses words more fewer wait left few within = omega arith
+fewer_apart : (all apart fewer wait behind left : ℕ) → fewer ≤ apart → max wait (behind + 1) + apart + all ≤ left → max wait (behind + 1) + fewer + all ≤ left
+fewer_apart all apart fewer wait behind left few within = omega arith
 
 -- ---- the inner controller where it stands
 
-pub stands_status : (more drive cylinder : ℕ) (front : Front) → StandsBehind more drive cylinder front → moves_heads front ≡ false
-stands_status more drive cylinder front is =
+pub stands_status : (apart drive cylinder : ℕ) (front : Front) → StandsBehind apart drive cylinder front → moves_heads front ≡ false
+stands_status apart drive cylinder front is =
     let fdc = front.adapter.controller in
     ap (λ stage. not (bit_and (status_at stage fdc) 0x0F == 0)) is.through
     ∙ (ap (λ status. not (bit_and status 0x0F == 0)) (status_free fdc is.free is.takes is.whole)
     ∙ ap (λ (s : Option DriveSeek). not (bit_and (bit_or 0x80 (option_map_or (λ (d : DriveSeek). 2 ^ d.drive) s 0)) 0x0F == 0)) is.seek)
 
-stands_for : (more drive cylinder : ℕ) (front : Front) → front.adapter.controller.non_dma ≡ false → StandsBehind more drive cylinder front → Stands front
-stands_for more drive cylinder front by_dma is = record {
+stands_for : (apart drive cylinder : ℕ) (front : Front) → front.adapter.controller.non_dma ≡ false → StandsBehind apart drive cylinder front → Stands front
+stands_for apart drive cylinder front by_dma is = record {
   through = is.through;
   takes = is.takes;
   none = is.whole;
@@ -113,14 +114,14 @@ fdc_stands track0 old new takes none rests =
     taking_stays track0 old new takes rests
     ∙ ap (λ b. seek_stepped track0 (if b && not (is_held old) then record old { poll_due = false; interrupt = true; seeks = with_polls old.seeks } else old)) none
 
-front_stands : (more drive cylinder : ℕ) (old new : Front) → StepsFront old new → StandsBehind more drive cylinder old → StandsBehind more drive cylinder new
-front_stands more drive cylinder old new step was =
+front_stands : (apart drive cylinder : ℕ) (old new : Front) → StepsFront old new → StandsBehind apart drive cylinder old → StandsBehind apart drive cylinder new
+front_stands apart drive cylinder old new step was =
     let fdc = old.adapter.controller in
     let now = step.between.controller in
     let is = fdc_stands (lines_at old.adapter).track0 fdc now was.takes was.polled (rests_by_line old.adapter step.between step.steps) in
     let seeks : now.seeks ≡ fdc.seeks = ap (λ (f : Fdc). f.seeks) is
     ∙ ap (λ (s : Option DriveSeek). option_map_or (λ (d : DriveSeek). stepped_seek fdc.seeks d.drive d.motion (lines_at old.adapter).track0) s fdc.seeks) was.seek in
-    subst (StandsBehind more drive cylinder) (sym (through_step old new step was.through)) (record {
+    subst (StandsBehind apart drive cylinder) (sym (through_step old new step was.through)) (record {
       through = was.through;
       takes = ap (λ (f : Fdc). f.phase) is ∙ was.takes;
       whole = ap (λ (f : Fdc). f.command) is ∙ was.whole;
@@ -129,7 +130,7 @@ front_stands more drive cylinder old new step was =
       seek = ap (λ (s : Seeking). s.seek) seeks ∙ was.seek;
       pending = ap (λ (s : Seeking). s.pending) seeks ∙ was.pending;
       four = ap (λ (s : Seeking). length s.cylinders) seeks ∙ was.four;
-      counts = subst (λ (s : Seeking). (slice_index s.cylinders drive ≡ cylinder) ⊎ (254 ≤ more)) (sym seeks) was.counts;
+      counts = subst (λ (s : Seeking). (slice_index s.cylinders drive ≡ cylinder) ⊎ (254 ≤ apart)) (sym seeks) was.counts;
     })
 
 -- ---- a front that has no result
@@ -145,15 +146,15 @@ pub record IsCalm (front : Front) : Type 0 where
 pub calm_drained : (chip : ChipState) → IsCalm chip.front → drained chip ≡ chip
 calm_drained chip is = none_drained chip is.through is.takes is.whole is.free is.pending
 
-pub stands_calm : (more drive cylinder : ℕ) (front : Front) → StandsBehind more drive cylinder front → IsCalm front
-stands_calm more drive cylinder front is = record { through = is.through; takes = is.takes; whole = is.whole; free = is.free; pending = is.pending }
+pub stands_calm : (apart drive cylinder : ℕ) (front : Front) → StandsBehind apart drive cylinder front → IsCalm front
+stands_calm apart drive cylinder front is = record { through = is.through; takes = is.takes; whole = is.whole; free = is.free; pending = is.pending }
 
 pub seeks_calm : (left drive : ℕ) (goal : Option ℕ) (front : Front) → SeeksBehind left drive goal front → IsCalm front
 seeks_calm left drive goal front is = record { through = is.through; takes = is.takes; whole = is.whole; free = is.free; pending = is.pending }
 
-pub behind_calm : (more drive cylinder : ℕ) (front : Front) → GoesBehind more drive cylinder front → IsCalm front
-behind_calm more drive cylinder front (inl is) = stands_calm more drive cylinder front is
-behind_calm more drive cylinder front (inr is) = seeks_calm more drive (Some cylinder) front is
+pub behind_calm : (behind apart drive cylinder : ℕ) (front : Front) → GoesBehind behind apart drive cylinder front → IsCalm front
+behind_calm behind apart drive cylinder front (inl is) = stands_calm apart drive cylinder front is
+behind_calm behind apart drive cylinder front (inr is) = seeks_calm (behind + 1) drive (Some cylinder) front is
 
 -- ---- ---- results of single pulses
 
@@ -193,17 +194,17 @@ ended_stands drive status cylinder cylinders chip few is = record {
 
 -- after the device step and the results that are taken over, the inner controller stands, or its seek goes on with a
 -- step fewer
-record GoesOver (more drive cylinder : ℕ) (old : Front) (chip : ChipState) : Type 0 where
+record GoesOver (behind apart drive cylinder : ℕ) (old : Front) (chip : ChipState) : Type 0 where
   front : Front
   is : drained chip ≡ with_front front chip
   by_dma : front.adapter.controller.non_dma ≡ old.adapter.controller.non_dma
-  left : ℕ
-  going : (StandsBehind left drive cylinder front × (left ≤ more)) ⊎ (SeeksBehind left drive (Some cylinder) front × (left + 1 ≤ more))
+  going : ((now : ℕ) × StandsBehind now drive cylinder front × (now ≤ apart)) ⊎ SeeksBehind behind drive (Some cylinder) front
 
-some_more : (more drive cylinder : ℕ) (front : Front) → SeeksBehind more drive (Some cylinder) front → more ≡ more - 1 + 1
-some_more more drive cylinder front is = by_motion is.motion is.goes is.within
+-- a seek that goes on takes one device step at least
+some_behind : (behind drive cylinder : ℕ) (front : Front) → SeeksBehind behind drive (Some cylinder) front → behind ≡ behind - 1 + 1
+some_behind behind drive cylinder front is = by_motion is.motion is.goes is.within
   where
-    by_motion : (motion : Motion) → GoesTo (Some cylinder) motion → steps_left motion ≤ more → more ≡ more - 1 + 1
+    by_motion : (motion : Motion) → GoesTo (Some cylinder) motion → steps_left motion ≤ behind → behind ≡ behind - 1 + 1
     by_motion (Outward pulses) goes few = absurd goes
     by_motion (Toward from target) goes few = omega arith
     by_motion Ended goes few = absurd goes
@@ -212,38 +213,34 @@ step_dma : (old new : Front) (step : StepsFront old new) → old.stage ≡ Throu
 step_dma old new step through =
     ap (λ (f : Front). f.adapter.controller.non_dma) (through_step old new step through) ∙ (adapter_stays old.adapter step.between step.steps).non_dma
 
-goes_over : (more drive cylinder : ℕ) (pace : Pace) (old : Front) (chip : ChipState) → drive ≤ 3 → chip.pace ≡ Some pace → StepsFront old chip.front → GoesBehind more drive cylinder old → GoesOver more drive cylinder old chip
-goes_over more drive cylinder pace old chip few paced step (inl was) =
-    let now = front_stands more drive cylinder old chip.front step was in
+goes_over : (behind apart drive cylinder : ℕ) (pace : Pace) (old : Front) (chip : ChipState) → drive ≤ 3 → chip.pace ≡ Some pace → StepsFront old chip.front → GoesBehind behind apart drive cylinder old
+    → GoesOver behind apart drive cylinder old chip
+goes_over behind apart drive cylinder pace old chip few paced step (inl was) =
+    let now = front_stands apart drive cylinder old chip.front step was in
     record {
       front = chip.front;
-      is = calm_drained chip (stands_calm more drive cylinder chip.front now);
+      is = calm_drained chip (stands_calm apart drive cylinder chip.front now);
       by_dma = step_dma old chip.front step was.through;
-      left = more;
-      going = inl (now, omega arith);
+      going = inl (apart, now, omega arith);
     }
-goes_over more drive cylinder pace old chip few paced step (inr was) =
-    let enough = some_more more drive cylinder old was in
-    elim (front_steps (more - 1) drive (Some cylinder) old chip.front step (subst (λ n. SeeksBehind n drive (Some cylinder) old) enough was)) [
-      | inl now ↦ record {
-        front = chip.front;
-        is = calm_drained chip (seeks_calm (more - 1) drive (Some cylinder) chip.front now);
+goes_over behind apart drive cylinder pace old chip few paced step (inr was) = elim (front_steps behind drive (Some cylinder) old chip.front step was) [
+  | inl now ↦ record {
+    front = chip.front;
+    is = calm_drained chip (seeks_calm behind drive (Some cylinder) chip.front now);
+    by_dma = step_dma old chip.front step was.through;
+    going = inr now;
+  }
+  | inr ended ↦
+      let status = status_in (Some cylinder) drive old in
+      let cylinders = old.adapter.controller.seeks.cylinders in
+      let untold : is_told chip.pace status ≡ false = ap (λ p. is_told p status) paced ∙ sought_untold pace drive few in
+      record {
+        front = (bare (slice_set cylinders drive cylinder) None false false chip).front;
+        is = ended_untold drive status cylinder cylinders chip few ended untold;
         by_dma = step_dma old chip.front step was.through;
-        left = more - 1;
-        going = inr (now, omega arith);
+        going = inl (0, ended_stands drive status cylinder cylinders chip few ended, omega arith);
       }
-      | inr ended ↦
-          let status = status_in (Some cylinder) drive old in
-          let cylinders = old.adapter.controller.seeks.cylinders in
-          let untold : is_told chip.pace status ≡ false = ap (λ p. is_told p status) paced ∙ sought_untold pace drive few in
-          record {
-            front = (bare (slice_set cylinders drive cylinder) None false false chip).front;
-            is = ended_untold drive status cylinder cylinders chip few ended untold;
-            by_dma = step_dma old chip.front step was.through;
-            left = 0;
-            going = inl (ended_stands drive status cylinder cylinders chip few ended, omega arith);
-          }
-    ]
+]
 
 -- ---- ---- what the chip does then
 
@@ -286,10 +283,10 @@ pub seeks_move : (left drive : ℕ) (goal : Option ℕ) (front : Front) → driv
 seeks_move left drive goal front few is = bit_moves front (record { drive = drive; motion = is.motion }) few (seeks_calm left drive goal front is) is.seek
 
 -- a pulse is given
-pulse_given : (more left : ℕ) (pace : Pace) (drive : ℕ) (goal : Option ℕ) (stage : Stage) (old new : ChipState) → drive ≤ 3 → pace.unit % 4 ≡ drive → pace.goal ≡ goal → old.stage ≡ stage → Stands old.front
-    → StandsBehind more drive pace.cylinder old.front → pace.wait + more + pulses_left pace * (step_words old.settings + 3) + 1 ≤ left + 1 → is_over pace ≡ false → RangesLater new
+pulse_given : (behind apart left : ℕ) (pace : Pace) (drive : ℕ) (goal : Option ℕ) (stage : Stage) (old new : ChipState) → drive ≤ 3 → pace.unit % 4 ≡ drive → pace.goal ≡ goal → old.stage ≡ stage → Stands old.front
+    → StandsBehind apart drive pace.cylinder old.front → most_left behind apart (step_words old.settings) pace ≤ left + 1 → is_over pace ≡ false → RangesLater new
     → PulsesIf false pace old new → HeadsPaced left drive goal stage new
-pulse_given more left pace drive goal stage old new few drive_is goal_is at stands was within goes ranges (sends, rest) =
+pulse_given behind apart left pace drive goal stage old new few drive_is goal_is at stands was within goes ranges (sends, rest) =
     let words = step_words old.settings in
     let next = stepped words pace in
     let unit = pace.unit in
@@ -297,7 +294,7 @@ pulse_given more left pace drive goal stage old new few drive_is goal_is at stan
     let moves : is_moving new ≡ true = ap (λ (chip : ChipState). is_some chip.pace || moves_heads new.front) rest in
     let range = ranges calm moves in
     let settings : step_words new.settings ≡ words = ap (λ (chip : ChipState). step_words chip.settings) rest in
-    let few_steps : steps_left (motion_to unit next.cylinder old.front) ≤ more + 2 = elim was.counts [
+    let few_steps : steps_left (motion_to unit next.cylinder old.front) ≤ apart + 1 + 1 = elim was.counts [
       | inl same ↦
           let two : steps_left (Toward pace.cylinder next.cylinder) ≤ 2 = two_steps pace.cylinder (nat_lt pace.cylinder (target_of pace)) in
           let is : slice_index old.front.adapter.controller.seeks.cylinders (unit % 4) ≡ pace.cylinder = ap (slice_index old.front.adapter.controller.seeks.cylinders) drive_is ∙ same in
@@ -312,11 +309,12 @@ pulse_given more left pace drive goal stage old new few drive_is goal_is at stan
       paced = ap (λ (chip : ChipState). chip.pace) rest;
       drive_is = drive_is;
       goal_is = goal_is;
-      more = more + 2;
-      going = inr (subst (λ d. SeeksBehind (more + 2) d (Some next.cylinder) new.front) drive_is
-          (given_seek (more + 2) unit next.cylinder old.front new.front stands was.pending was.polled range sends few_steps));
-      within = subst (λ n. words + (more + 2) + pulses_left next * (n + 3) + 1 ≤ left) (sym settings)
-          (after_pulse (pulses_left next) (pulses_left pace) words more pace.wait left (fewer_left words pace goes) within);
+      behind = apart + 1;
+      apart = 0;
+      going = inr (subst (λ d. SeeksBehind (apart + 1 + 1) d (Some next.cylinder) new.front) drive_is
+          (given_seek (apart + 1 + 1) unit next.cylinder old.front new.front stands was.pending was.polled range sends few_steps));
+      within = subst (λ n. most_left (apart + 1) 0 n next ≤ left) (sym settings)
+          (after_pulse (pulses_left next) (pulses_left pace) words apart pace.wait behind left (fewer_left words pace goes) within);
     }
 
 -- a RECALIBRATE gives at most 79 pulses
@@ -328,9 +326,9 @@ within_all pulses = by_few (nat_lt pulses 79) refl
     by_few false is = omega arith
 
 -- the command that ends the seek is given
-end_given : (goal : Option ℕ) (more : ℕ) (pace : Pace) (drive : ℕ) (stage : Stage) (old new : ChipState) → drive ≤ 3 → pace.unit % 4 ≡ drive → old.stage ≡ stage → Stands old.front
-    → StandsBehind more drive pace.cylinder old.front → RangesLater new → EndsAt goal pace (record old { pace = None }) new → HeadsGo (most_of goal) drive goal stage new
-end_given (Some target) more pace drive stage old new few drive_is at stands was ranges (sends, rest) =
+end_given : (goal : Option ℕ) (apart : ℕ) (pace : Pace) (drive : ℕ) (stage : Stage) (old new : ChipState) → drive ≤ 3 → pace.unit % 4 ≡ drive → old.stage ≡ stage → Stands old.front
+    → StandsBehind apart drive pace.cylinder old.front → RangesLater new → EndsAt goal pace (record old { pace = None }) new → HeadsGo (most_of goal) drive goal stage new
+end_given (Some target) apart pace drive stage old new few drive_is at stands was ranges (sends, rest) =
     let unit = pace.unit in
     let calm = sent_calm unit target old.front new.front stands was.pending sends in
     let seek = ap (λ (fdc : Fdc). fdc.seeks.seek) (seek_sent unit target old.front new.front stands sends).1 in
@@ -344,7 +342,7 @@ end_given (Some target) more pace drive stage old new few drive_is at stands was
       going = subst (λ d. SeeksBehind 256 d (Some target) new.front) drive_is
           (given_seek 256 unit target old.front new.front stands was.pending was.polled range sends (given_within unit target old.front new.front stands range sends));
     }
-end_given None more pace drive stage old new few drive_is at stands was ranges is =
+end_given None apart pace drive stage old new few drive_is at stands was ranges is =
     let fdc = old.front.adapter.controller in
     let unit = pace.unit in
     let may : (is_idle fdc && (seek_bits fdc.seeks == 0)) ≡ true = and_from (is_idle fdc) (seek_bits fdc.seeks == 0) (stands_idle old.front stands) (ap (λ n. n == 0) stands.rests) in
@@ -375,59 +373,62 @@ end_given None more pace drive stage old new few drive_is at stands was ranges i
 -- ---- a device step
 
 -- a pulse is due
-pulses_on : (b : Bool) (more left : ℕ) (pace : Pace) (drive : ℕ) (goal : Option ℕ) (stage : Stage) (old new : ChipState) → drive ≤ 3 → pace.unit % 4 ≡ drive → pace.goal ≡ goal → old.stage ≡ stage
-    → Stands old.front → StandsBehind more drive pace.cylinder old.front → pace.wait + more + pulses_left pace * (step_words old.settings + 3) + 1 ≤ left + 1 → is_over pace ≡ b → RangesLater new
+pulses_on : (b : Bool) (behind apart left : ℕ) (pace : Pace) (drive : ℕ) (goal : Option ℕ) (stage : Stage) (old new : ChipState) → drive ≤ 3 → pace.unit % 4 ≡ drive → pace.goal ≡ goal → old.stage ≡ stage
+    → Stands old.front → StandsBehind apart drive pace.cylinder old.front → most_left behind apart (step_words old.settings) pace ≤ left + 1 → is_over pace ≡ b → RangesLater new
     → PulsesIf b pace old new → PacedOrGo left drive goal stage new
-pulses_on true more left pace drive goal stage old new few drive_is goal_is at stands was within over ranges ends =
-    inr (end_given goal more pace drive stage old new few drive_is at stands was ranges (subst (λ g. EndsAt g pace (record old { pace = None }) new) goal_is ends))
-pulses_on false more left pace drive goal stage old new few drive_is goal_is at stands was within over ranges pulses =
-    inl (pulse_given more left pace drive goal stage old new few drive_is goal_is at stands was within over ranges pulses)
+pulses_on true behind apart left pace drive goal stage old new few drive_is goal_is at stands was within over ranges ends =
+    inr (end_given goal apart pace drive stage old new few drive_is at stands was ranges (subst (λ g. EndsAt g pace (record old { pace = None }) new) goal_is ends))
+pulses_on false behind apart left pace drive goal stage old new few drive_is goal_is at stands was within over ranges pulses =
+    inl (pulse_given behind apart left pace drive goal stage old new few drive_is goal_is at stands was within over ranges pulses)
 
 -- the time to the next pulse goes on
-waits_on : (more left : ℕ) (pace : Pace) (drive : ℕ) (goal : Option ℕ) (stage : Stage) (old new : ChipState) → drive ≤ 3 → pace.unit % 4 ≡ drive → pace.goal ≡ goal → old.stage ≡ stage
-    → GoesBehind more drive pace.cylinder old.front → pace.wait - 1 + more + pulses_left pace * (step_words old.settings + 3) + 1 ≤ left → new ≡ record old { pace = Some (record pace { wait = pace.wait - 1 }) }
+waits_on : (behind apart left : ℕ) (pace : Pace) (drive : ℕ) (goal : Option ℕ) (stage : Stage) (old new : ChipState) → drive ≤ 3 → pace.unit % 4 ≡ drive → pace.goal ≡ goal → old.stage ≡ stage
+    → GoesBehind behind apart drive pace.cylinder old.front → most_left behind apart (step_words old.settings) (record pace { wait = pace.wait - 1 }) ≤ left → new ≡ record old { pace = Some (record pace { wait = pace.wait - 1 }) }
     → HeadsPaced left drive goal stage new
-waits_on more left pace drive goal stage old new few drive_is goal_is at going within is = subst (HeadsPaced left drive goal stage) (sym is) (record {
+waits_on behind apart left pace drive goal stage old new few drive_is goal_is at going within is = subst (HeadsPaced left drive goal stage) (sym is) (record {
   at = at;
   few = few;
   pace = record pace { wait = pace.wait - 1 };
   paced = refl;
   drive_is = drive_is;
   goal_is = goal_is;
-  more = more;
+  behind = behind;
+  apart = apart;
   going = going;
   within = within;
 })
 
 -- where the inner controller stands a pulse is due as soon as its time is over
-ready_due : (more drive cylinder : ℕ) (pace : Pace) (chip : ChipState) → Stands chip.front → StandsBehind more drive cylinder chip.front → is_due pace chip ≡ nat_le pace.wait 1
-ready_due more drive cylinder pace chip stands was =
+ready_due : (apart drive cylinder : ℕ) (pace : Pace) (chip : ChipState) → Stands chip.front → StandsBehind apart drive cylinder chip.front → is_due pace chip ≡ nat_le pace.wait 1
+ready_due apart drive cylinder pace chip stands was =
     let ready : is_ready chip.front ≡ true = ap (λ stage. is_ready_at stage chip.front.adapter.controller) stands.through ∙ stands_idle chip.front stands in
     ap (λ b. (nat_le pace.wait 1 && b) && not (moves_heads chip.front)) ready
-    ∙ (ap (λ b. (nat_le pace.wait 1 && true) && not b) (stands_status more drive cylinder chip.front was) ∙ both (nat_le pace.wait 1))
+    ∙ (ap (λ b. (nat_le pace.wait 1 && true) && not b) (stands_status apart drive cylinder chip.front was) ∙ both (nat_le pace.wait 1))
   where
     both : (b : Bool) → ((b && true) && true) ≡ b
     both true = refl
     both false = refl
 
-stands_on : (more left : ℕ) (pace : Pace) (drive : ℕ) (goal : Option ℕ) (stage : Stage) (old new : ChipState) → drive ≤ 3 → pace.unit % 4 ≡ drive → pace.goal ≡ goal → old.stage ≡ stage
-    → Stands old.front → StandsBehind more drive pace.cylinder old.front → pace.wait + more + pulses_left pace * (step_words old.settings + 3) + 1 ≤ left + 1 → RangesLater new → GoesOn pace old new
+stands_on : (behind apart left : ℕ) (pace : Pace) (drive : ℕ) (goal : Option ℕ) (stage : Stage) (old new : ChipState) → drive ≤ 3 → pace.unit % 4 ≡ drive → pace.goal ≡ goal → old.stage ≡ stage
+    → Stands old.front → StandsBehind apart drive pace.cylinder old.front → most_left behind apart (step_words old.settings) pace ≤ left + 1 → RangesLater new → GoesOn pace old new
     → PacedOrGo left drive goal stage new
-stands_on more left pace drive goal stage old new few drive_is goal_is at stands was within ranges goes =
-    by_due (nat_le pace.wait 1) refl (subst (λ b. GoesOnIf b pace old new) (ready_due more drive pace.cylinder pace old stands was) goes)
+stands_on behind apart left pace drive goal stage old new few drive_is goal_is at stands was within ranges goes =
+    by_due (nat_le pace.wait 1) refl (subst (λ b. GoesOnIf b pace old new) (ready_due apart drive pace.cylinder pace old stands was) goes)
   where
     by_due : (b : Bool) → nat_le pace.wait 1 ≡ b → GoesOnIf b pace old new → PacedOrGo left drive goal stage new
-    by_due true due pulses = pulses_on (is_over pace) more left pace drive goal stage old new few drive_is goal_is at stands was within refl ranges pulses
+    by_due true due pulses = pulses_on (is_over pace) behind apart left pace drive goal stage old new few drive_is goal_is at stands was within refl ranges pulses
     by_due false due is =
         let some = leb-false pace.wait 1 due in
-        inl (waits_on more left pace drive goal stage old new few drive_is goal_is at (inl was) (wait_less (pulses_left pace) (step_words old.settings) more pace.wait left some within) is)
+        inl (waits_on 0 apart left pace drive goal stage old new few drive_is goal_is at (inl was) (wait_less (pulses_left pace * max (step_words old.settings) 2) apart pace.wait behind left some within) is)
 
-moves_on : (more left : ℕ) (pace : Pace) (drive : ℕ) (goal : Option ℕ) (stage : Stage) (old new : ChipState) → drive ≤ 3 → pace.unit % 4 ≡ drive → pace.goal ≡ goal → old.stage ≡ stage
-    → SeeksBehind more drive (Some pace.cylinder) old.front → pace.wait + (more + 1) + pulses_left pace * (step_words old.settings + 3) + 1 ≤ left + 1 → GoesOn pace old new → HeadsPaced left drive goal stage new
-moves_on more left pace drive goal stage old new few drive_is goal_is at was within goes =
-    let moves = seeks_move more drive (Some pace.cylinder) old.front few was in
+moves_on : (behind apart left : ℕ) (pace : Pace) (drive : ℕ) (goal : Option ℕ) (stage : Stage) (old new : ChipState) → drive ≤ 3 → pace.unit % 4 ≡ drive → pace.goal ≡ goal → old.stage ≡ stage
+    → SeeksBehind behind drive (Some pace.cylinder) old.front → most_left behind apart (step_words old.settings) pace ≤ left + 1 → GoesOn pace old new → HeadsPaced left drive goal stage new
+moves_on behind apart left pace drive goal stage old new few drive_is goal_is at was within goes =
+    let moves = seeks_move behind drive (Some pace.cylinder) old.front few was in
     let undue : is_due pace old ≡ false = and_right (nat_le pace.wait 1 && is_ready old.front) (not (moves_heads old.front)) (ap not moves) in
-    waits_on more left pace drive goal stage old new few drive_is goal_is at (inr was) (more_less (pulses_left pace) (step_words old.settings) more pace.wait left within) (subst (λ b. GoesOnIf b pace old new) undue goes)
+    let some = some_behind behind drive pace.cylinder old.front was in
+    waits_on (behind - 1) apart left pace drive goal stage old new few drive_is goal_is at (inr (subst (λ n. SeeksBehind n drive (Some pace.cylinder) old.front) some was))
+    (behind_less (pulses_left pace * max (step_words old.settings) 2) apart pace.wait behind left some within) (subst (λ b. GoesOnIf b pace old new) undue goes)
 
 -- what the chip does of the seek in a device step
 pub paced_step : (left drive : ℕ) (goal : Option ℕ) (stage : Stage) (old paced : ChipState) (between : Front) → IsSound old → HeadsPaced (left + 1) drive goal stage old → StepsFront old.front between
@@ -435,13 +436,14 @@ pub paced_step : (left drive : ℕ) (goal : Option ℕ) (stage : Stage) (old pac
 paced_step left drive goal stage old paced between sound was step paces ranges =
     let pace = was.pace in
     let set = with_front between old in
-    let over = goes_over was.more drive pace.cylinder pace old.front set was.few was.paced step was.going in
+    let over = goes_over was.behind was.apart drive pace.cylinder pace old.front set was.few was.paced step was.going in
     let chip = with_front over.front set in
     let goes : GoesOn pace chip paced = subst (λ c. GoesOn pace c paced) over.is (subst (λ p. Paces p set paced) was.paced paces) in
+    let all = pulses_left pace * max (step_words old.settings) 2 in
     elim over.going [
-      | inl (stands, few) ↦ stands_on over.left left pace drive goal stage chip paced was.few was.drive_is was.goal_is was.at
-          (stands_for over.left drive pace.cylinder over.front (over.by_dma ∙ sound.by_dma) stands) stands (fewer_more (pulses_left pace) (step_words old.settings) was.more over.left pace.wait (left + 1) few was.within) ranges goes
-      | inr (seeks, few) ↦ inl (moves_on over.left left pace drive goal stage chip paced was.few was.drive_is was.goal_is was.at seeks (fewer_more (pulses_left pace) (step_words old.settings) was.more (over.left + 1) pace.wait (left + 1) few was.within) goes)
+      | inl (now, stands, few) ↦ stands_on was.behind now left pace drive goal stage chip paced was.few was.drive_is was.goal_is was.at
+          (stands_for now drive pace.cylinder over.front (over.by_dma ∙ sound.by_dma) stands) stands (fewer_apart all was.apart now pace.wait was.behind (left + 1) few was.within) ranges goes
+      | inr seeks ↦ inl (moves_on was.behind was.apart left pace drive goal stage chip paced was.few was.drive_is was.goal_is was.at seeks was.within goes)
     ]
 
 pub paced_some : (drive : ℕ) (goal : Option ℕ) (stage : Stage) (chip : ChipState) → HeadsPaced 0 drive goal stage chip → ⊥

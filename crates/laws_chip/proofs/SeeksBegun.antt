@@ -1,5 +1,5 @@
 -- A seek begins: its last byte comes to a chip whose heads stand, with the strap for the time of step pulses off or on.
-use Rattle.std.proofs.Common.{◌≡◌, inl, inr, ℕ, zero, suc, ◌+◌, ◌*◌, ◌%◌, ◌^◌, ◌<◌, ◌≤◌, Bool, true, false, not, if◌then◌else◌, Option, Some, None, is_some, List, [], ◌∷◌, length, option_map, position, slice_index, slice_set, refl, sym, ◌∙◌, ap, subst, arith, pow_pos}
+use Rattle.std.proofs.Common.{◌≡◌, inl, inr, ℕ, zero, suc, ◌+◌, ◌*◌, ◌%◌, ◌^◌, ◌<◌, ◌≤◌, max, Bool, true, false, not, if◌then◌else◌, Option, Some, None, is_some, List, [], ◌∷◌, length, option_map, position, slice_index, slice_set, refl, sym, ◌∙◌, ap, subst, arith, pow_pos}
 use Rattle.std.specs.Option.{option_map_or}
 use Rattle.std.proofs.lemmas.Bool.{and_from, and_right, false≢true, or_parts}
 use Rattle.fdc_commands.specs.Seeking.{IsMotion, Seeking}
@@ -363,7 +363,7 @@ none_kept (Some seek) none = let some = pow_pos seek.drive in absurd (omega arit
 abbrev begun_at : Option ℕ → Order → Interrupting → Pace
 begun_at goal order interrupts = pace_begun order.unit (cylinder_of order.unit interrupts) goal
 
-most_within : (words pulses : ℕ) → 0 + 254 + pulses * (words + 3) + 1 ≤ most_paced words pulses
+most_within : (words pulses : ℕ) → max 0 (0 + 1) + 254 + pulses * max words 2 ≤ most_paced words pulses
 most_within words pulses = omega arith
 
 pub paced_comes : (code : Code) (goal : Option ℕ) (byte : ℕ) (old new : ChipState) → IsSoundInRange old → IsSoundInRange new → byte < 256
@@ -386,7 +386,8 @@ paced_comes code goal byte old new was is_after few completes is writes still pa
       paced = ap (λ (chip : ChipState). chip.pace) now ∙ ap Some same;
       drive_is = refl;
       goal_is = refl;
-      more = 254;
+      behind = 0;
+      apart = 254;
       going = inl (subst (StandsBehind 254 ((completed byte old).unit % 4) (cylinder_of (completed byte old).unit (drained old).interrupts)) (sym front) (record {
         through = coming.stands.through;
         takes = coming.stands.takes;

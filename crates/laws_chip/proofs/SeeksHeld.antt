@@ -25,7 +25,7 @@ use Rattle.fdc_chip.specs.declared.stage.Stage.TheVariants.{Ready, Held, Busy, T
 use Rattle.laws_chip.specs.Beginning.{Completes, IsDoneFree, IsHeldFor, completed, still_moves}
 use Rattle.laws_chip.specs.Calls as made
 use Rattle.laws_chip.specs.Calls.{Call, Does, is_reset, is_step}
-use Rattle.laws_chip.specs.PacedSeeks.{GoesBehind, HeadsPaced, StandsBehind, pulses_left}
+use Rattle.laws_chip.specs.PacedSeeks.{GoesBehind, HeadsPaced, StandsBehind, most_left}
 use Rattle.laws_chip.specs.Resets.{is_of_data_port}
 use Rattle.laws_chip.specs.Seeks.{HeadsGo, IsSoundInRange, SeeksBehind, most_of, waits_for_heads}
 use Rattle.laws_chip.specs.Sound.{IsSound}
@@ -78,9 +78,9 @@ port_seeks left drive goal port value old new was writes no_data quiet =
       four = ap (λ (s : Seeking). length s.cylinders) left_as.seeks ∙ was.four;
     }
 
-pub port_stands : (more drive cylinder port value : ℕ) (old new : Front) → StandsBehind more drive cylinder old → WritesFront port value old new → (port == 0x3F5) ≡ false → resets port value ≡ false
-    → StandsBehind more drive cylinder new
-port_stands more drive cylinder port value old new was writes no_data quiet =
+pub port_stands : (apart drive cylinder port value : ℕ) (old new : Front) → StandsBehind apart drive cylinder old → WritesFront port value old new → (port == 0x3F5) ≡ false → resets port value ≡ false
+    → StandsBehind apart drive cylinder new
+port_stands apart drive cylinder port value old new was writes no_data quiet =
     let left_as = front_left port value old new writes no_data quiet in
     record {
       through = port_stage port value old new writes no_data quiet ∙ was.through;
@@ -91,13 +91,13 @@ port_stands more drive cylinder port value old new was writes no_data quiet =
       seek = ap (λ (s : Seeking). s.seek) left_as.seeks ∙ was.seek;
       pending = ap (λ (s : Seeking). s.pending) left_as.seeks ∙ was.pending;
       four = ap (λ (s : Seeking). length s.cylinders) left_as.seeks ∙ was.four;
-      counts = subst (λ (s : Seeking). (slice_index s.cylinders drive ≡ cylinder) ⊎ (254 ≤ more)) (sym left_as.seeks) was.counts;
+      counts = subst (λ (s : Seeking). (slice_index s.cylinders drive ≡ cylinder) ⊎ (254 ≤ apart)) (sym left_as.seeks) was.counts;
     }
 
-port_behind : (more drive cylinder port value : ℕ) (old new : Front) → GoesBehind more drive cylinder old → WritesFront port value old new → (port == 0x3F5) ≡ false → resets port value ≡ false
-    → GoesBehind more drive cylinder new
-port_behind more drive cylinder port value old new (inl was) writes no_data quiet = inl (port_stands more drive cylinder port value old new was writes no_data quiet)
-port_behind more drive cylinder port value old new (inr was) writes no_data quiet = inr (port_seeks more drive (Some cylinder) port value old new was writes no_data quiet)
+port_behind : (behind apart drive cylinder port value : ℕ) (old new : Front) → GoesBehind behind apart drive cylinder old → WritesFront port value old new → (port == 0x3F5) ≡ false → resets port value ≡ false
+    → GoesBehind behind apart drive cylinder new
+port_behind behind apart drive cylinder port value old new (inl was) writes no_data quiet = inl (port_stands apart drive cylinder port value old new was writes no_data quiet)
+port_behind behind apart drive cylinder port value old new (inr was) writes no_data quiet = inr (port_seeks (behind + 1) drive (Some cylinder) port value old new was writes no_data quiet)
 
 -- media are changed
 keeps_seeks : (left drive : ℕ) (goal : Option ℕ) (old new : Front) → SeeksBehind left drive goal old → KeepsFront old new → SeeksBehind left drive goal new
@@ -117,8 +117,8 @@ keeps_seeks left drive goal old new was keeps =
       four = ap (λ (fdc : Fdc). length fdc.seeks.cylinders) controller ∙ was.four;
     }
 
-keeps_stands : (more drive cylinder : ℕ) (old new : Front) → StandsBehind more drive cylinder old → KeepsFront old new → StandsBehind more drive cylinder new
-keeps_stands more drive cylinder old new was keeps =
+keeps_stands : (apart drive cylinder : ℕ) (old new : Front) → StandsBehind apart drive cylinder old → KeepsFront old new → StandsBehind apart drive cylinder new
+keeps_stands apart drive cylinder old new was keeps =
     let controller = keeps.controller in
     record {
       through = keeps.stage ∙ was.through;
@@ -129,12 +129,12 @@ keeps_stands more drive cylinder old new was keeps =
       seek = ap (λ (fdc : Fdc). fdc.seeks.seek) controller ∙ was.seek;
       pending = ap (λ (fdc : Fdc). fdc.seeks.pending) controller ∙ was.pending;
       four = ap (λ (fdc : Fdc). length fdc.seeks.cylinders) controller ∙ was.four;
-      counts = subst (λ (fdc : Fdc). (slice_index fdc.seeks.cylinders drive ≡ cylinder) ⊎ (254 ≤ more)) (sym controller) was.counts;
+      counts = subst (λ (fdc : Fdc). (slice_index fdc.seeks.cylinders drive ≡ cylinder) ⊎ (254 ≤ apart)) (sym controller) was.counts;
     }
 
-keeps_behind : (more drive cylinder : ℕ) (old new : Front) → GoesBehind more drive cylinder old → KeepsFront old new → GoesBehind more drive cylinder new
-keeps_behind more drive cylinder old new (inl was) keeps = inl (keeps_stands more drive cylinder old new was keeps)
-keeps_behind more drive cylinder old new (inr was) keeps = inr (keeps_seeks more drive (Some cylinder) old new was keeps)
+keeps_behind : (behind apart drive cylinder : ℕ) (old new : Front) → GoesBehind behind apart drive cylinder old → KeepsFront old new → GoesBehind behind apart drive cylinder new
+keeps_behind behind apart drive cylinder old new (inl was) keeps = inl (keeps_stands apart drive cylinder old new was keeps)
+keeps_behind behind apart drive cylinder old new (inr was) keeps = inr (keeps_seeks (behind + 1) drive (Some cylinder) old new was keeps)
 
 port_going : (left drive : ℕ) (goal : Option ℕ) (port value : ℕ) (stage : Stage) (old new : ChipState) → HeadsGo left drive goal stage old → WritesChip port value old new → (port == 0x3F5) ≡ false
     → resets port (value_behind port value) ≡ false → HeadsGo left drive goal stage new
@@ -151,7 +151,7 @@ port_going left drive goal port value stage old new was writes no_data quiet =
 
 -- a chip with this front goes on with the pulses
 paced_as : (left drive : ℕ) (goal : Option ℕ) (stage : Stage) (old new : ChipState) (was : HeadsPaced left drive goal stage old) → new.stage ≡ old.stage → new.pace ≡ old.pace → new.settings ≡ old.settings
-    → GoesBehind was.more drive was.pace.cylinder new.front → HeadsPaced left drive goal stage new
+    → GoesBehind was.behind was.apart drive was.pace.cylinder new.front → HeadsPaced left drive goal stage new
 paced_as left drive goal stage old new was at pace settings going = record {
   at = at ∙ was.at;
   few = was.few;
@@ -159,9 +159,10 @@ paced_as left drive goal stage old new was at pace settings going = record {
   paced = pace ∙ was.paced;
   drive_is = was.drive_is;
   goal_is = was.goal_is;
-  more = was.more;
+  behind = was.behind;
+  apart = was.apart;
   going = going;
-  within = subst (λ (s : Settings). was.pace.wait + was.more + pulses_left was.pace * (step_words s + 3) + 1 ≤ left) (sym settings) was.within;
+  within = subst (λ (s : Settings). most_left was.behind was.apart (step_words s) was.pace ≤ left) (sym settings) was.within;
 }
 
 port_paced : (left drive : ℕ) (goal : Option ℕ) (port value : ℕ) (stage : Stage) (old new : ChipState) → HeadsPaced left drive goal stage old → WritesChip port value old new → (port == 0x3F5) ≡ false
@@ -171,7 +172,7 @@ port_paced left drive goal port value stage old new was writes no_data quiet =
     let (front, rest) = writes.others no_data in
     let set : new ≡ with_front new.front (gated_by port value old) = subst (λ b. new ≡ with_front new.front (reset_if b (gated_by port value old))) quiet rest in
     paced_as left drive goal stage old new was (ap (λ (chip : ChipState). chip.stage) set) (ap (λ (chip : ChipState). chip.pace) set) (ap (λ (chip : ChipState). chip.settings) set)
-    (port_behind was.more drive was.pace.cylinder port given old.front new.front was.going front no_data quiet)
+    (port_behind was.behind was.apart drive was.pace.cylinder port given old.front new.front was.going front no_data quiet)
 
 same_going : (left drive : ℕ) (goal : Option ℕ) (stage : Stage) (old new : ChipState) → new ≡ old → HeadsGo left drive goal stage old → HeadsGo left drive goal stage new
 same_going left drive goal stage old new is was = subst (HeadsGo left drive goal stage) (sym is) was
@@ -215,7 +216,7 @@ call_paced left drive goal stage (made.Writes port value) old new waits was does
 call_paced left drive goal stage made.Changes old new waits was does no_step no_reset other =
     let rest = does.rest in
     paced_as left drive goal stage old new was (ap (λ (chip : ChipState). chip.stage) rest) (ap (λ (chip : ChipState). chip.pace) rest) (ap (λ (chip : ChipState). chip.settings) rest)
-    (keeps_behind was.more drive was.pace.cylinder old.front new.front was.going does.front)
+    (keeps_behind was.behind was.apart drive was.pace.cylinder old.front new.front was.going does.front)
 call_paced left drive goal stage (made.Straps on) old new waits was does no_step no_reset other =
     subst (HeadsPaced left drive goal stage) (sym does) (paced_as left drive goal stage old (record old { strapped = on }) was refl refl refl was.going)
 call_paced left drive goal stage (made.StrapsSteps on) old new waits was does no_step no_reset other =
@@ -279,7 +280,8 @@ held_paced left drive goal stage old was = record {
   paced = was.paced;
   drive_is = was.drive_is;
   goal_is = was.goal_is;
-  more = was.more;
+  behind = was.behind;
+  apart = was.apart;
   going = was.going;
   within = was.within;
 }
@@ -292,7 +294,7 @@ pub comes_paced : (left drive : ℕ) (goal : Option ℕ) (code : Code) (byte : �
 comes_paced left drive goal code byte old new sound few heads completes was writes =
     let start = attending byte old in
     let attended = byte_attends code byte old new sound few heads completes writes in
-    let same : drained start ≡ start = calm_drained start (behind_calm was.more drive was.pace.cylinder old.front was.going) in
+    let same : drained start ≡ start = calm_drained start (behind_calm was.behind was.apart drive was.pace.cylinder old.front was.going) in
     let moves : is_moving (drained start) ≡ true = ap is_moving same ∙ pace_moves was.pace start was.paced in
     let is : new ≡ record start { stage = Held } =
     subst (λ b. AttendsIf b code (drained start) new) (and_from (needs_heads code) (is_moving (drained start)) heads moves) attended.attends ∙ ap (λ (chip : ChipState). record chip { stage = Held }) same in
@@ -303,7 +305,8 @@ comes_paced left drive goal code byte old new sound few heads completes was writ
       paced = was.paced;
       drive_is = was.drive_is;
       goal_is = was.goal_is;
-      more = was.more;
+      behind = was.behind;
+      apart = was.apart;
       going = was.going;
       within = was.within;
     } in
@@ -317,7 +320,7 @@ paced_steps left drive goal old new was_sound is_sound was step =
     let same : IsCalm paced.front → new ≡ paced = λ calm. is ∙ either_same (interrupts_outside paced.front) (drained paced) paced (calm_drained paced calm) in
     let ranges : RangesLater paced = λ calm moves. subst (λ (chip : ChipState). IsInRange chip.front.adapter.controller) (same calm) is_sound.range in
     elim (paced_step left drive goal Ready old paced step.between was_sound.sound was step.steps paces ranges) [
-      | inl going ↦ inl (subst (HeadsPaced left drive goal Ready) (sym (same (behind_calm going.more drive going.pace.cylinder paced.front going.going))) going)
+      | inl going ↦ inl (subst (HeadsPaced left drive goal Ready) (sym (same (behind_calm going.behind going.apart drive going.pace.cylinder paced.front going.going))) going)
       | inr going ↦ inr (subst (HeadsGo (most_of goal) drive goal Ready) (sym (same (seeks_calm (most_of goal) drive goal paced.front going.going))) going)
     ]
 
@@ -336,7 +339,7 @@ paced_held left drive goal code order old new was_sound is_sound held is heads w
     let ranges : RangesLater paced = λ calm moves. subst (λ (chip : ChipState). IsInRange chip.front.adapter.controller) (now calm moves) is_sound.range in
     elim (paced_step left drive goal Held old paced step.between was_sound.sound was step.steps paces ranges) [
       | inl going ↦
-          let set = now (behind_calm going.more drive going.pace.cylinder paced.front going.going) (pace_moves going.pace paced going.paced) in
+          let set = now (behind_calm going.behind going.apart drive going.pace.cylinder paced.front going.going) (pace_moves going.pace paced going.paced) in
           subst (λ chip. IsHeldFor order chip × (HeadsPaced left drive goal Held chip ⊎ HeadsGo (most_of goal) drive goal Held chip)) (sym set) (
             record { held = refl; order_is = of_order },
             inl (held_paced left drive goal Held paced going),

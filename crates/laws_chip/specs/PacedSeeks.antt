@@ -1,5 +1,5 @@
 -- Seeks whose pulses come in the time that SPECIFY sets, up to the command that ends them.
-use Rattle.std.specs.Prelude.{◌≡◌, ◌⊎◌, ◌≤◌, ℕ, ◌+◌, ◌-◌, ◌*◌, ◌%◌, min, false, Option, Some, None, [], ◌∷◌, length, slice_index}
+use Rattle.std.specs.Prelude.{◌≡◌, ◌⊎◌, ◌≤◌, ℕ, ◌+◌, ◌-◌, ◌*◌, ◌%◌, max, min, false, Option, Some, None, [], ◌∷◌, length, slice_index}
 use Rattle.fdc_phases.specs.declared.phases.Phase.TheVariants.{Command as Taking}
 use Rattle.fdc_core.specs.State.{is_held}
 use Rattle.fdc_sequencer.specs.Fronts.{Front}
@@ -23,20 +23,20 @@ abbrev pub pulses_left : Pace → ℕ
 pulses_left pace = pulses_to pace.goal pace.cylinder pace.left
 
 -- the device steps that so many pulses take at most, with so many word times from one pulse to the next. The inner
--- controller takes two device steps for each pulse. Its own number of the first cylinder may be another one, so for the
--- first pulse it takes up to 256
+-- controller takes two device steps for a pulse, and SPECIFY sets no shorter time. Its own number of the first cylinder
+-- may be another one, so for the first pulse it takes up to 254 more. One device step gives the last command
 abbrev pub most_paced : ℕ → ℕ → ℕ
-most_paced words pulses = pulses * (words + 3) + 255
+most_paced words pulses = pulses * max words 2 + 255
 
 -- ---- the inner controller
 
 -- the inner controller counts the drive at this cylinder. If it may count another one, its SEEK for the next pulse takes
--- more device steps than two, and `more` allows for 254 more
+-- up to 254 device steps more, and `apart` allows for them
 abbrev pub CountsAt : ℕ → ℕ → ℕ → Front → Type 0
-CountsAt more drive cylinder front = (slice_index front.adapter.controller.seeks.cylinders drive ≡ cylinder) ⊎ (254 ≤ more)
+CountsAt apart drive cylinder front = (slice_index front.adapter.controller.seeks.cylinders drive ≡ cylinder) ⊎ (254 ≤ apart)
 
 -- the inner controller takes the next command. No seek is under way there, no result is pending, and no poll is to come
-pub record StandsBehind (more drive cylinder : ℕ) (front : Front) : Type 0 where
+pub record StandsBehind (apart drive cylinder : ℕ) (front : Front) : Type 0 where
   pub through : front.stage ≡ Through
   pub takes : front.adapter.controller.phase ≡ Taking
   pub whole : front.adapter.controller.command ≡ []
@@ -45,14 +45,19 @@ pub record StandsBehind (more drive cylinder : ℕ) (front : Front) : Type 0 whe
   pub seek : front.adapter.controller.seeks.seek ≡ None
   pub pending : front.adapter.controller.seeks.pending ≡ None ∷ None ∷ None ∷ None ∷ []
   pub four : length front.adapter.controller.seeks.cylinders ≡ 4
-  pub counts : CountsAt more drive cylinder front
+  pub counts : CountsAt apart drive cylinder front
 
 -- between two pulses the inner controller takes the next command. After a pulse its SEEK to this cylinder is under way,
--- for at most `more` device steps
-abbrev pub GoesBehind : ℕ → ℕ → ℕ → Front → Type 0
-GoesBehind more drive cylinder front = StandsBehind more drive cylinder front ⊎ SeeksBehind more drive (Some cylinder) front
+-- for one device step and at most `behind` more
+abbrev pub GoesBehind : ℕ → ℕ → ℕ → ℕ → Front → Type 0
+GoesBehind behind apart drive cylinder front = StandsBehind apart drive cylinder front ⊎ SeeksBehind (behind + 1) drive (Some cylinder) front
 
 -- ---- the chip
+
+-- the device steps that the rest of such a seek takes at most. The next pulse comes once its time is over and the inner
+-- controller is done with the one before
+abbrev pub most_left : ℕ → ℕ → ℕ → Pace → ℕ
+most_left behind apart words pace = max pace.wait (behind + 1) + apart + pulses_left pace * max words 2
 
 -- pulses of a seek of this drive are to come, and the chip is at this stage. In at most `left` device steps the inner
 -- controller is given the command that ends the seek
@@ -63,6 +68,7 @@ pub record HeadsPaced (left drive : ℕ) (goal : Option ℕ) (stage : Stage) (ch
   pub paced : chip.pace ≡ Some pace
   pub drive_is : pace.unit % 4 ≡ drive
   pub goal_is : pace.goal ≡ goal
-  pub more : ℕ
-  pub going : GoesBehind more drive pace.cylinder chip.front
-  pub within : pace.wait + more + pulses_left pace * (step_words chip.settings + 3) + 1 ≤ left
+  pub behind : ℕ
+  pub apart : ℕ
+  pub going : GoesBehind behind apart drive pace.cylinder chip.front
+  pub within : most_left behind apart (step_words chip.settings) pace ≤ left
