@@ -1,6 +1,6 @@
 -- A command that is held while heads move: it is held through other calls, and begins in the device step in which they
 -- stand.
-use Rattle.std.proofs.Common.{◌≡◌, ◌⊎◌, inl, inr, ℕ, ◌+◌, ◌*◌, ◌<◌, ◌≤◌, true, false, not, ◌&&◌, ◌||◌, ◌==◌, Option, Some, is_some, length, slice_index, slice_set, unwrap_or, refl, sym, ◌∙◌, ap, subst, arith}
+use Rattle.std.proofs.Common.{◌≡◌, ◌⊎◌, inl, inr, ℕ, ◌+◌, ◌*◌, ◌<◌, ◌≤◌, Bool, true, false, not, ◌&&◌, ◌||◌, ◌==◌, Option, Some, is_some, length, slice_index, slice_set, unwrap_or, refl, sym, ◌∙◌, ap, subst, arith}
 use Rattle.std.proofs.lemmas.Bool.{and_from, and_right, false≢true, or_from, or_right}
 use Rattle.fdc_commands.specs.Seeking.{Seeking}
 use Rattle.fdc_core.specs.Ports.{resets}
@@ -13,7 +13,7 @@ use Rattle.fdc_chip.specs.Codes.{code_of}
 use Rattle.fdc_chip.specs.Doing.{AttendsIf, drained, is_moving, moves_heads, needs_heads}
 use Rattle.fdc_chip.specs.Orders.{is_format}
 use Rattle.fdc_chip.specs.Paces.{Paces}
-use Rattle.fdc_chip.specs.Ports.{GivesChipIf, TakesIf, WritesChip, count_told, gated_by, reset_if, value_behind}
+use Rattle.fdc_chip.specs.Ports.{CollectsIf, ComesIf, GivesChipIf, TakesByte, TakesIf, WritesChip, count_told, gated_by, may_come, reset_if, value_behind, with_next}
 use Rattle.fdc_chip.specs.Settings.{is_by_port, step_words}
 use Rattle.fdc_chip.specs.Steps.{Follows, StepsChip}
 use Rattle.fdc_chip.specs.declared.code.Code.{Code}
@@ -25,7 +25,7 @@ use Rattle.fdc_chip.specs.declared.stage.Stage.TheVariants.{Ready, Held, Busy, T
 use Rattle.laws_chip.specs.Beginning.{Completes, IsDoneFree, IsHeldFor, completed, still_moves}
 use Rattle.laws_chip.specs.Calls as made
 use Rattle.laws_chip.specs.Calls.{Call, Does, is_reset, is_step}
-use Rattle.laws_chip.specs.PacedSeeks.{GoesBehind, HeadsPaced, StandsBehind, most_left}
+use Rattle.laws_chip.specs.PacedSeeks.{GoesBehind, HeadsPaced, StandsBehind, completes, most_left}
 use Rattle.laws_chip.specs.Resets.{is_of_data_port}
 use Rattle.laws_chip.specs.Seeks.{HeadsGo, IsSoundInRange, SeeksBehind, most_of, waits_for_heads}
 use Rattle.laws_chip.specs.Sound.{IsSound}
@@ -221,6 +221,27 @@ call_paced left drive goal stage (made.Straps on) old new waits was does no_step
     subst (HeadsPaced left drive goal stage) (sym does) (paced_as left drive goal stage old (record old { strapped = on }) was refl refl refl was.going)
 call_paced left drive goal stage (made.StrapsSteps on) old new waits was does no_step no_reset other =
     subst (HeadsPaced left drive goal stage) (sym does) (paced_as left drive goal stage old (record old { paced = on }) was refl refl refl was.going)
+
+-- ---- bytes of a command before its last one
+
+byte_taken : (byte : ℕ) (old new : ChipState) → old.stage ≡ Ready → WritesChip 0x3F5 byte old new → completes byte old ≡ false → (new ≡ with_next byte old) ⊎ (new ≡ old)
+byte_taken byte old new at writes part = by_chance (may_come old) (subst (λ stage. TakesByte stage byte old new) at (writes.bytes refl))
+  where
+    by_chance : (b : Bool) → ComesIf b byte old new → (new ≡ with_next byte old) ⊎ (new ≡ old)
+    by_chance true collects = inl (subst (λ b. CollectsIf b (code_of (with_next byte old).order.code) (with_next byte old) new) part collects)
+    by_chance false is = inr is
+
+pub byte_going : (left drive : ℕ) (goal : Option ℕ) (byte : ℕ) (old new : ChipState) → HeadsGo left drive goal Ready old → WritesChip 0x3F5 byte old new → completes byte old ≡ false → HeadsGo left drive goal Ready new
+byte_going left drive goal byte old new was writes part = elim (byte_taken byte old new was.at writes part) [
+  | inl is ↦ subst (HeadsGo left drive goal Ready) (sym is) (record { at = was.at; unpaced = was.unpaced; few = was.few; going = was.going })
+  | inr is ↦ same_going left drive goal Ready old new is was
+]
+
+pub byte_paced : (left drive : ℕ) (goal : Option ℕ) (byte : ℕ) (old new : ChipState) → HeadsPaced left drive goal Ready old → WritesChip 0x3F5 byte old new → completes byte old ≡ false → HeadsPaced left drive goal Ready new
+byte_paced left drive goal byte old new was writes part = elim (byte_taken byte old new was.at writes part) [
+  | inl is ↦ subst (HeadsPaced left drive goal Ready) (sym is) (paced_as left drive goal Ready old (with_next byte old) was refl refl refl was.going)
+  | inr is ↦ same_paced left drive goal Ready old new is was
+]
 
 -- ---- a command comes, and is held
 

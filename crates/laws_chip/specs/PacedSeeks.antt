@@ -1,10 +1,12 @@
 -- Seeks whose pulses come in the time that SPECIFY sets, up to the command that ends them.
-use Rattle.std.specs.Prelude.{◌≡◌, ◌⊎◌, ◌≤◌, ℕ, ◌+◌, ◌-◌, ◌*◌, ◌%◌, max, min, false, Option, Some, None, [], ◌∷◌, length, slice_index}
+use Rattle.std.specs.Prelude.{◌≡◌, ◌⊎◌, ◌≤◌, ℕ, ◌+◌, ◌-◌, ◌*◌, ◌%◌, max, min, Bool, false, Option, Some, None, [], ◌∷◌, length, slice_index}
 use Rattle.fdc_phases.specs.declared.phases.Phase.TheVariants.{Command as Taking}
 use Rattle.fdc_core.specs.State.{is_held}
 use Rattle.fdc_sequencer.specs.Fronts.{Front}
 use Rattle.fdc_sequencer.specs.declared.stage.Stage.TheVariants.{Through}
 use Rattle.fdc_chip.specs.Chips.{ChipState}
+use Rattle.fdc_chip.specs.Codes.{code_of}
+use Rattle.fdc_chip.specs.Ports.{is_whole, with_next}
 use Rattle.fdc_chip.specs.Settings.{step_words}
 use Rattle.fdc_chip.specs.declared.pace.Pace.{Pace}
 use Rattle.fdc_chip.specs.declared.stage.Stage.{Stage}
@@ -72,3 +74,7 @@ pub record HeadsPaced (left drive : ℕ) (goal : Option ℕ) (stage : Stage) (ch
   pub apart : ℕ
   pub going : GoesBehind behind apart drive pace.cylinder chip.front
   pub within : most_left behind apart (step_words chip.settings) pace ≤ left
+
+-- whether this byte is the last one of a command
+abbrev pub completes : ℕ → ChipState → Bool
+completes byte old = let next = with_next byte old in is_whole next.count (code_of next.order.code)

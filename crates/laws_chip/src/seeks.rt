@@ -13,7 +13,7 @@ ghost use Rattle.fdc_chip.specs.declared.stage.Stage.{Stage};
 ghost use Rattle.fdc_chip.specs.declared.stage.Stage.TheVariants.{Ready, Held};
 ghost use Rattle.laws_chip.specs.Beginning.{Completes, IsDoneFree, IsHeldFor, completed, still_moves};
 ghost use Rattle.laws_chip.specs.Calls.{Call, Does, is_reset, is_step};
-ghost use Rattle.laws_chip.specs.PacedSeeks.{HeadsPaced, most_paced, pulses_left};
+ghost use Rattle.laws_chip.specs.PacedSeeks.{HeadsPaced, completes, most_paced, pulses_left};
 ghost use Rattle.laws_chip.specs.Resets.{is_of_data_port};
 ghost use Rattle.laws_chip.specs.Seeks.{EndsBySignal, HeadsGo, IsSoundInRange, goal_of, most_of, waits_for_heads};
 ghost use Rattle.laws_chip.specs.Sound.{IsSound};
@@ -52,9 +52,9 @@ pub fn a_held_command_starts()
 {}
 
 /// If the strap for the time of step pulses is on, the pulses come in the time that SPECIFY sets. The seek has as many
-/// pulses as the cylinder that the chip counts is away from the target, and a RECALIBRATE has at most 79. For each pulse
-/// at most three device steps come to its time, and once 255. The seek goes on through all other calls except a reset,
-/// even while a command is held.
+/// pulses as the cylinder that the chip counts is away from the target, and a RECALIBRATE has at most 79. All of them
+/// take at most their times, and 255 device steps more. The seek goes on through all other calls except a reset, even
+/// while a command is held.
 pub fn a_paced_seek_begins()
     ensures comes { (code : Code) (goal : Option ℕ) (byte : ℕ) (old new : ChipState) → IsSoundInRange old → IsSoundInRange new → byte < 256 → Completes code byte old → goal_of code (completed byte old) (drained old).interrupts ≡ Some goal
         → WritesChip 0x3F5 byte old new → still_moves old ≡ false → old.paced ≡ true → old.front.adapter.controller.poll_due ≡ false
@@ -72,6 +72,15 @@ pub fn a_paced_seek_ends()
     ensures steps { (left drive : ℕ) (goal : Option ℕ) (old new : ChipState) → IsSoundInRange old → IsSoundInRange new → HeadsPaced (left + 1) drive goal Ready old → StepsChip old new
         → HeadsPaced left drive goal Ready new ⊎ HeadsGo (most_of goal) drive goal Ready new }
     ensures some { (drive : ℕ) (goal : Option ℕ) (stage : Stage) (chip : ChipState) → HeadsPaced 0 drive goal stage chip → ⊥ }
+{}
+
+/// While heads move, or pulses are to come, the bytes of a command are taken. Those before its last one leave the heads
+/// as they are.
+pub fn a_command_comes_while_heads_move()
+    ensures goes { (left drive : ℕ) (goal : Option ℕ) (byte : ℕ) (old new : ChipState) → HeadsGo left drive goal Ready old → WritesChip 0x3F5 byte old new → completes byte old ≡ false
+        → HeadsGo left drive goal Ready new }
+    ensures paced { (left drive : ℕ) (goal : Option ℕ) (byte : ℕ) (old new : ChipState) → HeadsPaced left drive goal Ready old → WritesChip 0x3F5 byte old new → completes byte old ≡ false
+        → HeadsPaced left drive goal Ready new }
 {}
 
 /// A command that needs the inner controller is held while pulses are to come. It is still held when the inner
