@@ -1,6 +1,6 @@
 -- The poll of a reset, in the inner controller: once it has come, it isn't to come until the next reset.
-use Rattle.std.proofs.Common.{◌≡◌, inl, inr, ℕ, ◌+◌, ◌-◌, ◌==◌, Bool, true, false, not, ◌&&◌, ◌||◌, if◌then◌else◌, List, [], ◌∷◌, ◌++◌, Option, Some, None, length, bit_and, refl, sym, ◌∙◌, ap, subst}
-use Rattle.std.proofs.lemmas.Bool.{and_right, eqb-true, false≢true}
+use Rattle.std.proofs.Common.{◌≡◌, inl, inr, ℕ, ◌+◌, ◌-◌, ◌==◌, Bool, true, false, not, ◌&&◌, ◌||◌, if◌then◌else◌, [], ◌∷◌, ◌++◌, Option, Some, None, length, bit_and, refl, ◌∙◌, ap, subst}
+use Rattle.std.proofs.lemmas.Bool.{eqb-true, false≢true}
 use Rattle.drive_model.specs.Drive.{DriveState, at_index}
 use Rattle.fdc_registers.specs.Fifo.{Fifo}
 use Rattle.fdc_commands.specs.Seeking.{has_ended_seek, seek_bits, sensed, with_polls, without_ended}
@@ -43,8 +43,8 @@ use Rattle.fdc_core.specs.Writes.{WritesIn, WritesTask}
 use Rattle.fdc_core.specs.Writing.{WriteDoes, after_next, without_byte}
 use Rattle.fdc_core.specs.declared.controller.Fdc.{Fdc}
 use Rattle.fdc_core.specs.declared.controller.Lines.{Lines}
-use Rattle.fdc_adapter.specs.Adapters.{AdapterState, Gives, StepsAdapter, Takes, WritesAdapter, lines_at, selected_at}
-use Rattle.fdc_sequencer.specs.Fronts.{BeginsSector, Collects, CollectsAs, Front, GivesAt, GivesFront, GivesMoving, PassesAs, Starts, StartsIf, TakesAt, TakesByte, TakesFront, TakesMoving, WritesFront, after_reading, begins_with, begun_if, byte_given, count_told, told_front, told_if, with_controller}
+use Rattle.fdc_adapter.specs.Adapters.{AdapterState, Gives, StepsAdapter, Takes, lines_at, selected_at}
+use Rattle.fdc_sequencer.specs.Fronts.{BeginsSector, CollectsAs, Front, GivesAt, GivesFront, GivesMoving, PassesAs, Starts, StartsIf, TakesAt, TakesByte, TakesFront, TakesMoving, WritesFront, after_reading, begins_with, begun_if, byte_given, count_told, told_front, told_if, with_controller}
 use Rattle.fdc_sequencer.specs.Moves.{EndsIf, EndsSector, FollowsStep, MovesOn, SeeksOn, StepsFront, goes_on, has_met_other, is_unwanted, judged_if, passed_over_if}
 use Rattle.fdc_sequencer.specs.Transfers.{command_of, next_of, transfer_of}
 use Rattle.fdc_sequencer.specs.declared.opcode.Opcode.{Opcode}

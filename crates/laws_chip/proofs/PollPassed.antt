@@ -1,7 +1,6 @@
 -- The poll of a reset, through each call of a chip: once it has come, it isn't to come until the next reset.
-use Rattle.std.proofs.Common.{◌≡◌, ℕ, zero, suc, ◌+◌, ◌-◌, ◌*◌, ◌%◌, ◌<◌, ◌==◌, Bool, true, false, not, ◌&&◌, if◌then◌else◌, List, [], ◌∷◌, Option, Some, None, bit_and, refl, sym, ◌∙◌, ap, subst}
-use Rattle.std.proofs.lemmas.Bool.{and_right, eqb-true, false≢true}
-use Rattle.flop_base.specs.declared.key.Chrn.{Chrn}
+use Rattle.std.proofs.Common.{◌≡◌, ℕ, zero, suc, ◌*◌, ◌%◌, ◌==◌, Bool, true, false, not, ◌&&◌, if◌then◌else◌, List, [], ◌∷◌, Option, Some, None, bit_and, refl, sym, ◌∙◌, ap}
+use Rattle.std.proofs.lemmas.Bool.{eqb-true}
 use Rattle.fdc_registers.specs.St1.{missing_mark}
 use Rattle.fdc_commands.specs.Seeking.{Seeking as Seeks, pulses_within, seek_bits, sensed, with_motion}
 use Rattle.fdc_commands.specs.declared.motion.Motion.TheVariants.{Outward}
@@ -12,7 +11,7 @@ use Rattle.fdc_core.specs.Whole.{is_idle}
 use Rattle.fdc_core.specs.declared.controller.Fdc.{Fdc}
 use Rattle.fdc_adapter.specs.Senses.{after_result, without_result}
 use Rattle.fdc_sequencer.specs.Fronts.{Front, interrupts_outside, told_front}
-use Rattle.fdc_sequencer.specs.Senses.{pending_outside, recalibrated_at, recalibrated_outside, sensed_at, sensed_outside}
+use Rattle.fdc_sequencer.specs.Senses.{pending_outside, recalibrated_at, sensed_at, sensed_outside}
 use Rattle.fdc_sequencer.specs.Transfers.{size_of}
 use Rattle.fdc_sequencer.specs.declared.stage.Stage.{Stage as FrontStage}
 use Rattle.fdc_sequencer.specs.declared.stage.Stage.TheVariants.{Through, Collecting, Seeking, Moving, Telling as FrontTelling}
@@ -26,7 +25,7 @@ use Rattle.fdc_chip.specs.Interrupts.{cylinder_of}
 use Rattle.fdc_chip.specs.Orders.{order_bytes}
 use Rattle.fdc_chip.specs.Answers.{is_of_data}
 use Rattle.fdc_chip.specs.Ports.{CollectsIf, ComesIf, GivesChipIf, GivesIf, ReadsAt, ReadsChip, ReadsIf, TakesByte, TakesIf, WritesChip, count_told, counted_if, is_whole, may_come, quieted_if, value_behind, with_next}
-use Rattle.fdc_chip.specs.Steps.{Follows, FollowsTask, StepsChip, Swallows, SwallowsAs, SwallowsBy}
+use Rattle.fdc_chip.specs.Steps.{Follows, FollowsTask, StepsChip, SwallowsAs, SwallowsBy}
 use Rattle.fdc_chip.specs.declared.code.Code.{Code}
 use Rattle.fdc_chip.specs.declared.code.Code.TheVariants.{ReadTrack, Specify, SenseDrive, Transfer, Recalibrate, SenseInterrupt, ReadId, FormatTrack, DumpRegisters, Seek, RelativeSeek, Version, Perpendicular, Configure, Lock, Verify}
 use Rattle.fdc_chip.specs.declared.pace.Pace.{Pace}

@@ -1,6 +1,6 @@
 -- A command that is held while heads move: it is held through other calls, and begins in the device step in which they
 -- stand.
-use Rattle.std.proofs.Common.{◌≡◌, ◌⊎◌, inl, inr, ℕ, ◌+◌, ◌*◌, ◌<◌, ◌≤◌, Bool, true, false, not, ◌&&◌, ◌||◌, ◌==◌, Option, Some, is_some, length, slice_index, slice_set, unwrap_or, refl, sym, ◌∙◌, ap, subst, arith}
+use Rattle.std.proofs.Common.{◌≡◌, ◌⊎◌, inl, inr, ℕ, ◌+◌, ◌<◌, ◌≤◌, Bool, true, false, not, ◌&&◌, ◌||◌, ◌==◌, Option, Some, is_some, length, slice_index, slice_set, unwrap_or, refl, sym, ◌∙◌, ap, subst}
 use Rattle.std.proofs.lemmas.Bool.{and_from, and_right, false≢true, or_from, or_right}
 use Rattle.fdc_commands.specs.Seeking.{Seeking}
 use Rattle.fdc_core.specs.Ports.{resets}
