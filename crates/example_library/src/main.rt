@@ -1,8 +1,9 @@
 //! Examples of the library, one in each file: a sector of an image, a controller at its ports, a driver over a machine,
-//! the strap for step times, and the rest on one diskette. The first step that doesn't come out as it should ends the
+//! the strap for step times, the drive of a bay, and the rest on one diskette. The first step that doesn't come out as it should ends the
 //! program with status 1.
 #![tactic(auto)]
 
+mod bay;
 mod controller;
 mod diskette;
 mod driver;
@@ -20,5 +21,6 @@ fn main(rt: HostRuntime) -> Result<(), Trouble> {
     controller::run(&rt)?;
     driver::run(&rt)?;
     straps::run(&rt)?;
+    bay::run(&rt)?;
     diskette::run(&rt)
 }

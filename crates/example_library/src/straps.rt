@@ -1,5 +1,5 @@
 // The strap for step times. What SENSE INTERRUPT gives is the same with the strap and without, for two seeks. One is a
-// SEEK that comes right after a reset; the other is a RECALIBRATE from further out than its pulses go.
+// SEEK that comes right after a reset; the other is a RECALIBRATE from farther in than its pulses go.
 use crate::guest::{Controller, send};
 use crate::trouble::Trouble;
 use std::alloc::Global;

@@ -1,5 +1,6 @@
 -- The controller, the adapter with its two drives, commands of several sectors in front of it, and the whole
--- controller.
+-- controller; the drive of a bay.
+pub use Rattle.c_bay_drive.specs.Bays
 pub use Rattle.fdc_core.specs.State
 pub use Rattle.fdc_core.specs.Ports
 pub use Rattle.fdc_core.specs.Heard

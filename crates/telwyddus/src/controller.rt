@@ -1,4 +1,5 @@
-// The controller at its ports, alone and with two drives.
+// The controller at its ports, alone and with two drives; the drives.
+pub use c_bay_drive::{BayDrive, TrackMap};
 pub use drive_model::{Drive, Fault, Heard, Inspect, PlainDrive, ScriptDrive, Turn};
 pub use fdc_adapter::DisketteAdapter;
 pub use fdc_chip::Chip;
