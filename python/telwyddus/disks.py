@@ -18,7 +18,7 @@ from typing import NamedTuple
 
 from .binding import Data
 from .codes import BadCrc, Found, NoMark, NotFound, Overrun, Refused, Seek
-from .geometry import Geometry, Key, of_medium
+from .geometry import Geometry, Key, of_medium, size_code
 from .machines import Desk
 from .media import Shape, Tray
 from .problems import Problem
@@ -167,6 +167,13 @@ class Disk(Desk):
         if self._geometry is None:
             raise Problem("The diskette isn't formatted: no track has an address field. Name a geometry if you know one.")
         return self._geometry
+
+    def take_size(self, size: int) -> None:
+        """Asks for sectors of so many bytes from now on."""
+        try:
+            self._geometry = self.geometry._replace(n=size_code(size))
+        except ValueError as fault:
+            raise Problem(f"{fault}.") from fault
 
     def sector(self, cylinder: int, head: int, number: int) -> Sector:
         """A sector, read or tried."""

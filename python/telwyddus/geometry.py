@@ -13,6 +13,8 @@ Key = tuple[int, int, int]
 # 128 << n bytes are the size of a sector with the size code n.
 SIZE_CODES = range(1, 7)
 RATES = (250, 500)
+# A track with more bytes than this is one of 500 kbit/s, if nobody says otherwise.
+MOST_DOUBLE_DENSITY = 5120
 
 
 class Geometry(NamedTuple):
@@ -77,7 +79,7 @@ class Geometry(NamedTuple):
         if found is None:
             raise ValueError(f"{text} names no geometry. Name one of {', '.join(NAMED)}, or its numbers: 80x2x18x512@500")
         cylinders, heads, sectors, size, kilobits = (int(word) if word else 0 for word in found.groups())
-        geometry = cls(cylinders, heads, sectors, size_code(size or 512), kilobits or (500 if sectors * (size or 512) > 5632 else 250))
+        geometry = cls(cylinders, heads, sectors, size_code(size or 512), kilobits or (500 if sectors * (size or 512) > MOST_DOUBLE_DENSITY else 250))
         if not (1 <= cylinders <= 80 and heads in (1, 2) and 1 <= sectors <= 255 and geometry.kilobits in RATES):
             raise ValueError(f"{text} is no geometry of a diskette: it has 1 to 80 cylinders, 1 or 2 heads, 1 to 255 sectors, and 250 or 500 kbit/s")
         return geometry

@@ -31,7 +31,7 @@ class Format(NamedTuple):
 
 
 CELLS = Format("cells", (".rt",), "raw image (the cells of all tracks)")
-FLAT = Format("flat", (".img", ".ima", ".flat", ".dsk", ".vfd", ".st", ".flp", ".fd", ".xdf", ".360", ".720", ".144"), "flat sector file")
+FLAT = Format("flat", (".img", ".ima", ".flat", ".dsk", ".vfd", ".st", ".flp", ".fd", ".360", ".720", ".144"), "flat sector file")
 IMAGEDISK = Format("imd", (".imd",), "ImageDisk file")
 FORMATS = (CELLS, FLAT, IMAGEDISK)
 

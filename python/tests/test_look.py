@@ -122,4 +122,6 @@ def test_hexdump_of_a_damaged_sector(run: Run) -> None:
     assert answer.status == 1 and answer.json["state"] == "damaged"
     assert len(data) == 512 and sum(a != b for a, b in zip(data, content(1, 0, 3))) in (1, 2)
     assert run("hexdump", "a.rt", "1", "0", "30").status == 2
+    assert run("hexdump", "a.rt", "1", "0", "4", "--size", "256").status == 2
+    assert run("hexdump", "a.rt", "1", "0", "4", "--size", "100").status == 2
     assert run("hexdump", "a.rt", "1", "0").status == 2

@@ -14,7 +14,6 @@ from typing import Any
 import pytest
 from conftest import Run, damage, disk, put
 
-import telwyddus.files
 from telwyddus import Problem, files
 
 

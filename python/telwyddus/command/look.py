@@ -139,14 +139,17 @@ def survey(image: Path, bad: bool, track: tuple[int, int] | None, as_json: bool)
 @click.argument("cylinder", type=int)
 @click.argument("head", type=int)
 @click.argument("number", metavar="SECTOR", type=int)
+@click.option("--size", type=int, metavar="BYTES", help="The size of the sector, if it isn't that of the geometry.")
 @options.geometry
 @options.as_json
-def hexdump(image: Path, cylinder: int, head: int, number: int, geometry: Geometry | None, as_json: bool) -> int:
+def hexdump(image: Path, cylinder: int, head: int, number: int, size: int | None, geometry: Geometry | None, as_json: bool) -> int:
     """Print the bytes of a sector, in hexadecimal and as text.
 
     If the CRC of the sector is wrong, the bytes are printed as they stand on the track, and the status is 1.
     """
     with Disk.open(image, geometry) as disk:
+        if size is not None:
+            disk.take_size(size)
         sector = disk.sector(cylinder, head, number)
         data = sector.data or bytes_as_they_are(disk, cylinder, head, number)
     if as_json:
