@@ -125,3 +125,23 @@ def test_what_mtools_put_on_a_diskette_is_read(fat: Path) -> None:
     with Disk.open("fat.rt") as it:
         it.save("again.img")
     assert outside("mtype", "-i", "again.img", "::HELLO.TXT") == "hello from a diskette\n"
+
+
+# The sectors of a track: its number of sectors, and what is done to some of them.
+tracks = st.lists(st.tuples(st.integers(1, 18), st.sampled_from(["deleted", "damaged", "both"])), max_size=6)
+
+
+@SLOW
+@given(changes=st.lists(tracks, min_size=4, max_size=4))
+def test_imagedisk_files_keep_marks_and_damage(changes: list[list[tuple[int, str]]]) -> None:
+    made = disk(2)
+    for track, changed in enumerate(changes):
+        for sector, what in changed:
+            cylinder, head = divmod(track, 2)
+            made.write(sector, content(cylinder, head, sector), deleted=what != "damaged", track=track)
+            if what != "deleted":
+                damage(made, cylinder, head, sector)
+    with Tray(made.file()) as before, Tray.of_imd(before.imd()) as after:
+        assert [field[3:] for field in after.survey()] == [field[3:] for field in before.survey()]
+        with Disk.of(Tray(after.image())) as one, Disk.of(Tray(before.image())) as other:
+            assert list(one) == list(other)

@@ -3,15 +3,20 @@ from __future__ import annotations
 
 import os
 import signal
+import tempfile
 from collections.abc import Iterator, Sequence
 from pathlib import Path
 from typing import Any
 
 import pytest
 from conftest import Run, content, damage, disk, files_here, outside, put
+from hypothesis import given, settings
+from hypothesis import strategies as st
 
 import telwyddus.command.rescue
 import telwyddus.files
+from telwyddus import Geometry
+from telwyddus.rescuing import Map, geometry_in
 
 ALL = 80 * 2 * 18
 
@@ -142,6 +147,8 @@ def test_what_is_refused(run: Run) -> None:
     assert run("rescue", "three.rt", "new.img").status == 0
     put("new.img.map", b"0x0 + 1\nnonsense\n")
     assert "line 2 isn't one of a map" in run("rescue", "one.rt", "new.img").err
+    put("log", b"mine")
+    assert run("rescue", "one.rt", "saved.rt", "--log", "log").status == 2 and Path("log").read_bytes() == b"mine"
     assert run("rescue", "one.rt").status == 2
     assert run("rescue", "one.rt", "saved.edsk").status == 2
     assert "saved.rt" not in files_here()
@@ -153,3 +160,18 @@ def test_deleted_marks_are_kept(run: Run) -> None:
     answer = run("rescue", "a.rt", "c.img")
     assert answer.status == 2 and "the mark is lost" in answer.err and not Path("c.img").exists() and not Path("c.img.map").exists()
     assert run("rescue", "a.rt", "c.img", "--lossy").status == 0
+
+
+@settings(max_examples=25, deadline=None)
+@given(st.lists(st.sampled_from("+-?"), min_size=36, max_size=36))
+def test_maps_come_back_and_ddrescue_reads_them(statuses: list[str]) -> None:
+    geometry = Geometry(1, 2, 18)
+    made = Map(geometry, dict(zip(geometry.keys(), statuses)), ["0" * 64])
+    text = made.text("telwyddus rescue a.rt b.rt")
+    assert Map.parsed(text, geometry, Path("map")) == made and geometry_in(text) == geometry
+    with tempfile.NamedTemporaryFile("w", suffix=".map") as file:
+        file.write(text)
+        file.flush()
+        for status in "+-?":
+            listed = outside("ddrescuelog", "--block-size=512", f"--list-blocks={status}", file.name).split()
+            assert [int(line) for line in listed] == [place for place, it in enumerate(statuses) if it == status]

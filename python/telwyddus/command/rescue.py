@@ -2,6 +2,7 @@
 from __future__ import annotations
 
 import contextlib
+import re
 import shlex
 import signal
 import sys
@@ -20,6 +21,8 @@ from . import options
 from .output import BAD, GOOD, count, remark, say, say_json, watched
 
 INTERRUPTED = 130
+# A log: a line C H R CODE for each sector.
+LOG = re.compile(rb"(?:\d+ \d+ \d+ [0-9A-F]{2}\n)*")
 
 
 @click.command()
@@ -43,11 +46,12 @@ def rescue(sources: tuple[Path, ...], target: Path, map_path: Path | None, log_p
     A sector that was never read has bytes F6 in TO, and looks good there. Only the map says that it is missing. The
     status is 1 while something is missing.
     """
-    paths = Paths(target, map_path or target.with_name(target.name + ".map"), log_path)
+    paths = Paths(target, map_path or target.with_name(target.name + ".map"), log_path, force)
     if format_of_name(target) is None:
         raise Problem(f"{target}: a rescue stores files that end in .rt, .imd or .img. Convert the file afterwards.")
     with files.locked(paths.map), files.locked(target), Disk.open(sources[0], geometry) as first:
-        work = begun(paths, first, geometry, force)
+        work = begun(paths, first, geometry)
+        check_log(paths)
         taken = {}
         with work.target, interruptible() as goes_on:
             for path in sources:
@@ -58,20 +62,20 @@ def rescue(sources: tuple[Path, ...], target: Path, map_path: Path | None, log_p
 
 
 class Paths:
-    """The files that a rescue writes."""
+    """The files that a rescue writes, and whether it may replace an image and a map that it didn't make."""
 
-    def __init__(self, target: Path, map: Path, log: Path | None) -> None:
-        self.target, self.map, self.log = target, map, log
+    def __init__(self, target: Path, map: Path, log: Path | None, force: bool) -> None:
+        self.target, self.map, self.log, self.force = target, map, log, force
 
 
-def begun(paths: Paths, first: Disk, geometry: Geometry | None, force: bool) -> Rescue:
+def begun(paths: Paths, first: Disk, geometry: Geometry | None) -> Rescue:
     """A rescue from its beginning, or from where an earlier run stopped."""
     if paths.map.exists() and paths.target.exists():
         return resumed(paths, first, geometry)
     if paths.map.exists():
         raise Problem(f"{paths.map} says what was read, and {paths.target} isn't there. Name the image that it belongs to, or remove the map "
                       "to begin anew.")
-    files.check_is_free(paths.target, force)
+    files.check_is_free(paths.target, paths.force)
     return Rescue(Disk.new(first.geometry), Map.new(first.geometry))
 
 
@@ -83,7 +87,14 @@ def resumed(paths: Paths, first: Disk, geometry: Geometry | None) -> Rescue:
     if map.sums and sum_of(files.read(paths.target)) not in map.sums:
         raise Problem(f"{paths.target} isn't the image that {paths.map} belongs to, or it was changed since. Nothing was stored. Name the right "
                       "image, or name another map to begin anew.")
+    paths.force = True
     return Rescue(Disk.open(paths.target, named), map)
+
+
+def check_log(paths: Paths) -> None:
+    """Refuses a log whose name another file has. The log of an earlier run may be replaced."""
+    if paths.log is not None and not (paths.log.is_file() and LOG.fullmatch(files.read(paths.log))):
+        files.check_is_free(paths.log, False)
 
 
 def take_from(path: Path, work: Rescue, geometry: Geometry | None, goes_on: Callable[[], bool], keep_damaged: bool) -> int:
@@ -105,9 +116,9 @@ def store(paths: Paths, work: Rescue, lossy: bool) -> None:
         old = Map.parsed(files.read(paths.map).decode("utf-8", "replace"), work.map.geometry, paths.map)
         old.sums = [*work.map.sums, total] if work.map.sums else []
         files.store(paths.map, old.text(command).encode(), force=True)
-    files.store(paths.target, made.data, force=True)
+    files.store(paths.target, made.data, paths.force)
     work.map.sums = [total]
-    files.store(paths.map, work.map.text(command).encode(), force=True)
+    files.store(paths.map, work.map.text(command).encode(), paths.force)
     if paths.log is not None:
         files.store(paths.log, work.log().encode(), force=True)
 
