@@ -153,7 +153,7 @@ def writes(book):
     with_source(book, "a sector written as deleted reads back as one", ONE, content,
                 channel(512, mode=0x4A) + data(0x49, 18) + END + back + data(0x46, 18) + END,
                 ended(0, 0, 0, 1, 0, 1, 2) + ended(0, 0, 0x40, 1, 0, 1, 2), one_track(rewritten(18, content, True)), whole)
-    with_source(book, "behind an early terminal count zeros are written", ONE, b"\xA1",
+    with_source(book, "after an early terminal count zeros are written", ONE, b"\xA1",
                 channel(100, mode=0x4A) + data(0x45, 1) + END + back + data(0x46, 1) + END,
                 ended(0, 0, 0, 0, 0, 2, 2) * 2, one_track(rewritten(1, b"\xA1" * 100 + bytes(412))), b"\xA1" * 100 + bytes(412))
     runs(book, "a protected disk is not written and is read", PROTECTED,

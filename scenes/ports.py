@@ -54,7 +54,7 @@ def answers_of_an_empty_machine(book):
                "in 3F4 D0;in 3F5 80;in 3F4 80;eject refused empty;eject refused 01", 1)
     # The poll comes in the first step after the access that ends the reset: either in the gap after it, or not in it.
     for name, plan, told in (("of one step", "gap 1 1", "irq 1;irq 0;irq 0"), ("of no step", "gap 0 1", "irq 0;irq 1;irq 0")):
-        book.scene("a gap " + name + " runs behind the access")
+        book.scene("a gap " + name + " runs after the access")
         book.plan(plan)
         book.ports("out 3F2 0C;irq;wait 1;irq;irq", told)
     book.scene("the change line is set until a pulse")
@@ -63,7 +63,7 @@ def answers_of_an_empty_machine(book):
                + "wait 80;out 3F5 08;in 3F5;in 3F5;in 3F7;out 3F5 04;out 3F5 00;in 3F5;eject 0;in 3F7;eject 0",
                WAS_POLLED + "insert ok;insert refused busy;in 3F7 80;in 3F5 38;in 3F5 20;in 3F5 01;in 3F7 00;in 3F5 28;"
                "eject ok;in 3F7 80;eject refused empty", 1, {"a.rt": ONE_CYLINDER.data})
-    book.scene("results behind a reset and behind codes that are none")
+    book.scene("results after a reset and after codes that are none")
     book.count("steps", "commands", "taken", "direct")
     book.ports("in 3F4;out 3F2 0C;wait 1;irq;irq;in 3F4;out 3F5 08;in 3F4;in 3F5;in 3F5;out 3F5 08;in 3F5;in 3F5;out 3F5 10;"
                "in 3F5;out 3F5 FF;in 3F5",
@@ -128,7 +128,7 @@ def searches(book):
     book.ports(START + "out 3F2 1E;" + READ_ID + "wait 10000;in 3F4;irq;out 3F2 1C;wait 347;irq;wait 1;irq;" + lines(RESULTS),
                STARTED + "in 3F4 10;irq 0;irq 0;irq 1;" + lines(answers(0, 0, 0, 0, 0, 2, 2)), counts=(6260 + 10348, 1, 1 + 1))
     # A spurious interrupt comes at step 6300. The first address field ends with word 167, and word 50 passed first.
-    book.scene("an id is read behind a stray interrupt")
+    book.scene("an id is read after a spurious interrupt")
     book.file("a.rt", TWO)
     book.plan("stray 6300 1")
     book.count("steps", "commands", "taken", "direct")

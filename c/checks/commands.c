@@ -93,7 +93,7 @@ static void power_up(void) {
     out(&guest, CCR, 0);
     expect(status() == 0x80 && !is_int(), "out of it 80");
     expect(run(&guest, 10), "INT follows the reset");
-    senses("C0 00", "SENSE INTERRUPT behind a reset tells of drive 0, and lets INT fall");
+    senses("C0 00", "SENSE INTERRUPT after a reset reports drive 0, and lets INT fall");
     senses("C1 00", "then of drive 1");
     senses("C2 00", "of drive 2");
     senses("C3 00", "of drive 3");
@@ -182,10 +182,10 @@ static void locked_fifo(void) {
     expect(first_request() == 8, "then 16 less 8 are asked for");
     gives("94", "10", "LOCK");
     wake(0);
-    expect(first_request() == 8, "behind a reset by DOR LOCK has kept it");
+    expect(first_request() == 8, "after a reset by DOR, LOCK has kept it");
     wake(1);
     wake(1);
-    expect(first_request() == 8, "and behind two by DSR");
+    expect(first_request() == 8, "and after two by DSR");
     gives("14", "00", "UNLOCK");
     wake(0);
     expect(first_request() == 1, "without LOCK a reset turns the FIFO off");
@@ -532,7 +532,7 @@ static void verify(void) {
     uint8_t was;
     MUST(telwyddus_controller_written(&guest.controller, 0, &was));
     seek(&guest, 2);
-    verifies("56 00 02 00 01 02 04 1B FF", "00 00 00 03 00 01 02", "VERIFY up to EOT: the key is that behind it");
+    verifies("56 00 02 00 01 02 04 1B FF", "00 00 00 03 00 01 02", "VERIFY up to EOT: the key is the one after it");
     verifies("56 80 02 00 01 02 12 1B 03", "00 00 00 02 00 04 02", "with EC three sectors");
     verifies("56 80 02 00 02 02 04 1B 03", "00 00 00 03 00 01 02", "with EC as many as there are up to EOT");
     verifies("56 80 02 00 02 02 04 1B 04", "40 80 00 02 00 04 02", "with EC more than that: EN");
@@ -601,9 +601,9 @@ static void reads(const char *sent, size_t count, size_t passed, const char *wan
 
 static void track(void) {
     lay_five();
-    reads("42 04 06 01 01 02 05 1B FF", 2560, 2560, "04 00 00 06 01 01 02", "01 03 05 02 04", "READ TRACK with the terminal count behind the last sector");
+    reads("42 04 06 01 01 02 05 1B FF", 2560, 2560, "04 00 00 06 01 01 02", "01 03 05 02 04", "READ TRACK with the terminal count after the last sector");
     reads("42 04 06 01 01 02 05 1B FF", ENDLESS, 2560, "44 80 00 06 01 01 02", "01 03 05 02 04", "without one: EN");
-    reads("42 04 06 01 03 02 05 1B FF", 1024, 1024, "04 00 00 06 01 03 02", "01 03", "with one behind the second sector");
+    reads("42 04 06 01 03 02 05 1B FF", 1024, 1024, "04 00 00 06 01 03 02", "01 03", "with one after the second sector");
     reads("42 04 06 01 01 02 05 1B FF", 700, 700, "04 00 00 06 01 01 02", "01", "with one within the second");
     reads("42 04 06 01 04 02 05 1B FF", 1024, 1024, "44 04 00 06 01 04 02", "01 03", "its key wasn't met up to there: ND");
     reads("42 04 06 01 09 02 05 1B FF", 2560, 2560, "44 04 00 06 01 09 02", "01 03 05 02 04", "its key isn't on the track: ND");

@@ -30,7 +30,7 @@ static inline void need(int is_so, const char *what) {
 static inline void compare_lines(Guest *guest) {
     uint8_t lines;
     MUST(telwyddus_controller_lines(&guest->controller, &lines));
-    need(lines == guest->lines, "a call tells the lines behind it");
+    need(lines == guest->lines, "a call gives the lines as they are after it");
 }
 
 /* ---- the channel */
@@ -39,7 +39,7 @@ static inline void compare_lines(Guest *guest) {
 static inline uint8_t serve(Guest *guest) {
     MUST(telwyddus_controller_lines(&guest->controller, &guest->lines));
     while (guest->lines & TELWYDDUS_DRQ) {
-        need(guest->left > 0, "DRQ is down behind the terminal count");
+        need(guest->left > 0, "DRQ is down after the terminal count");
         if (guest->lines & TELWYDDUS_TO_MEMORY) MUST(telwyddus_controller_dack_read(&guest->controller, guest->place, &guest->lines));
         else MUST(telwyddus_controller_dack_write(&guest->controller, *guest->place, &guest->lines));
         guest->place++;

@@ -328,7 +328,7 @@ static size_t pass_by_port(uint8_t *place, size_t most) {
             else MUST(telwyddus_controller_run(&chip.controller, 100000, &made, &chip.lines));
             continue;
         }
-        need(passed < most, "no byte is asked for behind the terminal count");
+        need(passed < most, "no byte is asked for after the terminal count");
         if (is & DIO) place[passed++] = in(&chip, BYTES);
         else out(&chip, BYTES, place[passed++]);
         if (passed == most) MUST(telwyddus_controller_tc(&chip.controller, &chip.lines));

@@ -71,13 +71,13 @@ static void try_all(const Case *cases, size_t count) {
 
 static const Case ends[] = {
     {"MT goes on from head 0 to head 1", {READ | MT, 0, 5, 0, 17, 2, 18, GAP}, 4 * 512, 4 * 512, {0x04, 0, 0, 5, 1, 3, 2}},
-    {"behind EOT of head 1: the next cylinder", {READ | MT, 0, 5, 0, 1, 2, 18, GAP}, 2 * TRACK, 2 * TRACK, {0x04, 0, 0, 6, 0, 1, 2}},
-    {"behind EOT of head 0: the other head", {READ | MT, 0, 5, 0, 18, 2, 18, GAP}, 512, 512, {0x00, 0, 0, 5, 1, 1, 2}},
-    {"behind EOT of head 1 alone", {READ | MT, 4, 5, 1, 18, 2, 18, GAP}, 512, 512, {0x04, 0, 0, 6, 0, 1, 2}},
-    {"without MT behind EOT: the next cylinder, the same head", {READ, 4, 5, 1, 18, 2, 18, GAP}, 512, 512, {0x04, 0, 0, 6, 1, 1, 2}},
+    {"after EOT of head 1: the next cylinder", {READ | MT, 0, 5, 0, 1, 2, 18, GAP}, 2 * TRACK, 2 * TRACK, {0x04, 0, 0, 6, 0, 1, 2}},
+    {"after EOT of head 0: the other head", {READ | MT, 0, 5, 0, 18, 2, 18, GAP}, 512, 512, {0x00, 0, 0, 5, 1, 1, 2}},
+    {"after EOT of head 1 alone", {READ | MT, 4, 5, 1, 18, 2, 18, GAP}, 512, 512, {0x04, 0, 0, 6, 0, 1, 2}},
+    {"without MT after EOT: the next cylinder, the same head", {READ, 4, 5, 1, 18, 2, 18, GAP}, 512, 512, {0x04, 0, 0, 6, 1, 1, 2}},
     {"without MT below EOT: the next record", {READ, 4, 5, 1, 3, 2, 18, GAP}, 5 * 512, 5 * 512, {0x04, 0, 0, 5, 1, 8, 2}},
-    {"no terminal count: EN behind EOT of head 1", {READ | MT, 0, 5, 0, 1, 2, 18, GAP}, ENDLESS, 2 * TRACK, {0x44, 0x80, 0, 5, 1, 18, 2}},
-    {"no terminal count, no MT: EN behind EOT", {READ, 0, 5, 0, 10, 2, 18, GAP}, ENDLESS, 9 * 512, {0x40, 0x80, 0, 5, 0, 18, 2}},
+    {"no terminal count: EN after EOT of head 1", {READ | MT, 0, 5, 0, 1, 2, 18, GAP}, ENDLESS, 2 * TRACK, {0x44, 0x80, 0, 5, 1, 18, 2}},
+    {"no terminal count, no MT: EN after EOT", {READ, 0, 5, 0, 10, 2, 18, GAP}, ENDLESS, 9 * 512, {0x40, 0x80, 0, 5, 0, 18, 2}},
     {"the terminal count within a sector", {READ | MT, 0, 7, 0, 3, 2, 18, GAP}, 700, 700, {0x00, 0, 0, 7, 0, 5, 2}},
     {"the terminal count with a sector's last byte", {READ | MT, 0, 7, 0, 3, 2, 18, GAP}, 512, 512, {0x00, 0, 0, 7, 0, 4, 2}},
     {"R beyond the track: ND", {READ, 0, 7, 0, 19, 2, 19, GAP}, 512, 0, {0x40, 0x04, 0, 7, 0, 19, 2}},
@@ -124,14 +124,14 @@ static void reads(void) {
 
 static void writes(void) {
     static const Case write = {"WRITE, the terminal count within the third of its sectors", {WRITE | MT, 0, 9, 0, 17, 2, 18, GAP}, 1300, 1300, {0x04, 0, 0, 9, 1, 2, 2}};
-    static const Case read = {"they are read, and the one behind them", {READ | MT, 0, 9, 0, 17, 2, 18, GAP}, 4 * 512, 4 * 512, {0x04, 0, 0, 9, 1, 3, 2}};
+    static const Case read = {"they are read, and the one after them", {READ | MT, 0, 9, 0, 17, 2, 18, GAP}, 4 * 512, 4 * 512, {0x04, 0, 0, 9, 1, 3, 2}};
     static const Case beyond = {"WRITE beyond the track: ND", {WRITE, 0, 9, 0, 19, 2, 19, GAP}, 512, 1, {0x40, 0x04, 0, 9, 0, 19, 2}};
     memset(buffer, 0xA5, 1300);
     try_one(&write);
     memset(buffer, 0, sizeof buffer);
     try_one(&read);
     check(is_all(buffer, 1300, 0xA5) && is_all(buffer + 1300, 236, 0), "what wasn't given is 00 up to the sector's end");
-    check(is_sector(buffer + 1536, 9, 1, 2), "the sector behind is as it was");
+    check(is_sector(buffer + 1536, 9, 1, 2), "the next sector is as it was");
     try_one(&beyond);
 }
 
@@ -280,7 +280,7 @@ static void step_times(uint8_t strap) {
     out(&guest, DOR, 0x1C);
     put(&guest, near, 3);
     make_steps(&guest, 1);
-    check(has_line(&guest, TELWYDDUS_INT), "a SEEK before the first step behind a reset: INT of the reset comes");
+    check(has_line(&guest, TELWYDDUS_INT), "a SEEK before the first step after a reset: INT of the reset comes");
     for (uint8_t drive = 0; drive < 4; drive++) polls += is_sensed(0xC0 | drive, 0);
     need(run(&guest, 1000000), "the seek ends");
     check(polls == 4 && is_sensed(0x20, 3), "C0, C1, C2 and C3 are told, and then 20");
@@ -288,7 +288,7 @@ static void step_times(uint8_t strap) {
     seek(&guest, 82);
     put(&guest, home, 2);
     need(run(&guest, 1000000), "the heads stand");
-    check(is_sensed(0x70, 0) && cylinder() == 3, "RECALIBRATE from cylinder 82 ends with 70 behind 79 pulses");
+    check(is_sensed(0x70, 0) && cylinder() == 3, "RECALIBRATE from cylinder 82 ends with 70 after 79 pulses");
     recalibrate(&guest);
     check(cylinder() == 0, "and once more it comes to cylinder 0");
     MUST(telwyddus_controller_strap_steps(&guest.controller, 0));

@@ -81,7 +81,7 @@ static void move(void) {
     TRY(telwyddus_controller_image(&controller, 0, out, length, &told));
     if (REFUSED(telwyddus_controller_eject(&controller, 0, &back, &lines))) {
         MUST(telwyddus_controller_image(&controller, 0, out, length, &told));
-        is_so(memcmp(image, out, length) == 0, "behind a refused eject the medium is in the drive");
+        is_so(memcmp(image, out, length) == 0, "after a refused eject the medium is in the drive");
         MUST(telwyddus_controller_eject(&controller, 0, &back, &lines));
     }
     is_image(&back, "the medium that comes out went in");
@@ -106,7 +106,7 @@ static void restore(void) {
     TRY(telwyddus_controller_save(&again, was, ROOM, &was_told));
     if (REFUSED(telwyddus_controller_restore(&again, state, told, &lines))) {
         MUST(telwyddus_controller_save(&again, now, ROOM, &now_told));
-        is_so(now_told == was_told && memcmp(now, was, was_told) == 0, "behind a refused restore the slot holds what it held");
+        is_so(now_told == was_told && memcmp(now, was, was_told) == 0, "after a refused restore the slot holds what it held");
         MUST(telwyddus_controller_restore(&again, state, told, &lines));
     }
     TRY(telwyddus_controller_save(&again, now, ROOM, &now_told));
@@ -116,7 +116,7 @@ static void restore(void) {
     TRY(telwyddus_machine_new(&machine));
     TRY(telwyddus_machine_save(&machine, state, ROOM, &told));
     if (REFUSED(telwyddus_machine_restore(&empty, state, told))) {
-        is_so(telwyddus_machine_free(&empty) == TELWYDDUS_EMPTY, "behind a refused restore an empty slot is empty");
+        is_so(telwyddus_machine_free(&empty) == TELWYDDUS_EMPTY, "after a refused restore an empty slot is empty");
         MUST(telwyddus_machine_restore(&empty, state, told));
     }
     MUST(telwyddus_machine_free(&machine));
@@ -189,7 +189,7 @@ static void sectors(void) {
     MUST(telwyddus_disk_format(&disk, 1, 0, 1));
     if (REFUSED(telwyddus_disk_eject(&disk, 1, &back))) {
         MUST(telwyddus_disk_read(&disk, 1, 0, 1, 5, 2, bytes, sizeof bytes, &deleted));
-        is_so(deleted == 0 && bytes[0] == 0xF6, "behind a refused eject the medium is in the bay, and acknowledged");
+        is_so(deleted == 0 && bytes[0] == 0xF6, "after a refused eject the medium is in the bay, and acknowledged");
         MUST(telwyddus_disk_eject(&disk, 1, &back));
     }
     is_image(&back, "the medium is formatted as it was");

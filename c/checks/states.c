@@ -233,7 +233,7 @@ static void pass_byte(int to_memory) {
     for (int i = 0; i <= both; i++)
         if (to_memory) MUST(telwyddus_controller_dack_read(&controllers[now ^ i], &byte[i], &told[now ^ i]));
         else MUST(telwyddus_controller_dack_write(&controllers[now ^ i], memory[place], &told[now ^ i]));
-    if (both) same(byte[0], byte[1], "a byte to memory"), same(told[0], told[1], "the lines behind it");
+    if (both) same(byte[0], byte[1], "a byte to memory"), same(told[0], told[1], "the lines after it");
     if (to_memory) memory[place] = byte[0];
     count_byte();
 }
@@ -253,7 +253,7 @@ static int await_controller(unsigned long most) {
     while (!(value & TELWYDDUS_INT) && most > 0) {
         uint32_t steps = steps_before(most), made[2] = {0, 0};
         for (int i = 0; i <= both; i++) MUST(telwyddus_controller_run(&controllers[now ^ i], steps, &made[i], &told[now ^ i]));
-        if (both) same(made[0], made[1], "the steps of a run"), same(told[0], told[1], "the lines behind them");
+        if (both) same(made[0], made[1], "the steps of a run"), same(told[0], told[1], "the lines after them");
         else if (counts_down()) until -= made[0];
         most -= made[0];
         look();
@@ -599,7 +599,7 @@ static void run_commands(const Kind *with, unsigned long commands) {
         settle();
     }
     for (int at = 0; at < 3; at++) kind->end(at);
-    printf("%s: %lu states were taken among the bytes of a command, %lu while it ran, %lu among its results, %lu behind it; of spoilt bytes %lu were refused, %lu another state\n",
+    printf("%s: %lu states were taken among the bytes of a command, %lu while it ran, %lu among its results, %lu after it; of spoilt bytes %lu were refused, %lu another state\n",
         kind->name, taken[IN_BYTES], taken[IN_EXECUTION], taken[IN_RESULTS], taken[BEHIND], refused, others);
 }
 

@@ -189,7 +189,7 @@ fn print_told(rt: &impl Print, told: &Told, deleted: bool) -> io::Result<()> {
     // Nothing runs, though the motor is on. So the number is all the steps that were asked for.
     let quiet = told.quiet;
     println!(rt; "no line changes in {quiet} device steps")?;
-    println!(rt; "READ DATA of four sectors is saved behind 700 bytes, and restored")?;
+    println!(rt; "READ DATA of four sectors is saved after 700 bytes, and restored")?;
     println!(rt; "both give the bytes of the file, with INT and DRQ alike")?;
     println!(rt; "drive and medium stay, as is seen at each step")?;
     // Head 1, and no error. The sector ID is the one after record 2 of head 1.

@@ -4,7 +4,7 @@ ghost use Rattle.flop_base.specs.Shelf.{no_files, file_at, stored};
 ghost use Rattle.flop_base.specs.Sink.{joined};
 ghost use Rattle.memory_files.specs.Shelves.{outside_in, files_in, report_in, RanPlain};
 
-use crate::memory::{MemShelf, MemSink};
+use crate::unfailing::{UnfailingShelf, UnfailingSink};
 use flop_base::{NoMemory, Status};
 use floppy_tools::{Ended, run_plain};
 use std::alloc::Global;
@@ -12,8 +12,8 @@ use std::alloc::Global;
 /// Files in memory, and what the program printed when it ran on them.
 #[derive(Drop)]
 pub struct RunShelf {
-    shelf: MemShelf,
-    sink: MemSink,
+    shelf: UnfailingShelf,
+    sink: UnfailingSink,
 }
 
 impl RunShelf {
@@ -23,8 +23,8 @@ impl RunShelf {
         ensures report { report_in result ≡ [] }
     {
         RunShelf {
-            shelf: MemShelf::new(alloc, Vec::new(alloc)),
-            sink: MemSink::new(alloc, Vec::new(alloc)),
+            shelf: UnfailingShelf::new(alloc),
+            sink: UnfailingSink::new(alloc),
         }
     }
 
@@ -41,14 +41,14 @@ impl RunShelf {
     pub fn file(&self, name: &str) -> Option<&[u8]>
         ensures { option_copied result ≡ file_at (files_in self.now) name.now }
     {
-        self.shelf.file(name)
+        self.shelf.files.file(name)
     }
 
     /// What was printed, and not forgotten: the lines, one after the other.
     pub fn report(&self) -> &[u8]
         ensures { result.now ≡ joined (report_in self.now) }
     {
-        self.sink.bytes()
+        self.sink.lines.bytes()
     }
 
     /// Forgets what was printed.
@@ -56,11 +56,12 @@ impl RunShelf {
         ensures files { files_in self.new ≡ files_in self.old }
         ensures report { report_in self.new ≡ [] }
     {
-        self.sink = MemSink::new(alloc, Vec::new(alloc));
+        self.sink = UnfailingSink::new(alloc);
     }
 
     /// Runs the program with these arguments on a new machine, whose drives have no faults and which nothing delays.
-    /// Nothing is run if memory for the machine couldn't be allocated.
+    /// Nothing is run if memory for the machine couldn't be allocated. No call of the files or of the output fails, so the
+    /// status is neither 6 nor 8.
     pub fn run(&mut self, alloc: Global, words: &[String]) -> Option<Status>
         ensures { MatchOption result (outside_in self.new ≡ outside_in self.old)
             (λ status. RanPlain (map string_bytes words.now) (outside_in self.old) (outside_in self.new) status) }

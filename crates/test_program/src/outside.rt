@@ -154,6 +154,75 @@ fn a_file_that_may_not_be_written_is_not_replaced(rt: HostRuntime) {
     remove(&rt, name);
 }
 
+// Another shelf stands for another program.
+#[test]
+fn what_another_program_changed_is_not_replaced(rt: HostRuntime) {
+    let (alloc, name) = (rt.alloc(), "floppy-test-update");
+    let mut other = FileShelf::new(&rt, alloc);
+    takes(&rt, &mut other, name, b"old");
+    let mut shelf = FileShelf::new(&rt, alloc);
+    gives(&rt, alloc, &mut shelf, name, b"old");
+    takes(&rt, &mut other, name, b"update");
+    takes_none(&rt, &mut shelf, name, b"new");
+    // What wasn't changed isn't stored, so the update stays.
+    takes(&rt, &mut shelf, name, b"old");
+    gives(&rt, alloc, &mut other, name, b"update");
+    // The update itself may be stored once more.
+    takes(&rt, &mut shelf, name, b"update");
+    has_faults(&rt, &shelf, 1);
+    remove(&rt, name);
+}
+
+#[test]
+fn a_file_that_is_gone_is_stored_anew(rt: HostRuntime) {
+    let (alloc, name) = (rt.alloc(), "floppy-test-gone");
+    let mut shelf = FileShelf::new(&rt, alloc);
+    takes(&rt, &mut shelf, name, b"old");
+    remove(&rt, name);
+    takes(&rt, &mut shelf, name, b"old");
+    gives(&rt, alloc, &mut shelf, name, b"old");
+    remove(&rt, name);
+    takes(&rt, &mut shelf, name, b"new");
+    gives(&rt, alloc, &mut shelf, name, b"new");
+    remove(&rt, name);
+}
+
+// An image of the older version is stored in the newer one, unless this user may not write it.
+#[test]
+fn an_older_image_that_may_not_be_written_stays(rt: HostRuntime) {
+    let (alloc, name) = (rt.alloc(), "floppy-test-older");
+    let mut shelf = FileShelf::new(&rt, alloc);
+    takes(&rt, &mut shelf, name, b"RTIMAGE1 words");
+    let may = may_write(&rt, name);
+    takes(&rt, &mut shelf, name, b"RTIMAGE2 words");
+    let held: &[u8] = if may {
+        b"RTIMAGE2 words"
+    } else {
+        b"RTIMAGE1 words"
+    };
+    gives(&rt, alloc, &mut shelf, name, held);
+    has_faults(&rt, &shelf, 0);
+    remove(&rt, name);
+}
+
+#[test]
+fn a_file_that_was_not_loaded_is_kept_if_asked(rt: HostRuntime) {
+    let (alloc, name) = (rt.alloc(), "floppy-test-precious");
+    let mut other = FileShelf::new(&rt, alloc);
+    takes(&rt, &mut other, name, b"precious");
+    let mut shelf = FileShelf::new(&rt, alloc).keeping(true);
+    takes_none(&rt, &mut shelf, name, b"new");
+    gives(&rt, alloc, &mut other, name, b"precious");
+    // Now that it was loaded it may be replaced, and so may a file that this run made.
+    gives(&rt, alloc, &mut shelf, name, b"precious");
+    takes(&rt, &mut shelf, name, b"new");
+    takes(&rt, &mut shelf, "floppy-test-made", b"first");
+    takes(&rt, &mut shelf, "floppy-test-made", b"second");
+    has_faults(&rt, &shelf, 1);
+    remove(&rt, name);
+    remove(&rt, "floppy-test-made");
+}
+
 #[test]
 fn standard_output_takes_all_bytes(rt: HostRuntime) {
     let mut sink = StreamSink::new(&rt);

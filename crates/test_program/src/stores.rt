@@ -250,3 +250,20 @@ fn a_store_whose_sync_fails_leaves_the_old_file(rt: HostRuntime) {
     gives(&rt, rt.alloc(), &mut plain, "floppy-test-unsynced", b"old");
     remove(&rt, "floppy-test-unsynced");
 }
+
+#[test]
+fn what_was_only_loaded_is_not_written(rt: HostRuntime) {
+    let (alloc, name) = (rt.alloc(), "floppy-test-read");
+    let mut plain = FileShelf::new(&rt, alloc);
+    takes(&rt, &mut plain, name, b"bytes");
+    let watch = Watch::new(true);
+    let files = WatchedFiles {
+        inside: &rt,
+        watch: &watch,
+    };
+    let mut shelf = FileShelf::new(&files, alloc);
+    gives(&rt, alloc, &mut shelf, name, b"bytes");
+    assert!(rt; shelf.store(name, b"bytes").is_ok());
+    assert!(rt; watch.is_at(Progress::Begun));
+    remove(&rt, name);
+}
