@@ -159,7 +159,7 @@ def bytes_of(tray: Tray, format: Format, geometry: Geometry | None = None, lossy
         raise Problem("The diskette isn't formatted: no track has an address field, so there is no sector to store.")
     lost = tally.losses(tally.tally(tray, fields, found), tally.LOST_BY_FLAT if format is FLAT else tally.LOST_BY_IMAGEDISK)
     if lost and not lossy:
-        raise Loss(f"{article(format).capitalize()} can't hold all that is on this diskette.", lost)
+        raise Loss(f"A{article(format)[1:]} can't hold all that is on this diskette.", lost)
     return Made(flat_of(tray, found) if format is FLAT else imd_of(tray, found), lost)
 
 
