@@ -40,8 +40,22 @@ class FileSystem:
         return self.run("mdir", "-a", inside(path)).replace(str(self.flat), "")
 
     def names(self, path: str) -> list[str]:
-        """The paths of all files and folders below a folder."""
-        return [line[len("::/"):] for line in self.run("mdir", "-/", "-b", "-a", inside(path)).splitlines() if line.startswith("::/")]
+        """The paths of all files and folders below a folder. mdir refuses an empty folder, so it is listed in another
+        form first."""
+        self.listing(path)
+        try:
+            lines = self.run("mdir", "-/", "-b", "-a", inside(path)).splitlines()
+        except Problem:
+            return []
+        return [line[len("::/"):] for line in lines if line.startswith("::/")]
+
+    def has(self, path: str) -> bool:
+        """Whether a file or a folder is there."""
+        try:
+            self.run("mdir", "-b", "-a", inside(path))
+        except Problem:
+            return False
+        return True
 
     def get(self, paths: Sequence[str]) -> list[Path]:
         """Copies files and folders to the folder `got`, and returns the files there."""

@@ -28,14 +28,12 @@ DSKTRANS, FLOPTOOL, GW = "dsktrans", "floptool", "gw"
 PACKAGES = {DSKTRANS: "Debian's libdsk-utils", FLOPTOOL: "Debian's mame-tools", GW: "the Greaseweazle host tools"}
 # The ways in which files of a suffix are read and written, the better one first.
 WAYS = {
-    ".td0": (Way(DSKTRANS, "tele"), Way(FLOPTOOL, "td0")),
-    ".cqm": (Way(DSKTRANS, "copyqm"), Way(FLOPTOOL, "cqm")),
+    ".td0": (Way(DSKTRANS, "tele", True), Way(FLOPTOOL, "td0")),
+    ".cqm": (Way(DSKTRANS, "copyqm", True), Way(FLOPTOOL, "cqm")),
     ".edsk": (Way(DSKTRANS, "edsk", True),),
     ".cpcdsk": (Way(DSKTRANS, "dsk", True),),
     ".ldbs": (Way(DSKTRANS, "ldbs", True),),
-    ".ydsk": (Way(DSKTRANS, "ydsk", True),),
-    ".qrst": (Way(DSKTRANS, "qrst"),),
-    ".mfm": (Way(FLOPTOOL, "mfm", True),),
+    ".qrst": (Way(DSKTRANS, "qrst", True),),
     ".mfi": (Way(FLOPTOOL, "mfi", True),),
     ".d88": (Way(FLOPTOOL, "d88"),),
     ".dmk": (Way(FLOPTOOL, "dmk"),),
@@ -45,7 +43,7 @@ WAYS = {
 }
 # What files of some formats begin with, whatever their suffix.
 BEGINNINGS = {b"MV - CPC": ".cpcdsk", b"EXTENDED": ".edsk", b"TD\0": ".td0", b"td\0": ".td0", b"CQ\x14": ".cqm", b"HXCPICFE": ".hfe",
-              b"HXCMFM": ".mfm", b"MESSFLOPPYIMAGE": ".mfi", b"MAMEFLOPPYIMAGE": ".mfi", b"SCP": ".scp", b"CAPS": ".ipf", b"LBS\x01": ".ldbs"}
+              b"MESSFLOPPYIMAGE": ".mfi", b"MAMEFLOPPYIMAGE": ".mfi", b"SCP": ".scp", b"CAPS": ".ipf", b"LBS\x01": ".ldbs"}
 # The formats of `gw convert`, by geometry.
 GW_FORMATS = {"1.44M": "ibm.1440", "720K": "ibm.720", "360K": "ibm.360", "1.2M": "ibm.1200", "DMF": "ibm.dmf", "800K": "ibm.800",
               "180K": "ibm.180", "160K": "ibm.160", "320K": "ibm.320", "1.6M": "ibm.1680"}

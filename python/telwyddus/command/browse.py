@@ -10,7 +10,7 @@ from ..codes import Protected, Refused
 from ..disks import Disk
 from ..geometry import Geometry
 from ..images import bytes_of, format_of_name
-from ..mtools import file_system, written_back
+from ..mtools import FileSystem, file_system, written_back
 from ..problems import Problem
 from . import options
 from .output import count, say, say_json
@@ -84,7 +84,7 @@ def put(image: Path, sources: tuple[Path, ...], folder: str, geometry: Geometry 
     with files.locked(image), Disk.open(image, geometry) as disk:
         with file_system(disk) as system:
             before = system.flat.read_bytes()
-            check_are_new(system.names(folder), sources, folder, force)
+            check_are_new(system, sources, folder, force)
             system.put(sources, folder, force)
             after = system.flat.read_bytes()
         written = write(disk, before, after)
@@ -98,12 +98,11 @@ def put(image: Path, sources: tuple[Path, ...], folder: str, geometry: Geometry 
     return 0
 
 
-def check_are_new(names: list[str], sources: tuple[Path, ...], folder: str, force: bool) -> None:
+def check_are_new(system: FileSystem, sources: tuple[Path, ...], folder: str, force: bool) -> None:
     """Refuses files whose names are taken on the diskette, unless they may be replaced."""
-    there = {name.strip("/").upper() for name in names}
     for path in sources:
-        name = f"{folder.strip('/')}/{path.name}".strip("/").upper()
-        if name in there and path.is_file() and not force:
+        name = f"{folder.strip('/')}/{path.name}".strip("/")
+        if path.is_file() and not force and system.has(name):
             raise Problem(f"{name} is on the diskette already. Name another folder, or replace it with --force.")
 
 
