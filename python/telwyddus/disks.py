@@ -109,6 +109,7 @@ class Disk(Desk):
 
     path: Path | None = None
     _geometry: Geometry | None = None
+    _lent: Tray | None = None
 
     @classmethod
     def open(cls, path: str | os.PathLike[str], geometry: Geometry | str | None = None) -> Disk:
@@ -145,12 +146,18 @@ class Disk(Desk):
 
     @contextlib.contextmanager
     def medium(self) -> Iterator[Tray]:
-        """The diskette out of its drive, as a tray, for the time of a `with`."""
-        with self._lock, self.eject(BAY) as tray:
-            try:
-                yield tray
-            finally:
-                self._put_in(tray)
+        """The diskette out of its drive, as a tray, for the time of a `with`. In a second `with` it is the same tray."""
+        with self._lock:
+            if self._lent is not None:
+                yield self._lent
+                return
+            with self.eject(BAY) as tray:
+                self._lent = tray
+                try:
+                    yield tray
+                finally:
+                    self._lent = None
+                    self._put_in(tray)
 
     @property
     def shape(self) -> Shape:

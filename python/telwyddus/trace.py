@@ -44,6 +44,9 @@ SIGNALS = [("IOW", 1, "controller"), ("IOR", 1, "controller"), ("DATA", 8, "cont
 BITS = {name: bits for name, bits, _ in SIGNALS}
 # What an image file begins with, and how long its header is, in a saved state.
 MAGIC, HEADER = b"RTIMAGE2", 14
+# How many bytes stand between the FIFO and the image file there: among them are a number of eight bytes and the length
+# of the image file.
+AFTER_FIFO = 18
 
 
 class Unexpected(Exception):
@@ -66,7 +69,7 @@ class Look:
         self.image = state[image:image + length]
         self.heads, self.words = self.image[10], int.from_bytes(self.image[12:HEADER], "big")
         self.cylinder, self.place = behind[0], int.from_bytes(behind[1:3], "little")
-        self.fifo = self.bytes_before(state[:image - 17])
+        self.fifo = self.bytes_before(state[:image - AFTER_FIFO])
 
     @staticmethod
     def bytes_before(state: bytes) -> int:

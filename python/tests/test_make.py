@@ -163,11 +163,18 @@ def test_imagedisk_keeps_marks_and_damage(run: Run) -> None:
     made = damage(disk(80), 1, 0, 3).write(4, content(0, 0, 4), deleted=True)
     put("a.rt", made.file())
     assert run("convert", "a.rt", "a.imd").status == 0
-    # dskdump stops at the damaged sector, and says so.
-    assert "data error" in outside("dskdump", "-itype", "imd", "a.imd", "dump", status=1).lower()
     assert run("convert", "a.imd", "b.rt").status == 0
     told = run("info", "--json", "b.rt").json[0]["odd"]
     assert told == {"deleted": ["0 0 4"], "damaged": ["1 0 3"]}
+
+
+@pytest.mark.parametrize("made, words", [(damage(disk(80), 1, 0, 3), "Data error"),
+                                         (disk(80).write(4, content(0, 0, 4), deleted=True), "Missing address mark")])
+def test_libdsk_finds_what_our_imagedisk_file_says(run: Run, made: disks.Disk, words: str) -> None:
+    """libdsk stops at a sector whose CRC is wrong, and at a deleted one, and says what it is."""
+    put("a.rt", made.file())
+    assert run("convert", "a.rt", "a.imd").status == 0
+    assert words in outside("dsktrans", "-itype", "imd", "-otype", "raw", "a.imd", "a.img", status=1)
 
 
 def test_an_address_field_with_a_wrong_crc_is_told(run: Run) -> None:

@@ -67,8 +67,6 @@ def test_to_a_flat_file_with_a_map_of_ddrescue(run: Run) -> None:
     assert run("convert", "three.rt", "whole.img").status == 0
     outside("ddrescue", "--size=737280", "whole.img", "saved.img", "saved.img.map")
     outside("truncate", "-s", "1474560", "saved.img")
-    text = Path("saved.img.map").read_text().rstrip("\n") + "\n0x000B4000  0x000B4000  ?\n"
-    Path("saved.img.map").write_text(text)
     answer = run("rescue", "three.rt", "saved.img", "--json")
     assert answer.status == 0 and answer.json["taken"] == {"three.rt": ALL // 2}
     assert Path("saved.img").read_bytes() == Path("whole.img").read_bytes()
