@@ -84,7 +84,7 @@ def contents_of(disk: Disk) -> str:
     plain = sum(len(set(sector.data)) == 1 for sector in read)
     if read and all(set(sector.data) == {FILL} for sector in read):
         return "nothing but the byte F6, as after a format"
-    told = f"{len(read) - plain} of {len(disk)} sectors hold more than one repeated byte"
+    told = f"{len(read) - plain:,} of {len(disk):,} sectors hold more than one repeated byte"
     boot = next((boot_words(sector) for sector in read if sector.key == (0, 0, 1)), "")
     return f"{boot}; {told}" if boot else told
 

@@ -62,7 +62,7 @@ def check_vcd(text: str, is_split: bool) -> None:
     """The file is one of IEEE 1364, and its times rise."""
     head, _, body = text.partition("$enddefinitions $end\n")
     marks = dict(re.findall(r"\$var wire (\d+) (\S+) ", head) and [(mark, int(size)) for size, mark in re.findall(r"\$var wire (\d+) (\S+) ", head)])
-    assert len(marks) == (42 if is_split else 13) and set(marks.values()) <= ({1} if is_split else {1, 5, 8})
+    assert len(marks) == (45 if is_split else 13) and set(marks.values()) <= ({1} if is_split else {1, 5, 8})
     times = [int(it) for it in re.findall(r"^#(\d+)$", body, re.M)]
     assert times == sorted(times) and times[0] == 0 and times[-1] > 10_000_000
     for line in body.splitlines():
