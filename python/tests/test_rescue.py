@@ -36,7 +36,7 @@ def blocks(name: str) -> list[tuple[int, int]]:
 def test_one_copy(run: Run) -> None:
     copies()
     answer = run("rescue", "one.rt", "saved.rt", "--log", "missing")
-    assert answer.status == 1 and "saved.rt: 2,878 of 2,880 sectors are there, 2 are missing: 1 0 3; 1 0 4" in answer.out
+    assert answer.status == 1 and "saved.rt: 2,878 of 2,880 sectors are there, and 2 are missing: 1 0 3; 1 0 4" in answer.out
     assert blocks("saved.rt.map") == [(38, 1), (39, 1)]
     assert Path("missing").read_text() == "1 0 3 10\n1 0 4 10\n"
     status = outside("ddrescuelog", "--show-status", "saved.rt.map")

@@ -144,7 +144,8 @@ def told(paths: Paths, work: Rescue, taken: dict[str, int], is_whole: bool, as_j
         for path, number in taken.items():
             say(f"{path}: {count(number, 'sector')} taken")
         words = f"{asked - len(missing):,} of {count(asked, 'sector')} are there"
-        say(f"{paths.target}: {words}" + (f", {len(missing):,} are missing: {words_of(missing)}" if missing else ""), BAD if missing else GOOD)
+        lack = f", and {len(missing):,} {'is' if len(missing) == 1 else 'are'} missing: {words_of(missing)}" if missing else ""
+        say(f"{paths.target}: {words}{lack}", BAD if missing else GOOD)
     if not is_whole:
         remark(f"Stopped. {paths.target} and {paths.map} have what was read so far. Run the same command again to go on.", BAD)
         return INTERRUPTED
