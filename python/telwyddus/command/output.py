@@ -11,6 +11,7 @@ import click
 from rich.console import Console
 from rich.progress import BarColumn, MofNCompleteColumn, Progress, TextColumn, TimeRemainingColumn
 from rich.table import Table
+from rich.text import Text
 
 Item = TypeVar("Item")
 GOOD, BAD, ODD, FAINT = "green", "bold red", "yellow", "dim"
@@ -28,12 +29,12 @@ def remarks() -> Console:
 
 def say(text: str = "", style: str | None = None) -> None:
     """Prints a line."""
-    screen().print(text, style=style)
+    screen().print(Text(text, style=style or ""))
 
 
 def remark(text: str, style: str | None = None) -> None:
     """Prints a line on standard error."""
-    remarks().print(text, style=style)
+    remarks().print(Text(text, style=style or ""))
 
 
 def say_json(value: Any) -> None:
