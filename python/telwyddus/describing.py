@@ -59,7 +59,7 @@ def geometry_as_json(geometry: Geometry | None) -> dict[str, Any] | None:
 def known_as(geometry: Geometry | None) -> str:
     """A geometry in words, with its name and what it is known from."""
     if geometry is None:
-        return "not formatted"
+        return "none: the diskette isn't formatted, or no sector ID names the track that it stands on"
     about = [f"{name} ({words}): " for name, (named, words) in NAMED.items() if named == geometry]
     return "".join(about) + geometry.words()
 
@@ -74,7 +74,7 @@ def describe(path: Path, geometry: Geometry | None = None) -> Description:
     counted = Counter(field[4] for field in fields)
     counts = {"all": len(fields), **{word: counted[found] for found, word in FIELDS.items()}}
     with Disk.of(tray, found) as disk:
-        contents = contents_of(disk) if found else "nothing: no track has an address field"
+        contents = contents_of(disk) if found else "no sector that a PC would read"
     return Description(path, image.format, image.length, image.through, shape, found, counts, odd, contents)
 
 

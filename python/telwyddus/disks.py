@@ -172,7 +172,7 @@ class Disk(Desk):
             with self.medium() as tray:
                 self._geometry = of_medium(tray.shape(), tray.survey())
         if self._geometry is None:
-            raise Problem("The diskette isn't formatted: no track has an address field. Name a geometry if you know one.")
+            raise Problem("The diskette isn't formatted, or no sector ID names the track that it stands on. Name the geometry if you know it.")
         return self._geometry
 
     def take_size(self, size: int) -> None:

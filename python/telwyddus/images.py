@@ -156,7 +156,7 @@ def bytes_of(tray: Tray, format: Format, geometry: Geometry | None = None, lossy
     fields = list(tray.survey())
     found = geometry or of_medium(tray.shape(), fields)
     if found is None:
-        raise Problem("The diskette isn't formatted: no track has an address field, so there is no sector to store.")
+        raise Problem("The diskette isn't formatted, or no sector ID names the track that it stands on. So there is no sector to store.")
     lost = tally.losses(tally.tally(tray, fields, found), tally.LOST_BY_FLAT if format is FLAT else tally.LOST_BY_IMAGEDISK)
     if lost and not lossy:
         raise Loss(f"A{article(format)[1:]} can't hold all that is on this diskette.", lost)

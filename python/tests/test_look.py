@@ -5,6 +5,8 @@ from pathlib import Path
 
 import disks
 from conftest import Run, content, damage, disk, outside, put
+from hypothesis import HealthCheck, given, settings
+from hypothesis import strategies as st
 
 
 def odd() -> disks.Disk:
@@ -44,7 +46,7 @@ def test_info_of_what_others_made(run: Run, fat: Path) -> None:
 def test_info_of_an_unformatted_diskette(run: Run) -> None:
     put("a.rt", disks.Disk(2).file())
     answer = run("info", "a.rt")
-    assert answer.status == 0 and "not formatted" in answer.out
+    assert answer.status == 0 and "isn't formatted" in answer.out
 
 
 def test_info_of_a_protected_diskette(run: Run) -> None:
@@ -125,3 +127,31 @@ def test_hexdump_of_a_damaged_sector(run: Run) -> None:
     assert run("hexdump", "a.rt", "1", "0", "4", "--size", "256").status == 2
     assert run("hexdump", "a.rt", "1", "0", "4", "--size", "100").status == 2
     assert run("hexdump", "a.rt", "1", "0").status == 2
+
+
+def imd_of(tracks: list[tuple[int, int, int, list[int]]]) -> bytes:
+    """An ImageDisk file of tracks: cylinder, head, size code, and the type of each sector."""
+    data = b"IMD 1.18: made for a test\r\n\x1a"
+    for cylinder, head, code, kinds in tracks:
+        data += bytes([3, cylinder, head, len(kinds), code, *range(1, len(kinds) + 1)])
+        data += b"".join(bytes([kind]) + bytes(0 if kind == 0 else 1 if kind % 2 == 0 else 128 << code) for kind in kinds)
+    return data
+
+
+imagedisk = st.lists(st.tuples(st.integers(0, 79), st.integers(0, 1), st.integers(0, 7), st.lists(st.integers(0, 9), max_size=12)), max_size=4,
+                     unique_by=lambda track: track[:2]).map(imd_of)
+cells = st.builds(lambda flags, cylinders, heads, rate, size, rest: b"RTIMAGE2" + bytes([flags, cylinders, heads, rate]) + size.to_bytes(2, "big")
+                  + (rest * (2 * cylinders * heads * size // len(rest) + 1))[:2 * cylinders * heads * size],
+                  st.integers(0, 1), st.integers(1, 3), st.integers(1, 2), st.sampled_from([0, 2]), st.integers(64, 700), st.binary(min_size=1, max_size=64))
+
+
+@settings(max_examples=60, deadline=None, suppress_health_check=[HealthCheck.function_scoped_fixture, HealthCheck.too_slow])
+@given(data=imagedisk | cells | st.binary(max_size=64).map(lambda rest: b"RTIMAGE2" + rest) | st.binary(max_size=64).map(lambda rest: b"IMD " + rest))
+def test_no_file_is_a_surprise(run: Run, data: bytes) -> None:
+    """Whatever stands in a file, commands answer, or say what is wrong in a sentence."""
+    put("a", data)
+    for words in (["info"], ["verify"], ["sectors"], ["survey"]):
+        answer = run(*words, "a")
+        assert answer.status in (0, 1, 2) and (answer.status < 2 or answer.err.startswith("telwyddus: ")), answer
+    answer = run("convert", "a", "b.img", "--force", "--lossy")
+    assert answer.status in (0, 2), answer
