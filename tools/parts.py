@@ -17,6 +17,7 @@ PROGRAM = TOP / "crates/floppy/out/floppy"
 ARCHIVE = TOP / "crates/telwyddus_c/out/libtelwyddus_c.a"
 # What an archive of the library for C belongs to: the code, and the header and the heap, which lie right in c/.
 LIBRARY = ["crates", ":(glob)c/*"]
+PACKAGE = TOP / "python/telwyddus"
 SUMMARY = "The 1.44 MB diskette path of the IBM PC/AT as one machine model, with proofs"
 
 
@@ -52,6 +53,11 @@ def make_library(archive, work):
     whole = ["-Wl,--whole-archive", archive, "-Wl,--no-whole-archive"]
     run("gcc", "-shared", f"-Wl,-soname,{SONAME},-z,relro,-z,now,--version-script={shown}", "-o", shared, heap, *whole)
     return static, shared
+
+
+def package_files():
+    """The files of the Python package."""
+    return sorted(path for path in PACKAGE.rglob("*") if path.suffix in (".py", ".typed"))
 
 
 def pkg_config(prefix, libraries):

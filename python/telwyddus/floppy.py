@@ -1,4 +1,4 @@
-"""The program floppy on the files of the current folder: python -m telwyddus WORD..
+"""The program floppy on the files of the current folder.
 
 Its arguments, its output and its exit status are those of the program; docs/USING.md and the program's manual page
 describe them. The program runs on files in memory. These are the files of the folder that its arguments name; for
@@ -7,21 +7,26 @@ stored is written to the folder whole, in place of the old one. A file that the 
 neither is a file in a folder that the user may not write: the status is then 6, and standard error says why. Faults
 can't be planned: if FLOPPY_PLAN is set, nothing runs.
 """
+from __future__ import annotations
+
 import os
 import re
 import sys
+from collections.abc import Sequence
+from pathlib import Path
 
-from telwyddus import NoFile, NoMemory, Shelf
+from .codes import NoFile, NoMemory
+from .files import LONGEST, store
+from .machines import Shelf
+from .problems import Problem
 
 # The form of a name that the program accepts.
 NAME = re.compile(r"[A-Za-z0-9_][A-Za-z0-9._-]{0,63}")
-# One byte more than the largest file that is loaded.
-LONGEST = 5242895
 WITH_TEXT = ("play", "int13", "ports")
 BAD_WORDS, FAILED, NO_MEMORY = 2, 6, 7
 
 
-def content(name):
+def content(name: str) -> bytes | None:
     """The bytes of a file, at most one more than any file may have; None if there is no such file."""
     try:
         with open(name, "rb") as file:
@@ -30,43 +35,34 @@ def content(name):
         return None
 
 
-def names_of(words):
+def names_of(words: Sequence[str]) -> list[str]:
     """The names in the arguments, and those that the text may name; a word of the text that is a folder doesn't count."""
     said = set(words[1:])
     if len(words) == 2 and words[0] in WITH_TEXT and NAME.fullmatch(words[1]):
-        text = (content(words[1]) or b"").decode("ascii", "replace").split()
-        said.update(word for word in text if NAME.fullmatch(word) and not os.path.isdir(word))
+        said.update(names_in(content(words[1]) or b""))
     return sorted(name for name in said if NAME.fullmatch(name))
 
 
-def replace(name, data):
-    """Writes a file beside the old one, with the permissions of the old one, and then replaces the old one."""
-    made = f".telwyddus-{os.getpid()}"
-    mode = None
-    if os.path.lexists(name):
-        with open(name, "r+b") as old:
-            mode = os.fstat(old.fileno()).st_mode & 0o777
-    try:
-        with open(made, "xb") as file:
-            if mode is not None:
-                os.fchmod(file.fileno(), mode)
-            file.write(data)
-            file.flush()
-            os.fsync(file.fileno())
-        os.replace(made, name)
-    finally:
-        if os.path.lexists(made):
-            os.unlink(made)
+def names_in(text: bytes) -> set[str]:
+    """The words of a text that may be names of files."""
+    words = text.decode("ascii", "replace").split()
+    return {word for word in words if NAME.fullmatch(word) and not os.path.isdir(word)}
 
 
-def after(shelf, name):
-    try:
-        return shelf.get(name)
-    except NoFile:
-        return None
+def stored(shelf: Shelf, before: dict[str, bytes | None]) -> dict[str, bytes]:
+    """The files that the program stored, of those that it could name, if they differ from what was there before."""
+    found = {}
+    for name, old in before.items():
+        try:
+            data = shelf.get(name)
+        except NoFile:
+            continue
+        if data != old:
+            found[name] = data
+    return found
 
 
-def run(words):
+def run(words: Sequence[str]) -> int:
     """Runs the program, and returns its status."""
     with Shelf() as shelf:
         before = {name: content(name) for name in names_of(words)}
@@ -75,15 +71,13 @@ def run(words):
                 shelf.put(name, data)
         status = shelf.run(*words)
         print(shelf.report(), end="", flush=True)
-        for name in before:
-            data = after(shelf, name)
-            if data is not None and data != before[name]:
-                replace(name, data)
+        for name, data in stored(shelf, before).items():
+            store(Path(name), data, force=True)
     return status
 
 
-def main():
-    words = sys.argv[1:]
+def main(words: Sequence[str]) -> int:
+    """Runs the program unless its arguments can't be given to it, and returns its status."""
     if "FLOPPY_PLAN" in os.environ:
         print("FLOPPY_PLAN is set, and no plan is taken here", file=sys.stderr)
         return BAD_WORDS
@@ -95,9 +89,8 @@ def main():
     except OSError as fault:
         print(f"{fault.filename}: {fault.strerror}", file=sys.stderr)
         return FAILED
+    except Problem as fault:
+        print(fault, file=sys.stderr)
+        return FAILED
     except NoMemory:
         return NO_MEMORY
-
-
-if __name__ == "__main__":
-    sys.exit(main())
