@@ -1,0 +1,113 @@
+// The page's worker: it has the library, the disk, the bench and the files. The page asks by messages, so that it never
+// waits for a whole disk.
+import { instantiate } from "../../js/src/library.js";
+import { Bench } from "./bench.js";
+import { opened, saved, shapeOf, surveyed, trackOf } from "./disk.js";
+import { made } from "./made.js";
+import { Desktop } from "./work.js";
+
+const DISK = "disk.rt";
+let library, image = null, bench = null, desktop, shown = 0;
+
+const tell = (event, told) => postMessage({ event, ...told });
+
+/** Shows an image: its survey goes to the page in pieces. A later call ends an earlier one. */
+async function show(bytes, name, kind) {
+    const mine = ++shown, began = performance.now();
+    image = bytes;
+    desktop.files.set(DISK, image);
+    tell("disk", { name, kind, shape: shapeOf(image), length: image.length });
+    for (const piece of surveyed(library, image)) {
+        if (mine !== shown) return;
+        tell("fields", piece);
+        await new Promise((resolve) => setTimeout(resolve));   // lets messages of the page in between
+    }
+    if (mine === shown) tell("surveyed", { ms: performance.now() - began });
+}
+
+function theBench() {
+    if (bench === null) {
+        bench = new Bench(library, image);
+        bench.powerUp(image ? shapeOf(image).kilobits : 500);
+    }
+    return bench;
+}
+
+/** What the page shows after something was done on the bench: its state, and the events since the last answer. */
+function benchState(more = {}) {
+    const events = theBench().events;
+    return { ...more, state: bench.state(), events: events.slice(-20000), kept: events.length };
+}
+
+/** If the bench wrote on its disk, that is the page's disk from now on. */
+function takeWritten() {
+    if (!bench.controller.isWritten(0)) return false;
+    bench.controller.written(0);
+    show(bench.image(), "disk.rt", "written at the ports");
+    return true;
+}
+
+function newBench() {
+    bench?.free();
+    bench = null;
+}
+
+const ASKED = {
+    async begin({ module }) {
+        library = await instantiate(module);
+        desktop = new Desktop(library);
+        return { version: library.version() };
+    },
+    made() {
+        newBench();
+        show(made(library), "the made disk", "made here");
+    },
+    open({ bytes, name }) {
+        const { kind, image: read } = opened(library, bytes);
+        newBench();
+        desktop.files.set(name, bytes);
+        show(read, name, kind);
+        return { kind };
+    },
+    track: ({ cylinder, head }) => trackOf(image, cylinder, head),
+    save: ({ kind }) => saved(library, image, kind),
+    memory: () => library.memory(),
+
+    benchNew() { newBench(); return benchState(); },
+    benchState: () => benchState(),
+    benchSend({ bytes, data, count }) { return benchState({ sent: theBench().send(bytes, data, count) }); },
+    benchAdvance({ most, until }) { return benchState({ made: theBench().advance(most, until) }); },
+    benchResults() { return { results: theBench().results(), wrote: takeWritten(), ...benchState() }; },
+    benchLatency({ steps }) { theBench().channel.latency = steps; },
+    benchPlan({ text }) { theBench().plan(text); },
+    benchTries({ cylinder, head, key, most }) {
+        const events = theBench().events.length, tries = bench.tries(cylinder, head, key, most);
+        return benchState({ tries, from: events });
+    },
+
+    files: () => desktop.list(),
+    file: ({ name }) => desktop.files.get(name),
+    put({ name, bytes }) { desktop.files.set(name, bytes); return desktop.list(); },
+    form({ name, fields }) { return { ...desktop.form(name, fields), files: desktop.list() }; },
+    int13({ text }) { return { ...desktop.int13(text), files: desktop.list() }; },
+    speed: () => speed(),
+};
+
+/** How many device steps a second the module makes on a turning disk, for estimates. */
+function speed() {
+    const { controller } = theBench(), began = performance.now();
+    let made = 0;
+    while (performance.now() - began < 40) {
+        controller.run(20000);
+        made += 20000;
+    }
+    return made / (performance.now() - began) * 1000;
+}
+
+self.onmessage = async ({ data: { id, what, args } }) => {
+    try {
+        postMessage({ id, answer: await ASKED[what](args ?? {}) });
+    } catch (fault) {
+        postMessage({ id, fault: { name: fault.name, message: fault.message, code: fault.code, line: fault.line, cylinder: fault.cylinder, head: fault.head } });
+    }
+};
