@@ -38,6 +38,7 @@ function add({ fields, from, upto }) {
     for (const field of fields) page.counts[field.found]++;
     for (const it of rings) it.add(fields, from, upto);
     legend();
+    document.body.dataset.picture ??= Math.round(performance.now());
 }
 
 async function finished({ ms }) {
@@ -45,9 +46,11 @@ async function finished({ ms }) {
     by("surveyed").textContent = `${many(all, "sector")}, ${bad === 0 ? "all intact" : `${bad} not intact`}`;
     by("surveyed").dataset.ms = Math.round(ms);
     say(`${page.name}: ${by("surveyed").textContent}`);
+    document.body.dataset.whole ??= Math.round(performance.now());
     document.body.dataset.ready = "disk";
     forms.list(await link.ask("files"));
     bench.show(await link.ask("benchState"));
+    by("memory").textContent = `${Math.round(await link.ask("memory") / 2 ** 20)} MB of memory`;
     document.body.dataset.ready = "all";
 }
 

@@ -88,21 +88,36 @@ const ASKED = {
     files: () => desktop.list(),
     file: ({ name }) => desktop.files.get(name),
     put({ name, bytes }) { desktop.files.set(name, bytes); return desktop.list(); },
-    form({ name, fields }) { return { ...desktop.form(name, fields), files: desktop.list() }; },
-    int13({ text }) { return { ...desktop.int13(text), files: desktop.list() }; },
+    form: ({ name, fields }) => afterRun(desktop.form(name, fields)),
+    int13: ({ text }) => afterRun(desktop.int13(text)),
     speed: () => speed(),
 };
 
-/** How many device steps a second the module makes on a turning disk, for estimates. */
+/** How many device steps a second the module makes while it searches on a turning disk, for estimates. */
 function speed() {
-    const { controller } = theBench(), began = performance.now();
-    let made = 0;
-    while (performance.now() - began < 40) {
-        controller.run(20000);
-        made += 20000;
-    }
-    return made / (performance.now() - began) * 1000;
+    const own = new Bench(library, image);
+    own.powerUp(image ? shapeOf(image).kilobits : 500);
+    const began = performance.now(), from = own.now;
+    while (performance.now() - began < 60) own.whole([0x46, 0, 0, 0, 0, 2, 0, 0x1B, 0xFF], null, 512);     // record 0 is nowhere
+    const rate = (own.now - from) / (performance.now() - began) * 1000;
+    own.free();
+    return rate;
 }
+
+/** Answers what a run did. If it stored another disk under the page's name, that is the page's disk from now on. */
+function afterRun(told) {
+    const stored = desktop.files.get(DISK);
+    if (told.stored.includes(DISK)) {
+        if (same(stored, image)) desktop.files.set(DISK, image);
+        else {
+            newBench();
+            show(stored, DISK, "stored by the program");
+        }
+    }
+    return { ...told, files: desktop.list() };
+}
+
+const same = (one, other) => one.length === other.length && one.every((byte, i) => byte === other[i]);
 
 self.onmessage = async ({ data: { id, what, args } }) => {
     try {
