@@ -3,6 +3,7 @@
 import { Lines } from "../../js/src/controller.js";
 
 const TEXT = "Telwyddus: the diskette path of a PC, from the cells of a track up to INT 13h. ";
+const BYTES = 512, RECORDS = 18;
 /** Cells from the first A1 of an address field: to the mark of the data, and to a byte of them, on a standard track. */
 const TO_MARK = 16 * 44, TO_DATA = 16 * 300;
 const DAMAGED = [[12, 0, 4], [12, 0, 5], [33, 1, 9], [34, 1, 9], [35, 1, 9], [60, 0, 17]], UNMARKED = [[47, 0, 12], [48, 1, 3]];
@@ -10,8 +11,11 @@ const DELETED = [[5, 2], [20, 8], [21, 9], [22, 10]], EMPTY = [70, 1], LARGE = [
 
 /** The image of the made disk. */
 export function made(library) {
-    const flat = new Uint8Array(1474560), text = new TextEncoder().encode(TEXT);
-    for (let at = 0; at < flat.length; at++) flat[at] = at % 512 < 480 ? text[at % text.length] : at >> 9 & 255;
+    const flat = new Uint8Array(1474560);
+    for (let sector = 0; sector * BYTES < flat.length; sector++) {
+        const track = Math.floor(sector / RECORDS), text = `Cylinder ${track >> 1}, head ${track & 1}, record ${sector % RECORDS + 1}. ${TEXT.repeat(7)}`;
+        new TextEncoder().encodeInto(text, flat.subarray(sector * BYTES, (sector + 1) * BYTES));
+    }
     const tray = library.Tray.ofFlat(flat);
     spoil(tray);
     const guest = new library.Controller();

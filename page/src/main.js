@@ -46,6 +46,8 @@ async function finished({ ms }) {
     by("surveyed").textContent = `${many(all, "sector")}, ${bad === 0 ? "all intact" : `${bad} not intact`}`;
     by("surveyed").dataset.ms = Math.round(ms);
     say(`${page.name}: ${by("surveyed").textContent}`);
+    const shown = [...rings[0].fields, ...rings[1].fields], first = shown.find((field) => field.found === "BAD_CRC") ?? shown[0];
+    if (first && rings.every((it) => it.selected === null)) choose(first);
     document.body.dataset.whole ??= Math.round(performance.now());
     document.body.dataset.ready = "disk";
     forms.list(await link.ask("files"));
@@ -62,7 +64,6 @@ function legend() {
 function choose(field) {
     for (const it of rings) it.select(field);
     sector.show(field);
-    if (document.activeElement === document.body) by(`side-${field.head}`).focus({ preventScroll: true });
 }
 
 // ---- files

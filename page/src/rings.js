@@ -29,6 +29,7 @@ export class Rings {
         for (let cylinder = from; cylinder < upto; cylinder++) this.byTrack.set(cylinder, own.filter((field) => field.cylinder === cylinder));
         const pen = this.canvas.getContext("2d");
         for (let cylinder = from; cylinder < upto; cylinder++) this.#track(pen, cylinder);
+        this.#others(pen);
         this.#name();
     }
 
@@ -57,6 +58,7 @@ export class Rings {
         pen.clearRect(0, 0, width, width);
         if (this.shape === null || this.head >= this.shape.heads) return;
         for (let cylinder = 0; cylinder < this.shape.cylinders; cylinder++) this.#track(pen, cylinder);
+        this.#others(pen);
         pen.fillStyle = colour("quiet");
         pen.textAlign = "center";
         pen.font = "600 14px system-ui, sans-serif";
@@ -73,17 +75,24 @@ export class Rings {
         pen.stroke();
     }
 
+    /** Narrow rings touch each other, since a gap between them would leave too little of each colour. */
+    get #line() { return this.#wide < 3 ? this.#wide * 1.05 : this.#wide * 0.85; }
+
     #track(pen, cylinder) {
-        const wide = this.#wide, fields = this.byTrack.get(cylinder);
-        this.#arc(pen, cylinder, 0, this.shape.words * 16, colour(fields?.length === 0 ? "unrecorded" : "gap"), wide * 0.8);
-        for (const field of fields ?? []) this.#arc(pen, cylinder, field.cell, this.#end(field), LOOKS[field.found].colour, wide * 0.8);
+        const fields = this.byTrack.get(cylinder);
+        this.#arc(pen, cylinder, 0, this.shape.words * 16, colour(fields?.length === 0 ? "unrecorded" : "gap"), this.#line);
+        for (const field of fields ?? []) if (field.found === "OK") this.#sector(pen, field, this.#line);
     }
+
+    /** What isn't simply intact is drawn last and broader, so that it can be seen. */
+    #others(pen) { for (const field of this.fields) if (field.found !== "OK") this.#sector(pen, field, Math.max(this.#line, 3.2)); }
+    #sector(pen, field, wide) { this.#arc(pen, field.cylinder, field.cell, this.#end(field), LOOKS[field.found].colour, wide); }
 
     #mark(pen) {
         const field = this.selected;
         if (field === null || field.head !== this.head) return;
-        this.#arc(pen, field.cylinder, field.cell, this.#end(field), colour("ink"), this.#wide * 2.4);
-        this.#arc(pen, field.cylinder, field.cell, this.#end(field), LOOKS[field.found].colour, this.#wide * 1.2);
+        this.#arc(pen, field.cylinder, field.cell, this.#end(field), colour("ink"), Math.max(this.#wide * 2, 8));
+        this.#sector(pen, field, Math.max(this.#wide, 4));
     }
 
     select(field) {
