@@ -3,15 +3,12 @@
 import { Lines, Signs } from "../../js/src/controller.js";
 import { commandOf, phaseOf } from "./chip.js";
 
-/** The most events that are kept. When there are more, the oldest half goes. */
-const MOST_EVENTS = 60000;
-
 export class Bench {
     constructor(library, image) {
         this.library = library;
         this.controller = new library.Controller();
         this.now = 0;           // device steps since the bench was made
-        this.events = [];       // {at, kind, ..}: kind is "lines", "out", "in", "dack", "tc" or "step"
+        this.events = [];       // what the page hasn't heard yet: {at, kind, ..}, of kind "lines", "out", "in", "dack" or "tc"
         this.channel = { memory: new Uint8Array(0), place: 0, latency: 0, wait: 0 };
         this.seen = "";
         this.insert(image);
@@ -30,9 +27,13 @@ export class Bench {
     image() { return this.controller.image(0); }
     plan(text) { this.controller.plan(0, text); }
 
-    note(event) {
-        this.events.push({ at: this.now, ...event });
-        if (this.events.length > MOST_EVENTS) this.events.splice(0, MOST_EVENTS / 2);
+    note(event) { this.events.push({ at: this.now, ...event }); }
+
+    /** What happened since this was asked last. */
+    news() {
+        const { events } = this;
+        this.events = [];
+        return events;
     }
 
     /** Keeps the lines, if one of them or the phase is another one than before. */

@@ -128,7 +128,9 @@ export class Console {
     }
 
     /** Shows what the bench answered. `from` is the step from which the waves are drawn. */
-    show(answer, from = this.begin) {
+    show(answer, from) {
+        if (answer.bench !== this.bench) this.begin = 0;    // another controller, whose steps count from 0
+        this.bench = answer.bench;
         const { state } = answer, lit = (is) => (is ? "up" : "down");
         this.state = state;
         fill(by("bench-state"), ...[
@@ -137,7 +139,7 @@ export class Console {
             ["channel", `${grouped(state.moved)} of ${grouped(state.count)} bytes`],
         ].flatMap(([name, value]) => [make("dt", {}, name), make("dd", {}, value)]));
         fill(by("msr"), table(`MSR: ${hex(state.msr)}`, ["bit", "name", "value", "what it says"], explained("MSR", state.msr).map((it) => [it.bit, it.name, it.value, it.says ?? ""])));
-        this.waves.show(answer.events, state.now, state.wordTime, from);
+        this.waves.show(answer, from ?? this.begin);
     }
 }
 

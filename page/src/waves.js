@@ -7,9 +7,12 @@ const LEFT = 62, LANE = 30, TOP = 18;
 const LANES = [["phase", null], ["ports", null], ["INT", Lines.INT], ["DRQ", Lines.DRQ], ["INDEX", Lines.INDEX]];
 const SHADES = { reset: "part-quiet", idle: "part-quiet", command: "part-id", execution: "part-data", results: "part-crc", seek: "part-mark" };
 
+/** The most events that are kept. When there are more, the oldest half goes. */
+const MOST = 60000;
+
 export class Waves {
     constructor(canvas) {
-        Object.assign(this, { canvas, events: [], from: 0, upto: 1, wordTime: 16000 });
+        Object.assign(this, { canvas, events: [], bench: 0, from: 0, upto: 1, wordTime: 16000 });
         canvas.addEventListener("keydown", (event) => this.#key(event));
         canvas.addEventListener("wheel", (event) => {
             if (!event.ctrlKey) return;
@@ -20,14 +23,17 @@ export class Waves {
         new ResizeObserver(() => this.draw()).observe(canvas);
     }
 
-    /** Shows events up to `now`, from the step `from` on. */
-    show(events, now, wordTime, from) {
-        this.events = events;
-        this.wordTime = wordTime;
-        this.now = now;
-        this.begin = Math.max(from ?? 0, events[0]?.at ?? 0);
+    /** Shows what a bench did, from the step `from` on. The events of an earlier bench go. */
+    show({ news, bench, state }, from) {
+        if (bench !== this.bench) this.events = [];
+        this.bench = bench;
+        this.events.push(...news);
+        if (this.events.length > MOST) this.events.splice(0, this.events.length - MOST / 2);
+        this.wordTime = state.wordTime;
+        this.now = state.now;
+        this.begin = Math.max(from, this.events[0]?.at ?? 0);
         this.whole();
-        fill(by("events"), table("The last changes and accesses", ["step", "what"], events.slice(-60).reverse().map((it) => [grouped(it.at), says(it)])));
+        fill(by("events"), table("The last changes and accesses", ["step", "what"], this.events.slice(-60).reverse().map((it) => [grouped(it.at), says(it)])));
     }
 
     whole() { this.look(this.begin ?? 0, Math.max((this.now ?? 0) + 1, (this.begin ?? 0) + 4)); }
@@ -72,17 +78,19 @@ export class Waves {
             const upto = lines[i + 1]?.at ?? this.now + 1;
             if (upto < this.from || it.at > this.upto) return;
             const x = this.#x(it.at), wide = Math.max(this.#x(upto) - x, 1);
-            this.#phase(pen, it.phase, x, wide);
             LANES.forEach(([, bit], lane) => bit && this.#line(pen, it.lines & bit, (lines[i - 1]?.lines ?? it.lines) & bit, x, wide, TOP + LANE * lane));
         });
+        const phases = lines.filter((it, i) => it.phase !== lines[i - 1]?.phase);
+        phases.forEach((it, i) => this.#phase(pen, it.phase, Math.max(this.#x(it.at), LEFT), this.#x(phases[i + 1]?.at ?? this.now + 1)));
         for (const it of this.events) if (it.kind !== "lines" && it.at >= this.from && it.at <= this.upto) this.#access(pen, it);
     }
 
-    #phase(pen, phase, x, wide) {
+    #phase(pen, phase, x, upto) {
+        if (upto <= x || x > this.canvas.clientWidth) return;
         pen.fillStyle = colour(SHADES[phase]);
-        pen.fillRect(x, TOP + 4, wide, LANE - 10);
+        pen.fillRect(x, TOP + 4, upto - x, LANE - 10);
         pen.fillStyle = colour("ink");
-        if (wide > 9 * phase.length) pen.fillText(phase, x + 4, TOP + 18);
+        if (upto - x > 7 * phase.length + 6) pen.fillText(phase, x + 4, TOP + 18);
     }
 
     #line(pen, isUp, wasUp, x, wide, y) {

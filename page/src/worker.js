@@ -7,7 +7,7 @@ import { made } from "./made.js";
 import { Desktop } from "./work.js";
 
 const DISK = "disk.rt";
-let library, image = null, bench = null, desktop, shown = 0;
+let library, image = null, bench = null, benches = 0, desktop, shown = 0;
 
 const tell = (event, told) => postMessage({ event, ...told });
 
@@ -28,16 +28,14 @@ async function show(bytes, name, kind) {
 function theBench() {
     if (bench === null) {
         bench = new Bench(library, image);
+        benches++;
         bench.powerUp(image ? shapeOf(image).kilobits : 500);
     }
     return bench;
 }
 
-/** What the page shows after something was done on the bench: its state, and the events since the last answer. */
-function benchState(more = {}) {
-    const events = theBench().events;
-    return { ...more, state: bench.state(), events: events.slice(-20000), kept: events.length };
-}
+/** What the page shows after something was done on the bench: which bench it is, its state, and the news. */
+const benchState = (more = {}) => ({ ...more, state: theBench().state(), news: bench.news(), bench: benches });
 
 /** If the bench wrote on its disk, that is the page's disk from now on. */
 function takeWritten() {
@@ -80,10 +78,7 @@ const ASKED = {
     benchResults() { return { results: theBench().results(), wrote: takeWritten(), ...benchState() }; },
     benchLatency({ steps }) { theBench().channel.latency = steps; },
     benchPlan({ text }) { theBench().plan(text); },
-    benchTries({ cylinder, head, key, most }) {
-        const events = theBench().events.length, tries = bench.tries(cylinder, head, key, most);
-        return benchState({ tries, from: events });
-    },
+    benchTries({ cylinder, head, key, most }) { return benchState({ tries: theBench().tries(cylinder, head, key, most) }); },
 
     files: () => desktop.list(),
     file: ({ name }) => desktop.files.get(name),
