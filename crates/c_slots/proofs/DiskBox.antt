@@ -6,7 +6,7 @@ use Rattle.std.proofs.BoxSteps.Form.{Bx}
 use Rattle.std.specs.contracts.alloc.Global as Heap
 use Rattle.std.specs.contracts.prelude.GlobalAllocator.TheImpl.{ghosts, dict}
 use Rattle.std.proofs.alloc.Global.TheLaws as heap
-use Rattle.memory_files.proofs.desk.SectorDesk.TheLaws as desk_laws
+use Rattle.sector_desk.proofs.desk.SectorDesk.TheLaws as desk_laws
 use Rattle.c_slots.specs.contracts.loose.Loose as loose
 use Rattle.c_slots.specs.Disks.{desk_row}
 use Rattle.c_slots.specs.contracts.disk.held.Held as held

@@ -8,7 +8,7 @@ use Rattle.std.specs.Box.Ownership.{box_owns}
 use Rattle.std.specs.Global.{Global, Box}
 use Rattle.std.specs.contracts.prelude.GlobalAllocator.TheImpl.{ghosts}
 use Rattle.std.specs.Coded.{coded_option}
-use Rattle.memory_files.specs.contracts.desk.SectorDesk as desk_of
+use Rattle.sector_desk.specs.contracts.desk.SectorDesk as desk_of
 
 abbrev pub desk_row : RattleType
 desk_row = desk_of.the_row

@@ -5,15 +5,16 @@ ghost use Rattle.sector_model.specs.Runs.{Taken};
 ghost use Rattle.sector_model.specs.Stations.{bay_of};
 ghost use Rattle.sector_model.specs.Steps.{Step};
 ghost use Rattle.sector_model.specs.Texts.{is_refusal, reply_lines};
-ghost use Rattle.floppy_session.specs.Services.{Serves};
 ghost use Rattle.floppy_session.specs.Shapes.{shape_in};
 ghost use Rattle.floppy_session.specs.Tries.{HasTries};
+ghost use Rattle.bios_int13.specs.Services.{Serves};
 ghost use Rattle.commands.specs.Parts.{asks, needs, carries, opens};
 ghost use Rattle.commands.specs.Leading.{Hand, Answers, Goes, SaysLine, FinishesBy, StoresBy, AsksOne, PutsLines, PutsLine, TellsLine, TellsStop, LoadsText, Leaves, IsTold, Ran, RanPart, RanLast, HasLoaded, IsInSession};
 
+use bios_int13::{Int13, Regs};
 use flop_base::{LoadError, Name, Status};
 use floppy_jobs::Request;
-use floppy_session::{Int13, Regs, Shape};
+use floppy_session::Shape;
 use sector_model::{Reply, Stop};
 use std::alloc::{AllocError, Global};
 

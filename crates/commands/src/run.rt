@@ -5,9 +5,10 @@ use crate::any_run::AnyRun;
 use crate::asking::refusal;
 use crate::lines::{put_last, put_last_line, put_last_stopped, put_line, put_reply, stop_status};
 use crate::texts::tell_missing_text;
+use bios_int13::{Int13, Regs, serve};
 use flop_base::{LoadError, Shelf, Sink, Status, StoreError};
 use floppy_jobs::Request;
-use floppy_session::{Int13, Regs, Session, Shape};
+use floppy_session::{Session, Shape};
 use sector_model::{Reply, Station, Stop};
 use std::alloc::{AllocError, Global};
 
@@ -64,7 +65,7 @@ impl<D: Station, S: Shelf, K: Sink> AnyRun for Run<'_, '_, '_, D, S, K> {
     }
 
     fn int13(&mut self, front: &mut Int13, regs: Regs) -> Regs {
-        self.session.int13(front, regs)
+        serve(&mut self.session, front, regs)
     }
 
     fn tell(&mut self, request: &Request, reply: &Reply) -> Result<(), Status> {

@@ -1,4 +1,4 @@
 pub mod Endings
 pub mod Memories
 pub mod Named
-pub mod Serving
+pub mod OtherBytes

@@ -1,7 +1,9 @@
 // The requests that are calls of the driver.
-ghost use Rattle.std.specs.Prelude.{◌≡◌, ◌+◌, ◌≤◌, length, Option, IfErr};
+ghost use Rattle.std.specs.Prelude.{◌≡◌, ◌+◌, ◌≤◌, not, length, Option, IfErr};
 ghost use Rattle.flop_base.specs.Shelf.{Files};
 ghost use Rattle.flop_base.specs.Memory.{SameOutside};
+ghost use Rattle.sector_model.specs.Orders.{is_acknowledged};
+ghost use Rattle.sector_model.specs.States.{IsSame};
 ghost use Rattle.sector_model.specs.Steps.{Step, reply_of, read_reply};
 
 use crate::session::{Session, bad_request};
@@ -19,11 +21,20 @@ impl<D: Station> Session<D> {
     }
 
     /// Acknowledges an exchange of the medium.
-    pub(crate) fn acknowledge(&mut self, bay: u8) -> Result<(), Code>
+    pub fn acknowledge(&mut self, bay: u8) -> Result<(), Code>
         ensures step { (told : Option Files) → Step (Request.Ack bay) self.old told (reply_of result) self.new told }
         ensures answers { bay ≤ 1 → IfErr result (λ code. code ≡ Code.NotReady) }
     {
         self.station.ack(bay)
+    }
+
+    /// Whether the bay isn't acknowledged.
+    pub fn is_changed(&mut self, bay: u8) -> bool
+        requires { bay ≤ 1 }
+        ensures value { result ≡ not (is_acknowledged self.old.station bay) }
+        ensures same { IsSame self.old self.new }
+    {
+        self.station.changed(bay)
     }
 
     /// Reads the record with this key to memory.
@@ -34,7 +45,7 @@ impl<D: Station> Session<D> {
     }
 
     /// Reads the record with this key to memory.
-    pub(crate) fn read_record(&mut self, bay: u8, key: Chrn, address: u32) -> Result<bool, Code>
+    pub fn read_record(&mut self, bay: u8, key: Chrn, address: u32) -> Result<bool, Code>
         ensures step { (told : Option Files) → Step (Request.Read bay key address) self.old told
             (read_reply result) self.new told }
         ensures outside { key.n ≡ 2 → address + 512 ≤ length self.old.station.memory
@@ -51,7 +62,7 @@ impl<D: Station> Session<D> {
     }
 
     /// Writes memory to the record with this key.
-    pub(crate) fn write_record(&mut self, bay: u8, key: Chrn, address: u32) -> Result<(), Code>
+    pub fn write_record(&mut self, bay: u8, key: Chrn, address: u32) -> Result<(), Code>
         ensures { (told : Option Files) → Step (Request.Write bay key address) self.old told (reply_of result) self.new told }
     {
         self.station.write(bay, key, address, false)

@@ -11,7 +11,7 @@ use sector_model::{Reply, Station, Stop};
 
 impl<D: Station> Session<D> {
     /// Sets bytes of memory.
-    pub(crate) fn fill(&mut self, address: u32, length: u32, byte: u8) -> Reply
+    pub fn fill(&mut self, address: u32, length: u32, byte: u8) -> Reply
         ensures { (told : Option Files) → Step (Request.Fill address length byte) self.old told result self.new told }
     {
         if !is_range(address, length) {

@@ -35,7 +35,7 @@ use Rattle.laws_chip.proofs.Rests.{adapter_stays, taking_stays, through_step}
 
 -- ---- the motion in a device step
 
-neighbour_left : (cylinder target : ℕ) (b : Bool) → nat_lt cylinder target ≡ b → (cylinder == target) ≡ false
+pub neighbour_left : (cylinder target : ℕ) (b : Bool) → nat_lt cylinder target ≡ b → (cylinder == target) ≡ false
     → steps_left (Toward (if b then cylinder + 1 else cylinder - 1) target) + 1 ≤ steps_left (Toward cylinder target)
 neighbour_left cylinder target true is differs = grind (arith, nat_tests)
 neighbour_left cylinder target false is differs = grind (arith, nat_tests)
@@ -114,7 +114,7 @@ no_line selected first second many =
     ap (λ b. (if b then lines_of_drive first else (if selected == 1 then lines_of_drive second else absent_lines)).track0) not_first
     ∙ ap (λ b. (if b then lines_of_drive second else absent_lines).track0) not_second
 
-rests_by_line : (old new : AdapterState) → StepsAdapter old new → Rests (lines_at old).track0 (polled old.controller) new.controller
+pub rests_by_line : (old new : AdapterState) → StepsAdapter old new → Rests (lines_at old).track0 (polled old.controller) new.controller
 rests_by_line old new steps =
     let line : ℕ → Bool = λ s. (lines_of_selected s old.first old.second).track0 in
     elim (which_drive (selected_at old)) [
@@ -198,14 +198,19 @@ unfolding drained_by
 bare_drained cylinders seek due up chip free = let same = bare_one cylinders seek due up chip free in
     ap (λ c. drained_one (drained_one (drained_one c))) same ∙ (ap (λ c. drained_one (drained_one c)) same ∙ (ap drained_one same ∙ same))
 
-pub going_drained : (left drive : ℕ) (goal : Option ℕ) (chip : ChipState) → SeeksBehind left drive goal chip.front → drained chip ≡ chip
-going_drained left drive goal chip is =
+-- where no result is pending the chip stays as it is
+pub none_drained : (chip : ChipState) → chip.front.stage ≡ Through → chip.front.adapter.controller.phase ≡ Taking → chip.front.adapter.controller.command ≡ [] → is_held chip.front.adapter.controller ≡ false
+    → chip.front.adapter.controller.seeks.pending ≡ none_pending → drained chip ≡ chip
+none_drained chip through takes whole free none =
     let fdc = chip.front.adapter.controller in
     let s = fdc.seeks in
-    let seeks : s ≡ record { cylinders = s.cylinders; seek = s.seek; pending = none_pending } = ap (λ p. record s { pending = p }) is.pending in
+    let seeks : s ≡ record { cylinders = s.cylinders; seek = s.seek; pending = none_pending } = ap (λ p. record s { pending = p }) none in
     let same : chip ≡ bare s.cylinders s.seek fdc.poll_due fdc.interrupt chip =
-    ap (λ (f : Front). record chip { front = f }) (built chip.front Through Taking [] (record { cylinders = s.cylinders; seek = s.seek; pending = none_pending }) fdc.poll_due fdc.interrupt is.through is.takes is.whole seeks refl refl) in
-    ap drained same ∙ (bare_drained s.cylinders s.seek fdc.poll_due fdc.interrupt chip is.free ∙ sym same)
+    ap (λ (f : Front). record chip { front = f }) (built chip.front Through Taking [] (record { cylinders = s.cylinders; seek = s.seek; pending = none_pending }) fdc.poll_due fdc.interrupt through takes whole seeks refl refl) in
+    ap drained same ∙ (bare_drained s.cylinders s.seek fdc.poll_due fdc.interrupt chip free ∙ sym same)
+
+pub going_drained : (left drive : ℕ) (goal : Option ℕ) (chip : ChipState) → SeeksBehind left drive goal chip.front → drained chip ≡ chip
+going_drained left drive goal chip is = none_drained chip is.through is.takes is.whole is.free is.pending
 
 -- the result of the seek that has ended is the only one, and the heads stand
 abbrev ending : ℕ → ℕ → List ℕ → ChipState → ChipState
@@ -236,8 +241,24 @@ ends_drained drive status cylinders chip few free unpaced =
     let same : drained_one after ≡ after = bare_one cylinders None false false after free in
     ap (λ c. drained_one (drained_one (drained_one c))) (ends_one drive status cylinders chip few free (unpaced_told chip.pace status unpaced)) ∙ (ap (λ c. drained_one (drained_one c)) same ∙ (ap drained_one same ∙ same))
 
+-- the result isn't reported while pulses are to come in the time that SPECIFY sets
+untold_one : (drive status : ℕ) (cylinders : List ℕ) (chip : ChipState) → drive ≤ 3 → is_held chip.front.adapter.controller ≡ false → is_told chip.pace status ≡ false
+    → drained_one (ending drive status cylinders chip) ≡ bare cylinders None false false chip
+untold_one zero status cylinders chip few free untold = rw (free, untold) refl
+untold_one (suc zero) status cylinders chip few free untold = rw (free, untold) refl
+untold_one (suc (suc zero)) status cylinders chip few free untold = rw (free, untold) refl
+untold_one (suc (suc (suc zero))) status cylinders chip few free untold = rw (free, untold) refl
+untold_one (suc (suc (suc (suc drive)))) status cylinders chip few free untold = absurd (omega arith)
+
+untold_drained : (drive status : ℕ) (cylinders : List ℕ) (chip : ChipState) → drive ≤ 3 → is_held chip.front.adapter.controller ≡ false → is_told chip.pace status ≡ false
+    → drained (ending drive status cylinders chip) ≡ bare cylinders None false false chip
+unfolding drained_by
+untold_drained drive status cylinders chip few free untold =
+    let same = bare_one cylinders None false false chip free in
+    ap (λ c. drained_one (drained_one (drained_one c))) (untold_one drive status cylinders chip few free untold) ∙ (ap (λ c. drained_one (drained_one c)) same ∙ (ap drained_one same ∙ same))
+
 -- the cylinder number that is reported is where the heads went
-told_at : (drive target : ℕ) (cylinders : List ℕ) → drive ≤ 3 → length cylinders ≡ 4 → slice_index (slice_set cylinders drive target) drive ≡ target
+pub told_at : (drive target : ℕ) (cylinders : List ℕ) → drive ≤ 3 → length cylinders ≡ 4 → slice_index (slice_set cylinders drive target) drive ≡ target
 told_at zero target (a ∷ b ∷ c ∷ d ∷ []) few four = refl
 told_at (suc zero) target (a ∷ b ∷ c ∷ d ∷ []) few four = refl
 told_at (suc (suc zero)) target (a ∷ b ∷ c ∷ d ∷ []) few four = refl
@@ -262,18 +283,29 @@ stood_stands status cylinder cylinders chip free = record {
     stand : moves_heads (stood status cylinder cylinders chip).front ≡ false
     stand = rw free refl
 
+-- the chip as it is where the seek has ended
+as_ending : (drive status target : ℕ) (cylinders : List ℕ) (chip : ChipState) → HasEnded drive status target cylinders chip.front → chip ≡ ending drive status (slice_set cylinders drive target) chip
+as_ending drive status target cylinders chip is =
+    let at = slice_set cylinders drive target in
+    ap (λ (f : Front). record chip { front = f }) (built chip.front Through Taking [] (record { cylinders = at; seek = Some (record { drive = drive; motion = Ended }); pending = slice_set none_pending drive (Some status) }) false true
+    is.through is.takes is.whole is.seeks is.polled is.up)
+
 pub ended_drained : (drive status target : ℕ) (cylinders : List ℕ) (chip : ChipState) → drive ≤ 3 → HasEnded drive status target cylinders chip.front → chip.pace ≡ None
     → drained chip ≡ stood status target (slice_set cylinders drive target) chip
 ended_drained drive status target cylinders chip few is unpaced =
     let at = slice_set cylinders drive target in
-    let same : chip ≡ ending drive status at chip =
-    ap (λ (f : Front). record chip { front = f }) (built chip.front Through Taking [] (record { cylinders = at; seek = Some (record { drive = drive; motion = Ended }); pending = slice_set none_pending drive (Some status) }) false true
-    is.through is.takes is.whole is.seeks is.polled is.up) in
-    ap drained same ∙ (ends_drained drive status at chip few is.free unpaced ∙ ap (λ c. stood status c at chip) (told_at drive target cylinders few is.four))
+    ap drained (as_ending drive status target cylinders chip is)
+    ∙ (ends_drained drive status at chip few is.free unpaced ∙ ap (λ c. stood status c at chip) (told_at drive target cylinders few is.four))
+
+-- with pulses to come in the time that SPECIFY sets
+pub ended_untold : (drive status target : ℕ) (cylinders : List ℕ) (chip : ChipState) → drive ≤ 3 → HasEnded drive status target cylinders chip.front → is_told chip.pace status ≡ false
+    → drained chip ≡ bare (slice_set cylinders drive target) None false false chip
+ended_untold drive status target cylinders chip few is untold =
+    ap drained (as_ending drive status target cylinders chip is) ∙ untold_drained drive status (slice_set cylinders drive target) chip few is.free untold
 
 -- ---- a device step of the chip
 
-either_same : (b : Bool) (one other : ChipState) → one ≡ other → (if b then one else other) ≡ other
+pub either_same : (b : Bool) (one other : ChipState) → one ≡ other → (if b then one else other) ≡ other
 either_same true one other is = is
 either_same false one other is = refl
 

@@ -22,9 +22,12 @@ mod TracksLast
 mod Edging
 mod Paced
 mod Polled
+mod PollComes
+mod PollPassed
 mod Identified
 mod HeadsGoing
 mod SeeksBegun
+mod PulsesGoing
 mod SeeksHeld
 mod Prompt
 mod FormatLays

@@ -1,5 +1,5 @@
--- A seek begins: its last byte comes to a chip whose heads stand, with the strap for the time of step pulses off.
-use Rattle.std.proofs.Common.{◌≡◌, ℕ, zero, suc, ◌%◌, ◌<◌, ◌≤◌, Bool, true, false, not, if◌then◌else◌, Option, Some, None, is_some, List, [], ◌∷◌, length, option_map, position, slice_index, slice_set, refl, sym, ◌∙◌, ap, subst, arith}
+-- A seek begins: its last byte comes to a chip whose heads stand, with the strap for the time of step pulses off or on.
+use Rattle.std.proofs.Common.{◌≡◌, inl, inr, ℕ, zero, suc, ◌+◌, ◌*◌, ◌%◌, ◌^◌, ◌<◌, ◌≤◌, max, Bool, true, false, not, if◌then◌else◌, Option, Some, None, is_some, List, [], ◌∷◌, length, option_map, position, slice_index, slice_set, refl, sym, ◌∙◌, ap, subst, arith, pow_pos}
 use Rattle.std.specs.Option.{option_map_or}
 use Rattle.std.proofs.lemmas.Bool.{and_from, and_right, false≢true, or_parts}
 use Rattle.fdc_commands.specs.Seeking.{IsMotion, Seeking}
@@ -7,6 +7,7 @@ use Rattle.fdc_commands.specs.Seeking as seeking
 use Rattle.fdc_commands.specs.Table.{is_begun}
 use Rattle.fdc_commands.specs.declared.motion.Motion.{Motion}
 use Rattle.fdc_commands.specs.declared.motion.Motion.TheVariants.{Outward, Toward, Ended}
+use Rattle.fdc_commands.specs.declared.motion.Seek.{Seek as DriveSeek}
 use Rattle.fdc_phases.specs.declared.phases.Phase.TheVariants.{Command as Taking}
 use Rattle.fdc_core.specs.Commands.{recalibrating, seeking as seeking_to}
 use Rattle.fdc_core.specs.Ports.{is_taking, takes_in}
@@ -19,15 +20,17 @@ use Rattle.fdc_sequencer.specs.Fronts.{Front, with_controller}
 use Rattle.fdc_sequencer.specs.Senses.{pending_outside, sensed_at, sensed_outside}
 use Rattle.fdc_sequencer.specs.declared.stage.Stage.TheVariants.{Through}
 use Rattle.fdc_chip.specs.Chips.{ChipState, with_front}
-use Rattle.fdc_chip.specs.Doing.{AttendsIf, Moves, MovesIf, Obeys, Sends, drained, drained_by, drained_one, is_moving, is_told, kept, moves_heads, moving, needs_heads, relative_target}
+use Rattle.fdc_chip.specs.Doing.{AttendsIf, Moves, MovesIf, Obeys, Sends, drained, drained_by, drained_one, is_moving, is_told, kept, moves_heads, moving, needs_heads, pace_begun, relative_target}
 use Rattle.fdc_chip.specs.Interrupts.{Interrupting, cylinder_of, with_result}
 use Rattle.fdc_chip.specs.Ports.{WritesChip}
+use Rattle.fdc_chip.specs.Settings.{step_words}
 use Rattle.fdc_chip.specs.declared.code.Code.{Code}
 use Rattle.fdc_chip.specs.declared.code.Code.TheVariants.{ReadTrack, Specify, SenseDrive, Transfer, Recalibrate, SenseInterrupt, ReadId, FormatTrack, DumpRegisters, Seek, RelativeSeek, Version, Perpendicular, Configure, Lock, Verify}
 use Rattle.fdc_chip.specs.declared.order.Order.{Order}
 use Rattle.fdc_chip.specs.declared.pace.Pace.{Pace}
 use Rattle.fdc_chip.specs.declared.stage.Stage.TheVariants.{Ready}
 use Rattle.laws_chip.specs.Beginning.{Completes, completed, still_moves}
+use Rattle.laws_chip.specs.PacedSeeks.{HeadsPaced, StandsBehind, most_paced, pulses_left}
 use Rattle.laws_chip.specs.Seeks.{HeadsGo, IsSoundInRange, SeeksBehind, goal_of, most_of, steps_left}
 use Rattle.laws_chip.proofs.Attended.{free_stands}
 use Rattle.laws_chip.proofs.Rests.{IsResting, drained_rests}
@@ -235,12 +238,44 @@ motion_within (Outward pulses) few = omega arith
 motion_within (Toward cylinder target) (first, second) = omega arith
 motion_within Ended few = omega arith
 
-given_seeks : (unit : ℕ) (goal : Option ℕ) (start new : Front) → Stands start → start.adapter.controller.seeks.pending ≡ none_pending → start.adapter.controller.poll_due ≡ false → IsInRange new.adapter.controller
+-- where the seek goes that the inner controller is given, and from where
+abbrev pub motion_to : ℕ → ℕ → Front → Motion
+motion_to unit target start = Toward (slice_index start.adapter.controller.seeks.cylinders (unit % 4)) target
+
+-- the inner controller is given a SEEK
+pub seek_sent : (unit target : ℕ) (start new : Front) → Stands start → Sends (moving unit (Some target)) start new
+    → (new.stage ≡ Through) × (new.adapter.controller ≡ seeking_to unit target (record start.adapter.controller { command = [] }))
+seek_sent unit target start new stands sends = let obeyed = seek_obeyed unit target start new stands sends in
+    (obeyed.through, obeyed.obeys.0 stands.rests)
+
+pub given_within : (unit target : ℕ) (start new : Front) → Stands start → IsInRange new.adapter.controller → Sends (moving unit (Some target)) start new → steps_left (motion_to unit target start) ≤ 256
+given_within unit target start new stands range sends =
+    let motion = motion_to unit target start in
+    motion_within motion (range.seeks.motion (record { drive = unit % 4; motion = motion }) (ap (λ (fdc : Fdc). fdc.seeks.seek) (seek_sent unit target start new stands sends).1))
+
+pub given_seek : (left unit target : ℕ) (start new : Front) → Stands start → start.adapter.controller.seeks.pending ≡ none_pending → start.adapter.controller.poll_due ≡ false → IsInRange new.adapter.controller
+    → Sends (moving unit (Some target)) start new → steps_left (motion_to unit target start) ≤ left → SeeksBehind left (unit % 4) (Some target) new
+given_seek left unit target start new stands none polled range sends within =
+    let (through, is) = seek_sent unit target start new stands sends in
+    record {
+      through = through;
+      takes = ap (λ (fdc : Fdc). fdc.phase) is ∙ stands.takes;
+      whole = ap (λ (fdc : Fdc). fdc.command) is;
+      free = ap is_held is ∙ stands.free;
+      polled = ap (λ (fdc : Fdc). fdc.poll_due) is ∙ polled;
+      motion = motion_to unit target start;
+      seek = ap (λ (fdc : Fdc). fdc.seeks.seek) is;
+      goes = refl;
+      within = within;
+      pending = ap (λ (fdc : Fdc). fdc.seeks.pending) is ∙ none;
+      four = range.seeks.cylinders;
+    }
+
+pub given_seeks : (unit : ℕ) (goal : Option ℕ) (start new : Front) → Stands start → start.adapter.controller.seeks.pending ≡ none_pending → start.adapter.controller.poll_due ≡ false → IsInRange new.adapter.controller
     → Sends (moving unit goal) start new → SeeksBehind (most_of goal) (unit % 4) goal new
 given_seeks unit None start new stands none polled range sends =
     let obeyed = recalibrate_obeyed unit start new stands sends in
     let is : new.adapter.controller ≡ recalibrating unit (record start.adapter.controller { command = [] }) = obeyed.obeys.0 stands.rests in
-    let seek = ap (λ (fdc : Fdc). fdc.seeks.seek) is in
     record {
       through = obeyed.through;
       takes = ap (λ (fdc : Fdc). fdc.phase) is ∙ stands.takes;
@@ -248,61 +283,121 @@ given_seeks unit None start new stands none polled range sends =
       free = ap is_held is ∙ stands.free;
       polled = ap (λ (fdc : Fdc). fdc.poll_due) is ∙ polled;
       motion = Outward 79;
-      seek = seek;
+      seek = ap (λ (fdc : Fdc). fdc.seeks.seek) is;
       goes = tt;
       within = omega arith;
       pending = ap (λ (fdc : Fdc). fdc.seeks.pending) is ∙ none;
       four = range.seeks.cylinders;
     }
 given_seeks unit (Some target) start new stands none polled range sends =
-    let obeyed = seek_obeyed unit target start new stands sends in
-    let is : new.adapter.controller ≡ seeking_to unit target (record start.adapter.controller { command = [] }) = obeyed.obeys.0 stands.rests in
-    let seek = ap (λ (fdc : Fdc). fdc.seeks.seek) is in
-    let motion : Motion = Toward (slice_index start.adapter.controller.seeks.cylinders (unit % 4)) target in
-    record {
-      through = obeyed.through;
-      takes = ap (λ (fdc : Fdc). fdc.phase) is ∙ stands.takes;
-      whole = ap (λ (fdc : Fdc). fdc.command) is;
-      free = ap is_held is ∙ stands.free;
-      polled = ap (λ (fdc : Fdc). fdc.poll_due) is ∙ polled;
-      motion = motion;
-      seek = seek;
-      goes = refl;
-      within = motion_within motion (range.seeks.motion (record { drive = unit % 4; motion = motion }) seek);
-      pending = ap (λ (fdc : Fdc). fdc.seeks.pending) is ∙ none;
-      four = range.seeks.cylinders;
-    }
+    given_seek 256 unit target start new stands none polled range sends (given_within unit target start new stands range sends)
 
 none_of : (pace : Option Pace) → is_some pace ≡ false → pace ≡ None
 none_of None is = refl
 none_of (Some pace) is = absurd (false≢true (sym is))
 
-of_four : (n : ℕ) → n % 4 ≤ 3
+pub of_four : (n : ℕ) → n % 4 ≤ 3
 of_four n = omega arith
 
 -- ---- its last byte
 
-pub seek_comes : (code : Code) (goal : Option ℕ) (byte : ℕ) (old new : ChipState) → IsSoundInRange old → IsSoundInRange new → byte < 256
-    → Completes code byte old → goal_of code (completed byte old) (drained old).interrupts ≡ Some goal → WritesChip 0x3F5 byte old new → still_moves old ≡ false → old.paced ≡ false
-    → old.front.adapter.controller.poll_due ≡ false → HeadsGo (most_of goal) ((completed byte old).unit % 4) goal Ready new
-seek_comes code goal byte old new was is_after few completes is writes still unpaced polled =
+-- the inner controller stands, and the chip begins the seek
+record IsComing (goal : Option ℕ) (byte : ℕ) (old new : ChipState) : Type 0 where
+  set : ChipState
+  order_is : set.order ≡ completed byte old
+  numbers : set.interrupts ≡ (drained old).interrupts
+  stands : Stands set.front
+  unpaced : set.pace ≡ None
+  pending : set.front.adapter.controller.seeks.pending ≡ none_pending
+  poll : set.front.adapter.controller.poll_due ≡ old.front.adapter.controller.poll_due
+  moves : MovesIf old.paced goal set new
+
+comes_by : (code : Code) (goal : Option ℕ) (byte : ℕ) (old new : ChipState) → IsSoundInRange old → byte < 256 → Completes code byte old → goal_of code (completed byte old) (drained old).interrupts ≡ Some goal
+    → WritesChip 0x3F5 byte old new → still_moves old ≡ false → IsComing goal byte old new
+comes_by code goal byte old new was few completes is writes still =
     let heads = goal_heads code (completed byte old) (drained old).interrupts goal is in
     let start = attending byte old in
     let attended = byte_attends code byte old new was.sound few heads completes writes in
     let set = drained start in
     let resting : IsResting start set = drained_rests 4 start attended.basis.whole attended.rests in
     let stays : still_moves start ≡ false = same_moves start old refl refl ∙ still in
-    let stands = free_stands set (basis_same start set attended.basis resting.base resting.count resting.order) resting.rests stays in
     let obeys : Obeys code set new = subst (λ b. AttendsIf b code set new) (and_right (needs_heads code) (is_moving set) stays) attended.attends in
+    let numbers : set.interrupts ≡ (drained old).interrupts = drained_interrupts 4 start old refl refl refl in
     let same : goal_of code set.order set.interrupts ≡ Some goal =
-    ap (λ (order : Order). goal_of code order set.interrupts) resting.order
-    ∙ (ap (λ (i : Interrupting). goal_of code (completed byte old) i) (drained_interrupts 4 start old refl refl refl) ∙ is) in
+    ap (λ (order : Order). goal_of code order set.interrupts) resting.order ∙ (ap (λ (i : Interrupting). goal_of code (completed byte old) i) numbers ∙ is) in
     let moves : MovesIf set.paced goal set new = goal_moves code goal set new same obeys in
-    let (sends, rest) = subst (λ b. MovesIf b goal set new) (drained_paced 4 start ∙ unpaced) moves in
     let taken = all_taken start (record { through = attended.rests.through; takes = attended.rests.takes; whole = attended.basis.whole; free = attended.basis.free }) was.range.seeks.pending in
-    subst (λ (order : Order). HeadsGo (most_of goal) (order.unit % 4) goal Ready new) resting.order (record {
+    record {
+      set = set;
+      order_is = resting.order;
+      numbers = numbers;
+      stands = free_stands set (basis_same start set attended.basis resting.base resting.count resting.order) resting.rests stays;
+      unpaced = none_of set.pace (or_parts (is_some set.pace) (moves_heads set.front) stays).0;
+      pending = taken.pending;
+      poll = taken.taken.poll;
+      moves = subst (λ b. MovesIf b goal set new) (drained_paced 4 start) moves;
+    }
+
+pub seek_comes : (code : Code) (goal : Option ℕ) (byte : ℕ) (old new : ChipState) → IsSoundInRange old → IsSoundInRange new → byte < 256
+    → Completes code byte old → goal_of code (completed byte old) (drained old).interrupts ≡ Some goal → WritesChip 0x3F5 byte old new → still_moves old ≡ false → old.paced ≡ false
+    → old.front.adapter.controller.poll_due ≡ false → HeadsGo (most_of goal) ((completed byte old).unit % 4) goal Ready new
+seek_comes code goal byte old new was is_after few completes is writes still unpaced polled =
+    let coming = comes_by code goal byte old new was few completes is writes still in
+    let set = coming.set in
+    let (sends, rest) = subst (λ b. MovesIf b goal set new) unpaced coming.moves in
+    subst (λ (order : Order). HeadsGo (most_of goal) (order.unit % 4) goal Ready new) coming.order_is (record {
       at = ap (λ (chip : ChipState). chip.stage) rest;
-      unpaced = ap (λ (chip : ChipState). chip.pace) rest ∙ none_of set.pace (or_parts (is_some set.pace) (moves_heads set.front) stays).0;
+      unpaced = ap (λ (chip : ChipState). chip.pace) rest ∙ coming.unpaced;
       few = of_four set.order.unit;
-      going = given_seeks set.order.unit goal set.front new.front stands taken.pending (taken.taken.poll ∙ polled) is_after.range sends;
+      going = given_seeks set.order.unit goal set.front new.front coming.stands coming.pending (coming.poll ∙ polled) is_after.range sends;
     })
+
+-- ---- with the strap for the time of step pulses on
+
+-- if no seek bit is set, no seek is kept
+none_kept : (seek : Option DriveSeek) → option_map_or (λ (s : DriveSeek). 2 ^ s.drive) seek 0 ≡ 0 → seek ≡ None
+none_kept None none = refl
+none_kept (Some seek) none = let some = pow_pos seek.drive in absurd (omega arith)
+
+-- the pulses of the whole seek, from the cylinder that the chip counts
+abbrev begun_at : Option ℕ → Order → Interrupting → Pace
+begun_at goal order interrupts = pace_begun order.unit (cylinder_of order.unit interrupts) goal
+
+most_within : (words pulses : ℕ) → max 0 (0 + 1) + 254 + pulses * max words 2 ≤ most_paced words pulses
+most_within words pulses = omega arith
+
+pub paced_comes : (code : Code) (goal : Option ℕ) (byte : ℕ) (old new : ChipState) → IsSoundInRange old → IsSoundInRange new → byte < 256
+    → Completes code byte old → goal_of code (completed byte old) (drained old).interrupts ≡ Some goal → WritesChip 0x3F5 byte old new → still_moves old ≡ false → old.paced ≡ true
+    → old.front.adapter.controller.poll_due ≡ false
+    → HeadsPaced (most_paced (step_words new.settings) (pulses_left (pace_begun (completed byte old).unit (cylinder_of (completed byte old).unit (drained old).interrupts) goal)))
+    ((completed byte old).unit % 4) goal Ready new
+paced_comes code goal byte old new was is_after few completes is writes still paced polled =
+    let coming = comes_by code goal byte old new was few completes is writes still in
+    let set = coming.set in
+    let now : new ≡ record set { stage = Ready; pace = Some (begun_at goal set.order set.interrupts) } = subst (λ b. MovesIf b goal set new) paced coming.moves in
+    let front : new.front ≡ set.front = ap (λ (chip : ChipState). chip.front) now in
+    let fdc = set.front.adapter.controller in
+    let same : begun_at goal set.order set.interrupts ≡ begun_at goal (completed byte old) (drained old).interrupts =
+    ap (λ (order : Order). begun_at goal order set.interrupts) coming.order_is ∙ ap (λ (i : Interrupting). begun_at goal (completed byte old) i) coming.numbers in
+    record {
+      at = ap (λ (chip : ChipState). chip.stage) now;
+      few = of_four (completed byte old).unit;
+      pace = begun_at goal (completed byte old) (drained old).interrupts;
+      paced = ap (λ (chip : ChipState). chip.pace) now ∙ ap Some same;
+      drive_is = refl;
+      goal_is = refl;
+      behind = 0;
+      apart = 254;
+      going = inl (subst (StandsBehind 254 ((completed byte old).unit % 4) (cylinder_of (completed byte old).unit (drained old).interrupts)) (sym front) (record {
+        through = coming.stands.through;
+        takes = coming.stands.takes;
+        whole = coming.stands.none;
+        free = coming.stands.free;
+        polled = coming.poll ∙ polled;
+        seek = none_kept fdc.seeks.seek coming.stands.rests;
+        pending = coming.pending;
+        four = ap (λ (f : Front). length f.adapter.controller.seeks.cylinders) (sym front) ∙ is_after.range.seeks.cylinders;
+        counts = inr (omega arith);
+      }));
+      within = most_within (step_words new.settings) (pulses_left (begun_at goal (completed byte old) (drained old).interrupts));
+    }

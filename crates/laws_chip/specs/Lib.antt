@@ -7,5 +7,6 @@ pub mod Edges
 pub mod Resets
 pub mod Identifying
 pub mod Seeks
+pub mod PacedSeeks
 pub mod InTime
 pub mod FormatTracks

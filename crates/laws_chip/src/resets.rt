@@ -9,7 +9,7 @@ ghost use Rattle.fdc_chip.specs.Quiet.{rests_at};
 ghost use Rattle.fdc_chip.specs.Steps.{StepsChip};
 ghost use Rattle.fdc_chip.specs.declared.stage.Stage.{Stage};
 ghost use Rattle.fdc_chip.specs.declared.stage.Stage.TheVariants.{Ready};
-ghost use Rattle.laws_chip.specs.Calls.{Call, Does, is_step};
+ghost use Rattle.laws_chip.specs.Calls.{Call, Does, is_reset, is_step};
 ghost use Rattle.laws_chip.specs.Resets.{AwaitsPoll, HasPolls, is_of_data_port, telling_poll};
 ghost use Rattle.laws_chip.specs.Sound.{IsSound};
 
@@ -39,4 +39,12 @@ pub fn four_polls_are_sensed()
     ensures cylinder { (drive first value : ℕ) (old new : ChipState) → HasPolls first (telling_poll drive 1) old → ReadsChip 0x3F5 old value new
         → (value ≡ 0) × HasPolls first Ready new }
     ensures steps { (first : ℕ) (stage : Stage) (old new : ChipState) → rests_at stage ≡ true → HasPolls first stage old → StepsChip old new → HasPolls first stage new }
+{}
+
+/// The poll of a reset comes in the first device step in which DOR doesn't hold the controller in reset, whatever is
+/// under way. Once the poll has come it isn't to come again, through all calls that don't reset.
+pub fn a_step_makes_the_poll()
+    ensures made { (old new : ChipState) → is_held old.front.adapter.controller ≡ false → StepsChip old new → new.front.adapter.controller.poll_due ≡ false }
+    ensures stays { (made : Call) (old new : ChipState) → Does made old new → is_reset made ≡ false → old.front.adapter.controller.poll_due ≡ false
+        → new.front.adapter.controller.poll_due ≡ false }
 {}

@@ -1,9 +1,11 @@
 // Seeks and their end. The bodies are empty: the contracts say what follows from what each call does.
-ghost use Rattle.std.specs.Prelude.{◌≡◌, ◌⊎◌, ◌+◌, ◌<◌, ◌%◌, ℕ, Option, Some, true, false};
+ghost use Rattle.std.specs.Prelude.{◌≡◌, ◌⊎◌, ◌+◌, ◌<◌, ◌≤◌, ◌%◌, ℕ, Option, Some, None, unwrap_or, true, false};
 ghost use Rattle.fdc_chip.specs.Chips.{ChipState, interrupts_chip};
 ghost use Rattle.fdc_chip.specs.Codes.{code_of};
-ghost use Rattle.fdc_chip.specs.Doing.{drained, needs_heads};
+ghost use Rattle.fdc_chip.specs.Doing.{drained, needs_heads, pace_begun};
+ghost use Rattle.fdc_chip.specs.Interrupts.{cylinder_of};
 ghost use Rattle.fdc_chip.specs.Ports.{WritesChip};
+ghost use Rattle.fdc_chip.specs.Settings.{step_words};
 ghost use Rattle.fdc_chip.specs.Steps.{StepsChip};
 ghost use Rattle.fdc_chip.specs.declared.code.Code.{Code};
 ghost use Rattle.fdc_chip.specs.declared.order.Order.{Order};
@@ -11,6 +13,7 @@ ghost use Rattle.fdc_chip.specs.declared.stage.Stage.{Stage};
 ghost use Rattle.fdc_chip.specs.declared.stage.Stage.TheVariants.{Ready, Held};
 ghost use Rattle.laws_chip.specs.Beginning.{Completes, IsDoneFree, IsHeldFor, completed, still_moves};
 ghost use Rattle.laws_chip.specs.Calls.{Call, Does, is_reset, is_step};
+ghost use Rattle.laws_chip.specs.PacedSeeks.{HeadsPaced, completes, most_paced, pulses_left};
 ghost use Rattle.laws_chip.specs.Resets.{is_of_data_port};
 ghost use Rattle.laws_chip.specs.Seeks.{EndsBySignal, HeadsGo, IsSoundInRange, goal_of, most_of, waits_for_heads};
 ghost use Rattle.laws_chip.specs.Sound.{IsSound};
@@ -46,4 +49,47 @@ pub fn a_held_command_starts()
         → needs_heads code ≡ true → HeadsGo (left + 1) drive goal Held old → StepsChip old new
         → (IsHeldFor order new × HeadsGo left drive goal Held new) ⊎ IsDoneFree code order new }
     ensures some { (drive : ℕ) (goal : Option ℕ) (chip : ChipState) → HeadsGo 0 drive goal Held chip → ⊥ }
+{}
+
+/// If the strap for the time of step pulses is on, the pulses come in the time that SPECIFY sets. The seek has as many
+/// pulses as the cylinder that the chip counts is away from the target, and a RECALIBRATE has at most 79. All of them
+/// take at most their times, and 255 device steps more. The seek goes on through all other calls except a reset, even
+/// while a command is held.
+pub fn a_paced_seek_begins()
+    ensures comes { (code : Code) (goal : Option ℕ) (byte : ℕ) (old new : ChipState) → IsSoundInRange old → IsSoundInRange new → byte < 256 → Completes code byte old → goal_of code (completed byte old) (drained old).interrupts ≡ Some goal
+        → WritesChip 0x3F5 byte old new → still_moves old ≡ false → old.paced ≡ true → old.front.adapter.controller.poll_due ≡ false
+        → HeadsPaced (most_paced (step_words new.settings) (pulses_left (pace_begun (completed byte old).unit (cylinder_of (completed byte old).unit (drained old).interrupts) goal)))
+        ((completed byte old).unit % 4) goal Ready new }
+    ensures few { (unit cylinder : ℕ) (goal : Option ℕ) → cylinder < 256 → unwrap_or goal 0 < 256 → pulses_left (pace_begun unit cylinder goal) ≤ 255 }
+    ensures recalibrates { (unit cylinder : ℕ) → pulses_left (pace_begun unit cylinder None) ≤ 79 }
+    ensures stays { (left drive : ℕ) (goal : Option ℕ) (stage : Stage) (made : Call) (old new : ChipState) → waits_for_heads stage ≡ true → HeadsPaced left drive goal stage old
+        → Does made old new → is_step made ≡ false → is_reset made ≡ false → is_of_data_port made ≡ false → HeadsPaced left drive goal stage new }
+{}
+
+/// Each device step brings such a seek one step nearer to its last pulse. After the last pulse the inner controller is
+/// given the command that ends the seek. From then on the law of seeks with a pulse in each device step tells the end.
+pub fn a_paced_seek_ends()
+    ensures steps { (left drive : ℕ) (goal : Option ℕ) (old new : ChipState) → IsSoundInRange old → IsSoundInRange new → HeadsPaced (left + 1) drive goal Ready old → StepsChip old new
+        → HeadsPaced left drive goal Ready new ⊎ HeadsGo (most_of goal) drive goal Ready new }
+    ensures some { (drive : ℕ) (goal : Option ℕ) (stage : Stage) (chip : ChipState) → HeadsPaced 0 drive goal stage chip → ⊥ }
+{}
+
+/// While heads move, or pulses are to come, the bytes of a command are taken. Those before its last one leave the heads
+/// as they are.
+pub fn a_command_comes_while_heads_move()
+    ensures goes { (left drive : ℕ) (goal : Option ℕ) (byte : ℕ) (old new : ChipState) → HeadsGo left drive goal Ready old → WritesChip 0x3F5 byte old new → completes byte old ≡ false
+        → HeadsGo left drive goal Ready new }
+    ensures paced { (left drive : ℕ) (goal : Option ℕ) (byte : ℕ) (old new : ChipState) → HeadsPaced left drive goal Ready old → WritesChip 0x3F5 byte old new → completes byte old ≡ false
+        → HeadsPaced left drive goal Ready new }
+{}
+
+/// A command that needs the inner controller is held while pulses are to come. It is still held when the inner
+/// controller is given the command that ends the seek. From then on the law of held commands tells when it starts.
+pub fn a_held_command_waits_for_pulses()
+    ensures comes { (left drive : ℕ) (goal : Option ℕ) (code : Code) (byte : ℕ) (old new : ChipState) → IsSound old → byte < 256 → needs_heads code ≡ true
+        → Completes code byte old → HeadsPaced left drive goal Ready old → WritesChip 0x3F5 byte old new
+        → IsHeldFor (completed byte old) new × HeadsPaced left drive goal Held new }
+    ensures steps { (left drive : ℕ) (goal : Option ℕ) (code : Code) (order : Order) (old new : ChipState) → IsSoundInRange old → IsSoundInRange new → IsHeldFor order old
+        → code_of order.code ≡ Some code → needs_heads code ≡ true → HeadsPaced (left + 1) drive goal Held old → StepsChip old new
+        → IsHeldFor order new × (HeadsPaced left drive goal Held new ⊎ HeadsGo (most_of goal) drive goal Held new) }
 {}

@@ -17,9 +17,8 @@ ghost use Rattle.laws_commands.specs.Exported.{StoresFlatOf};
 ghost use Rattle.laws_commands.specs.FlatComplete.{IsWholeDisk};
 
 /// A law on an import in a fresh station, where no drive can have a fault any more and no DMA request can wait too
-/// long. The first name has a flat file. Then the import ends well, unless the shelf, the sink or memory fails: no
-/// request of it is refused. A disk with the sectors of the flat file is then stored under the second name, and no
-/// other file changed.
+/// long. The first name has a flat file. Then the import ends well, unless the shelf, the sink or memory fails. A
+/// disk with the sectors of the flat file is then stored under the second name, and no other file changed.
 pub fn import_ends_well(_flat: &str, _name: &str)
     ensures { (old new : World) (ended : Status) (files : Files) (bytes : List ℕ) (at : Rate)
         → BeginsSound old → old.files ≡ Some files → IsFlatFile (Some files) _flat.now bytes at

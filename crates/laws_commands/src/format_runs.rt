@@ -10,8 +10,7 @@ ghost use Rattle.laws_commands.specs.Formatted.{StoresFormatted};
 use flop_base::{Rate, Status};
 
 /// A law on a format that ends well, where the drive of bay 0 had no fault during the format. A formatted disk is
-/// stored under the name, and no other file changed. A format ends well only if nothing was refused and its last line
-/// was printed whole.
+/// stored under the name, and no other file changed.
 pub fn format_stores_a_formatted_disk(_rate: Rate, _name: &str, _cylinders: u8)
     ensures { (old new : World) (course : List Taken)
         → RunsScript (format_script _name.now _cylinders _rate) old course new Status.AllOk

@@ -16,9 +16,8 @@ ghost use Rattle.laws_commands.specs.EndsComplete.{BeginsSound, EndsWellOrOutsid
 
 /// A law on a rescue with no log yet, in a fresh station, where no drive can have a fault any more and no DMA request
 /// can wait too long. The first name has the image of a regular disk that has each of its standard keys. Then the
-/// rescue ends well, unless the shelf, the sink or memory fails: no request of it is refused. A disk with the same
-/// standard sectors, on Laid tracks, is then stored under the second name, and an empty log under the third, which is
-/// another name.
+/// rescue ends well, unless the shelf, the sink or memory fails. A disk with the same standard sectors, on Laid tracks,
+/// is then stored under the second name, and an empty log under the third, which is another name.
 pub fn new_rescue_ends_well(_from: &str, _to: &str, _log: &str)
     ensures { (old new : World) (ended : Status) (files : Files) (disk : Disk)
         → BeginsSound old → old.files ≡ Some files → IsImageOf (Some files) _from.now disk → IsReadable disk

@@ -13,10 +13,10 @@ use Rattle.floppy_jobs.specs.declared.calls.CallLine.{CallLine}
 use Rattle.floppy_jobs.specs.declared.calls.CallLine.TheVariants as call
 use Rattle.floppy_jobs.specs.declared.request.Request.{Request}
 use Rattle.floppy_jobs.specs.declared.request.Request.TheVariants as request
-use Rattle.floppy_session.specs.declared.work.Kind.{Kind}
-use Rattle.floppy_session.specs.declared.work.Kind.TheVariants.{Read, Write, Verify}
-use Rattle.floppy_session.specs.declared.work.Work.{Work}
-use Rattle.floppy_session.specs.declared.work.Work.TheVariants.{Answer, Changed, Move}
+use Rattle.bios_int13.specs.declared.work.Kind.{Kind}
+use Rattle.bios_int13.specs.declared.work.Kind.TheVariants.{Read, Write, Verify}
+use Rattle.bios_int13.specs.declared.work.Work.{Work}
+use Rattle.bios_int13.specs.declared.work.Work.TheVariants.{Answer, Changed, Move}
 use Rattle.sector_model.specs.declared.reply.Stop.{Stop}
 use Rattle.sector_model.specs.Faults.{Blames}
 use Rattle.sector_model.specs.States.{State}
@@ -25,7 +25,7 @@ use Rattle.sector_model.specs.Steps.{StopsAt, IsAbsent, IsLonger}
 use Rattle.sector_model.specs.Texts.{stop_status}
 use Rattle.sector_model.specs.Runs.{Taken, IsEndStop}
 use Rattle.sector_model.specs.Plays.{World, IsText, Prints, Whole, Part, IsPutFault, most_job_bytes, whole_status}
-use Rattle.floppy_session.specs.Services.{record_requests, record_request, record_behind, place_of_record, put_requests, put_request, MovesRecords, All, UpToOne, MovesIn, AcksAlone, DoesWork}
+use Rattle.bios_int13.specs.Services.{record_requests, record_request, record_behind, place_of_record, put_requests, put_request, MovesRecords, All, UpToOne, MovesIn, AcksAlone, DoesWork}
 use Rattle.text_commands.specs.CallRounds.{Round, DoesLine, AreRounds, lines_of, has_refused, Breaks, AtStop, AtPut}
 use Rattle.text_commands.specs.CallCourses.{ServesCalls, There, Missing, TooLong, Faulty, Starved, ServesParsed, ServesLines, Through, Broken, EndStopped}
 use Rattle.floppy_words.specs.declared.form.Form.TheVariants as form

@@ -34,6 +34,7 @@ mod Verifies
 mod FormWords
 mod SeekOrData
 mod UsedMachines
+mod ChangedWords
 pub mod AcksAgree
 pub mod AfterDisks
 pub mod AlikeDisks

@@ -9,6 +9,7 @@ pub mod Inserted
 pub mod InTurn
 pub mod Guarded
 pub mod Seeks
+pub mod ChangedWords
 pub mod Determined
 pub mod StoresMade
 pub mod StoredAgain

@@ -5,6 +5,7 @@
 //! files and the number of spare drives alone.
 #![tactic(auto)]
 
+mod accesses;
 mod archive;
 mod copy;
 mod counts;
@@ -26,6 +27,7 @@ mod stores;
 mod verify;
 mod words;
 
+pub use accesses::{accesses_guard_media, commands_end_in_time};
 pub use archive::{disk_laid_anew, disk_of_an_imd, imd_of_a_disk, survey_of_a_disk};
 pub use copy::{copied_disk_is_a_target, copy_of_a_disk};
 pub use counts::{counts_are_tied, each_form_lasts, each_form_sends_few, job_accesses};

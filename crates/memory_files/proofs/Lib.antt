@@ -1,6 +1,2 @@
 pub mod Files
 pub mod Cuts
-pub mod Readying
-pub mod Calming
-pub mod Placing
-pub mod Fetching

@@ -5,15 +5,16 @@ ghost use Rattle.pc_bus.specs.Boards.{board, IsEmpty};
 ghost use Rattle.sector_model.specs.Steps.{Step, StopsAt};
 ghost use Rattle.sector_model.specs.Runs.{Taken, Ends, EndStopsAt, IsEndStop};
 ghost use Rattle.sector_model.specs.Faults.{Blames};
-ghost use Rattle.floppy_session.specs.Services.{Serves};
 ghost use Rattle.floppy_session.specs.Tries.{HasTries};
+ghost use Rattle.bios_int13.specs.Services.{Serves};
 ghost use Rattle.machine_commands.specs.StationShown.{all_counts, ShowsStation};
 ghost use Rattle.machine_commands.specs.Started.{IsFreshBoard};
 
+use bios_int13::{Int13, Regs, serve};
 use drive_model::Drive;
 use flop_base::Shelf;
 use floppy_jobs::Request;
-use floppy_session::{Int13, Regs, Session as StationSession};
+use floppy_session::Session as StationSession;
 use floppy_tools::{into_machine, set_up};
 use machine_commands::MachineStation;
 use pc_bus::MachineOf;
@@ -76,7 +77,7 @@ impl<D: Drive> Session<D> {
         ensures { (told : Option Files) → (course : List Taken) × Serves front.old regs
             self.old told result front.new course self.new }
     {
-        self.over.int13(front, regs)
+        serve(&mut self.over, front, regs)
     }
 
     /// The machine, which has the counts.

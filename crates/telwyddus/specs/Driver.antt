@@ -10,5 +10,5 @@ pub use Rattle.sector_model.specs.Calls
 pub use Rattle.sector_model.specs.Reads
 pub use Rattle.sector_model.specs.Writes
 pub use Rattle.sector_model.specs.Formats
-pub use Rattle.memory_files.specs.Desks
-pub use Rattle.memory_files.specs.Sectors
+pub use Rattle.sector_desk.specs.Desks
+pub use Rattle.sector_desk.specs.Sectors

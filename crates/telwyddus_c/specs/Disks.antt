@@ -8,9 +8,9 @@ use Rattle.flop_base.specs.declared.answers.Code.TheVariants.{BadRequest, NoMark
 use Rattle.flop_base.specs.declared.answers.Rate.{Rate}
 use Rattle.flop_base.specs.declared.key.Chrn.{Chrn}
 use Rattle.raw_image.specs.Disk.{Disk}
-use Rattle.memory_files.specs.Desks.{station_of}
-use Rattle.memory_files.specs.Quiet.{IsCalm}
-use Rattle.memory_files.specs.Sectors.{ReadsSector, WritesSector}
+use Rattle.sector_desk.specs.Desks.{station_of}
+use Rattle.sector_desk.specs.Quiet.{IsCalm}
+use Rattle.sector_desk.specs.Sectors.{ReadsSector, WritesSector}
 use Rattle.sector_model.specs.Calls.{Acks, Ejects, Inserts, RatesTo}
 use Rattle.sector_model.specs.Formats.{FormatsTo}
 use Rattle.sector_model.specs.Orders.{is_size_code}

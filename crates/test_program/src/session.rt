@@ -3,10 +3,10 @@ ghost use Rattle.floppy_session.specs.Tries.{HasTries};
 
 use crate::machines::{machine, spare};
 use crate::shelves::shelf_with_disk;
+use bios_int13::{Int13, Regs};
 use drive_model::PlainDrive;
 use flop_base::{Chrn, Code, Name};
 use floppy_jobs::Request;
-use floppy_session::{Int13, Regs};
 use memory_files::{MemShelf, Session};
 use pc_bus::MachineOf;
 use sector_model::{Reason, Reply, Stop};

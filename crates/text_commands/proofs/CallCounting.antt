@@ -17,11 +17,11 @@ use Rattle.sector_model.specs.States.{State, IsSame}
 use Rattle.sector_model.specs.Steps.{Step, Does, refusal_of}
 use Rattle.sector_model.specs.Runs.{Taken, Run, requests_of}
 use Rattle.sector_model.proofs.Runs.{run_more, requests_more}
-use Rattle.floppy_session.specs.declared.work.Kind.{Kind}
-use Rattle.floppy_session.specs.declared.work.Kind.TheVariants.{Read, Write, Verify}
-use Rattle.floppy_session.specs.declared.work.Work.{Work}
-use Rattle.floppy_session.specs.declared.work.Work.TheVariants.{Answer, Changed, Move}
-use Rattle.floppy_session.specs.Services.{MovesRecords, All, UpToOne, MovesIn, AcksAlone, DoesWork, record_request, record_requests, put_requests, put_request}
+use Rattle.bios_int13.specs.declared.work.Kind.{Kind}
+use Rattle.bios_int13.specs.declared.work.Kind.TheVariants.{Read, Write, Verify}
+use Rattle.bios_int13.specs.declared.work.Work.{Work}
+use Rattle.bios_int13.specs.declared.work.Work.TheVariants.{Answer, Changed, Move}
+use Rattle.bios_int13.specs.Services.{MovesRecords, All, UpToOne, MovesIn, AcksAlone, DoesWork, record_request, record_requests, put_requests, put_request}
 use Rattle.text_commands.specs.CallCounts.{commands_of, bytes_put, CountsCourse}
 
 either : {A : Type 0} {P R : Type 0} {Q : A → Type 0} (value : Option A) → MatchOption value P Q → (P → R) → ((x : A) → Q x → R) → R

@@ -1,5 +1,5 @@
 -- Every line is a course of the machine, and what runs at its beginning finishes in time.
-use Rattle.std.proofs.Common.{◌≡◌, ℕ, ◌+◌, ◌≤◌, List, [], ◌∷◌, Option, Some, None, refl, sym, subst, arith}
+use Rattle.std.proofs.Common.{◌≡◌, ℕ, ◌+◌, ◌≤◌, List, [], ◌∷◌, Option, Some, None, sym, subst, arith}
 use Rattle.std.specs.Option.{MatchOption}
 use Rattle.flop_base.specs.Counts.{RoseBy}
 use Rattle.floppy_jobs.specs.declared.ports.PortLine.{PortLine}
@@ -88,6 +88,3 @@ ends_in_time old mid new (taken ∷ later) range (does, run) behind =
       finishes old new (taken ∷ later) range (passes_on least 0 least old.board mid.board new.board (omega arith) (course_passes old mid (taken ∷ later) (does, run)) behind),
       ends_in_time taken.after mid new later taken.range run behind,
     )
-
-pub course_ends : (old new : Bench) (course : List Taken) → IsInRange old.board → PortRun old course new → EndInTime old course new
-course_ends old new course range run = ends_in_time old new new course range run (stays new new refl)

@@ -3,8 +3,8 @@ pub mod ParsedCalls
 pub mod RanCalls
 pub mod ServedCalls
 mod PortRounds
-mod NamedPorts
-mod FinishingPorts
+pub mod NamedPorts
+pub mod FinishingPorts
 pub mod GuardingPorts
 mod ExchangedPorts
 pub mod JobRounds

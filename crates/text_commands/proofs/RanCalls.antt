@@ -15,11 +15,11 @@ use Rattle.sector_model.specs.Texts.{stop_status}
 use Rattle.sector_model.specs.Ties.{TiesCounts}
 use Rattle.sector_model.proofs.Runs.{run_more}
 use Rattle.sector_model.proofs.PlayTies.{requests_tied, ran_ties, stopped_ties, alone_ties}
-use Rattle.floppy_session.specs.declared.work.Kind.{Kind}
-use Rattle.floppy_session.specs.declared.work.Kind.TheVariants.{Read, Write, Verify}
-use Rattle.floppy_session.specs.declared.work.Work.{Work}
-use Rattle.floppy_session.specs.declared.work.Work.TheVariants.{Answer, Changed, Move}
-use Rattle.floppy_session.specs.Services.{MovesRecords, All, UpToOne, MovesIn, AcksAlone, DoesWork}
+use Rattle.bios_int13.specs.declared.work.Kind.{Kind}
+use Rattle.bios_int13.specs.declared.work.Kind.TheVariants.{Read, Write, Verify}
+use Rattle.bios_int13.specs.declared.work.Work.{Work}
+use Rattle.bios_int13.specs.declared.work.Work.TheVariants.{Answer, Changed, Move}
+use Rattle.bios_int13.specs.Services.{MovesRecords, All, UpToOne, MovesIn, AcksAlone, DoesWork}
 use Rattle.commands.specs.Leading.{Runs}
 use Rattle.text_commands.specs.CallRounds.{Round, DoesLine, AreRounds, course_of, Breaks, AtStop, AtPut}
 use Rattle.text_commands.specs.CallCourses.{ServesLines, Through, Broken, EndStopped, ServesParsed, ServesCalls, There, Missing, TooLong, Faulty, Starved}

@@ -24,8 +24,8 @@ use Rattle.sector_model.specs.Texts.{reply_lines, stop_lines, stop_status, is_re
 use Rattle.sector_model.specs.Runs.{Taken}
 use Rattle.sector_model.specs.Plays.{World, Prints, Tells, IsText, IsPutFault, whole_status}
 use Rattle.commands.proofs.DumpLines.{grown-twice, grown-nothing}
-use Rattle.floppy_session.specs.declared.regs.Regs.{Regs}
-use Rattle.floppy_session.specs.Services.{Serves}
+use Rattle.bios_int13.specs.declared.regs.Regs.{Regs}
+use Rattle.bios_int13.specs.Services.{Serves}
 use Rattle.commands.specs.Texts.{MissesText}
 use Rattle.commands.specs.Leading.{PutsLines, LoadsText}
 use Rattle.text_commands.specs.JobRounds.{RoundGoes, AtStop as AtRequest, AtPut as AtAnswer}

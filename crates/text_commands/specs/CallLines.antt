@@ -7,8 +7,8 @@ use Rattle.floppy_jobs.specs.declared.calls.CallLine.{CallLine}
 use Rattle.floppy_jobs.specs.declared.calls.CallLine.TheVariants as call
 use Rattle.sector_model.specs.Runs.{Taken}
 use Rattle.sector_model.specs.Plays.{World, IsIdle}
-use Rattle.floppy_session.specs.declared.regs.Regs.{Regs}
 use Rattle.floppy_session.specs.Tries.{HasTries}
+use Rattle.bios_int13.specs.declared.regs.Regs.{Regs}
 use Rattle.text_commands.specs.CallTexts.{registers}
 use Rattle.text_commands.specs.CallRounds.{Round, AreServed, has_refused, IsRound, Breaks}
 use Rattle.text_commands.specs.CallCourses.{IsBroken, ServesLines, ServesParsed}

@@ -13,8 +13,8 @@ use Rattle.sector_model.specs.Steps.{Step, StopsAt}
 use Rattle.sector_model.specs.Texts.{reply_lines, stop_lines, stop_status, is_refusal}
 use Rattle.sector_model.specs.Runs.{Taken}
 use Rattle.sector_model.specs.Plays.{World, Prints, IsPutFault}
-use Rattle.floppy_session.specs.declared.regs.Regs.{Regs}
-use Rattle.floppy_session.specs.Services.{Serves}
+use Rattle.bios_int13.specs.declared.regs.Regs.{Regs}
+use Rattle.bios_int13.specs.Services.{Serves}
 use Rattle.text_commands.specs.CallTexts.{registers, call_text}
 
 -- a line that was done: the requests that it ran, what it prints, whether this counts as a refusal, and the state after

@@ -1,11 +1,10 @@
 -- What port accesses can't do, whatever they are: limits on what they change of media, and on the count of device
 -- steps.
-use Rattle.std.specs.Prelude.{◌≡◌, ◌≤◌, ℕ, zero, suc, true, List, [], ◌∷◌}
+use Rattle.std.specs.Prelude.{◌≡◌, ◌≤◌, ℕ, true, List, [], ◌∷◌}
 use Rattle.flop_base.specs.Counts.{RoseBy}
 use Rattle.flop_base.specs.declared.answers.Status.{Status}
 use Rattle.drive_model.specs.Drive.{is_protected}
 use Rattle.pc_bus.specs.Boards.{Board, drive_in}
-use Rattle.laws_machine.specs.OnWrites.Guards.{GuardsMedia}
 use Rattle.text_commands.specs.Benches.{Bench, Names}
 use Rattle.text_commands.specs.PortCourses.{Taken, waits_of}
 use Rattle.text_commands.specs.PortFinishes.{EndInTime}
@@ -17,11 +16,6 @@ use Rattle.floppy_jobs.specs.declared.ports.PortLine.{PortLine}
 pub record SameMedia (old new : Board) : Type 0 where
   pub first : new.first.medium ≡ old.first.medium
   pub second : new.second.medium ≡ old.second.medium
-
--- in so many device steps each medium changed by at most one word in each step, and not at all while it is protected
-unfoldable pub ChangesWords : ℕ → Board → Board → Type 0
-ChangesWords zero old new = SameMedia old new
-ChangesWords (suc n) old new = (between : Board) × ChangesWords n old between × GuardsMedia between new
 
 -- if the medium of a bay is protected, it is as it was
 abbrev pub GuardsBay : ℕ → Board → Board → Type 0

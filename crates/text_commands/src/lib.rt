@@ -9,4 +9,4 @@ mod ports;
 
 pub use calls::{calls_count, serve_calls};
 pub use jobs::play;
-pub use ports::{Answer, accesses_guard_media, commands_end_in_time, run_ports};
+pub use ports::{Answer, run_ports};

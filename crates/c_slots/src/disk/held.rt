@@ -3,7 +3,7 @@ ghost use Rattle.std.specs.Prelude.{◌≡◌, None, Some, Option};
 ghost use Rattle.c_slots.specs.Disks.{DeskValue, held_owns, held_coded};
 
 use crate::loose::Loose;
-use memory_files::SectorDesk;
+use sector_desk::SectorDesk;
 use std::alloc::Global;
 use std::marker::Model;
 use std::ptr::null_mut;

@@ -4,7 +4,7 @@ ghost use Rattle.std.specs.Option.{is_some};
 ghost use Rattle.c_slots.specs.Disks.{boxed};
 
 use crate::disk::held::Held;
-use memory_files::SectorDesk;
+use sector_desk::SectorDesk;
 use std::alloc::Global;
 use std::mem;
 

@@ -7,7 +7,7 @@ use crate::code::{DONE, EMPTY, FULL, HAS_MEDIUM, NO_MEDIUM, NO_MEMORY, OUT_OF_RA
 use crate::disk::answers::answer_code;
 use crate::rate::rate_named;
 use c_slots::{DiskSlot, MediumTray, TraySlot};
-use memory_files::SectorDesk;
+use sector_desk::SectorDesk;
 use std::alloc::Global;
 
 /// Puts the medium of a tray into a bay. If a medium is in already, the new one stays in the tray.

@@ -4,7 +4,7 @@ ghost use Rattle.telwyddus_c.specs.Slots.{Fills, Frees};
 
 use crate::code::{DONE, EMPTY, FULL, NO_MEMORY};
 use c_slots::DiskSlot;
-use memory_files::SectorDesk;
+use sector_desk::SectorDesk;
 use std::alloc::Global;
 
 /// Makes a desk with two empty bays.

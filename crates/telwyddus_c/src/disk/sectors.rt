@@ -9,7 +9,7 @@ use crate::code::{DONE, EMPTY, OUT_OF_RANGE, TOO_SHORT};
 use crate::disk::answers::{answer_code, refusal_code};
 use c_slots::DiskSlot;
 use flop_base::{Chrn, sector_size};
-use memory_files::SectorDesk;
+use sector_desk::SectorDesk;
 use std::alloc::Global;
 
 /// Reads the sector of a sector ID (cylinder, head, record and size code) to the beginning of a buffer. Whether it is

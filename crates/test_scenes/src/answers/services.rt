@@ -1,7 +1,7 @@
 // The core of INT 13h, call by call.
 use super::Asked;
+use bios_int13::{Int13, Kind, Regs, Work};
 use floppy_jobs::is_verb;
-use floppy_session::{Int13, Kind, Regs, Work};
 use test_files::{Draft, Line, Wrong, words_in};
 
 pub(crate) fn answer(

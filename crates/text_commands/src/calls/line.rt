@@ -6,10 +6,10 @@ ghost use Rattle.text_commands.specs.CallLines.{LineHasTries, CallGoes, LineGoes
 
 use crate::calls::text::call_line;
 use crate::jobs::run_one;
+use bios_int13::{Int13, Regs};
 use commands::AnyRun;
 use flop_base::Status;
 use floppy_jobs::CallLine;
-use floppy_session::{Int13, Regs};
 
 /// Serves a call of INT 13h, and prints the registers after it; true if its carry is set.
 fn call<R: AnyRun>(run: &mut R, front: &mut Int13, regs: Regs) -> Result<bool, Status>

@@ -6,10 +6,10 @@ ghost use Rattle.text_commands.specs.CallLines.{LineHasTries, LinesGo, ServesOrS
 
 use crate::calls::line::serve_line;
 use crate::ending::{either, finish};
+use bios_int13::Int13;
 use commands::{AnyRun, bad_line};
 use flop_base::{Name, Status};
 use floppy_jobs::{CallLine, JobError, parse_calls};
-use floppy_session::Int13;
 
 /// The longest text of calls, in bytes.
 const MOST_CALLS_BYTES: usize = 4_194_304;

@@ -2,7 +2,7 @@
 ghost use Rattle.std.specs.Prelude.{◌≡◌, Some, IfOk, string_bytes};
 ghost use Rattle.text_commands.specs.CallTexts.{hex4, carry_text, call_text};
 
-use floppy_session::Regs;
+use bios_int13::Regs;
 use std::alloc::{AllocError, Global};
 use std::fmt;
 

@@ -1,5 +1,5 @@
 use Rattle.floppy_session.proofs.Named.{runs_on, keeps_reads}
-use Rattle.floppy_session.proofs.Serving.{reads_outside}
+use Rattle.floppy_session.proofs.OtherBytes.{reads_outside}
 use Rattle.floppy_session.proofs.session.Session.read_record.Goals as goal
 
 pub invariant_of-self : goal.invariant_of-self

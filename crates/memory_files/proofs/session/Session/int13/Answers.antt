@@ -1,4 +1,4 @@
 use Rattle.memory_files.proofs.session.Session.int13.Goals as goal
 
 pub returns : goal.returns
-returns g c = rw (← c.self.view_is) c.int13.ensures
+returns g c = rw (← c.self.view_is) c.serve.ensures

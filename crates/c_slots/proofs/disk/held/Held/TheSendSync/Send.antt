@@ -9,7 +9,7 @@ use denote.Param.Send.{IsSend, AllSend, owning_send, struct_send, sendable}
 use Rattle.std.proofs.Crossing as heap
 use Rattle.std.proofs.alloc.Global.TheSendSync as handle
 use Rattle.std.specs.Global.{Global}
-use Rattle.memory_files.proofs.desk.SectorDesk.TheSendSync.{the_send as whole_send}
+use Rattle.sector_desk.proofs.desk.SectorDesk.TheSendSync.{the_send as whole_send}
 use Rattle.c_slots.proofs.Crossing.{quiet, lies}
 use Rattle.c_slots.specs.Disks.{DeskValue, desk_row, held_owns}
 use Rattle.c_slots.specs.contracts.disk.held.Held.{the_row, the_type}

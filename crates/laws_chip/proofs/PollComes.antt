@@ -1,0 +1,420 @@
+-- The poll of a reset, in the inner controller: once it has come, it isn't to come until the next reset.
+use Rattle.std.proofs.Common.{◌≡◌, inl, inr, ℕ, ◌+◌, ◌-◌, ◌==◌, Bool, true, false, not, ◌&&◌, ◌||◌, if◌then◌else◌, [], ◌∷◌, ◌++◌, Option, Some, None, length, bit_and, refl, ◌∙◌, ap, subst}
+use Rattle.std.proofs.lemmas.Bool.{eqb-true, false≢true}
+use Rattle.drive_model.specs.Drive.{DriveState, at_index}
+use Rattle.fdc_registers.specs.Fifo.{Fifo}
+use Rattle.fdc_commands.specs.Seeking.{has_ended_seek, seek_bits, sensed, with_polls, without_ended}
+use Rattle.fdc_commands.specs.Table.{answer, kept}
+use Rattle.fdc_commands.specs.declared.bytes.Accepted.{Accepted}
+use Rattle.fdc_commands.specs.declared.bytes.Accepted.TheVariants.{More, Ready, Invalid}
+use Rattle.fdc_commands.specs.declared.command.Command.{Command}
+use Rattle.fdc_commands.specs.declared.command.Command.TheVariants as command
+use Rattle.fdc_stages.specs.Readings.{ReadOutcome}
+use Rattle.fdc_stages.specs.Readings as heard
+use Rattle.fdc_stages.specs.Searches.{SearchOutcome}
+use Rattle.fdc_stages.specs.Searches as searched
+use Rattle.fdc_stages.specs.Writings.{needs_byte}
+use Rattle.fdc_stages.specs.declared.ending.Ending.{Ending}
+use Rattle.fdc_stages.specs.declared.ending.Ending.TheVariants.{Done, Overrun}
+use Rattle.fdc_stages.specs.declared.formatting.FormatNext.{FormatNext}
+use Rattle.fdc_stages.specs.declared.formatting.FormatNext.TheVariants as format_next
+use Rattle.fdc_stages.specs.declared.writing.WriteNext.{WriteNext}
+use Rattle.fdc_stages.specs.declared.writing.WriteNext.TheVariants as write_next
+use Rattle.fdc_phases.specs.Phases.{ending_of, is_listening}
+use Rattle.fdc_phases.specs.declared.phases.Phase.{Phase}
+use Rattle.fdc_phases.specs.declared.phases.Phase.TheVariants.{Command as Taking, Execute, Result}
+use Rattle.fdc_phases.specs.declared.phases.Task.{Task}
+use Rattle.fdc_phases.specs.declared.phases.Task.TheVariants.{ReadId, Read, Write, Format}
+use Rattle.fdc_phases.specs.declared.transfers.Formatting.{Formatting}
+use Rattle.fdc_phases.specs.declared.transfers.Reading.{Reading}
+use Rattle.fdc_phases.specs.declared.transfers.Writing.{Writing}
+use Rattle.fdc_core.specs.Commands.{Begins, BeginsData, Obeys, ObeysAtRest, TakesAs, sensing_by}
+use Rattle.fdc_core.specs.Dma.{taken_in, taken_out, told_count}
+use Rattle.fdc_core.specs.Formatting.{FormatDoes, after_laid}
+use Rattle.fdc_core.specs.Listening.{ExecutesIn, ExecutesTask, is_executing}
+use Rattle.fdc_core.specs.Ports.{Writes, WritesData, is_taking, resets}
+use Rattle.fdc_core.specs.Reading.{after_heard, after_searched, at_stage, gone_on_reading, is_full, over_or_on, pushed}
+use Rattle.fdc_core.specs.State.{finished, is_held}
+use Rattle.fdc_core.specs.Steps.{RestsIn, polled}
+use Rattle.fdc_core.specs.Tasks.{FormatsNowhere, StepsNowhere, TaskStepsNowhere, WritesNowhere}
+use Rattle.fdc_core.specs.Times.{WordTime, Saw, KeptOut, Wrote, Stopped}
+use Rattle.fdc_core.specs.Whole.{ending_told, given_up, given_up_if, looked_at, mark_of, without_seek}
+use Rattle.fdc_core.specs.Writes.{WritesIn, WritesTask}
+use Rattle.fdc_core.specs.Writing.{WriteDoes, after_next, without_byte}
+use Rattle.fdc_core.specs.declared.controller.Fdc.{Fdc}
+use Rattle.fdc_core.specs.declared.controller.Lines.{Lines}
+use Rattle.fdc_adapter.specs.Adapters.{AdapterState, Gives, StepsAdapter, Takes, lines_at, selected_at}
+use Rattle.fdc_sequencer.specs.Fronts.{BeginsSector, CollectsAs, Front, GivesAt, GivesFront, GivesMoving, PassesAs, Starts, StartsIf, TakesAt, TakesByte, TakesFront, TakesMoving, WritesFront, after_reading, begins_with, begun_if, byte_given, count_told, told_front, told_if, with_controller}
+use Rattle.fdc_sequencer.specs.Moves.{EndsIf, EndsSector, FollowsStep, MovesOn, SeeksOn, StepsFront, goes_on, has_met_other, is_unwanted, judged_if, passed_over_if}
+use Rattle.fdc_sequencer.specs.Transfers.{command_of, next_of, transfer_of}
+use Rattle.fdc_sequencer.specs.declared.opcode.Opcode.{Opcode}
+use Rattle.fdc_sequencer.specs.declared.stage.Moving.{Moving as MovingSector}
+use Rattle.fdc_sequencer.specs.declared.stage.Stage.{Stage}
+use Rattle.fdc_sequencer.specs.declared.stage.Stage.TheVariants.{Through, Collecting, Seeking, Moving, Telling}
+use Rattle.fdc_sequencer.specs.declared.transfer.Transfer.{Transfer}
+use Rattle.laws_sequencer.proofs.Known.{which_drive}
+use Rattle.laws_sequencer.proofs.Resting.{polled_phase}
+use Rattle.laws_chip.proofs.Channels.{port_left}
+use Rattle.laws_chip.proofs.UnderWay.{either_way}
+
+-- ---- a command of the controller's own
+
+abbrev due : Fdc → Bool
+due fdc = fdc.poll_due
+
+data_poll : (command : Command) (old new : Fdc) → BeginsData command old new → due old ≡ false → due new ≡ false
+data_poll (command.ReadId head_drive) old new (task, kind, waits, is) none = ap due is ∙ none
+data_poll (command.ReadData head_drive key last_sector gap length) old new (task, kind, waits, is) none = ap due is ∙ none
+data_poll (command.WriteData head_drive key last_sector gap length) old new (task, kind, waits, is) none = ap due is ∙ none
+data_poll (command.WriteDeleted head_drive key last_sector gap length) old new (task, kind, waits, is) none = ap due is ∙ none
+data_poll (command.FormatTrack head_drive n sectors gap fill) old new (task, kind, waits, is) none = ap due is ∙ none
+data_poll _ old new is none = ap due is ∙ none
+
+begins_poll : (command : Command) (old new : Fdc) → Begins command old new → due old ≡ false → due new ≡ false
+begins_poll command old new (refused, begins) none = either_way old.non_dma
+    (λ set. ap due (refused set) ∙ none)
+    (λ clear. data_poll command old new (begins clear) none)
+
+sensing_poll : (result : Option (ℕ × ℕ)) (old : Fdc) → due (sensing_by result old) ≡ due old
+sensing_poll None old = refl
+sensing_poll (Some (status, cylinder)) old = refl
+
+still_false : (b was : Bool) → was ≡ false → (if b then was else false) ≡ false
+still_false true was none = none
+still_false false was none = refl
+
+rest_poll : (command : Command) (lines : Lines) (old new : Fdc) → ObeysAtRest command lines old new → due old ≡ false → due new ≡ false
+rest_poll (command.Specify srt_hut hlt_nd) lines old new is none = ap due is ∙ none
+rest_poll (command.SenseDrive head_drive) lines old new is none = ap due is ∙ none
+rest_poll (command.Recalibrate drive) lines old new is none = ap due is ∙ none
+rest_poll command.SenseInterrupt lines old new is none = ap due is ∙ (sensing_poll (sensed old.seeks) old ∙ none)
+rest_poll (command.Seek head_drive target) lines old new is none = ap due is ∙ none
+rest_poll command.Version lines old new is none = ap due is ∙ none
+rest_poll (command.Configure zero options precompensation) lines old new is none = ap due is ∙ still_false (bit_and options 0x10 == 0) old.poll_due none
+rest_poll (command.ReadId head_drive) lines old new begins none = begins_poll (command.ReadId head_drive) old new begins none
+rest_poll (command.ReadData head_drive key last_sector gap length) lines old new begins none = begins_poll (command.ReadData head_drive key last_sector gap length) old new begins none
+rest_poll (command.WriteData head_drive key last_sector gap length) lines old new begins none = begins_poll (command.WriteData head_drive key last_sector gap length) old new begins none
+rest_poll (command.WriteDeleted head_drive key last_sector gap length) lines old new begins none = begins_poll (command.WriteDeleted head_drive key last_sector gap length) old new begins none
+rest_poll (command.FormatTrack head_drive n sectors gap fill) lines old new begins none = begins_poll (command.FormatTrack head_drive n sectors gap fill) old new begins none
+
+either_poll : (command : Command) (lines : Lines) (old new : Fdc)
+    → (seek_bits old.seeks ≡ 0 → ObeysAtRest command lines old new) × ((seek_bits old.seeks == 0) ≡ false → due new ≡ due old) → due old ≡ false → due new ≡ false
+either_poll command lines old new (rests, moves) none = either_way (seek_bits old.seeks == 0)
+    (λ here. rest_poll command lines old new (rests (eqb-true (seek_bits old.seeks) 0 here)) none)
+    (λ other. moves other ∙ none)
+
+obeys_poll : (command : Command) (lines : Lines) (old new : Fdc) → Obeys command lines old new → due old ≡ false → due new ≡ false
+obeys_poll command.SenseInterrupt lines old new is none = ap due is ∙ (sensing_poll (sensed old.seeks) old ∙ none)
+obeys_poll (command.Specify srt_hut hlt_nd) lines old new (rests, moves) none = either_poll (command.Specify srt_hut hlt_nd) lines old new (rests, λ other. ap due (moves other)) none
+obeys_poll (command.SenseDrive head_drive) lines old new (rests, moves) none = either_poll (command.SenseDrive head_drive) lines old new (rests, λ other. ap due (moves other)) none
+obeys_poll (command.Recalibrate drive) lines old new (rests, moves) none = either_poll (command.Recalibrate drive) lines old new (rests, λ other. ap due (moves other)) none
+obeys_poll (command.Seek head_drive target) lines old new (rests, moves) none = either_poll (command.Seek head_drive target) lines old new (rests, λ other. ap due (moves other)) none
+obeys_poll command.Version lines old new (rests, moves) none = either_poll command.Version lines old new (rests, λ other. ap due (moves other)) none
+obeys_poll (command.Configure zero options precompensation) lines old new (rests, moves) none = either_poll (command.Configure zero options precompensation) lines old new (rests, λ other. ap due (moves other)) none
+obeys_poll (command.ReadId head_drive) lines old new (rests, moves) none = either_poll (command.ReadId head_drive) lines old new (rests, λ other. ap due (moves other)) none
+obeys_poll (command.ReadData head_drive key last_sector gap length) lines old new (rests, moves) none =
+    either_poll (command.ReadData head_drive key last_sector gap length) lines old new (rests, λ other. ap due (moves other)) none
+obeys_poll (command.WriteData head_drive key last_sector gap length) lines old new (rests, moves) none =
+    either_poll (command.WriteData head_drive key last_sector gap length) lines old new (rests, λ other. ap due (moves other)) none
+obeys_poll (command.WriteDeleted head_drive key last_sector gap length) lines old new (rests, moves) none =
+    either_poll (command.WriteDeleted head_drive key last_sector gap length) lines old new (rests, λ other. ap due (moves other)) none
+obeys_poll (command.FormatTrack head_drive n sectors gap fill) lines old new (rests, moves) none =
+    either_poll (command.FormatTrack head_drive n sectors gap fill) lines old new (rests, λ other. ap due (moves other)) none
+
+accepted_poll : (accepted : Accepted) (lines : Lines) (old new : Fdc) → TakesAs accepted lines old new → due old ≡ false → due new ≡ false
+accepted_poll More lines old new is none = ap due is ∙ none
+accepted_poll (Ready command) lines old new obeys none = obeys_poll command lines old new obeys none
+accepted_poll Invalid lines old new is none = ap due is ∙ none
+
+byte_poll : (byte : ℕ) (lines : Lines) (old new : Fdc) → WritesData byte lines old new → due old ≡ false → due new ≡ false
+byte_poll byte lines old new (takes, ignores) none = either_way (is_taking old)
+    (λ taking. let bytes = old.command ++ byte ∷ [] in accepted_poll (answer bytes) lines (record old { command = kept (answer bytes) bytes }) new (takes taking) none)
+    (λ other. ap due (ignores other) ∙ none)
+
+port_poll : (port value : ℕ) (lines : Lines) (old new : Fdc) → Writes port value lines old new → resets port value ≡ false → due old ≡ false → due new ≡ false
+port_poll port value lines old new writes quiet none = either_way (port == 0x3F5)
+    (λ here. byte_poll value lines old new (writes.bytes (eqb-true port 0x3F5 here)) none)
+    (λ other. (port_left port value lines old new writes other quiet).poll ∙ none)
+
+-- ---- a device step of what is executed
+
+searched_poll : (head_drive steps : ℕ) (after : SearchOutcome) (old : Fdc) → due (after_searched head_drive steps after old) ≡ due old
+searched_poll head_drive steps (searched.On search) old = refl
+searched_poll head_drive steps (searched.Met key separator) old = refl
+searched_poll head_drive steps (searched.Missed ending) old = refl
+
+on_poll : (head_drive steps : ℕ) (reading : Reading) (old : Fdc) → due (gone_on_reading head_drive steps reading old) ≡ due old
+on_poll head_drive steps reading old = by_ending (ending_of reading) (length old.fifo.bytes == 0)
+  where
+    by_ending : (ending : Option Ending) (empty : Bool) → due (over_or_on ending empty head_drive steps reading old) ≡ due old
+    by_ending None empty = refl
+    by_ending (Some ending) true = refl
+    by_ending (Some ending) false = refl
+
+heard_poll : (head_drive steps : ℕ) (reading : Reading) (after : ReadOutcome) (old : Fdc) → due (after_heard head_drive steps reading after old) ≡ due old
+heard_poll head_drive steps reading (heard.On stage) old = on_poll head_drive steps (at_stage reading stage) old
+heard_poll head_drive steps reading (heard.Byte stage value) old = by_count reading.counted (is_full old)
+  where
+    by_count : (counted full : Bool) → due (if counted then gone_on_reading head_drive steps (at_stage reading stage) old
+        else (if full then finished Overrun head_drive reading.wanted.key old else gone_on_reading head_drive steps (at_stage reading stage) (pushed value old))) ≡ due old
+    by_count true full = on_poll head_drive steps (at_stage reading stage) old
+    by_count false true = refl
+    by_count false false = on_poll head_drive steps (at_stage reading stage) (pushed value old)
+heard_poll head_drive steps reading (heard.Ended ending) old = refl
+
+next_poll : (head_drive steps : ℕ) (writing : Writing) (next : WriteNext) (old : Fdc) → due (after_next head_drive steps writing next old) ≡ due old
+next_poll head_drive steps writing (write_next.On stage) old = refl
+next_poll head_drive steps writing (write_next.Ended ending) old = refl
+
+laid_poll : (head_drive steps : ℕ) (formatting : Formatting) (next : FormatNext) (old : Fdc) → due (after_laid head_drive steps formatting next old) ≡ due old
+laid_poll head_drive steps formatting (format_next.On stage) old = refl
+laid_poll head_drive steps formatting (format_next.Ended ending key) old = refl
+
+less_poll : (needs : Bool) (old : Fdc) → due (without_byte needs old) ≡ due old
+less_poll true old = refl
+less_poll false old = refl
+
+write_poll : (time : WordTime) (head_drive steps : ℕ) (writing : Writing) (old : Fdc) (before : DriveState) (new : Fdc) → WriteDoes time head_drive steps writing old before new → due new ≡ due old
+write_poll (Saw index word) head_drive steps writing old before new (unready, does) = ap due does.after_is ∙ next_poll head_drive (steps + 1) writing does.next old
+write_poll (KeptOut index word) head_drive steps writing old before new (opening, does) = ap due does.after_is ∙ next_poll head_drive (steps + 1) writing does.next old
+write_poll (Wrote opened closed index word) head_drive steps writing old before new does =
+    ap due does.after_is ∙ (next_poll head_drive (steps + 1) writing does.next (without_byte (needs_byte writing.stage) old) ∙ less_poll (needs_byte writing.stage) old)
+write_poll Stopped head_drive steps writing old before new does = ap due does.after_is
+
+format_poll : (time : WordTime) (head_drive steps : ℕ) (formatting : Formatting) (old : Fdc) (before : DriveState) (new : Fdc) → FormatDoes time head_drive steps formatting old before new → due new ≡ due old
+format_poll (Saw index word) head_drive steps formatting old before new (unready, does) = ap due does.after_is ∙ laid_poll head_drive (steps + 1) formatting does.next old
+format_poll (KeptOut index word) head_drive steps formatting old before new (opening, does) = ap due does.after_is ∙ laid_poll head_drive (steps + 1) formatting does.next old
+format_poll (Wrote opened closed index word) head_drive steps formatting old before new does =
+    ap due does.after_is ∙ (laid_poll head_drive (steps + 1) formatting does.next (without_byte does.needs old) ∙ less_poll does.needs old)
+format_poll Stopped head_drive steps formatting old before new does = ap due does.after_is
+
+task_poll : (task : Task) (head_drive steps : ℕ) (asking : Bool) (fifo : Fifo) (index : Bool) (word : ℕ) (polls : Fdc) (before after : DriveState) (new : Fdc)
+    → ExecutesTask (is_listening task) head_drive steps task index word polls new → WritesTask task head_drive steps asking fifo polls before after new → due new ≡ due polls
+task_poll (ReadId search) head_drive steps asking fifo index word polls before after new (inl (last, is)) writes = ap due is
+task_poll (ReadId search) head_drive steps asking fifo index word polls before after new (inr (few, (outcome, hears, is))) writes = ap due is ∙ searched_poll head_drive (steps + 1) outcome polls
+task_poll (Read reading) head_drive steps asking fifo index word polls before after new (inl (last, is)) writes = ap due is
+task_poll (Read reading) head_drive steps asking fifo index word polls before after new (inr (few, (outcome, hears, is))) writes = ap due is ∙ heard_poll head_drive (steps + 1) reading outcome polls
+task_poll (Write writing) head_drive steps asking fifo index word polls before after new executes writes =
+    write_poll writes.step.does.time head_drive steps writing polls before new writes.step.does.does
+task_poll (Format formatting) head_drive steps asking fifo index word polls before after new executes writes =
+    format_poll writes.step.does.time head_drive steps formatting polls before new writes.step.does.does
+
+-- with a drive
+works_poll : (phase : Phase) (track0 : Bool) (asking : Bool) (fifo : Fifo) (index : Bool) (word : ℕ) (polls : Fdc) (before after : DriveState) (new : Fdc) → RestsIn phase track0 polls new
+    → ExecutesIn phase index word polls new → WritesIn phase asking fifo polls before after new → due new ≡ due polls
+works_poll Taking track0 asking fifo index word polls before after new rests executes writes = ap due rests
+works_poll (Result answer) track0 asking fifo index word polls before after new rests executes writes = ap due rests
+works_poll (Execute execution) track0 asking fifo index word polls before after new rests executes writes =
+    task_poll execution.task execution.head_drive execution.steps asking fifo index word polls before after new executes writes
+
+-- where no drive is selected
+write_nowhere : (head_drive steps : ℕ) (writing : Writing) (polls new : Fdc) → WritesNowhere head_drive steps writing polls new → due new ≡ due polls
+write_nowhere head_drive steps writing polls new (inl (last, is)) = ap due is
+write_nowhere head_drive steps writing polls new (inr (few, (next, hears, is))) = ap due is ∙ next_poll head_drive (steps + 1) writing next polls
+
+format_nowhere : (head_drive steps : ℕ) (formatting : Formatting) (polls new : Fdc) → FormatsNowhere head_drive steps formatting polls new → due new ≡ due polls
+format_nowhere head_drive steps formatting polls new (inl (last, is)) = ap due is
+format_nowhere head_drive steps formatting polls new (inr (few, (next, hears, is))) = ap due is ∙ laid_poll head_drive (steps + 1) formatting next polls
+
+task_nowhere : (task : Task) (head_drive steps : ℕ) (polls new : Fdc) → TaskStepsNowhere task head_drive steps polls new → due new ≡ due polls
+task_nowhere (ReadId search) head_drive steps polls new (inl (last, is)) = ap due is
+task_nowhere (ReadId search) head_drive steps polls new (inr (few, (outcome, hears, is))) = ap due is ∙ searched_poll head_drive (steps + 1) outcome polls
+task_nowhere (Read reading) head_drive steps polls new (inl (last, is)) = ap due is
+task_nowhere (Read reading) head_drive steps polls new (inr (few, (outcome, hears, is))) = ap due is ∙ heard_poll head_drive (steps + 1) reading outcome polls
+task_nowhere (Write writing) head_drive steps polls new does = write_nowhere head_drive steps writing polls new does
+task_nowhere (Format formatting) head_drive steps polls new does = format_nowhere head_drive steps formatting polls new does
+
+alone_poll : (phase : Phase) (polls new : Fdc) → RestsIn phase false polls new → StepsNowhere phase polls new → due new ≡ due polls
+alone_poll Taking polls new rests does = ap due rests
+alone_poll (Result answer) polls new rests does = ap due rests
+alone_poll (Execute execution) polls new rests does = task_nowhere execution.task execution.head_drive execution.steps polls new does
+
+adapter_poll : (old new : AdapterState) → StepsAdapter old new → due new.controller ≡ due (polled old.controller)
+adapter_poll old new steps =
+    let fdc = old.controller in
+    let polls = polled fdc in
+    elim (which_drive (selected_at old)) [
+      | inl at ↦
+          let works = (steps.at_first at).0 in
+          works_poll fdc.phase (old.first.cylinder == 0) fdc.asking fdc.fifo (at_index old.first) works.reads.word polls old.first new.first new.controller
+          (subst (λ phase. RestsIn phase (old.first.cylinder == 0) polls new.controller) (polled_phase fdc) works.rests) works.reads.follows.executes works.writes
+      | inr (inl at) ↦
+          let works = (steps.at_second at).0 in
+          works_poll fdc.phase (old.second.cylinder == 0) fdc.asking fdc.fifo (at_index old.second) works.reads.word polls old.second new.second new.controller
+          (subst (λ phase. RestsIn phase (old.second.cylinder == 0) polls new.controller) (polled_phase fdc) works.rests) works.reads.follows.executes works.writes
+      | inr (inr at) ↦
+          let works = (steps.at_none at).0 in
+          alone_poll fdc.phase polls new.controller (subst (λ phase. RestsIn phase false polls new.controller) (polled_phase fdc) works.rests) works.nowhere
+    ]
+
+-- ---- ---- the front
+
+abbrev pub awaits_poll : Front → Bool
+awaits_poll front = front.adapter.controller.poll_due
+
+told_poll : (counted : Bool) (adapter : AdapterState) → due (told_if counted adapter).controller ≡ due adapter.controller
+told_poll true adapter = refl
+told_poll false adapter = refl
+
+begun_poll : (begins : Bool) (transfer : Transfer) (counted passed_over : Bool) (between : AdapterState) (old : Front) → awaits_poll (begun_if begins transfer counted passed_over between old) ≡ due between.controller
+begun_poll true transfer counted passed_over between old = told_poll counted between
+begun_poll false transfer counted passed_over between old = refl
+
+sector_poll : (transfer : Transfer) (counted passed_over : Bool) (old new : Front) → BeginsSector transfer counted passed_over old new → awaits_poll old ≡ false → awaits_poll new ≡ false
+sector_poll transfer counted passed_over old new begins none =
+    ap awaits_poll begins.begun ∙ (begun_poll (is_executing begins.between.controller.phase) transfer counted passed_over begins.between old
+    ∙ accepted_poll (looked_at (Ready (command_of transfer))) (lines_at old.adapter) (record old.adapter.controller { command = [] }) begins.between.controller begins.takes.takes none)
+
+-- ---- bytes of a command
+
+starts_by : (seeks : Bool) (transfer : Transfer) (old new : Front) → StartsIf seeks transfer old new → awaits_poll old ≡ false → awaits_poll new ≡ false
+starts_by true transfer old new begins none =
+    ap awaits_poll begins.begun
+    ∙ accepted_poll (looked_at (Ready (command.Seek transfer.head_drive transfer.key.c))) (lines_at old.adapter) (record old.adapter.controller { command = [] }) begins.between.controller begins.takes.takes none
+starts_by false transfer old new begins none = sector_poll transfer false false old new begins none
+
+starts_poll : (transfer : Option Transfer) (old new : Front) → Starts transfer old new → awaits_poll old ≡ false → awaits_poll new ≡ false
+starts_poll None old new is none = ap awaits_poll is ∙ none
+starts_poll (Some transfer) old new starts none = starts_by (old.strapped || old.configured) transfer old new starts none
+
+collects_poll : (opcode : Opcode) (accepted : Accepted) (old new : Front) → CollectsAs opcode accepted old new → awaits_poll old ≡ false → awaits_poll new ≡ false
+collects_poll opcode More old new is none = ap awaits_poll is ∙ none
+collects_poll opcode (Ready command) old new starts none = starts_poll (transfer_of opcode command) old new starts none
+collects_poll opcode Invalid old new refuses none =
+    ap awaits_poll refuses.after
+    ∙ accepted_poll (looked_at Invalid) (lines_at old.adapter) (record old.adapter.controller { command = [] }) refuses.between.controller refuses.takes.takes none
+
+passes_poll : (opcode : Option Opcode) (byte : ℕ) (old new : Front) → PassesAs opcode byte old new → awaits_poll old ≡ false → awaits_poll new ≡ false
+passes_poll (Some opcode) byte old new is none = ap awaits_poll is ∙ none
+passes_poll None byte old new (writes, is) none = port_poll 0x3F5 byte (lines_at old.adapter) old.adapter.controller new.adapter.controller writes.writes refl none
+
+taken_poll : (stage : Stage) (byte : ℕ) (old new : Front) → TakesByte stage byte old new → awaits_poll old ≡ false → awaits_poll new ≡ false
+taken_poll Through byte old new passes none = passes_poll (begins_with byte old.adapter.controller) byte old new passes none
+taken_poll (Collecting opcode) byte old new collects none = let bytes = old.bytes ++ byte ∷ [] in
+    collects_poll opcode (answer bytes) (record old { bytes = kept (answer bytes) bytes }) new collects none
+taken_poll (Seeking transfer counted) byte old new is none = ap awaits_poll is ∙ none
+taken_poll (Moving moving) byte old new is none = ap awaits_poll is ∙ none
+taken_poll (Telling results read) byte old new is none = ap awaits_poll is ∙ none
+
+pub writes_poll : (port value : ℕ) (old new : Front) → WritesFront port value old new → resets port value ≡ false → awaits_poll old ≡ false → awaits_poll new ≡ false
+writes_poll port value old new writes quiet none = either_way (port == 0x3F5)
+    (λ here. taken_poll old.stage value old new (writes.bytes (eqb-true port 0x3F5 here)) none)
+    (λ other. port_poll port value (lines_at old.adapter) old.adapter.controller new.adapter.controller (writes.others other).0.writes quiet none)
+
+given_poll : (stage : Stage) (old : Front) → awaits_poll (byte_given stage old) ≡ awaits_poll old
+given_poll Through old = refl
+given_poll (Collecting opcode) old = refl
+given_poll (Seeking transfer counted) old = refl
+given_poll (Moving moving) old = refl
+given_poll (Telling results read) old = refl
+
+-- the data port is read
+pub read_poll : (old : Front) → awaits_poll (after_reading 0x3F5 old) ≡ awaits_poll old
+read_poll old = given_poll old.stage old
+
+-- ---- the channel
+
+out_poll : (old : Fdc) (byte : Option ℕ) (new : Fdc) → Takes old byte new → due new ≡ due old
+out_poll old (Some byte) new (up, byte_is, is) = ap due is
+out_poll old None new (quiet, is) = ap due is
+
+in_poll : (byte : ℕ) (old : Fdc) (was : Bool) (new : Fdc) → Gives byte old was new → due new ≡ due old
+in_poll byte old true new (up, is) = ap due is
+in_poll byte old false new (quiet, is) = ap due is
+
+-- after the last byte of a sector the controller is given the terminal count
+passed_poll : (last : Bool) (fdc : Fdc) → due (if last then told_count fdc else fdc) ≡ due fdc
+passed_poll true fdc = refl
+passed_poll false fdc = refl
+
+moving_takes : (moving : MovingSector) (old : Front) (byte : Option ℕ) (new : Front) → TakesMoving moving old byte new → awaits_poll new ≡ awaits_poll old
+moving_takes moving old (Some byte) new (up, byte_is, is) = ap awaits_poll is ∙ passed_poll (moving.left - 1 == 0) (taken_out old.adapter.controller)
+moving_takes moving old None new (quiet, is) = ap awaits_poll is
+
+moving_gives : (moving : MovingSector) (byte : ℕ) (old : Front) (was : Bool) (new : Front) → GivesMoving moving byte old was new → awaits_poll new ≡ awaits_poll old
+moving_gives moving byte old true new (up, is) = ap awaits_poll is ∙ passed_poll (moving.left - 1 == 0) (taken_in byte old.adapter.controller)
+moving_gives moving byte old false new (quiet, is) = ap awaits_poll is
+
+takes_at : (stage : Stage) (old : Front) (byte : Option ℕ) (new : Front) → TakesAt stage old byte new → awaits_poll new ≡ awaits_poll old
+takes_at Through old byte new (takes, is) = out_poll old.adapter.controller byte new.adapter.controller takes
+takes_at (Collecting opcode) old byte new (none, is) = ap awaits_poll is
+takes_at (Seeking transfer counted) old byte new (none, is) = ap awaits_poll is
+takes_at (Moving moving) old byte new takes = moving_takes moving old byte new takes
+takes_at (Telling results read) old byte new (none, is) = ap awaits_poll is
+
+pub takes_poll : (old : Front) (byte : Option ℕ) (new : Front) → TakesFront old byte new → awaits_poll new ≡ awaits_poll old
+takes_poll old byte new takes = takes_at old.stage old byte new takes
+
+gives_at : (stage : Stage) (byte : ℕ) (old : Front) (was : Bool) (new : Front) → GivesAt stage byte old was new → awaits_poll new ≡ awaits_poll old
+gives_at Through byte old was new (gives, is) = in_poll byte old.adapter.controller was new.adapter.controller gives
+gives_at (Collecting opcode) byte old was new (none, is) = ap awaits_poll is
+gives_at (Seeking transfer counted) byte old was new (none, is) = ap awaits_poll is
+gives_at (Moving moving) byte old was new gives = moving_gives moving byte old was new gives
+gives_at (Telling results read) byte old was new (none, is) = ap awaits_poll is
+
+pub gives_poll : (byte : ℕ) (old : Front) (was : Bool) (new : Front) → GivesFront byte old was new → awaits_poll new ≡ awaits_poll old
+gives_poll byte old was new gives = gives_at old.stage byte old was new gives
+
+counted_poll : (stage : Stage) (old : Front) → awaits_poll (count_told stage old) ≡ awaits_poll old
+counted_poll Through old = refl
+counted_poll (Collecting opcode) old = refl
+counted_poll (Seeking transfer counted) old = refl
+counted_poll (Moving moving) old = refl
+counted_poll (Telling results read) old = refl
+
+-- the terminal count comes
+pub counts_poll : (old : Front) → awaits_poll (told_front old) ≡ awaits_poll old
+counts_poll old = counted_poll old.stage old
+
+-- ---- a device step
+
+forgotten_poll : (over : Bool) (old : Fdc) → due (if over then record old { seeks = without_ended old.seeks; interrupt = false } else old) ≡ due old
+forgotten_poll true old = refl
+forgotten_poll false old = refl
+
+seeks_poll : (over : Bool) (transfer : Transfer) (counted : Bool) (old new : Front) → SeeksOn over transfer counted old new → awaits_poll old ≡ false → awaits_poll new ≡ false
+seeks_poll true transfer counted old new begins none =
+    let fdc = old.adapter.controller in
+    sector_poll transfer counted false (record old { adapter = with_controller (without_seek fdc) old.adapter }) new begins (forgotten_poll (has_ended_seek fdc.seeks) fdc ∙ none)
+seeks_poll false transfer counted old new is none = ap awaits_poll is ∙ none
+
+given_up_poll : (ending : Option Ending) (old : Fdc) → due (given_up_if ending old) ≡ due old
+given_up_poll None old = refl
+given_up_poll (Some ending) old = refl
+
+done_poll : (goes : Bool) (moving : MovingSector) (deleted : Bool) (old new : Front) → EndsIf goes moving deleted old new → awaits_poll old ≡ false → awaits_poll new ≡ false
+done_poll true moving deleted old new begins none = sector_poll (next_of moving.transfer) false (has_met_other moving deleted) old new begins none
+done_poll false moving deleted old new is none = ap awaits_poll is ∙ none
+
+ends_poll : (moving : MovingSector) (ending : Ending) (old new : Front) → EndsSector moving ending old new → awaits_poll old ≡ false → awaits_poll new ≡ false
+ends_poll moving (Done deleted) old new ends none = done_poll (goes_on moving deleted) moving deleted old new ends none
+ends_poll moving _ old new is none = ap awaits_poll is ∙ none
+
+over_poll : (unwanted : Bool) (moving : MovingSector) (old : Front) → awaits_poll (passed_over_if unwanted moving old) ≡ awaits_poll old
+over_poll true moving old = refl
+over_poll false moving old = refl
+
+moves_poll : (ending : Option Ending) (moving : MovingSector) (old new : Front) → MovesOn ending moving old new → awaits_poll old ≡ false → awaits_poll new ≡ false
+moves_poll (Some ending) moving old new ends none =
+    let fdc = old.adapter.controller in
+    ends_poll moving ending (record old { adapter = with_controller (given_up fdc) old.adapter }) new ends (given_up_poll (ending_told fdc) fdc ∙ none)
+moves_poll None moving old new is none = ap awaits_poll is ∙ (over_poll (is_unwanted moving (mark_of old.adapter.controller)) moving old ∙ none)
+
+follows_poll : (stage : Stage) (old new : Front) → FollowsStep stage old new → awaits_poll old ≡ false → awaits_poll new ≡ false
+follows_poll Through old new is none = ap awaits_poll is ∙ none
+follows_poll (Collecting opcode) old new is none = ap awaits_poll is ∙ none
+follows_poll (Seeking transfer counted) old new seeks none = seeks_poll (has_ended_seek old.adapter.controller.seeks) transfer counted old new seeks none
+follows_poll (Moving moving) old new moves none = moves_poll (judged_if moving (ending_told old.adapter.controller)) moving old new moves none
+follows_poll (Telling results read) old new is none = ap awaits_poll is ∙ none
+
+-- the poll has come after a device step, if it came before or DOR doesn't hold the controller in reset
+pub step_poll : (old new : Front) → StepsFront old new → (awaits_poll old && not (is_held old.adapter.controller)) ≡ awaits_poll old → awaits_poll new ≡ false
+step_poll old new step comes =
+    follows_poll old.stage (record old { adapter = step.between }) new step.follows (adapter_poll old.adapter step.between step.steps ∙ by_poll (awaits_poll old) (awaits_poll old && not (is_held old.adapter.controller)) comes refl)
+  where
+    by_poll : (was comes : Bool) → comes ≡ was → awaits_poll old ≡ was
+        → due (if comes then record old.adapter.controller { poll_due = false; interrupt = true; seeks = with_polls old.adapter.controller.seeks } else old.adapter.controller) ≡ false
+    by_poll true true same is = refl
+    by_poll true false same is = absurd (false≢true same)
+    by_poll false true same is = refl
+    by_poll false false same is = is

@@ -1,5 +1,0 @@
-use Rattle.memory_files.proofs.Readying.{station_again}
-use Rattle.memory_files.proofs.desk.SectorDesk.insert.Goals as goal
-
-pub insert-requires-clause-ready : goal.insert-requires-clause-ready
-insert-requires-clause-ready c = station_again c.args.self.now.station c.args.self.now.ready

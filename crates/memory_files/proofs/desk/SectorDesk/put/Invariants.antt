@@ -1,7 +1,0 @@
-use Rattle.std.proofs.Common.{take}
-use Rattle.memory_files.specs.Desks.{station_of}
-use Rattle.memory_files.specs.Sectors.{Places}
-use Rattle.memory_files.proofs.desk.SectorDesk.put.Given as goal
-
-abbrev pub invariant-loop-i : goal.invariant-loop-i
-invariant-loop-i l = Places (take l.i l.content) (station_of l.fn.self) (station_of l.self)

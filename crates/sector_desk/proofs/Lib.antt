@@ -1,0 +1,4 @@
+pub mod Readying
+pub mod Calming
+pub mod Placing
+pub mod Fetching
