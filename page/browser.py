@@ -13,6 +13,7 @@ try:
     from selenium.webdriver.chrome.options import Options
     from selenium.webdriver.chrome.service import Service
     from selenium.webdriver.common.action_chains import ActionChains
+    from selenium.webdriver.common.actions.action_builder import ActionBuilder
     from selenium.webdriver.common.by import By
     from selenium.webdriver.support.ui import Select
 except ImportError:
@@ -84,10 +85,11 @@ class Browser:
 
     def click_at(self, name, x, y):
         """A click at a point of an element, in its own CSS pixels."""
-        element = self.at(name)
-        self.script("const at = arguments[0].getBoundingClientRect(); window.scrollBy(0, at.top + arguments[1] - innerHeight / 2);", element, y)
-        box = element.rect
-        ActionChains(self.driver).move_to_element_with_offset(element, round(x - box["width"] / 2), round(y - box["height"] / 2)).click().perform()
+        left, top = self.script("let at = arguments[0].getBoundingClientRect(); window.scrollBy(0, at.top + arguments[1] - innerHeight / 2);"
+                                "at = arguments[0].getBoundingClientRect(); return [at.left, at.top]", self.at(name), y)
+        actions = ActionBuilder(self.driver)
+        actions.pointer_action.move_to_location(round(left + x), round(top + y)).click()
+        actions.perform()
 
     def keys(self, name, *keys):
         """Keys that go to an element which has the focus."""
@@ -116,6 +118,8 @@ class Browser:
 
     def picture(self, name=None, path=None):
         """The pixels of an element, or of the window: a list of rows of (red, green, blue)."""
+        if name:
+            self.script("arguments[0].scrollIntoView({block: 'center'})", self.at(name))
         shot = self.at(name).screenshot_as_png if name else self.driver.get_screenshot_as_png()
         if path:
             pathlib.Path(path).write_bytes(shot)

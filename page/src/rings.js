@@ -4,6 +4,7 @@ import { colour, penOf } from "./dom.js";
 import { keyOf, LOOKS, placeOf } from "./looks.js";
 
 const OUTER = 0.96, INNER = 0.26;   // of half the width
+const BROAD = 3.2;                  // CSS pixels: how broad a sector is drawn at least that isn't simply intact
 
 export class Rings {
     /** @param {HTMLCanvasElement} canvas @param {(field: object) => void} chosen hears which field was chosen */
@@ -85,7 +86,7 @@ export class Rings {
     }
 
     /** What isn't simply intact is drawn last and broader, so that it can be seen. */
-    #others(pen) { for (const field of this.fields) if (field.found !== "OK") this.#sector(pen, field, Math.max(this.#line, 3.2)); }
+    #others(pen) { for (const field of this.fields) if (field.found !== "OK") this.#sector(pen, field, Math.max(this.#line, BROAD)); }
     #sector(pen, field, wide) { this.#arc(pen, field.cylinder, field.cell, this.#end(field), LOOKS[field.found].colour, wide); }
 
     #mark(pen) {
@@ -102,12 +103,14 @@ export class Rings {
 
     // ---- choosing
 
-    /** The field at a point of the canvas, in CSS pixels. */
+    /** The field at a point of the canvas, in CSS pixels. A field that is drawn broader is met by a click beside it too. */
     at(x, y) {
         if (this.shape === null) return undefined;
-        const half = this.#half, cylinder = Math.floor((OUTER * half - Math.hypot(x - half, y - half)) / this.#wide);
+        const half = this.#half, radius = Math.hypot(x - half, y - half), cylinder = Math.floor((OUTER * half - radius) / this.#wide);
         const turn = ((Math.atan2(y - half, x - half) + Math.PI / 2) / (2 * Math.PI) + 1) % 1, cell = turn * this.shape.words * 16;
-        return this.byTrack.get(cylinder)?.find((field) => field.cell <= cell && cell < this.#end(field));
+        const isHit = (field) => field.cell <= cell && cell < this.#end(field), off = (field) => Math.abs(this.#radius(field.cylinder) - radius);
+        const broad = this.fields.filter((field) => field.found !== "OK" && isHit(field) && off(field) <= BROAD / 2 + 1).sort((one, other) => off(one) - off(other));
+        return broad[0] ?? this.byTrack.get(cylinder)?.find(isHit);
     }
 
     /** The middle of a field on the canvas, in CSS pixels. */

@@ -71,6 +71,18 @@ export class Sector {
     #planned() {
         by("plan").value = this.faults.map((it) => `drop 0 ${it.cylinder} ${it.head} ${it.word} ${it.count}`).join("\n");
         this.#draw();
+        this.#plan();
+    }
+
+    /** Gives the plan to the drive, where commands of the console meet it too. Says whether it is understood. */
+    async #plan() {
+        try {
+            await this.link.ask("benchPlan", { text: by("plan").value });
+            return true;
+        } catch (fault) {
+            fill(by("tried"), make("li", { className: "bad" }, fault.code === "BAD_PLAN" ? `line ${fault.line} of the plan isn't understood` : fault.message));
+            return false;
+        }
     }
 
     /** The plan was typed. Lines that the strip can't show stay in the text, and go to the drive all the same. */
@@ -78,6 +90,7 @@ export class Sector {
         this.faults = [...by("plan").value.matchAll(/^drop 0 (\d+) (\d+) (\d+) (\d+)$/gm)].map(([, cylinder, head, word, count]) =>
             ({ cylinder: Number(cylinder), head: Number(head), word: Number(word), count: Number(count) }));
         this.#draw();
+        this.#plan();
     }
 
     #draw() {
@@ -89,12 +102,7 @@ export class Sector {
     /** Reads the sector with the faults that are planned, three times at most, as a driver does. */
     async #tries() {
         const { field } = this;
-        try {
-            await this.link.ask("benchPlan", { text: by("plan").value });
-        } catch (fault) {
-            fill(by("tried"), make("li", { className: "bad" }, fault.code === "BAD_PLAN" ? `line ${fault.line} of the plan isn't understood` : fault.message));
-            return;
-        }
+        if (!await this.#plan()) return;
         const key = [field.c, field.h, field.r, field.n], answer = await this.link.ask("benchTries", { cylinder: field.cylinder, head: field.head, key, most: 3 });
         fill(by("tried"), ...answer.tries.map((it, i) => {
             const isDone = (it.results[0] & 0xC0) === 0, time = lasting(it.steps, answer.state.wordTime);

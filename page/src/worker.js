@@ -7,7 +7,7 @@ import { made } from "./made.js";
 import { Desktop } from "./work.js";
 
 const DISK = "disk.rt";
-let library, image = null, bench = null, benches = 0, desktop, shown = 0;
+let library, image = null, bench = null, benches = 0, plan = "", desktop, shown = 0;
 
 const tell = (event, told) => postMessage({ event, ...told });
 
@@ -30,6 +30,7 @@ function theBench() {
         bench = new Bench(library, image);
         benches++;
         bench.powerUp(image ? shapeOf(image).kilobits : 500);
+        bench.plan(plan);
     }
     return bench;
 }
@@ -77,7 +78,10 @@ const ASKED = {
     benchAdvance({ most, until }) { return benchState({ made: theBench().advance(most, until) }); },
     benchResults() { return { results: theBench().results(), wrote: takeWritten(), ...benchState() }; },
     benchLatency({ steps }) { theBench().channel.latency = steps; },
-    benchPlan({ text }) { theBench().plan(text); },
+    benchPlan({ text }) {
+        theBench().plan(text);
+        plan = text;    // which a controller has too that is made later
+    },
     benchTries({ cylinder, head, key, most }) { return benchState({ tries: theBench().tries(cylinder, head, key, most) }); },
 
     files: () => desktop.list(),
