@@ -15,6 +15,7 @@ export class Forms {
     /** @param {import("./link.js").Link} link @param {(name: string, bytes: Uint8Array) => void} open shows a file as the page's disk */
     constructor(link, open) {
         Object.assign(this, { link, open, rate: 0, cylinders: 80 });
+        this.took = new Map();  // seconds of a cylinder, by form, as measured here
         fill(by("form"), ...FORMS.map((it) => make("option", {}, it.name)));
         by("form").onchange = () => this.#choose();
         by("run-form").onsubmit = (event) => { event.preventDefault(); this.#run(); };
@@ -50,8 +51,8 @@ export class Forms {
     }
 
     /** Shows how far a run may be. The program is one call, which tells nothing before its end: so this is an estimate. */
-    #progress(steps) {
-        const began = performance.now(), seconds = this.rate > 0 ? steps / this.rate : 0, bar = by("progress");
+    #progress(seconds) {
+        const began = performance.now(), bar = by("progress");
         bar.hidden = false;
         bar.removeAttribute("value");
         const timer = setInterval(() => {
@@ -66,9 +67,11 @@ export class Forms {
         const form = this.#form, fields = Object.fromEntries(new FormData(by("run-form")));
         by("run").disabled = true;
         if (this.rate === 0) this.rate = await this.link.ask("speed");
-        const done = this.#progress(form.steps(Number(fields.cylinders) || this.cylinders));
+        const cylinders = Number(fields.cylinders) || this.cylinders, measured = this.took.get(form.name);
+        const done = this.#progress(measured ? measured * cylinders : form.steps(cylinders) / this.rate);
         try {
             const told = await this.link.ask("form", { name: form.name, fields });
+            this.took.set(form.name, told.seconds / cylinders);
             this.#tell(told, by("form-output"));
             this.list(told.files);
         } catch (fault) {
