@@ -10,6 +10,7 @@ import zlib
 
 try:
     from selenium import webdriver
+    from selenium.common.exceptions import NoSuchElementException, StaleElementReferenceException
     from selenium.webdriver.chrome.options import Options
     from selenium.webdriver.chrome.service import Service
     from selenium.webdriver.common.action_chains import ActionChains
@@ -69,7 +70,10 @@ class Browser:
         """Waits until something is so. It fails loudly if that never comes."""
         end = time.monotonic() + seconds
         while time.monotonic() < end:
-            got = is_so()
+            try:
+                got = is_so()
+            except (NoSuchElementException, StaleElementReferenceException):
+                got = False     # the page is just making it, or making it anew
             if got:
                 return got
             time.sleep(0.02)

@@ -78,5 +78,5 @@ const took = wait();
 console.log(`a sector is read in ${took}: ${results(7)}`);
 console.log(`its bytes are ${device.channel.memory.every((byte) => byte === (5 * 36 + 2 & 255)) ? "right" : "wrong"}`);
 //> the heads are there: 20 05
-//> a sector is read in 0 ms: 00 00 00 05 00 04 02
+//> a sector is read in 132 ms: 00 00 00 06 00 01 02
 //> its bytes are right

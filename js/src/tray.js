@@ -3,21 +3,20 @@ import { byte, flag, port, shapeOf, Slot, wordsOf } from "./memory.js";
 /** What a survey found after an address field, by its byte in the header. */
 const FOUND = { 0x00: "OK", 0x01: "DELETED", 0x02: "NO_DATA", 0x10: "BAD_CRC", 0xFF: "NO_SIZE" };
 
+/** A medium that a call makes of bytes. */
+const of = (kind, name, bytes, ...words) => kind.made((tray) => tray.memory.withBytes(bytes, (at, length) => tray.do(name, at, length, ...words)));
+
 /** A medium outside a drive. `new Tray()` is an empty tray, which an eject fills. */
 export class Tray extends Slot {
     static kind = "tray";
 
-    static #of(name, bytes, ...words) {
-        return this.made((tray) => tray.memory.withBytes(bytes, (at, length) => tray.do(name, at, length, ...words)));
-    }
-
     /** The medium of an image file: raw cells. */
-    static ofImage(bytes) { return this.#of("read", bytes); }
+    static ofImage(bytes) { return of(this, "read", bytes); }
     /** The medium of a flat sector file, 1.44 MB or 720 KB. */
-    static ofFlat(bytes) { return this.#of("read_flat", bytes); }
+    static ofFlat(bytes) { return of(this, "read_flat", bytes); }
     /** The medium of a flat sector file of another geometry. */
     static ofFlatAs(bytes, cylinders, heads, sectors, n = 2, kilobits = 500) {
-        return this.#of("read_flat_as", bytes, byte(cylinders), byte(heads), byte(sectors), byte(n), port(kilobits));
+        return of(this, "read_flat_as", bytes, byte(cylinders), byte(heads), byte(sectors), byte(n), port(kilobits));
     }
     /** The medium of an ImageDisk file. */
     static ofImd(bytes) {

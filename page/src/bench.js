@@ -103,14 +103,15 @@ export class Bench {
      * executed any more), or nothing.
      */
     advance(most, until = "") {
-        const { controller } = this, before = controller.lines & (Lines.INT | Lines.DRQ), from = this.now;
+        const { controller } = this, from = this.now, lines = () => controller.lines & (Lines.INT | Lines.DRQ);
         while (this.now - from < most) {
             this.serve();
-            if (until === "change" && this.now > from && (controller.lines & (Lines.INT | Lines.DRQ)) !== before) break;
             if (until === "end" && !this.isBusy()) break;
+            const before = lines();
             controller.step();
             this.now++;
             this.look();
+            if (until === "change" && lines() !== before) return this.now - from;   // a DRQ that rose is served next time
         }
         this.serve();
         return this.now - from;

@@ -67,9 +67,23 @@ export function saved(library, image, kind) {
     const tray = library.Tray.ofImage(image), shape = tray.shape();
     try {
         if (kind === "imd") return tray.imd();
-        const form = Object.values(OTHER).find(([cylinders, heads, , kilobits]) => cylinders === shape.cylinders && heads === shape.heads && kilobits === shape.kilobits && cylinders !== 80);
-        return form ? tray.flatAs(form[0], form[1], form[2], 2, form[3]) : tray.flat();
+        const forms = Object.values(OTHER).filter(([cylinders, heads, , kilobits]) => cylinders === shape.cylinders && heads === shape.heads && kilobits === shape.kilobits);
+        for (const [cylinders, heads, sectors, kilobits] of forms) {
+            const bytes = fitting(() => tray.flatAs(cylinders, heads, sectors, 2, kilobits));
+            if (bytes !== null) return bytes;
+        }
+        return tray.flat();
     } finally {
         tray.free();
+    }
+}
+
+/** What a call gives, or null if the file can't have the medium. */
+function fitting(call) {
+    try {
+        return call();
+    } catch (fault) {
+        if (fault.code === "UNFIT") return null;
+        throw fault;
     }
 }

@@ -71,7 +71,7 @@ test("a bench does commands whole and step by step, with the same results", () =
         }
         bench.free();
     }
-    assert.deepEqual(results, [[0, 0, 0, 0, 0, 19, 2], [0, 0, 0, 0, 0, 19, 2]]);
+    assert.deepEqual(results, [[0, 0, 0, 1, 0, 1, 2], [0, 0, 0, 1, 0, 1, 2]]);
 });
 
 test("a channel that waits too long overruns", () => {
