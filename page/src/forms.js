@@ -14,7 +14,7 @@ const ANSWERS = { "00": "done", "01": "such a call, drive or place isn't there",
 export class Forms {
     /** @param {import("./link.js").Link} link @param {(name: string, bytes: Uint8Array) => void} open shows a file as the page's disk */
     constructor(link, open) {
-        Object.assign(this, { link, open, rate: 0, cylinders: 80 });
+        Object.assign(this, { link, open, cylinders: 80, format: 0 });
         this.took = new Map();  // seconds of a cylinder, by form, as measured here
         fill(by("form"), ...FORMS.map((it) => make("option", {}, it.name)));
         by("form").onchange = () => this.#choose();
@@ -66,9 +66,10 @@ export class Forms {
     async #run() {
         const form = this.#form, fields = Object.fromEntries(new FormData(by("run-form")));
         by("run").disabled = true;
-        if (this.rate === 0) this.rate = await this.link.ask("speed");
-        const cylinders = Number(fields.cylinders) || this.cylinders, measured = this.took.get(form.name);
-        const done = this.#progress(measured ? measured * cylinders : form.steps(cylinders) / this.rate);
+        by("progress-text").textContent = "starting";
+        if (this.format === 0) this.format = await this.link.ask("speed");
+        const cylinders = Number(fields.cylinders) || this.cylinders;
+        const done = this.#progress(cylinders * (this.took.get(form.name) ?? form.cost * this.format));
         try {
             const told = await this.link.ask("form", { name: form.name, fields });
             this.took.set(form.name, told.seconds / cylinders);

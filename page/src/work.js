@@ -2,30 +2,30 @@
 
 /**
  * The forms. `fields` are what the page asks for: a file, a name for a new file, or a number. `words` gives the
- * arguments of the program, and `makes` the files that it stores. `steps` estimates how many device steps a form takes
- * for a disk of so many cylinders, from measured runs.
+ * arguments of the program, and `makes` the files that it stores. `cost` is how long a form takes for a
+ * cylinder, as measured, if a format of it takes 1.
  */
 export const FORMS = [
-    { name: "survey", says: "lists every address field and what stands after it", fields: [["disk", "file"]], words: (f) => ["survey", f.disk], makes: () => [], steps: () => 0 },
-    { name: "verify", says: "reads every standard sector", fields: [["disk", "file"]], words: (f) => ["verify", f.disk], makes: () => [], steps: (c) => 96000 * c },
+    { name: "survey", says: "lists every address field and what stands after it", fields: [["disk", "file"]], words: (f) => ["survey", f.disk], makes: () => [], cost: 1 },
+    { name: "verify", says: "reads every standard sector", fields: [["disk", "file"]], words: (f) => ["verify", f.disk], makes: () => [], cost: 0.5 },
     { name: "copy", says: "copies all standard sectors to a new disk, and reads them back", fields: [["from", "file"], ["to", "new", "copy.rt"]],
-        words: (f) => ["copy", f.from, f.to], makes: (f) => [f.to], steps: (c) => 575000 * c },
+        words: (f) => ["copy", f.from, f.to], makes: (f) => [f.to], cost: 3 },
     { name: "rescue", says: "copies what can be read, and lists in a log what can't", fields: [["from", "file"], ["to", "new", "rescued.rt"], ["log", "new", "missing.txt"]],
-        words: (f) => ["rescue", f.from, f.to, f.log], makes: (f) => [f.to, f.log], steps: (c) => 600000 * c },
+        words: (f) => ["rescue", f.from, f.to, f.log], makes: (f) => [f.to, f.log], cost: 2.5 },
     { name: "format", says: "makes a formatted disk of 1.44 MB", fields: [["name", "new", "new.rt"], ["cylinders", "number", "80"]],
-        words: (f) => ["format", f.name, f.cylinders], makes: (f) => [f.name], steps: (c) => 330000 * c },
+        words: (f) => ["format", f.name, f.cylinders], makes: (f) => [f.name], cost: 1 },
     { name: "format 720 KB", says: "makes a formatted disk of 720 KB", fields: [["name", "new", "new.rt"], ["cylinders", "number", "80"]],
-        words: (f) => ["formatdd", f.name, f.cylinders], makes: (f) => [f.name], steps: (c) => 90000 * c },
+        words: (f) => ["formatdd", f.name, f.cylinders], makes: (f) => [f.name], cost: 0.6 },
     { name: "remaster", says: "lays all intact sectors out anew", fields: [["from", "file"], ["to", "new", "remastered.rt"]],
-        words: (f) => ["remaster", f.from, f.to], makes: (f) => [f.to], steps: () => 0 },
+        words: (f) => ["remaster", f.from, f.to], makes: (f) => [f.to], cost: 2.4 },
     { name: "export a flat file", says: "stores the standard sectors alone", fields: [["disk", "file"], ["flat", "new", "disk.img"]],
-        words: (f) => ["export", f.disk, f.flat], makes: (f) => [f.flat], steps: (c) => 96000 * c },
+        words: (f) => ["export", f.disk, f.flat], makes: (f) => [f.flat], cost: 0.6 },
     { name: "import a flat file", says: "makes a disk of a flat file", fields: [["flat", "file"], ["disk", "new", "imported.rt"]],
-        words: (f) => ["import", f.flat, f.disk], makes: (f) => [f.disk], steps: (c) => 480000 * c },
+        words: (f) => ["import", f.flat, f.disk], makes: (f) => [f.disk], cost: 2.6 },
     { name: "to ImageDisk", says: "stores an ImageDisk file", fields: [["disk", "file"], ["imd", "new", "disk.imd"]],
-        words: (f) => ["toimd", f.disk, f.imd], makes: (f) => [f.imd], steps: () => 0 },
+        words: (f) => ["toimd", f.disk, f.imd], makes: (f) => [f.imd], cost: 0.8 },
     { name: "from ImageDisk", says: "makes a disk of an ImageDisk file", fields: [["imd", "file"], ["disk", "new", "disk.rt"]],
-        words: (f) => ["fromimd", f.imd, f.disk], makes: (f) => [f.disk], steps: () => 0 },
+        words: (f) => ["fromimd", f.imd, f.disk], makes: (f) => [f.disk], cost: 0.4 },
 ];
 
 /** What an exit status of the program means. */

@@ -92,15 +92,10 @@ const ASKED = {
     speed: () => speed(),
 };
 
-/** How many device steps a second the module makes while it searches on a turning disk, for estimates. */
+/** How many seconds a format of a cylinder takes here, for estimates. */
 function speed() {
-    const own = new Bench(library, image);
-    own.powerUp(image ? shapeOf(image).kilobits : 500);
-    const began = performance.now(), from = own.now;
-    while (performance.now() - began < 60) own.whole([0x46, 0, 0, 0, 0, 2, 0, 0x1B, 0xFF], null, 512);     // record 0 is nowhere
-    const rate = (own.now - from) / (performance.now() - began) * 1000;
-    own.free();
-    return rate;
+    const own = new Desktop(library), cylinders = 4;
+    return own.run(["format", "trial.rt", String(cylinders)], []).seconds / cylinders;
 }
 
 /** Answers what a run did. If it stored another disk under the page's name, that is the page's disk from now on. */
