@@ -120,13 +120,11 @@ class Browser:
         path.unlink()
         return content
 
-    def picture(self, name=None, path=None):
+    def picture(self, name=None):
         """The pixels of an element, or of the window: a list of rows of (red, green, blue)."""
         if name:
             self.script("arguments[0].scrollIntoView({block: 'center'})", self.at(name))
         shot = self.at(name).screenshot_as_png if name else self.driver.get_screenshot_as_png()
-        if path:
-            pathlib.Path(path).write_bytes(shot)
         return pixels_of(shot)
 
 
@@ -172,3 +170,21 @@ def colours(rows):
 def rgb(text):
     """The colour of a text like #0072B2."""
     return tuple(int(text[i:i + 2], 16) for i in (1, 3, 5))
+
+
+def small_png(rows):
+    """A PNG file of the pixels with 256 colours: the most frequent ones, and for each other one the nearest of these."""
+    palette = [colour for colour, _ in colours(rows).most_common(256)]
+    places = {colour: i for i, colour in enumerate(palette)}
+
+    def place(pixel):
+        if pixel not in places:
+            places[pixel] = min(range(len(palette)), key=lambda i: sum((one - other) ** 2 for one, other in zip(palette[i], pixel)))
+        return places[pixel]
+
+    def chunk(kind, body):
+        return struct.pack(">I", len(body)) + kind + body + struct.pack(">I", zlib.crc32(kind + body))
+
+    data = b"".join(b"\0" + bytes(map(place, row)) for row in rows)
+    head = struct.pack(">IIBBBBB", len(rows[0]), len(rows), 8, 3, 0, 0, 0)
+    return b"\x89PNG\r\n\x1a\n" + chunk(b"IHDR", head) + chunk(b"PLTE", b"".join(map(bytes, palette))) + chunk(b"IDAT", zlib.compress(data, 9)) + chunk(b"IEND", b"")

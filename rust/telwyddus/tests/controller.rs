@@ -24,7 +24,7 @@ fn a_cylinder_is_read_by_dma() {
     let (mut controller, mut memory) = (begun(), vec![0; 2 * TRACK]);
     seek(&mut controller, 0, 5);
     let (results, moved) = command(&mut controller, &[0xC6, 0, 5, 0, 1, 2, 18, 0x1B, 0xFF], &mut memory);
-    assert_eq!((results, moved), (vec![0x04, 0, 0, 6, 1, 1, 2], 2 * TRACK));
+    assert_eq!((results, moved), (vec![0x04, 0, 0, 6, 0, 1, 2], 2 * TRACK));
     assert_eq!(memory, content()[10 * TRACK..12 * TRACK]);
     assert!(!controller.is_written(Bay::Zero));
 }
