@@ -172,9 +172,10 @@ def rgb(text):
     return tuple(int(text[i:i + 2], 16) for i in (1, 3, 5))
 
 
-def small_png(rows):
-    """A PNG file of the pixels with 256 colours: the most frequent ones, and for each other one the nearest of these."""
-    palette = [colour for colour, _ in colours(rows).most_common(256)]
+def small_png(rows, always):
+    """A PNG file of the pixels with 256 colours: some that it has always, the most frequent ones, and for each other
+    one the nearest of these."""
+    palette = list(dict.fromkeys([*always, *(colour for colour, _ in colours(rows).most_common(256))]))[:256]
     places = {colour: i for i, colour in enumerate(palette)}
 
     def place(pixel):
