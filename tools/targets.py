@@ -64,7 +64,7 @@ def runs(check, room):
             found.append((f"sectors {rate} {bay}", "sectors", [before, bay, *numbers, wanted, content, after, formatted, filled, flat]))
         if rate == 500:
             found.append(("planned_fault", "planned_fault", [before, *numbers[1:], wanted]))
-    found.append(("starved", "starved", [check.file(room, "starved.img", check.disks.formatted(1, 250).file()), "97"]))
+    found.append(("starved", "starved", [check.file(room, "starved.img", check.disks.formatted(1, 250).file()), "997"]))
     found.append(("random_calls 20000 1", "random_calls", ["20000", "1"]))
     found.append(("random_several 500", "random_several", ["500"]))
     found.append(("states 100", "states", ["100"]))
