@@ -1,3 +1,4 @@
+#!/usr/bin/env python3
 """Compiles the library's LLVM module, as the kit makes it for x86-64, for WebAssembly with 32 bits (wasm32), and links it.
 
     tools/retarget.py MODULE.bc OUT.wasm    OUT.wasm for JavaScript, and OUT.wasm.o, which programs in C link
@@ -24,14 +25,13 @@ OPTIONS = ["-mllvm", "-no-trap-after-noreturn", "-mllvm", "-trap-unreachable", "
            "-ffunction-sections", "-fdata-sections", "--no-default-config", "-Werror"]
 # Attributes of functions that speak of the first target alone.
 FOREIGN = r' "(?:probe-stack|stack-probe-size|target-cpu|target-features|tune-cpu|frame-pointer)"="[^"]*"'
-# What a module may have besides instructions that each target has. Other attributes, intrinsics and functions of others
-# are unknown here, so somebody has to look at them first.
-ATTRIBUTES = {"no-trapping-math", "no-builtins", "denormal-fp-math", "no-builtin-memcpy"}
-INTRINSICS = re.compile(r"llvm\.(abs|smax|smin|umax|umin|ctlz|cttz|ctpop|bswap|bitreverse|fshl|fshr|expect|assume|trap|memcpy|memmove|memset|"
-                        r"(u|s)(add|sub|mul)\.with\.overflow|(u|s)(add|sub|shl)\.sat|lifetime\.(start|end)|arithmetic\.fence|fabs|floor|ceil|trunc|rint|nearbyint|"
-                        r"sqrt|copysign|fptosi\.sat|fptoui\.sat|vector\.reduce\.(add|or|and|xor|umax|umin)|stacksave|stackrestore|is\.constant|objectsize|"
-                        r"experimental\.noalias\.scope\.decl|threadlocal\.address)(\.|$)")
-WANTED = {"memcpy", "memmove", "memset", "memcmp", "bcmp", "rattle_alloc", "rattle_realloc", "rattle_dealloc"}
+# What the module may have besides instructions that each target has. Other intrinsics, attributes and functions of
+# others are unknown here, so somebody has to look at them first.
+INTRINSICS = re.compile(r"llvm\.(ctlz|ctpop|cttz|memcpy|memmove|memset|trap)(\.|$)")
+ATTRIBUTES = set()
+WANTED = {"rattle_alloc", "rattle_realloc", "rattle_dealloc"}
+# The parts of a pair in memory that are known to lie at 0 and at 8, where one of them is a pointer.
+PARTS = {"ptr", "i64", "i32", "i16", "i8", "i1"}
 
 
 def text_of(module):
@@ -61,6 +61,8 @@ def wide_pointers(text):
     def load(found):
         name, kinds, at, rest = found.groups()
         lines, kinds = [], kinds.strip("{} ").split(", ")
+        if len(kinds) > 2 or not PARTS.issuperset(kinds):
+            return found[0]     # which `narrow` finds
         for i, kind in enumerate(kinds):
             wide, of = ("i64" if kind == "ptr" else kind), at
             if i:   # a second part lies after eight bytes, where one of both is a pointer
@@ -114,7 +116,7 @@ def narrow(text):
     """Places at which a pointer still has four bytes in memory."""
     for line in text.split("\n"):
         word = line.strip()
-        in_memory = re.search(r" = (?:load|alloca) (?:ptr\b|[\[{<][^,]*\bptr\b)|^store (?:ptr\b|[\[{<][^%]*\bptr\b)|atomicrmw .*ptr %\S+, ptr|<\d+ x ptr>", word)
+        in_memory = re.search(r" = (?:load|alloca) (?:ptr\b|[\[{<][^\]}>]*\bptr\b)|^store (?:ptr\b|[\[{<][^%]*\bptr\b)|atomicrmw .*ptr %\S+, ptr|<\d+ x ptr>", word)
         by_type = re.search(r"getelementptr (?:inbounds |nuw |nusw )*(?:ptr\b|[\[{<][^%]*\bptr\b)", word)
         lying = re.match(r"@\S+ = .*(?:constant|global) ", word) and re.search(r"\bptr\b(?! (?:@|getelementptr|null))(?!, \[4 x i8\])", word)
         if in_memory or by_type or lying:
