@@ -202,7 +202,11 @@ static void tray_read_imd(void) {
     unsigned at = below(4), way = below(4);
     uint8_t cylinder, head;
     memcpy(given, archive, archive_length);
-    if (way == 1) given[below((unsigned)archive_length)] ^= (uint8_t)(1 + below(255));
+    if (way == 1) {
+        /* Each draw has a statement of its own here and below: C leaves open in which order it evaluates operands. */
+        uint8_t other = (uint8_t)(1 + below(255));
+        given[below((unsigned)archive_length)] ^= other;
+    }
     CALL(telwyddus_tray_read_imd(&trays[at], way == 0 ? NULL : given, way == 0 ? 0 : archive_length, &cylinder, &head));
     if (tray_is[at].is) wanted(TELWYDDUS_FULL);
     else if (way == 1) AMONG(TELWYDDUS_DONE, TELWYDDUS_BAD_IMAGE, TELWYDDUS_UNFIT);
@@ -373,17 +377,31 @@ static void access_ports(void) {
     static const uint8_t codes[] = {0xE6, 0x46, 0xC5, 0x45, 0x4C, 0x49, 0x66, 0x4A, 0x4D, 0x42, 0x56, 0x07, 0x0F, 0x8F, 0xCF, 0x08, 0x08, 0x04, 0x03, 0x13,
         0x94, 0x14, 0x0E, 0x12, 0x10, 0x06, 0x11};
     switch (below(8)) {
-    case 0: write_port((uint16_t)below(65536), byte()); return;
+    case 0: {
+        uint8_t drawn = byte();
+        write_port((uint16_t)below(65536), drawn);
+        return;
+    }
     case 1: read_port((uint16_t)(below(10) ? 0x3F0 + below(8) : below(65536))); return;
     case 2: write_port(0x3F2, (uint8_t)(below(6) ? 0x3C | below(2) : byte())); return;
-    case 3: write_port(below(4) ? 0x3F7 : 0x3F4, (uint8_t)below(4)); return;
+    case 3: {
+        uint8_t drawn = (uint8_t)below(4);
+        write_port(below(4) ? 0x3F7 : 0x3F4, drawn);
+        return;
+    }
     case 4: case 5:
         for (int i = 0; i < 12 && (read_port(0x3F4) & 0xC0) == 0xC0; i++) read_port(0x3F5);
         return;
     default:
         write_port(0x3F5, codes[below(sizeof codes)]);
-        for (int i = 0; i < 8 && is_here() && (read_port(0x3F4) & 0xD0) == 0x90; i++)
-            write_port(0x3F5, below(8) == 0 ? byte() : (const uint8_t[]){(uint8_t)below(8), 0, (uint8_t)below(2), 1, 2, 9, 0x1B, 0xFF}[i]);
+        for (int i = 0; i < 8 && is_here() && (read_port(0x3F4) & 0xD0) == 0x90; i++) {
+            if (below(8) == 0) {
+                write_port(0x3F5, byte());
+                continue;
+            }
+            uint8_t unit = (uint8_t)below(8), head = (uint8_t)below(2);
+            write_port(0x3F5, (const uint8_t[]){unit, 0, head, 1, 2, 9, 0x1B, 0xFF}[i]);
+        }
     }
 }
 

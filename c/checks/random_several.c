@@ -72,7 +72,11 @@ static void fresh_disk(void) {
     }
     image_of(&writer, disk, SMALL);
     MUST(telwyddus_controller_free(&writer.controller));
-    for (int i = 0; i < 8; i++) damage((int)below(CYLINDERS), (int)below(2), (int)(1 + below(18)), (int)(1 + below(3)));
+    for (int i = 0; i < 8; i++) {
+        /* Each draw has a statement of its own here and below: C leaves open in which order it evaluates arguments. */
+        int kind = (int)(1 + below(3)), r = (int)(1 + below(18)), h = (int)below(2), c = (int)below(CYLINDERS);
+        damage(c, h, r, kind);
+    }
     MUST(telwyddus_controller_free(&several.controller));
     MUST(telwyddus_controller_free(&single.controller));
     make_guest(&several, disk, SMALL);
@@ -207,7 +211,8 @@ static void draw(Command *now) {
     now->count = below(3) ? 512 * (1 + below(below(2) ? 6 : 38)) : 1 + below(below(2) ? 1200 : MOST);
     if (below(8) == 0) now->count = MOST;
     now->is_strapped = below(3) == 0;
-    now->options = (below(2) ? (int)FIFO_OFF : (int)below(16)) | (below(2) ? (int)EIS : 0);
+    int fifo = below(2) ? (int)FIFO_OFF : (int)below(16), implied = below(2) ? (int)EIS : 0;
+    now->options = fifo | implied;
     if (below(40) == 0) now->cylinder = (uint8_t)(CYLINDERS + below(4));
     now->key[0] = now->cylinder;
     if (!implies(now) && below(30) == 0) now->key[0]++;
