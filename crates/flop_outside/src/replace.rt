@@ -1,4 +1,5 @@
 // How a file of the current folder is replaced: a new one is written whole beside it, and takes its name.
+use crate::known::Content;
 use std::fs::{OpenFile, OpenOptions, Permissions};
 use std::io::{ErrorKind, Read, Write};
 use std::os::unix::fs::{OpenOptionsExt, PermissionsExt};
@@ -119,11 +120,32 @@ fn sync_folder(rt: &impl Files) -> io::Result<()> {
     fs::open(rt, ".")?.sync_all()
 }
 
+// Gives the new file its name. If it is known what the old file had, and it has something else now, another program
+// changed it meanwhile, and it stays.
+fn take_name(
+    rt: &impl Files,
+    part: &str,
+    name: &str,
+    known: Option<Content<'_>>,
+) -> io::Result<()> {
+    if let Some(known) = known {
+        if known.is_still_there(rt, name)? == Some(false) {
+            return Err(ErrorKind::AlreadyExists.into());
+        }
+    }
+    fs::rename(rt, part, name)
+}
+
 // Writes a new file beside the old one, and replaces the old file once the new one is whole. A failure leaves the old
 // file as it was, and removes the new one, which no other program has. An old file that this user may not write stays,
 // although the folder's permissions alone would let it be replaced. That is a failure, unless the old file already has
 // these bytes.
-pub(crate) fn replace_file(rt: &impl Files, name: &str, bytes: &[u8]) -> io::Result<()> {
+pub(crate) fn replace_file(
+    rt: &impl Files,
+    name: &str,
+    bytes: &[u8],
+    known: Option<Content<'_>>,
+) -> io::Result<()> {
     if let Err(refused) = ask_leave(rt, name) {
         return match has_bytes(rt, name, bytes) {
             Ok(true) => Ok(()),
@@ -134,7 +156,7 @@ pub(crate) fn replace_file(rt: &impl Files, name: &str, bytes: &[u8]) -> io::Res
     let (file, part) = create_part(rt, mode.unwrap_or(NEW_MODE))?;
     let part = part.text()?;
     let replaced = match fill_part(file, mode, bytes) {
-        Ok(()) => fs::rename(rt, part, name),
+        Ok(()) => take_name(rt, part, name, known),
         Err(error) => Err(error),
     };
     // Once the new file has its name, it stays. A folder that can't be synced is therefore no error of the store.

@@ -79,7 +79,7 @@ fn is_refusal(error: &Error) -> bool {
 }
 
 fn put_all(rt: &impl Files, name: &str, bytes: &[u8]) -> io::Result<Put> {
-    replace_file(rt, name, bytes)?;
+    replace_file(rt, name, bytes, None)?;
     Ok(Put::Stored)
 }
 
@@ -95,9 +95,12 @@ fn put_again(rt: &impl Files, name: &str, bytes: &[u8], known: Content<'_>) -> i
     if known.is_still_there(rt, name)? == Some(false) {
         return put_over_update(rt, name, bytes, is_older);
     }
-    match replace_file(rt, name, bytes) {
+    match replace_file(rt, name, bytes, Some(known)) {
         Ok(()) => Ok(Put::Stored),
         Err(error) if is_older && is_refusal(&error) => Ok(Put::Left),
+        Err(error) if error.kind() == ErrorKind::AlreadyExists => put_over_update(
+            rt, name, bytes, is_older,
+        ),
         Err(error) => Err(error),
     }
 }
