@@ -38,4 +38,4 @@ lossy = click.option("--lossy", is_flag=True, help="Go on although the format ca
 geometry = click.option("--geometry", type=GeometryType(), metavar="GEOMETRY",
                         help="The geometry: a name such as 1.44M or DMF, or numbers as in 80x2x18x512@500. It is found out otherwise.")
 image = click.argument("image", type=IMAGE)
-images = click.argument("images", type=IMAGE, nargs=-1, required=True)
+images = click.argument("images", metavar="IMAGE..", type=IMAGE, nargs=-1, required=True)
