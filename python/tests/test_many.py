@@ -105,7 +105,7 @@ def watch(monkeypatch: pytest.MonkeyPatch, stop_after: int | None = None) -> lis
     """Writes down which images are looked at, and presses Ctrl-C after some."""
     seen: list[str] = []
 
-    def run_here(function: Callable[[Any], Any], tasks: Sequence[Any], jobs: int) -> Any:
+    def run_all(function: Callable[[Any], Any], tasks: Sequence[Any], jobs: int, scheduler: str | None) -> Any:
         for place, answer in pools.run_here(function, tasks, 1):
             seen.append(tasks[place].name)
             yield place, answer
@@ -113,7 +113,7 @@ def watch(monkeypatch: pytest.MonkeyPatch, stop_after: int | None = None) -> lis
                 os.kill(os.getpid(), signal.SIGINT)
                 time.sleep(1)
 
-    monkeypatch.setattr(many, "run_here", run_here)
+    monkeypatch.setattr(many, "run_all", run_all)
     return seen
 
 
@@ -172,13 +172,12 @@ def test_a_converted_file_that_has_gone_is_made_again(run: Run, box: Path) -> No
     assert run(*words).status == 0 and contents(Path("out")) == made
 
 
-def test_a_worker_that_is_killed(run: Run, box: Path, monkeypatch: pytest.MonkeyPatch) -> None:
+@pytest.mark.parametrize("is_killed_again", [False, True])
+def test_a_worker_that_is_killed(run: Run, box: Path, monkeypatch: pytest.MonkeyPatch, is_killed_again: bool) -> None:
     marker, before = Path("killed").absolute(), batch.verify
 
     def killed(task: batch.Task) -> batch.Answer:
-        if task.name == "b.rt":
-            os.kill(os.getpid(), signal.SIGKILL)
-        if task.name == "in/d.rt" and not marker.exists():
+        if task.name == "b.rt" and (is_killed_again or not marker.exists()):
             marker.touch()
             os.kill(os.getpid(), signal.SIGKILL)
         return before(task)
@@ -186,8 +185,8 @@ def test_a_worker_that_is_killed(run: Run, box: Path, monkeypatch: pytest.Monkey
     monkeypatch.setitem(batch.COMMANDS, "verify", killed)
     told = run("many", "verify", box, "--json", "--jobs", "2").json["images"]
     assert [row["image"] for row in told] == NAMES
-    assert [row["state"] for row in told] == ["good", "failed", "failed", "good", "good"]
-    assert told[1]["result"] == "its process was killed, twice"
+    assert [row["state"] for row in told] == ["good", "failed" if is_killed_again else "odd", "failed", "good", "good"]
+    assert (told[1]["result"] == "its process was killed, twice") == is_killed_again
 
 
 def test_a_mistake_stops_no_other(run: Run, box: Path, monkeypatch: pytest.MonkeyPatch) -> None:

@@ -11,10 +11,10 @@ import click
 
 from .. import files, report
 from ..batch import COMMANDS, Row, Task, images_in, look
+from ..cluster import run_all
 from ..geometry import Geometry
 from ..images import FORMATS
 from ..journal import Journal
-from ..pools import run_here
 from ..problems import Problem
 from . import options
 from .output import BAD, GOOD, ODD, count, progress, remark, say, say_json, say_table
@@ -35,6 +35,8 @@ class Work(NamedTuple):
     state: Path | None
     again: bool
     force: bool
+    jobs: int
+    scheduler: str | None
 
 
 @click.command()
@@ -42,6 +44,7 @@ class Work(NamedTuple):
 @click.argument("folder", metavar="FOLDER", type=FOLDER)
 @click.option("--jobs", type=click.IntRange(1), metavar="NUMBER",
               help="How many images are worked on at a time. As many as there are processors otherwise.")
+@options.scheduler
 @click.option("--report", "page", type=options.FILE, metavar="FILE", help="Store a page of HTML, with a small picture of each diskette.")
 @click.option("--state", type=options.FILE, metavar="FILE", help="What is done so far. It is REPORT.state otherwise.")
 @click.option("--again", is_flag=True, help="Begin anew, whatever is done so far.")
@@ -52,18 +55,21 @@ class Work(NamedTuple):
 @options.force
 @click.option("--csv", "as_csv", is_flag=True, help="Print the answer as CSV.")
 @options.as_json
-def many(command: str, folder: Path, jobs: int | None, page: Path | None, state: Path | None, again: bool, to: str | None, into: Path | None,
-         geometry: Geometry | None, lossy: bool, force: bool, as_csv: bool, as_json: bool) -> int:
-    """Run a command on all images of a folder, on all processors.
+def many(command: str, folder: Path, jobs: int | None, scheduler: str | None, page: Path | None, state: Path | None, again: bool,
+         to: str | None, into: Path | None, geometry: Geometry | None, lossy: bool, force: bool, as_csv: bool, as_json: bool) -> int:
+    """Run a command on all images of a folder, on all processors or on a cluster.
 
     COMMAND is verify, info, survey or convert. The images are the files in FOLDER, and in the folders in it, whose
     suffix is that of an image. An image that can't be read has a line that says so, and the others go on. With --report
     or --state a run that was stopped goes on where it was, and a later run looks only at images that are new or have
     changed. The status is 1 if an image isn't as it should be.
     """
-    tasks = tasks_of(command, folder, Task(command, "", folder, geometry, page is not None, None, to or "", lossy, force), into)
-    work = Work(command, folder, tasks, into, page, state or (page and page.with_name(page.name + ".state")), again, force)
-    rows = rows_of(work, jobs or os.cpu_count() or 1)
+    # The workers of a cluster have other current folders.
+    at, out = (folder.resolve(), into and into.resolve()) if scheduler else (folder, into)
+    tasks = tasks_of(command, at, Task(command, "", at, geometry, page is not None, None, to or "", lossy, force), out)
+    work = Work(command, folder, tasks, into, page, state or (page and page.with_name(page.name + ".state")), again, force,
+                jobs or os.cpu_count() or 1, scheduler)
+    rows = rows_of(work)
     if as_json:
         say_json(report.as_json(command, str(folder), rows))
     elif as_csv:
@@ -95,18 +101,18 @@ def tasks_of(command: str, folder: Path, common: Task, into: Path | None) -> lis
     return tasks
 
 
-def rows_of(work: Work, jobs: int) -> list[Row]:
+def rows_of(work: Work) -> list[Row]:
     """The rows of all images, by name. The report is stored once all are there."""
     first = work.tasks[0]
     head = {"state of": "telwyddus many", "command": work.command, "folder": str(work.folder.resolve()), "to": first.to, "lossy": first.lossy,
-            "geometry": first.geometry.numbers if first.geometry else "", "into": str(work.into), "drawn": first.is_drawn}
+            "geometry": first.geometry.numbers if first.geometry else "", "into": str(work.into and work.into.resolve()), "drawn": first.is_drawn}
     if work.report is not None and not (work.state is not None and work.state.exists()):
         files.check_is_free(work.report, work.force)
     with Journal(work.state, head, work.again) as journal:
         stamps = {task.name: stamp_of(task) for task in work.tasks}
         rows = {task.name: Row(*found) for task in work.tasks if (found := journal.find(task.name, stamps[task.name])) and is_there(task)}
         left = [task for task in work.tasks if task.name not in rows]
-        for task, row in done(work, left, jobs):
+        for task, row in done(work, left):
             rows[row.name] = row
             # What failed is tried again by a later run.
             journal.add(row.name, stamps[row.name] if row.status < 2 else None, row)
@@ -117,11 +123,12 @@ def rows_of(work: Work, jobs: int) -> list[Row]:
     return whole
 
 
-def done(work: Work, tasks: list[Task], jobs: int) -> Iterator[tuple[Task, Row]]:
+def done(work: Work, tasks: list[Task]) -> Iterator[tuple[Task, Row]]:
     """Does the tasks, and shows how many are done."""
     made = 0
     try:
-        with contextlib.closing(run_here(look, tasks, jobs)) as answers, progress(f"{work.command} {work.folder}", len(tasks)) as step:
+        answers = run_all(look, tasks, work.jobs, work.scheduler)
+        with contextlib.closing(answers), progress(f"{work.command} {work.folder}", len(tasks)) as step:
             for place, row in answers:
                 made += 1
                 yield tasks[place], row or Row(tasks[place].name, 2, NO_ANSWER, {})
