@@ -17,10 +17,10 @@ td, th { padding: 4px 12px 4px 0; text-align: left; vertical-align: middle; bord
 .odd { color: #9a4a00; } .failed { color: #b00020; } td.words { max-width: 60em; overflow-wrap: anywhere; }"""
 
 
-def summary(rows: Sequence[Row]) -> str:
-    """How many images are as they should be, in words."""
+def summary(rows: Sequence[Row], noun: str = "image") -> str:
+    """How many images, or rounds, are as they should be, in words."""
     counts = Counter(row.status for row in rows)
-    told = [f"{counts[0]:,} of {len(rows):,} images are good"]
+    told = [f"{counts[0]:,} of {len(rows):,} {noun}s are good"]
     if counts[1]:
         told.append(f"{counts[1]:,} {'has' if counts[1] == 1 else 'have'} something odd")
     if counts[2]:
@@ -41,20 +41,20 @@ def as_html(title: str, rows: Sequence[Row]) -> str:
         "<table><tr><th></th><th>Image</th><th>State</th><th>Result</th></tr>", *lines, "</table></body></html>", ""])
 
 
-def as_csv(rows: Sequence[Row]) -> str:
-    """A line for each image: its name, its state and the result in words."""
+def as_csv(rows: Sequence[Row], noun: str = "image") -> str:
+    """A line for each row: its name, its state and the result in words."""
     out = io.StringIO()
     writer = csv.writer(out, lineterminator="\n")
-    writer.writerow(("image", "state", "result"))
+    writer.writerow((noun, "state", "result"))
     writer.writerows((shown(row.name), STATES[row.status], shown(row.words)) for row in rows)
     return out.getvalue()
 
 
-def as_json(command: str, folder: str, rows: Sequence[Row]) -> dict[str, Any]:
-    """All that is known of each image."""
+def as_json(of: dict[str, object], rows: Sequence[Row], noun: str = "image") -> dict[str, Any]:
+    """All that is known of each row. `of` says what was worked on."""
     counts = Counter(row.status for row in rows)
-    return {"command": command, "folder": folder, **{state: counts[status] for status, state in enumerate(STATES)},
-            "images": [{"image": shown(row.name), "state": STATES[row.status], "result": shown(row.words), **row.facts} for row in rows]}
+    return {**of, **{state: counts[status] for status, state in enumerate(STATES)},
+            f"{noun}s": [{noun: shown(row.name), "state": STATES[row.status], "result": shown(row.words), **row.facts} for row in rows]}
 
 
 def shown(text: str) -> str:

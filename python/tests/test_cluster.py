@@ -117,3 +117,17 @@ def test_distributed_isnt_there(run: Run, box: Path, monkeypatch: pytest.MonkeyP
     monkeypatch.setitem(sys.modules, "distributed", None)
     answer = run("many", "verify", box, "--scheduler", "tcp://127.0.0.1:9")
     assert answer.status == 2 and "apt install python3-distributed" in answer.err
+
+
+def test_a_campaign_whose_worker_is_killed(run: Run, cluster: Cluster) -> None:
+    put("a.rt", disk(20).file())
+    first, _ = cluster.work(), cluster.work()
+    words = ["campaign", "a.rt", "--seeds", "1-120", "--unchecked", "--json"]
+    here = run(*words).json
+    command = [sys.executable, "-m", "telwyddus", *words, "--state", "s", "--scheduler", cluster.address]
+    with subprocess.Popen(command, stdout=subprocess.PIPE, text=True) as process:
+        wait_for(lambda: Path("s").exists() and Path("s").read_text().count("\n") > 5)
+        assert process.poll() is None
+        first.send_signal(signal.SIGKILL)
+        out, _ = process.communicate(timeout=120)
+    assert process.returncode == 1 and json.loads(out) == here and len(here["rounds"]) == 120

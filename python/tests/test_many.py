@@ -16,7 +16,7 @@ import pytest
 from conftest import Run, content, damage, disk, files_here, outside, put
 
 from telwyddus import batch, pools
-from telwyddus.command import many
+from telwyddus.command import running
 
 NAMES = ["a.rt", "b.rt", "broken.rt", "in/c.img", "in/d.rt"]
 
@@ -113,7 +113,7 @@ def watch(monkeypatch: pytest.MonkeyPatch, stop_after: int | None = None) -> lis
                 os.kill(os.getpid(), signal.SIGINT)
                 time.sleep(1)
 
-    monkeypatch.setattr(many, "run_all", run_all)
+    monkeypatch.setattr(running, "run_all", run_all)
     return seen
 
 

@@ -1,9 +1,7 @@
 """The command many."""
 from __future__ import annotations
 
-import contextlib
 import os
-from collections.abc import Iterator
 from pathlib import Path
 from typing import Any, NamedTuple
 
@@ -11,17 +9,13 @@ import click
 
 from .. import files, report
 from ..batch import COMMANDS, Row, Task, images_in, look
-from ..cluster import run_all
 from ..geometry import Geometry
 from ..images import FORMATS
 from ..journal import Journal
 from ..problems import Problem
-from . import options
-from .output import BAD, GOOD, ODD, count, progress, remark, say, say_json, say_table
+from . import options, running
 
 FOLDER = click.Path(path_type=Path, file_okay=False, exists=True)
-STYLES = {"good": None, "odd": ODD, "failed": BAD}
-NO_ANSWER = "its process was killed, twice"
 
 
 class Work(NamedTuple):
@@ -32,30 +26,27 @@ class Work(NamedTuple):
     tasks: list[Task]
     into: Path | None
     report: Path | None
-    state: Path | None
     again: bool
     force: bool
-    jobs: int
-    scheduler: str | None
+    way: running.Way
 
 
 @click.command()
 @click.argument("command", metavar="COMMAND", type=click.Choice(list(COMMANDS)))
 @click.argument("folder", metavar="FOLDER", type=FOLDER)
-@click.option("--jobs", type=click.IntRange(1), metavar="NUMBER",
-              help="How many images are worked on at a time. As many as there are processors otherwise.")
+@running.jobs
 @options.scheduler
 @click.option("--report", "page", type=options.FILE, metavar="FILE", help="Store a page of HTML, with a small picture of each diskette.")
 @click.option("--state", type=options.FILE, metavar="FILE", help="What is done so far. It is REPORT.state otherwise.")
-@click.option("--again", is_flag=True, help="Begin anew, whatever is done so far.")
+@running.again
 @click.option("--to", type=click.Choice([format.name for format in FORMATS]), help="convert: the format.")
 @click.option("--into", type=click.Path(path_type=Path, file_okay=False), metavar="OUT", help="convert: the folder for the new files, which is made.")
 @options.geometry
 @options.lossy
 @options.force
-@click.option("--csv", "as_csv", is_flag=True, help="Print the answer as CSV.")
+@running.as_csv
 @options.as_json
-def many(command: str, folder: Path, jobs: int | None, scheduler: str | None, page: Path | None, state: Path | None, again: bool,
+def many(command: str, folder: Path, jobs: int, scheduler: str | None, page: Path | None, state: Path | None, again: bool,
          to: str | None, into: Path | None, geometry: Geometry | None, lossy: bool, force: bool, as_csv: bool, as_json: bool) -> int:
     """Run a command on all images of a folder, on all processors or on a cluster.
 
@@ -67,15 +58,13 @@ def many(command: str, folder: Path, jobs: int | None, scheduler: str | None, pa
     # The workers of a cluster have other current folders.
     at, out = (folder.resolve(), into and into.resolve()) if scheduler else (folder, into)
     tasks = tasks_of(command, at, Task(command, "", at, geometry, page is not None, None, to or "", lossy, force), out)
-    work = Work(command, folder, tasks, into, page, state or (page and page.with_name(page.name + ".state")), again, force,
-                jobs or os.cpu_count() or 1, scheduler)
+    way = running.Way(jobs, scheduler, state or (page and page.with_name(page.name + ".state")))
+    work = Work(command, folder, tasks, into, page, again, force, way)
     rows = rows_of(work)
     if as_json:
-        say_json(report.as_json(command, str(folder), rows))
-    elif as_csv:
-        click.echo(report.as_csv(rows), nl=False)
+        running.say_all({"command": command, "folder": str(folder)}, rows, "image")
     else:
-        say_rows(rows)
+        running.say_rows(rows, "image", as_csv)
     return int(any(row.status for row in rows))
 
 
@@ -106,13 +95,13 @@ def rows_of(work: Work) -> list[Row]:
     first = work.tasks[0]
     head = {"state of": "telwyddus many", "command": work.command, "folder": str(work.folder.resolve()), "to": first.to, "lossy": first.lossy,
             "geometry": first.geometry.numbers if first.geometry else "", "into": str(work.into and work.into.resolve()), "drawn": first.is_drawn}
-    if work.report is not None and not (work.state is not None and work.state.exists()):
+    if work.report is not None and not (work.way.state is not None and work.way.state.exists()):
         files.check_is_free(work.report, work.force)
-    with Journal(work.state, head, work.again) as journal:
+    with Journal(work.way.state, head, work.again) as journal:
         stamps = {task.name: stamp_of(task) for task in work.tasks}
         rows = {task.name: Row(*found) for task in work.tasks if (found := journal.find(task.name, stamps[task.name])) and is_there(task)}
         left = [task for task in work.tasks if task.name not in rows]
-        for task, row in done(work, left):
+        for row in running.done(look, left, [task.name for task in left], work.way, f"{work.command} {work.folder}", "image"):
             rows[row.name] = row
             # What failed is tried again by a later run.
             journal.add(row.name, stamps[row.name] if row.status < 2 else None, row)
@@ -121,22 +110,6 @@ def rows_of(work: Work) -> list[Row]:
             page = report.as_html(f"telwyddus {work.command}: {work.folder}", whole)
             files.store(work.report, page.encode(), work.force or journal.was_there)
     return whole
-
-
-def done(work: Work, tasks: list[Task]) -> Iterator[tuple[Task, Row]]:
-    """Does the tasks, and shows how many are done."""
-    made = 0
-    try:
-        answers = run_all(look, tasks, work.jobs, work.scheduler)
-        with contextlib.closing(answers), progress(f"{work.command} {work.folder}", len(tasks)) as step:
-            for place, row in answers:
-                made += 1
-                yield tasks[place], row or Row(tasks[place].name, 2, NO_ANSWER, {})
-                step()
-    except (KeyboardInterrupt, SystemExit):
-        rest = f"Run the same command again to go on: {work.state} has them." if work.state else "With --state FILE a later run could go on."
-        remark(f"{made:,} of {count(len(tasks), 'image')} {'was' if made == 1 else 'were'} done. {rest}", BAD)
-        raise
 
 
 def stamp_of(task: Task) -> Any:
@@ -152,9 +125,3 @@ def is_there(task: Task) -> bool:
     """Whether what a task stores is there."""
     return task.target is None or task.target.exists()
 
-
-def say_rows(rows: list[Row]) -> None:
-    """Prints a line for each image, and how many are good."""
-    say_table(("IMAGE", "STATE", "RESULT"), [(report.shown(row.name), report.STATES[row.status], report.shown(row.words)) for row in rows],
-              lambda row: STYLES[row[1]])
-    say(report.summary(rows), BAD if any(row.status for row in rows) else GOOD)
