@@ -26,11 +26,24 @@ def new_pool(jobs: int) -> ProcessPoolExecutor:
     return ProcessPoolExecutor(jobs, get_context("fork"), begin_worker)
 
 
+def has_queues() -> bool:
+    """Whether processes can share a queue on this system."""
+    try:
+        get_context("fork").Lock()
+    except (OSError, ImportError):
+        return False
+    return True
+
+
 def run_here(function: Callable[[Task], Answer], tasks: Sequence[Task], jobs: int) -> Answers[Answer]:
     """Runs the tasks in as many processes as `jobs` says. The answers come as they are made.
 
-    If a process is killed, the tasks that were on their way are run once more, one at a time. One whose process ends
+    Where no processes can share a queue, as without a writable /dev/shm, this process does all tasks itself. If a
+    process is killed, the tasks that were on their way are run once more, one at a time. One whose process ends
     then too has no answer."""
+    if not has_queues():
+        yield from ((place, function(task)) for place, task in enumerate(tasks))
+        return
     suspects: list[int] = []
     waiting = list(reversed(range(len(tasks))))
     while waiting:

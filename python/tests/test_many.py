@@ -200,6 +200,16 @@ def test_a_mistake_stops_no_other(run: Run, box: Path, monkeypatch: pytest.Monke
     assert told[0]["state"] == "failed" and "a mistake of this program" in told[0]["result"] and told[3]["state"] == "good"
 
 
+def test_a_system_without_shared_memory(run: Run, box: Path, monkeypatch: pytest.MonkeyPatch) -> None:
+    there = run("many", "verify", box, "--json").json
+
+    def refused(*_: Any, **__: Any) -> None:
+        raise PermissionError(13, "Permission denied")
+
+    monkeypatch.setattr("multiprocessing.synchronize.SemLock.__init__", refused)
+    assert not pools.has_queues() and run("many", "verify", box, "--json").json == there
+
+
 def test_wrong_arguments(run: Run, box: Path) -> None:
     os.mkdir("empty")
     for words in (["verify", "empty"], ["verify", "nowhere"], ["eat", box], ["convert", box], ["verify", box, "--into", "out"], ["verify", box, "--jobs", "0"],
