@@ -62,7 +62,7 @@ fn ask_leave(rt: &impl Files, name: &str) -> io::Result<()> {
 }
 
 // Whether the file under a name has these bytes, and no others.
-fn has_bytes(rt: &impl Files, name: &str, bytes: &[u8]) -> io::Result<bool> {
+pub(crate) fn has_bytes(rt: &impl Files, name: &str, bytes: &[u8]) -> io::Result<bool> {
     let mut file = fs::open(rt, name)?;
     let mut piece = [0u8; PIECE];
     let mut rest = bytes;

@@ -1,8 +1,8 @@
 // The files of the current folder.
 ghost use Rattle.std.specs.Prelude.{None};
 
-use crate::known::{Known, Sum};
-use crate::replace::replace_file;
+use crate::known::{Content, Known};
+use crate::replace::{has_bytes, replace_file};
 use flop_base::{LoadError, Shelf, StoreError};
 use std::alloc::Global;
 use std::io::{Error, ErrorKind, Read};
@@ -42,9 +42,8 @@ impl<'a, R: Files> FileShelf<'a, R> {
         }
     }
 
-    // Stores bytes, and gives the digest of those that the file has then.
-    fn put(&self, name: &str, bytes: &[u8]) -> io::Result<Sum> {
-        match self.known.sum_of(name) {
+    fn put(&self, name: &str, bytes: &[u8]) -> io::Result<Put> {
+        match self.known.content_of(name) {
             Some(known) => put_again(self.rt, name, bytes, known),
             None if self.keeping && is_taken(self.rt, name)? => Err(
                 ErrorKind::AlreadyExists.into(),
@@ -52,6 +51,14 @@ impl<'a, R: Files> FileShelf<'a, R> {
             None => put_all(self.rt, name, bytes),
         }
     }
+}
+
+/// What a store did.
+enum Put {
+    /// The file has the bytes.
+    Stored,
+    /// The file stays as it was, since this run didn't change it.
+    Left,
 }
 
 // Whether a file, a folder or a link has a name. A link counts also if it leads nowhere.
@@ -71,31 +78,39 @@ fn is_refusal(error: &Error) -> bool {
     )
 }
 
-fn put_all(rt: &impl Files, name: &str, bytes: &[u8]) -> io::Result<Sum> {
+fn put_all(rt: &impl Files, name: &str, bytes: &[u8]) -> io::Result<Put> {
     replace_file(rt, name, bytes)?;
-    Ok(Sum::of(bytes))
+    Ok(Put::Stored)
 }
 
-// Stores bytes under the name of a file that this run loaded or stored before, with this digest then. Nothing is stored
-// if the bytes are still the same. If they differ, the file is replaced, unless another program changed it meanwhile.
-// A file that is gone is stored anew.
-fn put_again(rt: &impl Files, name: &str, bytes: &[u8], known: Sum) -> io::Result<Sum> {
-    let wanted = Sum::of(bytes);
-    if wanted == known && is_taken(rt, name)? {
-        return Ok(known);
+// Stores bytes under the name of a file that this run loaded or stored before. Nothing is stored if the file had the
+// same bytes then. If they differ, the file is replaced, unless another program changed it meanwhile. A file that is
+// gone is stored anew.
+fn put_again(rt: &impl Files, name: &str, bytes: &[u8], known: Content<'_>) -> io::Result<Put> {
+    if known.is(bytes) && is_taken(rt, name)? {
+        return Ok(Put::Left);
     }
-    // The image itself wasn't changed, but the file has the older version of the format.
-    let is_older = Sum::of_older(bytes) == Some(known);
-    match Sum::of_file(rt, name)? {
-        Some(there) if there == wanted => return Ok(wanted),
-        Some(there) if there != known && is_older => return Ok(known),
-        Some(there) if there != known => return Err(ErrorKind::AlreadyExists.into()),
-        _ => {}
+    // This run didn't change the image, but the file has the older version of the format.
+    let is_older = known.is_older(bytes);
+    if known.is_still_there(rt, name)? == Some(false) {
+        return put_over_update(rt, name, bytes, is_older);
     }
     match replace_file(rt, name, bytes) {
-        Ok(()) => Ok(wanted),
-        Err(error) if is_older && is_refusal(&error) => Ok(known),
+        Ok(()) => Ok(Put::Stored),
+        Err(error) if is_older && is_refusal(&error) => Ok(Put::Left),
         Err(error) => Err(error),
+    }
+}
+
+// The same if another program changed the file meanwhile. The file stays. That is a failure, unless the other program
+// stored the same bytes, or this run has nothing of its own to store.
+fn put_over_update(rt: &impl Files, name: &str, bytes: &[u8], is_older: bool) -> io::Result<Put> {
+    if has_bytes(rt, name, bytes)? {
+        Ok(Put::Stored)
+    } else if is_older {
+        Ok(Put::Left)
+    } else {
+        Err(ErrorKind::AlreadyExists.into())
     }
 }
 
@@ -120,7 +135,7 @@ impl<R: Files> Shelf for FileShelf<'_, R> {
             .read_to_end(&mut bytes)
         {
             Ok(_) if bytes.len() > most => Err(LoadError::TooLong),
-            Ok(_) => match self.known.keep(name, Sum::of(&bytes)) {
+            Ok(_) => match self.known.keep(name, &bytes) {
                 Ok(()) => Ok(bytes),
                 Err(_) => Err(LoadError::NoMemory),
             },
@@ -134,11 +149,12 @@ impl<R: Files> Shelf for FileShelf<'_, R> {
 
     fn store(&mut self, name: &str, bytes: &[u8]) -> Result<(), StoreError> {
         match self.put(name, bytes) {
-            Ok(sum) => {
-                // Without memory for a new name the file counts as one that this run doesn't know.
-                let _ = self.known.keep(name, sum);
+            Ok(Put::Stored) => {
+                // The store is done, even if memory for the bytes runs out here.
+                let _ = self.known.keep(name, bytes);
                 Ok(())
             }
+            Ok(Put::Left) => Ok(()),
             Err(_) => {
                 self.faults = self.faults.saturating_add(1);
                 Err(StoreError::Failed)

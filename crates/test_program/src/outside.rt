@@ -223,6 +223,35 @@ fn a_file_that_was_not_loaded_is_kept_if_asked(rt: HostRuntime) {
     remove(&rt, "floppy-test-made");
 }
 
+// Four files are known by their bytes. The two that were loaded before them are known by a digest.
+#[test]
+fn files_that_were_loaded_long_ago_are_known(rt: HostRuntime) {
+    let (alloc, first, second) = (rt.alloc(), "floppy-test-first", "floppy-test-second");
+    let mut other = FileShelf::new(&rt, alloc);
+    takes(&rt, &mut other, first, b"old");
+    takes(&rt, &mut other, second, b"RTIMAGE1 words");
+    let mut shelf = FileShelf::new(&rt, alloc);
+    gives(&rt, alloc, &mut shelf, first, b"old");
+    gives(&rt, alloc, &mut shelf, second, b"RTIMAGE1 words");
+    takes(&rt, &mut shelf, "floppy-test-third", b"3");
+    takes(&rt, &mut shelf, "floppy-test-fourth", b"4");
+    takes(&rt, &mut shelf, "floppy-test-fifth", b"5");
+    takes(&rt, &mut shelf, "floppy-test-sixth", b"6");
+    takes(&rt, &mut other, first, b"update");
+    takes(&rt, &mut shelf, first, b"old");
+    takes_none(&rt, &mut shelf, first, b"new");
+    gives(&rt, alloc, &mut other, first, b"update");
+    takes(&rt, &mut shelf, second, b"RTIMAGE2 words");
+    gives(&rt, alloc, &mut other, second, b"RTIMAGE2 words");
+    has_faults(&rt, &shelf, 1);
+    remove(&rt, first);
+    remove(&rt, second);
+    remove(&rt, "floppy-test-third");
+    remove(&rt, "floppy-test-fourth");
+    remove(&rt, "floppy-test-fifth");
+    remove(&rt, "floppy-test-sixth");
+}
+
 #[test]
 fn standard_output_takes_all_bytes(rt: HostRuntime) {
     let mut sink = StreamSink::new(&rt);
