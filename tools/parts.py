@@ -60,6 +60,20 @@ def package_files():
     return sorted(path for path in PACKAGE.rglob("*") if path.suffix in (".py", ".typed"))
 
 
+def completion_files():
+    """The files by which shells complete the command, with their places under share."""
+    folder = TOP / "python/completion"
+    return [(folder / "telwyddus.bash", "bash-completion/completions/telwyddus"), (folder / "telwyddus.zsh", "zsh/site-functions/_telwyddus"),
+            (folder / "telwyddus.fish", "fish/vendor_completions.d/telwyddus.fish")]
+
+
+def command_text(path=None):
+    """The text of the command telwyddus. `path` is where its package is from the folder of the command, if it isn't where
+    Python looks by itself."""
+    find = f"import pathlib, sys\nsys.path.insert(0, str(pathlib.Path(__file__).resolve().parent.parent / {path!r}))\n" if path else ""
+    return f"#!/usr/bin/python3\n{find}from telwyddus.command import run\nrun()\n"
+
+
 def pkg_config(prefix, libraries):
     """The text of telwyddus.pc."""
     return (f"prefix={prefix}\nlibdir={libraries}\nincludedir=${{prefix}}/include\n\n"

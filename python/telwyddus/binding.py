@@ -180,10 +180,10 @@ class Holder:
         self._call(name, *values, ctypes.byref(told))
         return told
 
-    def _items(self, kind: Any, name: str, *values: Any, behind: tuple[Any, ...] = ()) -> Any:
+    def _items(self, kind: Any, name: str, *values: Any, behind: tuple[Any, ...] = (), room: int = 0) -> Any:
         """Gives an array of items, of a call that says how many there are. `behind` are its arguments after the
-        length."""
-        room, length = 0, ctypes.c_size_t()
+        length. If there are more than `room` items, the call is made once more."""
+        length = ctypes.c_size_t()
         with self._lock:
             while True:
                 out = (kind * (room + 1))()
@@ -193,9 +193,9 @@ class Holder:
                 except TooShort:
                     room = length.value
 
-    def _bytes(self, name: str, *values: Any, behind: tuple[Any, ...] = ()) -> bytes:
+    def _bytes(self, name: str, *values: Any, behind: tuple[Any, ...] = (), room: int = 0) -> bytes:
         """Gives bytes, of a call that says how many there are."""
-        return bytes(self._items(ctypes.c_char, name, *values, behind=behind))
+        return bytes(self._items(ctypes.c_char, name, *values, behind=behind, room=room))
 
     def _words(self, name: str, *values: Any) -> list[int]:
         """Gives words, of a call that says how many there are."""

@@ -13,6 +13,8 @@ Answer = TypeVar("Answer")
 Surveyed = tuple[int, int, int, tuple[int, int, int, int], Found]
 # How many bytes a survey has for each address field.
 FIELD = 11
+# How many address fields most media have at most. A survey of more takes twice as long.
+USUAL_FIELDS = 160 * 24
 
 
 class Shape(ctypes.Structure):
@@ -99,7 +101,7 @@ class Tray(Holder):
 
     def survey(self) -> Iterator[Surveyed]:
         """Its address fields: cylinder and head of the track, the first cell, (C, H, R, N), and what was found."""
-        data = self._bytes("survey")
+        data = self._bytes("survey", room=USUAL_FIELDS * FIELD)
         for at in range(0, len(data), FIELD):
             cylinder, head, *cell, c, h, r, n, found = data[at:at + FIELD]
             yield cylinder, head, int.from_bytes(bytes(cell), "little"), (c, h, r, n), Found(found)

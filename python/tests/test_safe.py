@@ -79,7 +79,8 @@ STORING = [["convert", "a.rt", "new.img"], ["convert", "--force", "a.rt", "old.i
            ["play", "--force", "job"], ["floppy", "verify", "a.rt"]]
 # A rescue stores what it has when Ctrl-C comes: test_rescue.py tries that.
 READING = [["rescue", "a.rt", "new.rt"], ["info", "a.rt"], ["sectors", "a.rt"], ["survey", "a.rt"], ["hexdump", "a.rt", "0", "0", "1"], ["verify", "a.rt"],
-           ["compare", "a.rt", "fat.img"], ["browse", "list", "fat.img"], ["plan", "check", "plan"]]
+           ["compare", "a.rt", "fat.img"], ["browse", "list", "fat.img"], ["plan", "check", "plan"],
+           ["campaign", "a.rt", "--seeds", "1"], ["serve", "a.rt", "--run", "true"], ["serve", "--write", "a.rt", "--run", "true"]]
 
 
 @pytest.fixture

@@ -7,7 +7,7 @@ from typing import Any
 import click
 
 from ..binding import version
-from . import browse, check, draw, look, make, play, rescue
+from . import browse, campaign, check, draw, look, make, many, play, rescue, serve
 
 # Subcommands of the program `floppy` that aren't subcommands here.
 OF_FLOPPY = ("formatdd", "import", "export", "exercise", "int13", "ports", "fromimd", "toimd", "remaster")
@@ -52,5 +52,5 @@ def telwyddus() -> None:
 
 
 for command in (look.info, look.sectors, look.survey, look.hexdump, check.verify, check.compare, make.convert, make.format_, make.copy,
-                rescue.rescue, draw.picture, draw.waves, browse.browse, play.play, play.plan, play.floppy):
+                rescue.rescue, draw.picture, draw.waves, browse.browse, serve.serve, many.many, play.play, play.plan, campaign.campaign, play.floppy):
     telwyddus.add_command(command)

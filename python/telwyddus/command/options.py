@@ -37,5 +37,7 @@ force = click.option("--force", is_flag=True, help="Replace a file that is there
 lossy = click.option("--lossy", is_flag=True, help="Go on although the format can't hold all of the diskette.")
 geometry = click.option("--geometry", type=GeometryType(), metavar="GEOMETRY",
                         help="The geometry: a name such as 1.44M or DMF, or numbers as in 80x2x18x512@500. It is found out otherwise.")
+scheduler = click.option("--scheduler", metavar="ADDRESS",
+                         help="Work on a cluster of Dask, whose scheduler is at this address, as in tcp://host:8786.")
 image = click.argument("image", type=IMAGE)
-images = click.argument("images", type=IMAGE, nargs=-1, required=True)
+images = click.argument("images", metavar="IMAGE..", type=IMAGE, nargs=-1, required=True)
